@@ -1,0 +1,5 @@
+pub mod Digits
+pub mod Tables
+pub mod UnitForms
+pub mod Units
+pub mod Readings

@@ -1,0 +1,4 @@
+pub mod ControlNames
+pub mod Spelling
+pub mod TextForm
+pub mod TextFault
