@@ -1,0 +1,2 @@
+pub mod LabelTests
+pub mod Matching

@@ -1,0 +1,15 @@
+-- Which bytes are a name.
+use Rattle.std.specs.Prelude.{ℕ, Bool, List, ◌∷◌}
+use Rattle.d64_files.specs.Label.{IsLabel, is_label, star, question_mark, separators}
+
+-- the bytes that no name holds
+abbrev pub forbidden_in_names : List ℕ
+forbidden_in_names = star ∷ question_mark ∷ separators
+
+-- the name of a file or a disk
+abbrev pub IsName : List ℕ → Type 0
+IsName = IsLabel forbidden_in_names
+
+-- the same as a test of bytes
+abbrev pub is_name : List ℕ → Bool
+is_name = is_label forbidden_in_names

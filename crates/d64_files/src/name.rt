@@ -1,0 +1,108 @@
+//! The names of files and disks.
+ghost use Rattle.std.specs.Prelude.{◌≡◌, ◌↔◌, IsOk, is_ok, IfOk, IfErr};
+ghost use Rattle.d64_files.specs.Label.{IsFault};
+ghost use Rattle.d64_files.specs.Name.{IsName, is_name, forbidden_in_names};
+
+use crate::label::{BadName, MAX_LEN, label};
+use arrayvec::ArrayVec;
+use std::marker::Model;
+
+/// The bytes that no name holds: the wildcards of patterns, the separators of the drive's commands, and the byte that
+/// fills the field of a name.
+const FORBIDDEN: &[u8; 8] = b"*?=:,\"\r\xA0";
+
+/// The name of a file or a disk (1541 User's Guide): 1 to 16 bytes of PETSCII, none of them one of `*` `?` `=` `:` `,`
+/// `"`, $0D and $A0.
+#[derive(Clone, Debug, Drop, PartialEq, Eq, Hash)]
+pub struct Name {
+    text: ArrayVec<u8, MAX_LEN>,
+}
+
+impl Model for Name {
+    ghost use Rattle.std.specs.Prelude.{ℕ, List};
+    ghost use Rattle.d64_files.specs.Name.{IsName};
+
+    ghost Value = { List ℕ };
+
+    ghost view = { λ name. name.text.items };
+
+    ghost invariant = { λ name. IsName name.text.items };
+
+    ghost inverse = { λ bytes. record { text = record { items = bytes } } };
+}
+
+impl Name {
+    /// The name of these bytes. It takes no memory.
+    ///
+    /// Refused with `Empty` where there is no byte, with `TooLong` where there are more than 16, and else with
+    /// `Forbidden` where one of them is `*` `?` `=` `:` `,` `"`, $0D or $A0.
+    pub fn new(bytes: &[u8]) -> Result<Name, BadName>
+        ensures accepted { IsOk result ↔ IsName bytes.now }
+        ensures test { is_ok result ≡ is_name bytes.now }
+        ensures bytes { IfOk result (λ name. name ≡ bytes.now) }
+        ensures fault { IfErr result (IsFault forbidden_in_names bytes.now) }
+    {
+        let text = label(bytes, FORBIDDEN)?;
+        Ok(Name { text })
+    }
+
+    /// The 1 to 16 bytes of the name.
+    pub fn bytes(&self) -> &[u8]
+        ensures bytes { result.now ≡ self.now }
+        ensures name { IsName self.now }
+    {
+        self.text.as_slice()
+    }
+}
+
+#[cfg(test)]
+mod tests {
+    use super::*;
+    use std::test::Fail;
+
+    #[test]
+    fn takes_1_to_16_bytes(rt: HostRuntime) {
+        for bytes in [&b"A"[..], &b"SIXTEEN LETTERS!"[..]] {
+            match Name::new(bytes) {
+                Ok(name) => assert_eq!(rt; name.bytes(), bytes),
+                Err(fault) => assert!(rt; false, "{fault}"),
+            }
+        }
+        assert_eq!(rt; Name::new(b""), Err(BadName::Empty));
+        assert_eq!(rt; Name::new(b"SEVENTEEN LETTERS"), Err(BadName::TooLong));
+    }
+
+    #[test]
+    fn refuses_each_forbidden_byte(rt: HostRuntime) {
+        for byte in [42, 63, 61, 58, 44, 34, 13, 160] {
+            assert_eq!(rt;
+                Name::new(&[65, byte, 66]),
+                Err(BadName::Forbidden),
+                "{byte}"
+            );
+        }
+        assert!(rt; Name::new(&[32, 0, 255, 47]).is_ok());
+    }
+
+    #[test]
+    fn says_what_is_wrong(rt: HostRuntime) -> Result<(), Fail> {
+        let messages = [
+            (
+                BadName::Empty,
+                "the name is empty: it needs 1 to 16 characters",
+            ),
+            (
+                BadName::TooLong,
+                "the name is too long: at most 16 characters fit",
+            ),
+            (
+                BadName::Forbidden,
+                "a name can't hold = : , \" or a carriage return or shifted space, and only a pattern can hold * or ?",
+            ),
+        ];
+        for (fault, message) in messages {
+            assert_eq!(rt; fault.to_string(rt.alloc())?.as_str(), message);
+        }
+        Ok(())
+    }
+}

@@ -1,0 +1,2 @@
+pub mod FilesOfEntries
+pub mod Countdowns

@@ -1,0 +1,74 @@
+use Rattle.std.specs.Prelude.{◌≡◌, ℕ, ◌+◌, ◌-◌, min, ◌^◌, ◌<◌, ◌≤◌, ◌⊎◌, ⊤, List, length, Option, Some, None, IsSomeAnd, Result, Ok, Err, Vec}
+use Rattle.std.specs.FinMap.{get, insert}
+use Rattle.d64_host.specs.Files.{Files}
+use Rattle.d64_host.specs.declared.host.HostFault.{HostFault}
+use Rattle.d64_host.specs.declared.host.HostFault.TheVariants.{Missing, Device, TooLong, Memory}
+
+-- the number by which answers name a fault
+abbrev pub fault_number : HostFault → ℕ
+fault_number Missing = 1
+fault_number Device = 2
+fault_number TooLong = 3
+fault_number (Memory error) = 4
+
+-- the answer to a fetch, with the bytes as a list
+abbrev pub fetched : {A : Type 0} → Result (Vec ℕ A) HostFault → Result (List ℕ) HostFault
+fetched (Ok bytes) = Ok bytes.items
+fetched (Err fault) = Err fault
+
+-- what a fetch of a name may answer where these are the files: the file, of at most `limit` bytes;
+-- that it is not there; that it is longer; and in place of any of these the device's fault or want of memory
+abbrev pub FetchesOf : Files → List ℕ → ℕ → Result (List ℕ) HostFault → Type 0
+FetchesOf files name limit (Ok bytes) = (get files name ≡ Some bytes) × (length bytes ≤ limit)
+FetchesOf files name limit (Err Missing) = get files name ≡ None
+FetchesOf files name limit (Err TooLong) = IsSomeAnd (get files name) (λ bytes. limit < length bytes)
+FetchesOf files name limit (Err Device) = ⊤
+FetchesOf files name limit (Err (Memory error)) = ⊤
+
+-- what a host may answer to a fetch: where it tells nothing, an accepted one has at most `limit` bytes
+abbrev pub Fetches : Option Files → List ℕ → ℕ → Result (List ℕ) HostFault → Type 0
+Fetches (Some files) name limit answer = FetchesOf files name limit answer
+Fetches None name limit (Ok bytes) = length bytes ≤ limit
+Fetches None name limit (Err fault) = ⊤
+
+-- the faults that may come whatever the files are
+abbrev pub IsOfDeviceOrMemory : HostFault → Type 0
+IsOfDeviceOrMemory Device = ⊤
+IsOfDeviceOrMemory (Memory error) = ⊤
+IsOfDeviceOrMemory Missing = ⊥
+IsOfDeviceOrMemory TooLong = ⊥
+
+-- what a host may answer to a store, and the files then: accepted, the named file alone has the new bytes;
+-- refused, no file has changed. A host that tells nothing goes on telling nothing
+abbrev pub Stores : {A : Type 0} → Option Files → List ℕ → List ℕ → Result A HostFault → Option Files → Type 0
+Stores (Some files) name bytes (Ok done) after = after ≡ Some (insert files name bytes)
+Stores (Some files) name bytes (Err fault) after = (after ≡ Some files) × IsOfDeviceOrMemory fault
+Stores None name bytes answer after = after ≡ None
+
+-- the device's fault is answered only where the count of failures rose, or stands at its greatest value
+abbrev pub CountsDevice : {A : Type 0} → ℕ → ℕ → Result A HostFault → Type 0
+CountsDevice before after (Err Device) = (before < after) ⊎ (after ≡ 2 ^ 64 - 1)
+CountsDevice before after (Err Missing) = ⊤
+CountsDevice before after (Err TooLong) = ⊤
+CountsDevice before after (Err (Memory error)) = ⊤
+CountsDevice before after (Ok value) = ⊤
+
+-- the count of failures with one more, up to the greatest number of 64 bits
+abbrev pub one_more_failure : ℕ → ℕ
+one_more_failure count = min (count + 1) (2 ^ 64 - 1)
+
+-- the count of failures after a call: the device's fault adds one, and nothing else does
+abbrev pub failures_after : {A : Type 0} → ℕ → Result A HostFault → ℕ
+failures_after count (Ok value) = count
+failures_after count (Err Missing) = count
+failures_after count (Err Device) = one_more_failure count
+failures_after count (Err TooLong) = count
+failures_after count (Err (Memory error)) = count
+
+-- the fault by which a call was refused, want of memory aside
+abbrev pub refused_by : {A : Type 0} → Result A HostFault → Option HostFault
+refused_by (Ok value) = None
+refused_by (Err Missing) = Some Missing
+refused_by (Err Device) = Some Device
+refused_by (Err TooLong) = Some TooLong
+refused_by (Err (Memory error)) = None

@@ -1,0 +1,236 @@
+//! A host over the files of the system, as they lie in the current folder.
+
+ghost use Rattle.std.specs.Prelude.{◌≡◌, ◌≢◌, ◌+◌, ◌<◌, ◌≤◌, ◌↔◌, ◌++◌, length, vec_len, None, IfOk, IfErr, IfSome, OnOk, OnErr};
+ghost use Rattle.std.specs.Io.KnownBytes.{Appends};
+ghost use Rattle.d64_host.specs.Host.{failures_after};
+
+use crate::host::{Host, HostFault};
+use std::alloc::Global;
+use std::fs::File;
+use std::io::{ErrorKind, Read, Write};
+use std::marker::Model;
+use std::rt::Files;
+
+/// How many bytes one read asks for.
+const READ_BYTES: usize = 4096;
+
+/// The files of the system, by their paths from the current folder.
+///
+/// It tells a proof nothing of its files, since others write to them too. A store empties the file and
+/// then writes it, so what the file holds after a store that failed is open.
+#[derive(Drop)]
+pub struct FolderHost<R> {
+    rt: R,
+    failures: u64,
+}
+
+impl<R> Model for FolderHost<R> {
+    ghost use Rattle.std.specs.Prelude.{ℕ};
+
+    ghost Value = { ℕ };
+
+    ghost view = { λ host. host.failures };
+}
+
+impl<R: Files + Drop> FolderHost<R> {
+    /// A host over the files of this runtime, with no failure counted.
+    pub fn new(rt: R) -> FolderHost<R>
+        ensures { result ≡ 0 }
+    {
+        FolderHost { rt, failures: 0 }
+    }
+}
+
+impl<R: Files + Drop> Host for FolderHost<R> {
+    ghost files = { λ _. None };
+
+    ghost failure_count = { λ count. count };
+
+    fn fetch(&mut self, alloc: Global, name: &str, limit: usize) -> Result<Vec<u8>, HostFault> {
+        let outcome = read_file(&self.rt, alloc, name, limit);
+        count_failure(&mut self.failures, &outcome);
+        outcome
+    }
+
+    fn store(&mut self, _alloc: Global, name: &str, bytes: &[u8]) -> Result<(), HostFault> {
+        let outcome = write_file(&self.rt, name, bytes);
+        count_failure(&mut self.failures, &outcome);
+        outcome
+    }
+
+    fn failures(&self) -> u64 {
+        self.failures
+    }
+}
+
+// Counts an outcome that is the device's fault.
+fn count_failure<T>(failures: &mut u64, outcome: &Result<T, HostFault>)
+    ensures { failures.new ≡ failures_after failures.old outcome.now }
+{
+    if let Err(HostFault::Device) = outcome {
+        *failures = failures.saturating_add(1);
+    }
+}
+
+// The bytes of the file at this path.
+fn read_file<R: Files>(
+    rt: &R,
+    alloc: Global,
+    path: &str,
+    limit: usize,
+) -> Result<Vec<u8>, HostFault>
+    ensures { IfOk result (λ bytes. length bytes.items ≤ limit) }
+{
+    match File::open(rt, path) {
+        Ok(mut file) => read_to_end(&mut file, alloc, limit),
+        Err(error) => Err(open_fault(error.kind())),
+    }
+}
+
+// Why a file could not be opened: the system says of a path that it leads to no file, or has another fault.
+fn open_fault(kind: ErrorKind) -> HostFault
+    ensures missing { (result ≡ HostFault.Missing) ↔ (kind ≡ ErrorKind.NotFound) }
+    ensures device { kind ≢ ErrorKind.NotFound → result ≡ HostFault.Device }
+{
+    match kind {
+        ErrorKind::NotFound => HostFault::Missing,
+        _ => HostFault::Device,
+    }
+}
+
+// All that a file has left. The read that passes the limit is the last one.
+fn read_to_end<F: Read>(file: &mut F, alloc: Global, limit: usize) -> Result<Vec<u8>, HostFault>
+    ensures within { IfOk result (λ bytes. length bytes.items ≤ limit) }
+    ensures whole { IfOk result (λ bytes. IfSome (F.remaining file.old) (λ rest. bytes.items ≡ rest)) }
+    ensures too_long { result ≡ Err HostFault.TooLong → IfSome (F.remaining file.old) (λ rest. limit < length rest) }
+    ensures never_missing { result ≢ Err HostFault.Missing }
+{
+    let mut bytes = Vec::new(alloc);
+    let mut buffer = [0u8; READ_BYTES];
+    for _ in 0..u64::MAX {
+        match file.read(&mut buffer) {
+            Ok(0) => return Ok(bytes),
+            Ok(count) => match add_piece(&mut bytes, &buffer[..count], limit) {
+                Ok(()) => {}
+                Err(fault) => return Err(fault),
+            },
+            Err(error) if error.kind() == ErrorKind::Interrupted => {}
+            Err(_) => return Err(HostFault::Device),
+        }
+    }
+    Err(HostFault::Device)
+}
+
+// Adds a piece that was read, where with it there are at most `limit` bytes.
+fn add_piece(bytes: &mut Vec<u8>, piece: &[u8], limit: usize) -> Result<(), HostFault>
+    requires { vec_len bytes.old ≤ limit }
+    ensures added { OnOk result (bytes.new.items ≡ bytes.old.items ++ piece.now) }
+    ensures within { OnOk result (vec_len bytes.new ≤ limit) }
+    ensures refused { OnErr result (bytes.new.items ≡ bytes.old.items) }
+    ensures too_long { (result ≡ Err HostFault.TooLong) ↔ (limit < vec_len bytes.old + length piece.now) }
+    ensures never_missing { IfErr result (λ fault. fault ≢ HostFault.Missing) }
+{
+    if piece.len() > limit - bytes.len() {
+        return Err(HostFault::TooLong);
+    }
+    bytes.extend_from_slice(piece).map_err(HostFault::Memory)
+}
+
+// Makes these bytes the whole content of the file at this path.
+fn write_file<R: Files>(rt: &R, path: &str, bytes: &[u8]) -> Result<(), HostFault>
+    ensures { IfErr result (λ fault. fault ≡ HostFault.Device) }
+{
+    match File::create(rt, path) {
+        Ok(mut file) => write_to_end(&mut file, bytes),
+        Err(_) => Err(HostFault::Device),
+    }
+}
+
+// Writes these bytes to a file, and what it holds back of them.
+fn write_to_end<F: Write>(file: &mut F, bytes: &[u8]) -> Result<(), HostFault>
+    ensures written { OnOk result (Appends (F.contents file.old) (F.contents file.new) bytes.now) }
+    ensures refused { IfErr result (λ fault. fault ≡ HostFault.Device) }
+{
+    if file.write_all(bytes).is_err() {
+        return Err(HostFault::Device);
+    }
+    file.flush().map_err(|_| HostFault::Device)
+}
+
+#[cfg(test)]
+mod tests {
+    use super::*;
+    use std::test::Fail;
+    use std::{fs, io};
+
+    // A reader of some bytes, one a read, of which each read is interrupted once.
+    #[derive(Drop)]
+    struct Stutter {
+        left: u8,
+        interrupted: bool,
+    }
+
+    impl Read for Stutter {
+        fn read(&mut self, buf: &mut [u8]) -> io::Result<usize> {
+            self.interrupted = !self.interrupted;
+            if self.interrupted {
+                return Err(io::Error::from(ErrorKind::Interrupted));
+            }
+            if self.left == 0 || buf.is_empty() {
+                return Ok(0);
+            }
+            buf[0] = self.left;
+            self.left -= 1;
+            Ok(1)
+        }
+    }
+
+    fn three_bytes() -> Stutter {
+        Stutter {
+            left: 3,
+            interrupted: false,
+        }
+    }
+
+    #[test]
+    fn reads_again_where_a_read_is_interrupted(rt: HostRuntime) -> Result<(), Fail> {
+        let bytes = read_to_end(&mut three_bytes(), rt.alloc(), 3)?;
+        assert_eq!(rt; bytes.as_slice(), [3, 2, 1].as_slice());
+        assert!(rt;
+            matches!(
+                read_to_end(&mut three_bytes(), rt.alloc(), 2),
+                Err(HostFault::TooLong)
+            )
+        );
+        Ok(())
+    }
+
+    #[test]
+    fn keeps_files_of_the_system(rt: HostRuntime) -> Result<(), Fail> {
+        let name = "d64-shell-folder-host-test";
+        let folder = "d64-shell-folder-host-folder";
+        let mut host = FolderHost::new(rt.clone()?);
+        assert!(rt; matches!(host.fetch(rt.alloc(), name, 9), Err(HostFault::Missing)));
+        host.store(rt.alloc(), name, &[1, 2, 3])?;
+        host.store(rt.alloc(), name, &[4, 5])?;
+        assert_eq!(rt;
+            host.fetch(rt.alloc(), name, 2)?.as_slice(),
+            [4, 5].as_slice()
+        );
+        assert!(rt; matches!(host.fetch(rt.alloc(), name, 1), Err(HostFault::TooLong)));
+        let through_a_file = format!(in rt.alloc(); "{name}/one")?;
+        assert!(rt;
+            matches!(
+                host.fetch(rt.alloc(), through_a_file.as_str(), 9),
+                Err(HostFault::Device)
+            )
+        );
+        fs::remove_file(&rt, name)?;
+        fs::create_dir(&rt, folder)?;
+        assert!(rt; matches!(host.fetch(rt.alloc(), folder, 9), Err(HostFault::Device)));
+        assert!(rt; host.store(rt.alloc(), folder, &[1]) == Err(HostFault::Device));
+        fs::remove_dir(&rt, folder)?;
+        assert_eq!(rt; host.failures(), 3);
+        Ok(())
+    }
+}

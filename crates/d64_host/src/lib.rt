@@ -1,0 +1,12 @@
+//! Where the shell's files lie: a host, which fetches and stores files by their names.
+//!
+//! A host in memory tells its files to a proof; one over the folders of a system tells nothing.
+#![tactic(auto)]
+
+mod folder_host;
+mod host;
+mod memory_host;
+
+pub use folder_host::FolderHost;
+pub use host::{Host, HostFault};
+pub use memory_host::MemoryHost;

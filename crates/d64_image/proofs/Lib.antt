@@ -1,0 +1,5 @@
+pub mod Zones
+pub mod Pairs
+pub mod Chunks
+pub mod Sets
+pub mod Differences

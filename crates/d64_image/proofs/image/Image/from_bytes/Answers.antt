@@ -1,0 +1,20 @@
+use Rattle.std.proofs.Common.{◌≡◌, ℕ, ◌/◌, ◌<◌, List, length, ap, ◌∙◌, sym, subst, arith, rules}
+use Rattle.std.specs.List.{All, flat_map}
+use Rattle.std.specs.Simd.{first_chunks}
+use Rattle.d64_image.specs.declared.block.TheConstants.{BLOCKS}
+use Rattle.d64_image.specs.Image.{IsBlock}
+use Rattle.d64_image.proofs.Chunks.{flat_map-first_chunks, All-first_chunks}
+use Rattle.d64_image.proofs.image.Image.from_bytes.Goals as goal
+
+-- the sectors joined are the bytes
+pub returns-clause-kept : goal.returns-clause-kept
+returns-clause-kept c =
+    let e : c.in_ok-map_err.field-0.items ≡ first_chunks 256 (length c.args.bytes.now / 256) c.args.bytes.now = search rules in
+    ap (flat_map (λ (x : List ℕ). x)) e ∙ flat_map-first_chunks 256 (length c.args.bytes.now / 256) c.args.bytes.now (omega arith)
+
+-- each sector is a block
+pub returns-clause-image : goal.returns-clause-image
+returns-clause-image c =
+    let e : c.in_ok-map_err.field-0.items ≡ first_chunks 256 (length c.args.bytes.now / 256) c.args.bytes.now = search rules in
+    let l : length c.in_ok-map_err.field-0.items ≡ BLOCKS = search rules in
+    (l, subst (All IsBlock) (sym e) (All-first_chunks (λ (byte : ℕ). byte < 256) 256 (length c.args.bytes.now / 256) c.args.bytes.now (omega arith) c.known_bytes.ensures))

@@ -1,0 +1,31 @@
+use Rattle.std.specs.Prelude.{ℕ, ◌-◌, ◌<◌, ◌≤◌, ◌==◌, ◌&&◌, nat_lt, if◌then◌else◌, List, map, position, Option, slice_index_or}
+use Rattle.std.specs.List.{flat_map, range_with_len, sum_by}
+
+-- how many sectors a track has: the tracks lie in four zones, of 21, 19, 18 and 17 sectors a track
+abbrev pub sectors_on : ℕ → ℕ
+sectors_on track =
+    if nat_lt track 18 then 21 else (if nat_lt track 25 then 19 else (if nat_lt track 31 then 18 else 17))
+
+-- the pairs of a track with each of its sectors, from 0
+abbrev pub pairs_on : ℕ → List (ℕ × ℕ)
+pairs_on track = map (λ sector. (track, sector)) (range_with_len 0 (sectors_on track))
+
+-- the legal pairs of track and sector: track by track from 1 to 35, on each track by sector from 0
+unfoldable pub pairs : List (ℕ × ℕ)
+pairs = flat_map pairs_on (range_with_len 1 35)
+
+-- the disk has that sector
+abbrev pub IsLegal : ℕ → ℕ → Type 0
+IsLegal track sector = (1 ≤ track) × (track < 36) × (sector < sectors_on track)
+
+-- the first block of a track: as many blocks as the tracks before it have
+unfoldable pub first_block : ℕ → ℕ
+first_block track = sum_by sectors_on (range_with_len 1 (track - 1))
+
+-- the pair that a block stands for: a block is its place in the list of pairs
+unfoldable pub pair_at : ℕ → ℕ × ℕ
+pair_at block = slice_index_or pairs block (0, 0)
+
+-- the block of a track and a sector, where that pair is legal
+unfoldable pub block_of : ℕ → ℕ → Option ℕ
+block_of track sector = position (λ pair. (pair.0 == track) && (pair.1 == sector)) pairs

@@ -1,0 +1,30 @@
+use Rattle.std.specs.Prelude.{◌≡◌, ℕ, ◌<◌, not, List, [], length, filter, All, slice_index_or, slice_set, nat_eq}
+use Rattle.std.specs.List.{flat_map, range_with_len}
+use Rattle.std.specs.Cmp.Lexicographic.{pointwise}
+use Rattle.d64_image.specs.declared.block.TheConstants.{BLOCKS}
+use Rattle.d64_image.specs.declared.image.TheConstants.{BLOCK_BYTES}
+
+-- a block's content: 256 bytes, and a byte is a number below 256
+abbrev pub IsBlock : List ℕ → Type 0
+IsBlock bytes = (length bytes ≡ BLOCK_BYTES) × All (λ byte. byte < 256) bytes
+
+-- an image is a list of as many blocks as the disk has
+abbrev pub IsImage : List (List ℕ) → Type 0
+IsImage image = (length image ≡ BLOCKS) × All IsBlock image
+
+-- the content of a block
+abbrev pub sector_at : List (List ℕ) → ℕ → List ℕ
+sector_at image block = slice_index_or image block []
+
+-- the bytes of an image, block after block
+abbrev pub bytes_of : List (List ℕ) → List ℕ
+bytes_of image = flat_map (λ sector. sector) image
+
+-- the image with one block replaced
+abbrev pub with_sector : List (List ℕ) → ℕ → List ℕ → List (List ℕ)
+with_sector image block bytes = slice_set image block bytes
+
+-- the blocks in which two images differ, ascending
+abbrev pub differences : List (List ℕ) → List (List ℕ) → List ℕ
+differences image other =
+    filter (λ block. not (pointwise nat_eq (sector_at image block) (sector_at other block))) (range_with_len 0 (length image))

@@ -1,0 +1,41 @@
+-- what follows from the definitions of blocks, images and sets of blocks
+use Rattle.std.specs.Prelude.{◌≡◌, ◌≢◌, ◌↔◌, ℕ, ◌+◌, ◌<◌, List, [], Some, length, Contains, IsTrue}
+use Rattle.std.specs.Ordering.{nat_cmp}
+use Rattle.std.specs.FinSet as set
+use Rattle.d64_image.specs.declared.block.TheConstants.{BLOCKS}
+use Rattle.d64_image.specs.Block.{IsLegal, first_block, pair_at, block_of}
+use Rattle.d64_image.specs.BlockSet.{same_members}
+use Rattle.d64_image.specs.Image.{sector_at, differences}
+
+-- each block stands for a legal pair, and is the block of that pair
+abbrev pub EachBlockHasItsPair : Type 0
+EachBlockHasItsPair = (block : ℕ) → block < BLOCKS → IsLegal (pair_at block).0 (pair_at block).1 × (block_of (pair_at block).0 (pair_at block).1 ≡ Some block)
+
+-- a legal pair has a block, which stands for it and is counted from the track's first block
+abbrev pub EachLegalPairHasItsBlock : Type 0
+EachLegalPairHasItsBlock =
+    (track sector : ℕ)
+    → IsLegal track sector
+    → (block_of track sector ≡ Some (first_block track + sector)) × (first_block track + sector < BLOCKS) × (pair_at (first_block track + sector) ≡ (track, sector))
+
+-- a pair with a block is legal, and the block stands for it
+abbrev pub OnlyLegalPairsHaveBlocks : Type 0
+OnlyLegalPairsHaveBlocks =
+    (track sector block : ℕ) → block_of track sector ≡ Some block → IsLegal track sector × (block < BLOCKS) × (pair_at block ≡ (track, sector))
+
+-- the blocks in which two images differ are those at which their sectors differ
+abbrev pub DifferencesTell : Type 0
+DifferencesTell =
+    (image other : List (List ℕ)) (block : ℕ) → Contains (differences image other) block ↔ ((block < length image) × (sector_at image block ≢ sector_at other block))
+
+-- images as long as one another that differ nowhere are equal
+abbrev pub AlikeImagesAreEqual : Type 0
+AlikeImagesAreEqual = (image other : List (List ℕ)) → length image ≡ length other → differences image other ≡ [] → image ≡ other
+
+-- sets with the same members are equal
+abbrev pub AlikeSetsAreEqual : Type 0
+AlikeSetsAreEqual = (blocks others : set.FinSet nat_cmp) → ((block : ℕ) → set.contains blocks block ≡ set.contains others block) → blocks ≡ others
+
+-- the test of two sets tells whether they are equal
+abbrev pub SameMembersTells : Type 0
+SameMembersTells = (blocks others : set.FinSet nat_cmp) → IsTrue (same_members blocks others) ↔ (blocks ≡ others)

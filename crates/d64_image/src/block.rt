@@ -1,0 +1,178 @@
+ghost use Rattle.std.specs.Prelude.{◌≡◌, ◌<◌, ◌≤◌, SomeIff, IfSome};
+ghost use Rattle.d64_image.specs.Block.{pair_at, block_of};
+ghost use Rattle.d64_image.specs.declared.block.TheConstants.{BLOCKS};
+
+use std::marker::Model;
+
+/// How many blocks an image has: those of 35 tracks.
+pub const BLOCKS: usize = 683;
+
+/// Neighbouring tracks with equally many sectors each.
+#[derive(Clone, Copy)]
+struct Zone {
+    first_track: u8,
+    first_block: u16,
+    sectors: u8,
+}
+
+/// The zones of a disk, from the outermost track inward.
+const ZONES: [Zone; 4] = [
+    Zone {
+        first_track: 1,
+        first_block: 0,
+        sectors: 21,
+    },
+    Zone {
+        first_track: 18,
+        first_block: 357,
+        sectors: 19,
+    },
+    Zone {
+        first_track: 25,
+        first_block: 490,
+        sectors: 18,
+    },
+    Zone {
+        first_track: 31,
+        first_block: 598,
+        sectors: 17,
+    },
+];
+
+/// How many tracks an image has.
+const TRACKS: u8 = 35;
+
+impl Zone {
+    ghost use Rattle.std.specs.Prelude.{◌≡◌, ◌+◌, ◌-◌, ◌/◌, ◌<◌, ◌≤◌};
+    ghost use Rattle.d64_image.specs.Zone.{LiesIn};
+
+    /// The zone of a track.
+    fn of_track(track: u8) -> Zone
+        requires track { (1 ≤ track) × (track < 36) }
+        ensures track { LiesIn result track }
+    {
+        if track < ZONES[1].first_track {
+            ZONES[0]
+        } else if track < ZONES[2].first_track {
+            ZONES[1]
+        } else if track < ZONES[3].first_track {
+            ZONES[2]
+        } else {
+            ZONES[3]
+        }
+    }
+
+    /// The zone of a block.
+    fn of_block(index: u16) -> Zone
+        requires block { index < BLOCKS }
+        ensures starts { result.first_block ≤ index }
+        ensures some { 0 < result.sectors }
+        ensures from_one { 1 ≤ result.first_track }
+        ensures track { LiesIn result (result.first_track + (index - result.first_block) / result.sectors) }
+    {
+        if index < ZONES[1].first_block {
+            ZONES[0]
+        } else if index < ZONES[2].first_block {
+            ZONES[1]
+        } else if index < ZONES[3].first_block {
+            ZONES[2]
+        } else {
+            ZONES[3]
+        }
+    }
+}
+
+/// The number of a block, which stands for a track (from 1) and a sector (from 0) of it.
+///
+/// Blocks are numbered as they lie in a D64 image: track by track from 1, on each track by sector from 0.
+/// Tracks 1 to 17 have 21 sectors, 18 to 24 have 19, 25 to 30 have 18, and 31 to 35 have 17 (the 1541 User's
+/// Guide, "Disk format").
+#[derive(Clone, Copy, Debug, PartialEq, Eq, PartialOrd, Ord, Hash)]
+pub struct BlockNo {
+    index: u16,
+}
+
+impl Model for BlockNo {
+    ghost use Rattle.std.specs.Prelude.{ℕ, ◌<◌};
+    ghost use Rattle.d64_image.specs.declared.block.TheConstants.{BLOCKS};
+
+    ghost Value = { ℕ };
+
+    ghost view = { λ b. b.index };
+
+    ghost invariant = { λ b. b.index < BLOCKS };
+
+    ghost inverse = { λ n. record { index = n } };
+}
+
+impl BlockNo {
+    /// The block of a track (from 1) and a sector (from 0), or None where the disk has no such sector.
+    pub fn of(track: u8, sector: u8) -> Option<BlockNo>
+        ensures place { result ≡ block_of track sector }
+        ensures within { IfSome result (λ block. block < BLOCKS) }
+    {
+        if track < 1 || track > TRACKS {
+            return None;
+        }
+        let zone = Zone::of_track(track);
+        if sector >= zone.sectors {
+            return None;
+        }
+        let tracks_before = u16::from(track - zone.first_track);
+        let index = zone.first_block + tracks_before * u16::from(zone.sectors) + u16::from(sector);
+        Some(BlockNo { index })
+    }
+
+    /// The block of that place in the image, from 0, or None from 683 on.
+    pub fn at(index: usize) -> Option<BlockNo>
+        ensures { SomeIff result (index < BLOCKS) index }
+    {
+        if index < BLOCKS {
+            Some(BlockNo {
+                index: index as u16,
+            })
+        } else {
+            None
+        }
+    }
+
+    /// The block's place in the image, from 0.
+    pub fn index(self) -> usize
+        ensures value { result ≡ self }
+        ensures within { result < BLOCKS }
+    {
+        usize::from(self.index)
+    }
+
+    /// The block's track and its sector on that track.
+    fn pair(self) -> (u8, u8)
+        ensures pair { result ≡ pair_at self }
+        ensures track { (1 ≤ result.0) × (result.0 < 36) }
+        ensures sector { result.1 < 21 }
+    {
+        let zone = Zone::of_block(self.index);
+        let blocks_before = self.index - zone.first_block;
+        let sectors = u16::from(zone.sectors);
+        (
+            zone.first_track + (blocks_before / sectors) as u8,
+            (blocks_before % sectors) as u8,
+        )
+    }
+
+    /// The block's track, from 1 to 35.
+    pub fn track(self) -> u8
+        ensures pair { result ≡ (pair_at self).0 }
+        ensures from_one { 1 ≤ result }
+        ensures within { result < 36 }
+    {
+        self.pair().0
+    }
+
+    /// The block's sector on its track, from 0 to 20 at most.
+    pub fn sector(self) -> u8
+        ensures pair { result ≡ (pair_at self).1 }
+        ensures within { result < 21 }
+    {
+        self.pair().1
+    }
+}

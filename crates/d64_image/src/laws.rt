@@ -1,0 +1,28 @@
+//! Laws of blocks, images and sets of blocks: each function's contract is a law, and its body is empty.
+//!
+//! A caller whose proof needs a law calls the function.
+ghost use Rattle.std.specs.Prelude.{◌≡◌, length};
+ghost use Rattle.d64_image.specs.Block.{pairs};
+ghost use Rattle.d64_image.specs.Laws.{EachBlockHasItsPair, EachLegalPairHasItsBlock, OnlyLegalPairsHaveBlocks};
+ghost use Rattle.d64_image.specs.Laws.{DifferencesTell, AlikeImagesAreEqual, AlikeSetsAreEqual, SameMembersTells};
+ghost use Rattle.d64_image.specs.declared.block.TheConstants.{BLOCKS};
+
+/// Blocks and legal pairs of track and sector stand for one another.
+pub fn blocks_stand_for_pairs()
+    ensures count { length pairs ≡ BLOCKS }
+    ensures pair { EachBlockHasItsPair }
+    ensures block { EachLegalPairHasItsBlock }
+    ensures legal { OnlyLegalPairsHaveBlocks }
+{}
+
+/// The list of differences names exactly the blocks in which two images differ.
+pub fn differences_tell()
+    ensures members { DifferencesTell }
+    ensures none { AlikeImagesAreEqual }
+{}
+
+/// Two sets with the same members are equal, and `==` tells whether they are.
+pub fn alike_sets_are_equal()
+    ensures members { AlikeSetsAreEqual }
+    ensures test { SameMembersTells }
+{}

@@ -1,0 +1,17 @@
+//! Disk images of the Commodore 1541 as blocks of 256 bytes.
+//!
+//! A D64 image is the plain copy of a disk of 35 tracks: its 683 blocks, track by track (the VICE manual,
+//! "The D64 disk image format"). Nothing here knows what the blocks mean.
+#![tactic(auto)]
+
+mod block;
+mod block_set;
+mod image;
+pub mod laws;
+
+pub use block::{BLOCKS, BlockNo};
+pub use block_set::BlockSet;
+pub use image::{BLOCK_BYTES, Image, ImageFault};
+
+#[cfg(test)]
+mod tests;

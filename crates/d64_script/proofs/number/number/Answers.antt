@@ -1,0 +1,12 @@
+use Rattle.std.proofs.Common.{◌≡◌, ◌<◌, ◌≤◌, true, length, rules, arith}
+use Rattle.std.specs.List.{list_all}
+use Rattle.std.specs.Char.{is_ascii_digit}
+use Rattle.d64_script.proofs.DigitsOfWords.{number_from_parse}
+use Rattle.d64_script.proofs.number.number.Goals as goal
+
+pub returns : goal.returns
+returns c =
+    let digits : list_all is_ascii_digit c.args.word.now ≡ true = search rules in
+    let few : length c.args.word.now ≤ 3 = omega arith in
+    let some : 0 < length c.args.word.now = search rules in
+    search (rules, number_from_parse)

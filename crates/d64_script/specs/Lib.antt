@@ -1,0 +1,7 @@
+pub mod Dump
+pub mod Number
+pub mod Output
+pub mod RawLines
+pub mod Script
+pub mod Status
+pub mod Words

@@ -1,0 +1,14 @@
+//! The text of scripts and of their answers: lines, words, numbers, status lines, and the lines that show a block.
+//!
+//! Nothing here knows of images, sessions or hosts.
+#![tactic(auto)]
+
+pub mod dump;
+pub mod number;
+pub mod output;
+pub mod raw_lines;
+pub mod script;
+pub mod status;
+#[cfg(test)]
+mod tests;
+pub mod words;

@@ -1,0 +1,44 @@
+//! The numbers that the words of a line spell.
+ghost use Rattle.std.specs.Prelude.{◌≡◌};
+ghost use Rattle.std.specs.Char.{is_ascii_digit};
+ghost use Rattle.std.specs.List.{list_all};
+ghost use Rattle.d64_script.specs.Number.{number_of};
+
+use crate::words::as_text;
+
+/// The most digits of a number.
+const MAX_DIGITS: usize = 3;
+
+/// The number that a word spells: one to three decimal digits, leading zeros among them, of value at most 255. It is
+/// `None` for every other word. It takes no memory.
+#[tactic(auto, unfolding(crate::specs::Number::number_of))]
+pub fn number(word: &[u8]) -> Option<u8>
+    ensures { result ≡ number_of word.now }
+{
+    if word.is_empty() || word.len() > MAX_DIGITS || !is_digits(word) {
+        return None;
+    }
+    as_text(word).parse().ok()
+}
+
+/// Whether all bytes are decimal digits.
+fn is_digits(word: &[u8]) -> bool
+    ensures { result ≡ list_all is_ascii_digit word.now }
+{
+    word.iter().all(u8::is_ascii_digit)
+}
+
+#[cfg(test)]
+mod tests {
+    use super::*;
+
+    #[test]
+    fn reads_one_to_three_digits_of_a_byte(rt: HostRuntime) {
+        assert_eq!(rt; number(b"0"), Some(0));
+        assert_eq!(rt; number(b"036"), Some(36));
+        assert_eq!(rt; number(b"255"), Some(255));
+        for word in [&b""[..], &b"256"[..], &b"0001"[..], &b"+1"[..], &b"x"[..]] {
+            assert_eq!(rt; number(word), None);
+        }
+    }
+}

@@ -1,0 +1,244 @@
+//! Status lines, which answer the lines of a script.
+ghost use Rattle.std.specs.Prelude.{◌≡◌, ◌+◌, ◌<◌, ◌≤◌, ◌++◌, ◌↔◌, length, IsTrue};
+ghost use Rattle.arrayvec.specs.ArrayVec.{array_vec_len};
+ghost use Rattle.d64_script.specs.Status.{IsAccepted, status_number, status_text, status_details, status_line, two_digits};
+
+use arrayvec::ArrayVec;
+use itoa::Buffer;
+
+/// The room for a status line, in bytes.
+pub const MAX_STATUS_LINE: usize = 128;
+
+/// The least number of a refusal.
+const FIRST_REFUSAL: u8 = 30;
+
+/// What a line of a script is answered. The numbers to 72 are those of the drive's error channel (1541 User's Guide);
+/// those from 80 on are this project's own.
+#[derive(Clone, Copy, Debug, PartialEq, Eq)]
+pub enum Status {
+    /// 00: the line was accepted.
+    Done,
+    /// 01: the line was accepted, and so many files were deleted.
+    FilesScratched { count: u32 },
+    /// 30: a byte or a quote that no line holds, too many words, or a word that isn't what its command takes.
+    SyntaxError,
+    /// 31: the first word is no command.
+    UnknownCommand,
+    /// 32: the line has more than 1,024 bytes.
+    LongLine,
+    /// 33: a name, a pattern, an id or the name of a host file that can't be one.
+    BadName,
+    /// 34: the command takes more words.
+    MissingWord,
+    /// 60: the file was never closed.
+    WriteFileOpen,
+    /// 62: there is no such file on the disk.
+    FileNotFound,
+    /// 63: there is a file of this name on the disk.
+    FileExists,
+    /// 64: files of this type can't be written or read.
+    FileTypeMismatch,
+    /// 66: the disk has no such block.
+    IllegalBlock { track: u8, sector: u8 },
+    /// 71: the directory or the block map fails this condition of a sound disk, from 1 to 6.
+    DirectoryError { condition: u8 },
+    /// 72: there is no room on the disk or in its directory.
+    DiskFull,
+    /// 80: the host file is missing (1), its device fails (2), or it is too long (3).
+    HostFile { fault: u8 },
+    /// 81: no command stands before the present image.
+    NothingToUndo,
+    /// 82: no command was undone.
+    NothingToRedo,
+    /// 83: the host file isn't 256 bytes long.
+    NotOneBlock,
+    /// 84: the text isn't a BASIC program, for this fault in this line of the text, from 1.
+    BasicText { fault: u8, line: u32 },
+    /// 85: the file isn't a BASIC program, for this fault.
+    NotBasic { fault: u8 },
+    /// 90: there is no memory.
+    OutOfMemory,
+}
+
+impl Status {
+    /// The number that the status line begins with.
+    pub fn number(&self) -> u8
+        ensures { result ≡ status_number self.now }
+    {
+        match self {
+            Status::Done => 0,
+            Status::FilesScratched { .. } => 1,
+            Status::SyntaxError => 30,
+            Status::UnknownCommand => 31,
+            Status::LongLine => 32,
+            Status::BadName => 33,
+            Status::MissingWord => 34,
+            Status::WriteFileOpen => 60,
+            Status::FileNotFound => 62,
+            Status::FileExists => 63,
+            Status::FileTypeMismatch => 64,
+            Status::IllegalBlock { .. } => 66,
+            Status::DirectoryError { .. } => 71,
+            Status::DiskFull => 72,
+            Status::HostFile { .. } => 80,
+            Status::NothingToUndo => 81,
+            Status::NothingToRedo => 82,
+            Status::NotOneBlock => 83,
+            Status::BasicText { .. } => 84,
+            Status::NotBasic { .. } => 85,
+            Status::OutOfMemory => 90,
+        }
+    }
+
+    /// Whether the line was accepted: the numbers below 30.
+    pub fn is_accepted(&self) -> bool
+        ensures { IsTrue result ↔ IsAccepted self.now }
+    {
+        self.number() < FIRST_REFUSAL
+    }
+
+    /// The status line `NN,TEXT,TT,SS` with its line feed. It takes no memory.
+    pub fn line(&self) -> ArrayVec<u8, MAX_STATUS_LINE>
+        ensures { result.items ≡ status_line self.now }
+    {
+        let (first, second) = self.details();
+        let mut line = ArrayVec::new();
+        push_number(&mut line, u32::from(self.number()));
+        push_bytes(&mut line, b",");
+        push_bytes(&mut line, self.text());
+        push_bytes(&mut line, b",");
+        push_number(&mut line, first);
+        push_bytes(&mut line, b",");
+        push_number(&mut line, second);
+        push_bytes(&mut line, b"\n");
+        line
+    }
+
+    fn text(&self) -> &'static [u8]
+        ensures text { result.now ≡ status_text self.now }
+        ensures short { length result.now ≤ 24 }
+    {
+        match self {
+            Status::Done => b" OK",
+            Status::FilesScratched { .. } => b"FILES SCRATCHED",
+            Status::SyntaxError
+            | Status::UnknownCommand
+            | Status::LongLine
+            | Status::BadName
+            | Status::MissingWord => b"SYNTAX ERROR",
+            Status::WriteFileOpen => b"WRITE FILE OPEN",
+            Status::FileNotFound => b"FILE NOT FOUND",
+            Status::FileExists => b"FILE EXISTS",
+            Status::FileTypeMismatch => b"FILE TYPE MISMATCH",
+            Status::IllegalBlock { .. } => b"ILLEGAL TRACK AND SECTOR",
+            Status::DirectoryError { .. } => b"DIR ERROR",
+            Status::DiskFull => b"DISK FULL",
+            Status::HostFile { .. } => b"HOST FILE",
+            Status::NothingToUndo => b"NOTHING TO UNDO",
+            Status::NothingToRedo => b"NOTHING TO REDO",
+            Status::NotOneBlock => b"NOT ONE BLOCK",
+            Status::BasicText { .. } => b"BASIC TEXT",
+            Status::NotBasic { .. } => b"NOT BASIC",
+            Status::OutOfMemory => b"OUT OF MEMORY",
+        }
+    }
+
+    /// The numbers in the last two columns.
+    fn details(&self) -> (u32, u32)
+        ensures { result ≡ status_details self.now }
+    {
+        match *self {
+            Status::FilesScratched { count } => (count, 0),
+            Status::IllegalBlock { track, sector } => (u32::from(track), u32::from(sector)),
+            Status::DirectoryError { condition } => (u32::from(condition), 0),
+            Status::HostFile { fault } | Status::NotBasic { fault } => (u32::from(fault), 0),
+            Status::BasicText { fault, line } => (u32::from(fault), line),
+            _ => (0, 0),
+        }
+    }
+}
+
+/// Appends a number in decimal with at least two digits.
+fn push_number(line: &mut ArrayVec<u8, MAX_STATUS_LINE>, number: u32)
+    requires { array_vec_len line.old + 10 ≤ 128 }
+    ensures digits { line.new.items ≡ line.old.items ++ two_digits number }
+    ensures short { array_vec_len line.new ≤ array_vec_len line.old + 10 }
+{
+    if number < 10 {
+        push_bytes(line, b"0");
+    }
+    let mut buffer = Buffer::new();
+    push_bytes(line, buffer.format(number).as_bytes());
+}
+
+/// Appends bytes for which there is room.
+fn push_bytes(line: &mut ArrayVec<u8, MAX_STATUS_LINE>, bytes: &[u8])
+    requires { array_vec_len line.old + length bytes.now ≤ 128 }
+    ensures bytes { line.new.items ≡ line.old.items ++ bytes.now }
+    ensures len { array_vec_len line.new ≡ array_vec_len line.old + length bytes.now }
+{
+    let _ = line.try_extend_from_slice(bytes);
+}
+
+#[cfg(test)]
+mod tests {
+    use super::*;
+
+    #[test]
+    fn shows_each_status(rt: HostRuntime) {
+        let lines = [
+            (Status::Done, "00, OK,00,00\n"),
+            (
+                Status::FilesScratched { count: 2 },
+                "01,FILES SCRATCHED,02,00\n",
+            ),
+            (
+                Status::FilesScratched { count: 144 },
+                "01,FILES SCRATCHED,144,00\n",
+            ),
+            (Status::SyntaxError, "30,SYNTAX ERROR,00,00\n"),
+            (Status::UnknownCommand, "31,SYNTAX ERROR,00,00\n"),
+            (Status::LongLine, "32,SYNTAX ERROR,00,00\n"),
+            (Status::BadName, "33,SYNTAX ERROR,00,00\n"),
+            (Status::MissingWord, "34,SYNTAX ERROR,00,00\n"),
+            (Status::WriteFileOpen, "60,WRITE FILE OPEN,00,00\n"),
+            (Status::FileNotFound, "62,FILE NOT FOUND,00,00\n"),
+            (Status::FileExists, "63,FILE EXISTS,00,00\n"),
+            (Status::FileTypeMismatch, "64,FILE TYPE MISMATCH,00,00\n"),
+            (
+                Status::IllegalBlock {
+                    track: 36,
+                    sector: 0,
+                },
+                "66,ILLEGAL TRACK AND SECTOR,36,00\n",
+            ),
+            (
+                Status::IllegalBlock {
+                    track: 1,
+                    sector: 21,
+                },
+                "66,ILLEGAL TRACK AND SECTOR,01,21\n",
+            ),
+            (
+                Status::DirectoryError { condition: 2 },
+                "71,DIR ERROR,02,00\n",
+            ),
+            (Status::DiskFull, "72,DISK FULL,00,00\n"),
+            (Status::HostFile { fault: 2 }, "80,HOST FILE,02,00\n"),
+            (Status::NothingToUndo, "81,NOTHING TO UNDO,00,00\n"),
+            (Status::NothingToRedo, "82,NOTHING TO REDO,00,00\n"),
+            (Status::NotOneBlock, "83,NOT ONE BLOCK,00,00\n"),
+            (
+                Status::BasicText { fault: 1, line: 1 },
+                "84,BASIC TEXT,01,01\n",
+            ),
+            (Status::NotBasic { fault: 1 }, "85,NOT BASIC,01,00\n"),
+            (Status::OutOfMemory, "90,OUT OF MEMORY,00,00\n"),
+        ];
+        for (status, line) in lines {
+            let shown = status.line();
+            assert_eq!(rt; shown.as_slice(), line.as_bytes());
+            assert_eq!(rt; status.is_accepted(), status.number() < 2);
+        }
+    }
+}

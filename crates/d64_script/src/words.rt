@@ -1,0 +1,187 @@
+//! The words of a line of a script.
+ghost use Rattle.std.specs.Prelude.{◌≡◌, ◌<◌, ◌≤◌, length, map, position, All, option_map, IfSome};
+ghost use Rattle.std.specs.List.{list_all};
+ghost use Rattle.d64_script.specs.Words.{IsPrintable, is_printable, is_quote, ends_run, first_word, quoted_word, bare_word, word_before, split_words, words_of, HasWordsOfRule};
+
+use arrayvec::ArrayVec;
+use std::str;
+
+/// The most bytes of a line.
+pub const MAX_LINE: usize = 1024;
+
+/// The most words of a line, since a space stands between two words.
+pub const MAX_WORDS: usize = 512;
+
+/// The words of a line of at most 1,024 bytes, in order, without the quotes round a quoted word. Spaces separate words.
+/// It is `None` where a byte is no printable ASCII character, or where a quote neither begins a word nor ends it. It
+/// takes no memory.
+#[tactic(auto, unfolding(crate::specs::Words::words_of))]
+pub fn words(line: &[u8]) -> Option<ArrayVec<&[u8], MAX_WORDS>>
+    requires { length line.now ≤ 1024 }
+    ensures words { option_map (λ words. map (λ word. word.now) words.items) result ≡ words_of line.now }
+    ensures printable { IfSome result (λ words. All (λ word. All IsPrintable word.now) words.items) }
+{
+    if !is_printable_line(line) {
+        return None;
+    }
+    split_words(line)
+}
+
+/// The words of a line are those of the rule: runs of bytes other than spaces and quotes, and what stands between two
+/// quotes, each before a space or the line's end. At most one list of words is.
+#[inline]
+pub fn words_of_rule(line: &[u8])
+    ensures { HasWordsOfRule line.now }
+{}
+
+/// Whether all bytes of a line are printable ASCII characters.
+fn is_printable_line(line: &[u8]) -> bool
+    ensures { result ≡ list_all is_printable line.now }
+{
+    line.iter().all(|byte| (b' '..=b'~').contains(byte))
+}
+
+/// The words of a line of printable bytes.
+fn split_words(line: &[u8]) -> Option<ArrayVec<&[u8], MAX_WORDS>>
+    requires { length line.now ≤ 1024 }
+    ensures { option_map (λ words. map (λ word. word.now) words.items) result ≡ split_words line.now }
+{
+    let mut words = ArrayVec::new();
+    let mut rest = line;
+    while let Some((first, after)) = rest.split_first() {
+        if *first == b' ' {
+            rest = after;
+        } else {
+            let Some((word, left)) = first_word(rest) else {
+                return None;
+            };
+            words.push(word);
+            rest = left;
+        }
+    }
+    Some(words)
+}
+
+/// The word with which a text begins, and what follows it; `None` where a quote is misplaced.
+fn first_word(text: &[u8]) -> Option<(&[u8], &[u8])>
+    ensures { option_map (λ first. (first.0.now, first.1.now)) result ≡ first_word text.now }
+{
+    match text {
+        [] => None,
+        [b'"', quoted @ ..] => quoted_word(quoted),
+        _ => bare_word(text),
+    }
+}
+
+/// The word that follows an opening quote, and what follows the closing quote.
+#[tactic(auto, unfolding(crate::specs::Words::quoted_word))]
+fn quoted_word(text: &[u8]) -> Option<(&[u8], &[u8])>
+    ensures { option_map (λ first. (first.0.now, first.1.now)) result ≡ quoted_word text.now }
+{
+    match closing_quote(text) {
+        Some(end) => word_before(&text[..end], &text[end + 1..]),
+        None => None,
+    }
+}
+
+/// The place of the next quote.
+fn closing_quote(text: &[u8]) -> Option<usize>
+    ensures place { result ≡ position is_quote text.now }
+    ensures inside { IfSome result (λ place. place < length text.now) }
+{
+    text.iter().position(|byte| *byte == b'"')
+}
+
+/// The word that a run of bytes other than spaces and quotes makes, and what follows the word.
+#[tactic(auto, using(crate::proofs::Runs::unwrap_or_position), unfolding(crate::specs::Words::bare_word))]
+fn bare_word(text: &[u8]) -> Option<(&[u8], &[u8])>
+    ensures { option_map (λ first. (first.0.now, first.1.now)) result ≡ bare_word text.now }
+{
+    let end = run_end(text).unwrap_or(text.len());
+    word_before(&text[..end], &text[end..])
+}
+
+/// The place of the next space or quote.
+fn run_end(text: &[u8]) -> Option<usize>
+    ensures place { result ≡ position ends_run text.now }
+    ensures inside { IfSome result (λ place. place < length text.now) }
+{
+    text.iter().position(|byte| *byte == b' ' || *byte == b'"')
+}
+
+/// A word and what follows it, if a word may end there: before a space or at the line's end.
+fn word_before<'a>(word: &'a [u8], rest: &'a [u8]) -> Option<(&'a [u8], &'a [u8])>
+    ensures { option_map (λ first. (first.0.now, first.1.now)) result ≡ word_before word.now rest.now }
+{
+    match rest {
+        [] | [b' ', ..] => Some((word, rest)),
+        _ => None,
+    }
+}
+
+/// A word of ASCII bytes as a text.
+pub fn as_text(word: &[u8]) -> &str
+    requires { All (λ b. b < 128) word.now }
+    ensures { result.now ≡ word.now }
+{
+    str::from_utf8(word).unwrap()
+}
+
+#[cfg(test)]
+mod tests {
+    use super::*;
+    use std::process::Abort;
+
+    fn expect_words(rt: &impl Abort, line: &[u8], expected: &[&[u8]])
+        requires { length line.now ≤ 1024 }
+    {
+        match words(line) {
+            Some(words) => {
+                assert_eq!(rt; words.len(), expected.len());
+                for (word, wanted) in words.as_slice().iter().zip(expected) {
+                    assert_eq!(rt; *word, *wanted);
+                }
+            }
+            None => assert!(rt; false, "no words"),
+        }
+    }
+
+    #[test]
+    fn splits_lines(rt: HostRuntime) {
+        expect_words(&rt, b"", &[]);
+        expect_words(&rt, b"   ", &[]);
+        expect_words(&rt, b"\"\"", &[b""]);
+        expect_words(&rt, b"  undo ", &[b"undo"]);
+        expect_words(&rt, b"block 17  0", &[b"block", b"17", b"0"]);
+        expect_words(
+            &rt,
+            b"bread \"my block\" 1 0",
+            &[b"bread", b"my block", b"1", b"0"],
+        );
+    }
+
+    #[test]
+    fn refuses_misplaced_quotes_and_other_bytes(rt: HostRuntime) {
+        for line in [
+            &b"save \"a"[..],
+            &b"a\"b"[..],
+            &b"\"a\"b"[..],
+            &b"\"a\"\"b\""[..],
+            &b"a\x7f"[..],
+            &b"a\tb"[..],
+        ] {
+            if line.len() <= MAX_LINE {
+                assert!(rt; words(line).is_none());
+            }
+        }
+    }
+
+    #[test]
+    fn gives_words_as_texts(rt: HostRuntime) {
+        if let Some(words) = words(b"save \"my image\"") {
+            for word in words.as_slice() {
+                assert!(rt; ["save", "my image"].contains(&as_text(word)));
+            }
+        }
+    }
+}
