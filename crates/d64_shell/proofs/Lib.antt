@@ -1,0 +1,4 @@
+pub mod Histories
+pub mod Runs
+pub mod ScriptRuns
+pub mod Transcripts

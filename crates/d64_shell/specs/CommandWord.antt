@@ -1,0 +1,42 @@
+use Rattle.std.specs.Prelude.{ℕ, List, [], ◌∷◌, Option, find, codes, if◌then◌else◌}
+use Rattle.std.specs.Option.{option_map}
+use Rattle.std.specs.Str.{bytes_eq}
+use Rattle.d64_shell.specs.declared.command_word.CommandWord.{CommandWord}
+use Rattle.d64_shell.specs.declared.command_word.CommandWord.TheVariants.{Block, BlockRead, BlockWrite, Quit, Redo, Save, Undo}
+
+-- the words that begin a line, and what each stands for
+abbrev pub command_words : List (List ℕ × CommandWord)
+command_words =
+    (codes "block", Block)
+    ∷ (codes "bread", BlockRead)
+    ∷ (codes "bwrite", BlockWrite)
+    ∷ (codes "quit", Quit)
+    ∷ (codes "redo", Redo)
+    ∷ (codes "save", Save)
+    ∷ (codes "undo", Undo)
+    ∷ []
+
+-- what a line's first word stands for
+abbrev pub command_word_of : List ℕ → Option CommandWord
+command_word_of word = option_map (λ row. row.1) (find (λ row. bytes_eq word row.0) command_words)
+
+-- how many words follow at least; `save` goes without one where the image has a file of its own
+abbrev pub fewest : List ℕ → CommandWord → ℕ
+fewest home Block = 2
+fewest home BlockRead = 3
+fewest home BlockWrite = 3
+fewest home Quit = 0
+fewest home Redo = 0
+fewest [] Save = 1
+fewest (byte ∷ bytes) Save = 0
+fewest home Undo = 0
+
+-- how many words follow at most
+abbrev pub most : CommandWord → ℕ
+most Block = 2
+most BlockRead = 3
+most BlockWrite = 3
+most Quit = 0
+most Redo = 0
+most Save = 1
+most Undo = 0

@@ -1,0 +1,33 @@
+use Rattle.std.specs.Prelude.{ℕ, ◌+◌, ◌-◌, ◌<◌, List, [], ◌∷◌, ◌++◌, length, take, slice_index_or}
+
+-- a history is a list of whole images with a cursor
+pub record History : Type 0 where
+  pub images : List (List (List ℕ))
+  pub cursor : ℕ
+
+-- the cursor stands on an image
+abbrev pub IsHistory : History → Type 0
+IsHistory history = history.cursor < length history.images
+
+-- the image at the cursor
+abbrev pub present : History → List (List ℕ)
+present history = slice_index_or history.images history.cursor []
+
+-- the history that begins with an image
+abbrev pub begun : List (List ℕ) → History
+begun image = record { images = image ∷ []; cursor = 0 }
+
+-- an image is added after the present one, and what lay after the cursor is dropped, also where nothing changed
+abbrev pub added : History → List (List ℕ) → History
+added history image = record {
+  images = take (history.cursor + 1) history.images ++ image ∷ [];
+  cursor = history.cursor + 1;
+}
+
+-- the cursor one image back
+abbrev pub undone : History → History
+undone history = record { images = history.images; cursor = history.cursor - 1 }
+
+-- the cursor one image on
+abbrev pub redone : History → History
+redone history = record { images = history.images; cursor = history.cursor + 1 }

@@ -1,0 +1,136 @@
+use Rattle.std.specs.Prelude.{◌≡◌, ℕ, nat_lt, List, [], ◌∷◌, length, false, true, ◌+◌, ◌==◌, if◌then◌else◌, Option, None, Some, MatchOption, Result, Ok, Err, slice_index_or}
+use Rattle.d64_image.specs.Image.{sector_at, bytes_of}
+use Rattle.d64_shell.specs.History.{History, present, added, undone, redone}
+use Rattle.d64_shell.specs.Command.{after, reply_to, refusal_of}
+use Rattle.d64_script.specs.Words.{words_of}
+use Rattle.d64_image.specs.declared.image.TheConstants.{BLOCK_BYTES}
+use Rattle.d64_shell.specs.Arguments.{host_in, block_in}
+use Rattle.d64_script.specs.Dump.{dump}
+use Rattle.d64_script.specs.RawLines.{text_of, is_too_long, is_skipped}
+use Rattle.d64_shell.specs.CommandWord.{command_word_of, fewest, most}
+use Rattle.d64_shell.specs.Act.{Act, Settle, Try, FetchThen, StoreOf, plain, World, LineAnswer, Does}
+use Rattle.d64_shell.specs.declared.handlers.TheConstants.{HOST_FILE_BYTES}
+use Rattle.d64_shell.specs.declared.command.Command.{Command}
+use Rattle.d64_shell.specs.declared.command.Command.TheVariants as commands
+use Rattle.d64_shell.specs.declared.command.Reply.{Reply}
+use Rattle.d64_shell.specs.declared.command.Reply.TheVariants as replies
+use Rattle.d64_shell.specs.declared.command.Refusal.{Refusal}
+use Rattle.d64_shell.specs.declared.command.Refusal.TheVariants as refusals
+use Rattle.d64_script.specs.declared.status.Status.{Status}
+use Rattle.d64_script.specs.declared.status.Status.TheVariants.{Done, SyntaxError, UnknownCommand, LongLine, MissingWord, NothingToUndo, NothingToRedo, NotOneBlock, OutOfMemory}
+use Rattle.d64_shell.specs.declared.command_word.CommandWord.{CommandWord}
+use Rattle.d64_shell.specs.declared.command_word.CommandWord.TheVariants.{Block, BlockRead, BlockWrite, Quit, Redo, Save, Undo}
+
+-- the line is refused with a status, and changes nothing
+abbrev pub refuse : History → Status → Act
+refuse history status = Settle (plain status) history
+
+-- one of the words that follow the first
+abbrev pub word_at : List (List ℕ) → ℕ → List ℕ
+word_at words place = slice_index_or words place []
+
+-- with what was read from the words, or refused for the first fault in them
+abbrev pub reading : {A : Type 0} → History → Result A Status → (A → Act) → Act
+reading history (Ok value) next = next value
+reading history (Err status) next = refuse history status
+
+-- how a refusal of a command is answered
+abbrev pub status_of_refusal : Refusal → Status
+status_of_refusal refusals.Memory = OutOfMemory
+
+-- how an accepted command is answered
+abbrev pub status_of_reply : Reply → Status
+status_of_reply replies.Done = Done
+
+-- a command whose first refusal is known: that refusal, or the command's reply and one image more
+abbrev pub refused_or_added : History → Command → Option Refusal → Act
+refused_or_added history command (Some refusal) = refuse history (status_of_refusal refusal)
+refused_or_added history command None =
+    Try (plain (status_of_reply (reply_to (present history) command))) (added history (after (present history) command))
+
+-- a command given to the session
+abbrev pub command_act : History → Command → Act
+command_act history command = refused_or_added history command (refusal_of (present history) command)
+
+-- `block`: a block is shown
+abbrev pub block_act : History → List ℕ → List ℕ → Act
+block_act history track sector =
+    reading history (block_in track sector) (λ block.
+    Settle (record { output = dump (sector_at (present history) block); status = Done; closes = false }) history)
+
+-- `bread`: a block is stored in a host file
+abbrev pub block_read_act : History → List ℕ → List ℕ → List ℕ → Act
+block_read_act history host track sector =
+    reading history (host_in host) (λ name.
+    reading history (block_in track sector) (λ block. StoreOf name (sector_at (present history) block)))
+
+-- a host file of one block replaces a block
+abbrev pub write_one_block : History → ℕ → List ℕ → Act
+write_one_block history block bytes =
+    if length bytes == BLOCK_BYTES then command_act history (commands.BlockWrite block bytes) else refuse history NotOneBlock
+
+-- `bwrite`: a block is replaced by a host file
+abbrev pub block_write_act : History → List ℕ → List ℕ → List ℕ → Act
+block_write_act history host track sector =
+    reading history (host_in host) (λ name.
+    reading history (block_in track sector) (λ block. FetchThen name HOST_FILE_BYTES (write_one_block history block)))
+
+-- `quit`: the run ends
+abbrev pub quit_act : History → Act
+quit_act history = Settle (record { output = []; status = Done; closes = true }) history
+
+-- `redo`
+abbrev pub redo_act : History → Act
+redo_act history =
+    if nat_lt (history.cursor + 1) (length history.images) then Settle (plain Done) (redone history) else refuse history NothingToRedo
+
+-- `save`: the image is stored in a host file, by default in the one that it has
+abbrev pub save_act : List ℕ → History → List (List ℕ) → Act
+save_act home history [] = StoreOf home (bytes_of (present history))
+save_act home history (host ∷ more) = reading history (host_in host) (λ name. StoreOf name (bytes_of (present history)))
+
+-- `undo`
+abbrev pub undo_act : History → Act
+undo_act history = if nat_lt 0 history.cursor then Settle (plain Done) (undone history) else refuse history NothingToUndo
+
+-- what a command word and the words after it ask for, where they are as many as it takes
+abbrev pub act_of : List ℕ → History → CommandWord → List (List ℕ) → Act
+act_of home history Block words = block_act history (word_at words 0) (word_at words 1)
+act_of home history BlockRead words = block_read_act history (word_at words 0) (word_at words 1) (word_at words 2)
+act_of home history BlockWrite words = block_write_act history (word_at words 0) (word_at words 1) (word_at words 2)
+act_of home history Quit words = quit_act history
+act_of home history Redo words = redo_act history
+act_of home history Save words = save_act home history words
+act_of home history Undo words = undo_act history
+
+-- what a command word and the words after it ask for: too few words first, then too many
+abbrev pub act_of_command : List ℕ → History → CommandWord → List (List ℕ) → Act
+act_of_command home history command words =
+    if nat_lt (length words) (fewest home command) then refuse history MissingWord
+    else (if nat_lt (most command) (length words) then refuse history SyntaxError else act_of home history command words)
+
+-- what the words after the first ask for, where the first is a command word
+abbrev pub act_of_known : List ℕ → History → Option CommandWord → List (List ℕ) → Act
+act_of_known home history None words = refuse history UnknownCommand
+act_of_known home history (Some command) words = act_of_command home history command words
+
+-- what a line's words ask for
+abbrev pub act_of_words : List ℕ → History → Option (List (List ℕ)) → Act
+act_of_words home history None = refuse history SyntaxError
+act_of_words home history (Some []) = refuse history UnknownCommand
+act_of_words home history (Some (first ∷ words)) = act_of_known home history (command_word_of first) words
+
+-- what a line of the script asks for; None where it is skipped
+unfoldable pub act_of_line : List ℕ → History → List ℕ → Option Act
+act_of_line home history line =
+    if is_too_long line then Some (refuse history LongLine)
+    else (if is_skipped (text_of line) then None else Some (act_of_words home history (words_of (text_of line))))
+
+-- a line is skipped: it asks for nothing, and nothing changes
+abbrev pub IsSkipped : List ℕ → History → List ℕ → World → World → Type 0
+IsSkipped home history line world after = (act_of_line home history line ≡ None) × (after ≡ world)
+
+-- a line asks for an act, which is done and answered
+abbrev pub IsAnswered : List ℕ → History → List ℕ → World → LineAnswer → World → Type 0
+IsAnswered home history line world answer after =
+    MatchOption (act_of_line home history line) ⊥ (λ act. Does act world answer after)

@@ -1,0 +1,64 @@
+//! The words that begin the lines of a script.
+ghost use Rattle.std.specs.Prelude.{◌≡◌};
+ghost use Rattle.d64_shell.specs.CommandWord.{command_word_of, fewest, most};
+
+/// What the first word of a line stands for.
+#[derive(Clone, Copy, Debug, PartialEq, Eq)]
+pub enum CommandWord {
+    /// `block t s`: shows a block.
+    Block,
+    /// `bread host t s`: stores a block in a host file.
+    BlockRead,
+    /// `bwrite host t s`: replaces a block by a host file.
+    BlockWrite,
+    /// `quit`: ends the run.
+    Quit,
+    /// `redo`: takes an undo back.
+    Redo,
+    /// `save [host]`: stores the image.
+    Save,
+    /// `undo`: takes the last command back.
+    Undo,
+}
+
+impl CommandWord {
+    /// What a word stands for, or None where it begins no line. Capitals are no small letters.
+    pub fn of(word: &[u8]) -> Option<CommandWord>
+        ensures { result ≡ command_word_of word.now }
+    {
+        match word {
+            b"block" => Some(CommandWord::Block),
+            b"bread" => Some(CommandWord::BlockRead),
+            b"bwrite" => Some(CommandWord::BlockWrite),
+            b"quit" => Some(CommandWord::Quit),
+            b"redo" => Some(CommandWord::Redo),
+            b"save" => Some(CommandWord::Save),
+            b"undo" => Some(CommandWord::Undo),
+            _ => None,
+        }
+    }
+
+    /// How many words follow at least, where `home` is the name of the image's own file, or empty.
+    pub fn fewest(self, home: &str) -> usize
+        ensures { result ≡ fewest home.now self }
+    {
+        match self {
+            CommandWord::Quit | CommandWord::Redo | CommandWord::Undo => 0,
+            CommandWord::Save => usize::from(home.is_empty()),
+            CommandWord::Block => 2,
+            CommandWord::BlockRead | CommandWord::BlockWrite => 3,
+        }
+    }
+
+    /// How many words follow at most.
+    pub fn most(self) -> usize
+        ensures { result ≡ most self }
+    {
+        match self {
+            CommandWord::Quit | CommandWord::Redo | CommandWord::Undo => 0,
+            CommandWord::Save => 1,
+            CommandWord::Block => 2,
+            CommandWord::BlockRead | CommandWord::BlockWrite => 3,
+        }
+    }
+}
