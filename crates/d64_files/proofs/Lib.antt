@@ -1,2 +1,4 @@
+pub mod Chains
 pub mod LabelTests
 pub mod Matching
+pub mod Walks

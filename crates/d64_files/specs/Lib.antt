@@ -1,3 +1,6 @@
 pub mod Label
 pub mod Name
 pub mod Pattern
+pub mod Chain
+pub mod ChainLaws
+pub mod FileData

@@ -1,0 +1,6 @@
+use Rattle.d64_image.specs.declared.block.TheConstants.{BLOCKS}
+use Rattle.d64_files.proofs.Walks.{Walked}
+use Rattle.d64_files.proofs.chain.chain.Given as goal
+
+abbrev pub invariant-loop : goal.invariant-loop
+invariant-loop l = Walked l.image l.fn.start l.last l.counter BLOCKS l.blocks l.seen

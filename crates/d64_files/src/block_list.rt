@@ -1,0 +1,54 @@
+//! Lists of blocks that take no memory of their own.
+ghost use Rattle.std.specs.Prelude.{◌≡◌, ◌<◌, ◌≤◌, [], ◌∷◌, ◌++◌, length};
+ghost use Rattle.d64_image.specs.declared.block.TheConstants.{BLOCKS};
+
+use d64_image::{BLOCKS, BlockNo};
+use std::marker::Model;
+
+/// A list of at most as many blocks as an image has.
+#[derive(Drop)]
+pub struct BlockList {
+    /// The blocks of the list, and then others that are not part of it.
+    places: [BlockNo; BLOCKS],
+    len: usize,
+}
+
+impl Model for BlockList {
+    ghost use Rattle.std.specs.Prelude.{ℕ, ◌≤◌, List, take};
+    ghost use Rattle.d64_image.specs.declared.block.TheConstants.{BLOCKS};
+
+    ghost Value = { List ℕ };
+
+    ghost view = { λ list. take list.len list.places };
+
+    ghost invariant = { λ list. list.len ≤ BLOCKS };
+}
+
+impl BlockList {
+    /// The list of one block.
+    pub(crate) fn of(block: BlockNo) -> BlockList
+        ensures { result ≡ block ∷ [] }
+    {
+        BlockList {
+            places: [block; BLOCKS],
+            len: 1,
+        }
+    }
+
+    /// Appends a block.
+    pub(crate) fn push(&mut self, block: BlockNo)
+        requires { length self.old < BLOCKS }
+        ensures { self.new ≡ self.old ++ block ∷ [] }
+    {
+        self.places[self.len] = block;
+        self.len += 1;
+    }
+
+    /// The blocks of the list, in order.
+    pub fn as_slice(&self) -> &[BlockNo]
+        ensures value { result.now ≡ self.now }
+        ensures len { length result.now ≤ BLOCKS }
+    {
+        &self.places[..self.len]
+    }
+}

@@ -1,0 +1,131 @@
+//! Chains of blocks: directories and files.
+ghost use Rattle.std.specs.Prelude.{◌≡◌, ◌≢◌, ◌<◌, ◌↔◌, [], List, ℕ, length, IsSome, MatchOption, unwrap_or};
+ghost use Rattle.d64_files.specs.Chain.{Chain, chain as chain_of, chain_from as chain_of_pair, block_in as block_of_pair};
+
+use crate::block_list::BlockList;
+use d64_image::{BLOCKS, BlockNo, BlockSet, Image};
+
+/// Where the link of a block leads, the track and the sector in its bytes 0 and 1.
+#[derive(Clone, Copy)]
+pub(crate) enum Link {
+    /// Nowhere: the track is 0, and the block is the last of its chain.
+    End,
+    /// To the next block of the chain.
+    To(BlockNo),
+    /// Off the disk, which has no such sector.
+    Broken,
+}
+
+// The image has each block.
+fn known_block(image: &Image, block: BlockNo)
+    ensures { block < length image.now }
+{
+    let _ = image.sector(block);
+}
+
+/// The block of a track (from 1) and a sector (from 0), or None where the image has no such block.
+#[tactic(auto, unfolding(crate::specs::Chain::block_in))]
+pub(crate) fn block_in(image: &Image, track: u8, sector: u8) -> Option<BlockNo>
+    ensures { result ≡ block_of_pair image.now track sector }
+{
+    let block = BlockNo::of(track, sector)?;
+    known_block(image, block);
+    Some(block)
+}
+
+impl Link {
+    ghost use Rattle.d64_files.specs.Chain.{link_of};
+
+    /// The link of a block.
+    #[tactic(auto, unfolding(crate::specs::Chain::led_by))]
+    fn of(image: &Image, block: BlockNo) -> Link
+        ensures link { result ≡ link_of image.now block }
+        ensures block { block < length image.now }
+    {
+        let sector = image.sector(block);
+        if sector[0] == 0 {
+            return Link::End;
+        }
+        match block_in(image, sector[0], sector[1]) {
+            Some(next) => Link::To(next),
+            None => Link::Broken,
+        }
+    }
+}
+
+/// The chain from a block, or None where there is none: where a link leads off the disk, or back to a block of the chain.
+///
+/// It ends after at most as many blocks as the image has, and takes no memory.
+pub(crate) fn chain(image: &Image, start: BlockNo) -> Option<BlockList>
+    ensures chain { MatchOption result ((blocks : List ℕ) → Chain image.now start blocks → ⊥) (λ blocks. Chain image.now start blocks) }
+    ensures value { unwrap_or result [] ≡ chain_of image.now start }
+    ensures exists { IsSome result ↔ (chain_of image.now start ≢ []) }
+{
+    let mut blocks = BlockList::of(start);
+    let mut seen = BlockSet::empty();
+    seen.add(start);
+    let mut last = start;
+    for _ in 0..BLOCKS {
+        match Link::of(image, last) {
+            Link::End => return Some(blocks),
+            Link::Broken => return None,
+            Link::To(next) => {
+                if seen.has(next) {
+                    return None;
+                }
+                seen.add(next);
+                blocks.push(next);
+                last = next;
+            }
+        }
+    }
+    None
+}
+
+/// The chain from the block of a track (from 1) and a sector (from 0), or None where the image has no such block or no
+/// chain from it.
+pub(crate) fn chain_from(image: &Image, track: u8, sector: u8) -> Option<BlockList>
+    ensures value { unwrap_or result [] ≡ chain_of_pair image.now track sector }
+    ensures exists { IsSome result ↔ (chain_of_pair image.now track sector ≢ []) }
+{
+    chain(image, block_in(image, track, sector)?)
+}
+
+#[cfg(test)]
+mod tests {
+    use super::*;
+    use std::test::Fail;
+
+    /// A blank image with these links: a block's index, and the track and sector that it names.
+    fn linked(rt: &HostRuntime, links: &[(usize, u8, u8)]) -> Result<Image, Fail> {
+        let mut image = Image::zeroed(rt.alloc())?;
+        for (index, track, sector) in links {
+            let block = BlockNo::at(*index).ok_or("no such block")?;
+            let bytes = image.sector_mut(block);
+            bytes[0] = *track;
+            bytes[1] = *sector;
+        }
+        Ok(image)
+    }
+
+    #[test]
+    fn follows_links_to_the_end(rt: HostRuntime) -> Result<(), Fail> {
+        let image = linked(&rt, &[(0, 18, 1), (358, 0, 255)])?;
+        let blocks = chain_from(&image, 1, 0).ok_or("no chain")?;
+        let indices = blocks.as_slice();
+        assert_eq!(rt; indices.len(), 2);
+        assert_eq!(rt; indices[0].index(), 0);
+        assert_eq!(rt; indices[1].index(), 358);
+        Ok(())
+    }
+
+    #[test]
+    fn finds_no_chain(rt: HostRuntime) -> Result<(), Fail> {
+        let image = linked(&rt, &[(0, 1, 0), (1, 0x24, 0), (2, 1, 1)])?;
+        for sector in 0..3 {
+            assert!(rt; chain_from(&image, 1, sector).is_none(), "{sector}");
+        }
+        assert!(rt; chain_from(&image, 36, 0).is_none());
+        Ok(())
+    }
+}

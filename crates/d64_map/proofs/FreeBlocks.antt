@@ -1,0 +1,68 @@
+-- the blocks that a map marks free
+use Rattle.std.proofs.Common.{◌≡◌, ℕ, ◌+◌, ◌*◌, ◌/◌, ◌%◌, ◌^◌, ◌<◌, ◌≤◌, ◌&&◌, bit_and, get_or, Bool, true, false, ltb, nat_eq, List, refl, sym, ap, ◌∙◌, arith}
+use Rattle.std.specs.List.{range_with_len, list_any, filter}
+use Rattle.std.specs.Ordering.{nat_cmp}
+use Rattle.std.specs.Cmp.{nat_cmp_total}
+use Rattle.std.specs.FinSet as set
+use Rattle.std.specs.FinSet.{from_list_push, nat_cmp-IsAntisymmetric}
+use Rattle.std.proofs.lemmas.Bool.Decides.{nat_tests}
+use Rattle.d64_image.specs.declared.block.TheConstants.{BLOCKS}
+use Rattle.std.specs.Int.{bit_at}
+use Rattle.std.proofs.lemmas.Nat.Bits.{shr_and_one}
+use Rattle.d64_image.specs.Block.{pair_at}
+use Rattle.d64_image.specs.Image.{sector_at}
+use Rattle.d64_map.specs.Map.{map_block, blocks, is_free, free_blocks}
+use Rattle.d64_map.proofs.Ranges.{any-range, contains-filtered, filter_more, filter_same}
+
+-- all blocks, counted one after another
+pub all_blocks : (n : ℕ) → n ≡ BLOCKS → range_with_len 0 n ≡ blocks
+unfolding blocks
+all_blocks n e = ap (range_with_len 0) e
+
+any-blocks : (n q : ℕ) → n ≡ BLOCKS → list_any (λ y. nat_eq y q) blocks ≡ ltb q n
+any-blocks n q e = ap (list_any (λ y. nat_eq y q)) (sym (all_blocks n e)) ∙ any-range 0 n q ∙ grind (arith, nat_tests)
+
+-- a block is free where its bit is 1
+pub contains-free_blocks : (image : List (List ℕ)) (block : ℕ) → block < BLOCKS → set.contains (free_blocks image) block ≡ is_free image block
+unfolding free_blocks
+contains-free_blocks image block h =
+    contains-filtered (is_free image) blocks block
+    ∙ ap (λ (b : Bool). b && is_free image block) (any-blocks BLOCKS block refl ∙ (let e : ltb block BLOCKS ≡ true = grind (arith, nat_tests) in e))
+
+-- no number past the last block is free
+pub contains-free_blocks-past : (image : List (List ℕ)) (block : ℕ) → BLOCKS ≤ block → set.contains (free_blocks image) block ≡ false
+unfolding free_blocks
+contains-free_blocks-past image block h =
+    contains-filtered (is_free image) blocks block
+    ∙ ap (λ (b : Bool). b && is_free image block) (any-blocks BLOCKS block refl ∙ (let e : ltb block BLOCKS ≡ false = grind (arith, nat_tests) in e))
+
+-- one step of the set of what passes
+pub set_more : (p : ℕ → Bool) (n block : ℕ) (s t : set.FinSet nat_cmp) → s ≡ set.from_list (filter p (range_with_len 0 n)) → block ≡ n → p block ≡ true
+    → t ≡ set.insert s block → t ≡ set.from_list (filter p (range_with_len 0 (n + 1)))
+set_more p n block s t so_far is passes more =
+    let z : 0 + n ≡ n = omega arith in
+    more ∙ ap (λ (x : set.FinSet nat_cmp). set.insert x block) so_far
+    ∙ ap (set.insert (set.from_list {R = nat_cmp} (filter p (range_with_len 0 n)))) (is ∙ sym z)
+    ∙ sym (from_list_push nat_cmp_total nat_cmp-IsAntisymmetric (filter p (range_with_len 0 n)) (0 + n))
+    ∙ ap (λ (xs : List ℕ). set.from_list {R = nat_cmp} xs) (sym (filter_more p 0 n (ap p (z ∙ sym is) ∙ passes)))
+
+pub set_same : (p : ℕ → Bool) (n block : ℕ) (s t : set.FinSet nat_cmp) → s ≡ set.from_list (filter p (range_with_len 0 n)) → block ≡ n → p block ≡ false
+    → t ≡ s → t ≡ set.from_list (filter p (range_with_len 0 (n + 1)))
+set_same p n block s t so_far is fails same =
+    let z : 0 + n ≡ n = omega arith in
+    same ∙ so_far ∙ ap (λ (xs : List ℕ). set.from_list {R = nat_cmp} xs) (sym (filter_same p 0 n (ap p (z ∙ sym is) ∙ fails)))
+
+-- the test that the code makes of a bit is that of the map
+pub bit_read : (image : List (List ℕ)) (block track sector : ℕ) (bytes : List ℕ) → bytes ≡ sector_at image map_block → track ≡ (pair_at block).0 → sector ≡ (pair_at block).1
+    → nat_eq (bit_and (get_or bytes (4 * track + 1 + sector / 8) 0 / 2 ^ (sector % 8)) 1) 1 ≡ is_free image block
+unfolding is_free
+bit_read image block track sector bytes e f g =
+    ap (λ (n : ℕ). nat_eq n 1) (shr_and_one (get_or bytes (4 * track + 1 + sector / 8) 0) (sector % 8))
+    ∙ ap (λ (x : List ℕ). nat_eq (bit_at (get_or x (4 * track + 1 + sector / 8) 0) (sector % 8)) 1) e
+    ∙ ap (λ (t : ℕ). nat_eq (bit_at (get_or (sector_at image map_block) (4 * t + 1 + sector / 8) 0) (sector % 8)) 1) f
+    ∙ ap (λ (s : ℕ). nat_eq (bit_at (get_or (sector_at image map_block) (4 * (pair_at block).0 + 1 + s / 8) 0) (s % 8)) 1) g
+
+pub contains-free_blocks-both : (image : List (List ℕ)) (block : ℕ) → set.contains (free_blocks image) block ≡ (ltb block BLOCKS && is_free image block)
+unfolding free_blocks
+contains-free_blocks-both image block =
+    contains-filtered (is_free image) blocks block ∙ ap (λ (b : Bool). b && is_free image block) (any-blocks BLOCKS block refl)

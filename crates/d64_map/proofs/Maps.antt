@@ -1,0 +1,210 @@
+-- what the map that is written for a set says
+use Rattle.std.proofs.Common.{◌≡◌, ◌≢◌, ℕ, ◌+◌, ◌-◌, ◌*◌, ◌/◌, ◌%◌, ◌<◌, ◌≤◌, Bool, true, false, cond, nat_eq, List, [], length, get_or, refl, sym, ap, ◌∙◌, subst, inl, inr, arith}
+use Rattle.std.specs.List.{range_with_len}
+use Rattle.std.specs.Int.{bit_at}
+use Rattle.std.specs.Ordering.{nat_cmp}
+use Rattle.std.specs.Cmp.{nat_cmp_total}
+use Rattle.std.specs.FinSet as set
+use Rattle.std.specs.FinSet.{same_set, nat_cmp-IsAntisymmetric}
+use Rattle.std.proofs.lemmas.Bool.{cases_lt, cases_eq, cases_Bool, eq-eqb, ne_eqb, cond-true, cond-false}
+use Rattle.std.proofs.lemmas.Bool.Decides.{nat_tests}
+use Rattle.std.proofs.lemmas.List.{get_or-set_same, get_or-set_other, get_or_past, length-set}
+use Rattle.std.proofs.lemmas.List.Elements.{All-set, All-from_get_or}
+use Rattle.std.proofs.lemmas.List.FromFn.{fill_by_all, get_or-map-range_with_len, length-map-range_with_len, length-range_with_len}
+use Rattle.std.proofs.lemmas.List.Sums.{count_by-le-length}
+use Rattle.d64_image.specs.declared.block.TheConstants.{BLOCKS}
+use Rattle.d64_image.specs.Block.{sectors_on, first_block, pair_at}
+use Rattle.d64_image.specs.BlockSet.{MembersAreBlocks}
+use Rattle.d64_image.specs.Image.{IsBlock, IsImage, sector_at}
+use Rattle.d64_image.proofs.Zones.{Placed, placed}
+use Rattle.d64_image.proofs.Pairs.{pair_at-counted}
+use Rattle.d64_map.specs.Track.{has_sector, blocks_on, members_on}
+use Rattle.d64_map.specs.Map.{map_block, is_free, free_blocks, CountsFit, bits_for, map_byte, is_entry, map_for, with_map}
+use Rattle.d64_map.proofs.Sectors.{has_sector-legal}
+use Rattle.d64_map.proofs.FreeBlocks.{contains-free_blocks, contains-free_blocks-past}
+use Rattle.d64_map.proofs.Bits.{bit_at-sum, as_bit, byte_below}
+
+entry : (place : ℕ) → 4 ≤ place → place < 144 → is_entry place ≡ true
+entry place l h = grind (arith, nat_tests)
+
+no_entry : (place : ℕ) → (4 ≤ place → place < 144 → ⊥) → is_entry place ≡ false
+no_entry place h = grind (arith, nat_tests)
+
+-- 256 bytes that are new at the entries and old elsewhere are the map's block for the set
+pub map_for-is : (bytes xs : List ℕ) (free : set.FinSet nat_cmp) → length xs ≡ 256 → ((k : ℕ) → 4 ≤ k → k < 144 → get_or xs k 0 ≡ map_byte free k)
+    → ((k : ℕ) → k < 4 → get_or xs k 0 ≡ get_or bytes k 0) → ((k : ℕ) → 144 ≤ k → get_or xs k 0 ≡ get_or bytes k 0) → xs ≡ map_for bytes free
+unfolding map_for
+map_for-is bytes xs free long inside before after =
+    fill_by_all (λ place. cond (is_entry place) (map_byte free place) (get_or bytes place 0)) xs 256 0 long (λ k h.
+    elim (cases_lt k 4) [
+      | inl low ↦ before k low ∙ sym (cond-false (is_entry k) (map_byte free k) (get_or bytes k 0) (no_entry k (λ l _. omega arith)))
+      | inr l ↦ elim (cases_lt k 144) [
+        | inl m ↦ inside k l m ∙ sym (cond-true (is_entry k) (map_byte free k) (get_or bytes k 0) (entry k l m))
+        | inr past ↦ after k past ∙ sym (cond-false (is_entry k) (map_byte free k) (get_or bytes k 0) (no_entry k (λ _ m. omega arith)))
+      ]
+    ])
+
+pub length-map_for : (bytes : List ℕ) (free : set.FinSet nat_cmp) → length (map_for bytes free) ≡ 256
+unfolding map_for
+length-map_for bytes free = length-map-range_with_len (λ place. cond (is_entry place) (map_byte free place) (get_or bytes place 0)) 0 256
+
+at_place : (bytes : List ℕ) (free : set.FinSet nat_cmp) (place : ℕ) → place < 256
+    → get_or (map_for bytes free) place 0 ≡ cond (is_entry place) (map_byte free place) (get_or bytes place 0)
+unfolding map_for
+at_place bytes free place h =
+    get_or-map-range_with_len (λ k. cond (is_entry k) (map_byte free k) (get_or bytes k 0)) 0 256 place place 0 h (omega arith)
+
+pub at_entry : (bytes : List ℕ) (free : set.FinSet nat_cmp) (place : ℕ) → 4 ≤ place → place < 144 → get_or (map_for bytes free) place 0 ≡ map_byte free place
+at_entry bytes free place l h =
+    at_place bytes free place (omega arith) ∙ cond-true (is_entry place) (map_byte free place) (get_or bytes place 0) (entry place l h)
+
+pub elsewhere : (bytes : List ℕ) (free : set.FinSet nat_cmp) (place : ℕ) → length bytes ≡ 256 → is_entry place ≡ false → get_or (map_for bytes free) place 0 ≡ get_or bytes place 0
+elsewhere bytes free place long outside =
+    elim (cases_lt place 256) [
+      | inl h ↦ at_place bytes free place h ∙ cond-false (is_entry place) (map_byte free place) (get_or bytes place 0) outside
+      | inr past ↦
+          let m = length-map_for bytes free in
+          get_or_past (map_for bytes free) place 0 (omega arith) ∙ sym (get_or_past bytes place 0 (omega arith))
+    ]
+
+-- the map's block of the image whose map was written
+pub sector_at-with_map : (image : List (List ℕ)) (free : set.FinSet nat_cmp) → map_block < length image
+    → sector_at (with_map image free) map_block ≡ map_for (sector_at image map_block) free
+unfolding with_map
+sector_at-with_map image free h = get_or-set_same image map_block (map_for (sector_at image map_block) free) [] h
+
+pub sector_at-with_map-other : (image : List (List ℕ)) (free : set.FinSet nat_cmp) (block : ℕ) → block ≢ map_block → sector_at (with_map image free) block ≡ sector_at image block
+unfolding with_map
+sector_at-with_map-other image free block h = get_or-set_other image map_block block (map_for (sector_at image map_block) free) [] h
+
+pub length-with_map : (image : List (List ℕ)) (free : set.FinSet nat_cmp) → length (with_map image free) ≡ length image
+unfolding with_map
+length-with_map image free = length-set image map_block (map_for (sector_at image map_block) free)
+
+-- an image whose map's block has bytes has that block
+pub has_map : (image : List (List ℕ)) → length (sector_at image map_block) ≡ 256 → map_block < length image
+has_map image long =
+    elim (cases_lt map_block (length image)) [
+      | inl h ↦ h
+      | inr past ↦ let e = ap length (get_or_past image map_block [] past) in absurd (omega (arith, e, long))
+    ]
+
+-- the byte of a track's count, and those of its bits
+pub map_byte-count : (free : set.FinSet nat_cmp) (track place : ℕ) → place ≡ 4 * track → map_byte free place ≡ members_on free track
+unfolding map_byte
+map_byte-count free track place e =
+    let r : place % 4 ≡ 0 = omega arith in
+    let q : place / 4 ≡ track = omega arith in
+    cond-true _ _ _ (eq-eqb (place % 4) 0 r) ∙ ap (members_on free) q
+
+pub map_byte-bits : (free : set.FinSet nat_cmp) (track part place : ℕ) → part < 3 → place ≡ 4 * track + 1 + part → map_byte free place ≡ bits_for free track (8 * part)
+unfolding map_byte
+map_byte-bits free track part place few e =
+    let r : place % 4 ≡ part + 1 = omega arith in
+    let q : place / 4 ≡ track = omega arith in
+    let p : place % 4 - 1 ≡ part = omega arith in
+    cond-false _ _ _ (ne_eqb (place % 4) 0 (λ z. omega arith)) ∙ ap (λ (t : ℕ). bits_for free t (8 * (place % 4 - 1))) q ∙ ap (λ (k : ℕ). bits_for free track (8 * k)) p
+
+-- each bit of the byte for eight sectors
+pub bit_at-bits_for : (free : set.FinSet nat_cmp) (track first k : ℕ) → k < 8 → bit_at (bits_for free track first) k ≡ as_bit (has_sector free track (first + k))
+unfolding bits_for
+bit_at-bits_for free track first k h = bit_at-sum (λ b. has_sector free track (first + b)) 8 k h
+
+-- the pair of a block is legal, and the block is counted from it
+pub record IsPlaced (block : ℕ) : Type 0 where
+  pub from_one : 1 ≤ (pair_at block).0
+  pub within : (pair_at block).0 < 36
+  pub held : (pair_at block).1 < sectors_on (pair_at block).0
+  pub counted : first_block (pair_at block).0 + (pair_at block).1 ≡ block
+
+pub placed_at : (block : ℕ) → block < BLOCKS → IsPlaced block
+placed_at block h =
+    let p : Placed block = placed block h in
+    let q : (p.track, p.sector) ≡ pair_at block = sym (ap pair_at (sym p.counted) ∙ pair_at-counted p.track p.sector p.from_one p.within p.held) in
+    let P : ℕ × ℕ → Type 0 = λ x. (1 ≤ x.0) × (x.0 < 36) × (x.1 < sectors_on x.0) × (first_block x.0 + x.1 ≡ block) in
+    let r : P (pair_at block) = subst P q (p.from_one, p.within, p.held, p.counted) in
+    record { from_one = r.0; within = r.1; held = r.2; counted = r.3 }
+
+pub sectors_few : (track : ℕ) → sectors_on track < 22
+sectors_few track = grind (arith, nat_tests)
+
+bit_test : (b : Bool) → nat_eq (as_bit b) 1 ≡ b
+bit_test true = refl
+bit_test false = refl
+
+-- the bit of a block in the map that is written for a set tells whether it is a member
+pub is_free-with_map : (image : List (List ℕ)) (free : set.FinSet nat_cmp) (block : ℕ) → map_block < length image → block < BLOCKS
+    → is_free (with_map image free) block ≡ set.contains free block
+unfolding is_free
+is_free-with_map image free block there h =
+    let p = placed_at block h in
+    let track : ℕ = (pair_at block).0 in
+    let sector : ℕ = (pair_at block).1 in
+    let few = sectors_few track in
+    let held : sector < sectors_on track = p.held in
+    let part : sector / 8 < 3 = omega arith in
+    let byte : get_or (sector_at (with_map image free) map_block) (4 * track + 1 + sector / 8) 0 ≡ bits_for free track (8 * (sector / 8)) =
+    ap (λ (x : List ℕ). get_or x (4 * track + 1 + sector / 8) 0) (sector_at-with_map image free there)
+    ∙ at_entry (sector_at image map_block) free (4 * track + 1 + sector / 8) (let one = p.from_one in omega arith) (let last = p.within in omega arith)
+    ∙ map_byte-bits free track (sector / 8) (4 * track + 1 + sector / 8) part refl in
+    let whole : 8 * (sector / 8) + sector % 8 ≡ sector = omega arith in
+    ap (λ (n : ℕ). nat_eq (bit_at n (sector % 8)) 1) byte
+    ∙ ap (λ (n : ℕ). nat_eq n 1) (bit_at-bits_for free track (8 * (sector / 8)) (sector % 8) (omega arith))
+    ∙ bit_test (has_sector free track (8 * (sector / 8) + sector % 8))
+    ∙ ap (has_sector free track) whole ∙ has_sector-legal free track sector p.from_one p.within p.held ∙ ap (set.contains free) p.counted
+
+-- the map that is written for a set marks free exactly that set
+pub free_blocks-with_map : (image : List (List ℕ)) (free : set.FinSet nat_cmp) → map_block < length image → MembersAreBlocks free → free_blocks (with_map image free) ≡ free
+free_blocks-with_map image free there legal =
+    same_set nat_cmp_total nat_cmp-IsAntisymmetric _ _ (λ q.
+    elim (cases_lt q BLOCKS) [
+      | inl h ↦ contains-free_blocks (with_map image free) q h ∙ is_free-with_map image free q there h
+      | inr past ↦ contains-free_blocks-past (with_map image free) q past
+          ∙ elim (cases_Bool (set.contains free q)) [ inl member ↦ absurd (let h = legal q member in omega arith) | inr none ↦ sym none ]
+    ])
+
+-- and its counts fit
+pub counts-with_map : (image : List (List ℕ)) (free : set.FinSet nat_cmp) → map_block < length image → MembersAreBlocks free → CountsFit (with_map image free)
+counts-with_map image free there legal = record {
+  each = λ track one last.
+      ap (λ (x : List ℕ). get_or x (4 * track) 0) (sector_at-with_map image free there)
+      ∙ at_entry (sector_at image map_block) free (4 * track) (omega arith) (omega arith)
+      ∙ map_byte-count free track (4 * track) refl
+      ∙ ap (λ (s : set.FinSet nat_cmp). members_on s track) (sym (free_blocks-with_map image free there legal));
+}
+
+-- the bytes of the map's block are bytes
+few_members : (free : set.FinSet nat_cmp) (track : ℕ) → members_on free track < 256
+unfolding members_on blocks_on
+few_members free track =
+    let c = count_by-le-length (set.contains free) (range_with_len (first_block track) (sectors_on track)) in
+    let l = length-range_with_len (first_block track) (sectors_on track) in
+    let few = sectors_few track in
+    omega arith
+
+below_256 : (free : set.FinSet nat_cmp) (place : ℕ) → map_byte free place < 256
+unfolding map_byte bits_for
+below_256 free place =
+    elim (cases_eq (place % 4) 0) [
+      | inl e ↦ subst (λ (n : ℕ). n < 256) (sym (cond-true _ _ _ (eq-eqb (place % 4) 0 e))) (few_members free (place / 4))
+      | inr e ↦ subst (λ (n : ℕ). n < 256) (sym (cond-false _ _ _ (ne_eqb (place % 4) 0 e))) (byte_below (λ b. has_sector free (place / 4) (8 * (place % 4 - 1) + b)))
+    ]
+
+pub IsBlock-map_for : (bytes : List ℕ) (free : set.FinSet nat_cmp) → IsBlock bytes → IsBlock (map_for bytes free)
+IsBlock-map_for bytes free old = (
+  length-map_for bytes free,
+  All-from_get_or (λ byte. byte < 256) (map_for bytes free) 0 (λ k h.
+      let m = length-map_for bytes free in
+      let here : k < 256 = omega arith in
+      elim (cases_Bool (is_entry k)) [
+        | inl e ↦ subst (λ (n : ℕ). n < 256) (sym (at_place bytes free k here ∙ cond-true (is_entry k) (map_byte free k) (get_or bytes k 0) e)) (below_256 free k)
+        | inr e ↦ subst (λ (n : ℕ). n < 256) (sym (at_place bytes free k here ∙ cond-false (is_entry k) (map_byte free k) (get_or bytes k 0) e)) (old.1 k 0 (let l = old.0 in omega arith))
+      ]),
+)
+
+pub IsImage-with_map : (image : List (List ℕ)) (free : set.FinSet nat_cmp) → IsImage image → IsImage (with_map image free)
+unfolding with_map
+IsImage-with_map image free is = (
+  length-set image map_block (map_for (sector_at image map_block) free) ∙ is.0,
+  All-set IsBlock image map_block (map_for (sector_at image map_block) free) (IsBlock-map_for (sector_at image map_block) free (is.1 map_block [] (let l = is.0 in omega arith))) is.1,
+)

@@ -1,0 +1,21 @@
+-- the sectors of a track and their blocks
+use Rattle.std.proofs.Common.{◌≡◌, ℕ, ◌+◌, ◌<◌, ◌≤◌, false, Option, ap, arith}
+use Rattle.std.specs.Option.{option_map_or}
+use Rattle.std.specs.Ordering.{nat_cmp}
+use Rattle.std.specs.FinSet as set
+use Rattle.d64_image.specs.Block.{sectors_on, first_block}
+use Rattle.d64_image.proofs.Pairs.{block_of-legal, block_of-none}
+use Rattle.d64_map.specs.Track.{has_sector}
+
+-- where the disk has a sector, its block decides
+pub has_sector-legal : (blocks : set.FinSet nat_cmp) (track sector : ℕ) → 1 ≤ track → track < 36 → sector < sectors_on track
+    → has_sector blocks track sector ≡ set.contains blocks (first_block track + sector)
+unfolding has_sector
+has_sector-legal blocks track sector one last held =
+    ap (λ (o : Option ℕ). option_map_or (set.contains blocks) o false) (block_of-legal track sector one last held)
+
+-- a sector that the disk does not have is none of the set
+pub has_sector-none : (blocks : set.FinSet nat_cmp) (track sector : ℕ) → sectors_on track ≤ sector → has_sector blocks track sector ≡ false
+unfolding has_sector
+has_sector-none blocks track sector past =
+    ap (λ (o : Option ℕ). option_map_or (set.contains blocks) o false) (block_of-none track sector (λ _ _ held. omega (arith, held, past)))

@@ -1,0 +1,23 @@
+use Rattle.std.specs.Prelude.{ℕ, ◌+◌, ◌-◌, List, ◌++◌, map}
+use Rattle.std.specs.List.{range_with_len}
+use Rattle.d64_map.specs.declared.search.Side.{Side}
+use Rattle.d64_map.specs.declared.search.Side.TheVariants.{Lower, Upper}
+
+-- the track at a distance from track 18 on a side
+abbrev pub track_at : Side → ℕ → ℕ
+track_at Lower distance = 18 - distance
+track_at Upper distance = 18 + distance
+
+-- the other side
+abbrev pub other_side : Side → Side
+other_side Lower = Upper
+other_side Upper = Lower
+
+-- the tracks of a side at so many distances, from one on
+unfoldable pub tracks_along : Side → ℕ → ℕ → List ℕ
+tracks_along side from count = map (track_at side) (range_with_len from count)
+
+-- the tracks beyond one of a side, then the other side, and then the rest of the side up to that track
+abbrev pub tracks_beyond : Side → ℕ → List ℕ
+tracks_beyond side distance =
+    tracks_along side (distance + 1) (17 - distance) ++ tracks_along (other_side side) 1 17 ++ tracks_along side 1 (distance - 1)

@@ -1,0 +1,18 @@
+use Rattle.std.specs.Prelude.{ℕ, Bool, false, List, count_by}
+use Rattle.std.specs.List.{range_with_len}
+use Rattle.std.specs.Option.{option_map_or}
+use Rattle.std.specs.Ordering.{nat_cmp}
+use Rattle.std.specs.FinSet as set
+use Rattle.d64_image.specs.Block.{sectors_on, first_block, block_of}
+
+-- the blocks of a track, by sectors rising from 0
+unfoldable pub blocks_on : ℕ → List ℕ
+blocks_on track = range_with_len (first_block track) (sectors_on track)
+
+-- the disk has that sector, and its block is a member
+unfoldable pub has_sector : set.FinSet nat_cmp → ℕ → ℕ → Bool
+has_sector blocks track sector = option_map_or (set.contains blocks) (block_of track sector) false
+
+-- how many blocks of a track are members
+unfoldable pub members_on : set.FinSet nat_cmp → ℕ → ℕ
+members_on blocks track = count_by (set.contains blocks) (blocks_on track)

@@ -1,0 +1,152 @@
+ghost use Rattle.std.specs.Prelude.{◌≡◌, ◌<◌, ◌≤◌, ◌↔◌, IsTrue, IsOk};
+ghost use Rattle.std.specs.FinSet as set;
+ghost use Rattle.d64_image.specs.BlockSet.{MembersAreBlocks};
+ghost use Rattle.d64_image.specs.Image.{IsBlock, sector_at};
+ghost use Rattle.d64_map.specs.Map.{map_block, count_of, is_free, free_blocks, blocks_free, CountsFit, bits_for, map_byte, with_map};
+
+use crate::tracks::{DIRECTORY_TRACK, TRACKS, has_sector, members_on};
+use d64_image::{BLOCKS, BlockNo, BlockSet, Image};
+use std::alloc::AllocError;
+
+/// Where the first track's entry stands in the map's block. Each entry has four bytes.
+const ENTRIES_START: usize = 0x04;
+
+/// Where the last track's entry ends.
+const ENTRIES_END: usize = 0x90;
+
+/// The block in which the map stands.
+fn map_block() -> BlockNo
+    ensures { result ≡ map_block }
+{
+    BlockNo::of(DIRECTORY_TRACK, 0).unwrap()
+}
+
+// A block is one of the disk's.
+fn known_block(block: BlockNo)
+    ensures { block < BLOCKS }
+{
+    let _ = block.index();
+}
+
+// The map's block has 256 bytes.
+fn known_map(image: &Image)
+    ensures { IsBlock (sector_at image.now map_block) }
+{
+    let _ = image.sector(map_block());
+}
+
+// The members of a set of blocks are blocks of the disk.
+fn known_members(blocks: &BlockSet)
+    ensures { MembersAreBlocks blocks.now }
+{
+    let _ = blocks.has(map_block());
+}
+
+/// Whether the map marks a block free.
+pub fn is_free(image: &Image, block: BlockNo) -> bool
+    ensures bit { result ≡ is_free image.now block }
+    ensures member { result ≡ set.contains (free_blocks image.now) block }
+{
+    known_block(block);
+    let sector = usize::from(block.sector());
+    let byte = image.sector(map_block())[4 * usize::from(block.track()) + 1 + sector / 8];
+    (byte >> (sector % 8)) & 1 == 1
+}
+
+/// The count byte of a track: how many of its sectors are free, as the map says.
+pub fn free_count(image: &Image, track: u8) -> u8
+    requires track { (1 ≤ track) × (track < 36) }
+    ensures count { result ≡ count_of image.now track }
+{
+    image.sector(map_block())[4 * usize::from(track)]
+}
+
+/// The number that a directory shows as blocks free: the sum of the count bytes of all tracks but 18.
+pub fn blocks_free(image: &Image) -> u32
+    ensures { result ≡ blocks_free image.now }
+{
+    let mut sum = 0;
+    for track in 1..TRACKS + 1 {
+        if track != DIRECTORY_TRACK {
+            sum += u32::from(free_count(image, track));
+        }
+    }
+    sum
+}
+
+/// The blocks that the map marks free.
+pub fn free_set(image: &Image) -> BlockSet
+    ensures { result ≡ free_blocks image.now }
+{
+    let mut free = BlockSet::empty();
+    for index in 0..BLOCKS {
+        match BlockNo::at(index) {
+            Some(block) => {
+                if is_free(image, block) {
+                    free.add(block);
+                }
+            }
+            None => {}
+        }
+    }
+    free
+}
+
+/// Whether each track's count byte is the number of its sectors that the map marks free.
+pub fn counts_fit(image: &Image) -> bool
+    ensures { IsTrue result ↔ CountsFit image.now }
+{
+    let free = free_set(image);
+    for track in 1..TRACKS + 1 {
+        if free_count(image, track) != members_on(&free, track) {
+            return false;
+        }
+    }
+    true
+}
+
+/// The byte of bits for eight sectors of a track. Bits that stand for no sector are 0.
+fn bits_for(free: &BlockSet, track: u8, first: u8) -> u8
+    requires first { first < 128 }
+    ensures bits { result ≡ bits_for free.now track first }
+{
+    let mut bits = 0;
+    for bit in 0..8 {
+        if has_sector(free, track, first + bit) {
+            bits += 1 << bit;
+        }
+    }
+    bits
+}
+
+/// The byte of the map that belongs at a place of its block.
+fn map_byte(free: &BlockSet, place: usize) -> u8
+    requires entry { (4 ≤ place) × (place < 144) }
+    ensures byte { result ≡ map_byte free.now place }
+{
+    let track = (place / 4) as u8;
+    let part = (place % 4) as u8;
+    if part == 0 {
+        members_on(free, track)
+    } else {
+        bits_for(free, track, 8 * (part - 1))
+    }
+}
+
+/// Writes the map for a set of free blocks: the count and the bits of each track. No other byte of the image changes.
+///
+/// It takes no memory and answers Ok. Its result is that of the writers which keep what they replace.
+pub fn put_map(image: &mut Image, free: &BlockSet) -> Result<(), AllocError>
+    ensures ok { IsOk result }
+    ensures written { image.new ≡ with_map image.old free.now }
+    ensures free { free_blocks image.new ≡ free.now }
+    ensures counts { CountsFit image.new }
+{
+    known_map(image);
+    known_members(free);
+    let map = image.sector_mut(map_block());
+    for place in ENTRIES_START..ENTRIES_END {
+        map[place] = map_byte(free, place);
+    }
+    Ok(())
+}

@@ -1,0 +1,231 @@
+ghost use Rattle.std.specs.Prelude.{◌≡◌, ◌+◌, ◌-◌, ◌<◌, ◌≤◌, ◌==◌, ◌&&◌, find};
+ghost use Rattle.std.specs.List.{range_with_len, flat_map};
+ghost use Rattle.std.specs.FinSet as set;
+ghost use Rattle.d64_image.specs.Block.{sectors_on, first_block};
+ghost use Rattle.d64_map.specs.Track.{blocks_on};
+ghost use Rattle.d64_map.specs.Search.{first_order, sector_after, rotated, next_order, dir_order};
+ghost use Rattle.d64_map.specs.Plan.{is_outside, room};
+ghost use Rattle.d64_map.specs.Side.{track_at, other_side, tracks_along, tracks_beyond};
+
+use crate::tracks::{DIRECTORY_TRACK, sector_count};
+use d64_image::{BLOCKS, BlockNo, BlockSet};
+
+/// How many sectors further on a file's next block is looked for.
+const FILE_INTERLEAVE: u8 = 10;
+
+/// How many sectors further on the directory's next block is looked for.
+const DIRECTORY_INTERLEAVE: u8 = 3;
+
+/// One more than the distance of the outermost tracks from track 18.
+const DISTANCE_END: u8 = 18;
+
+/// A side of track 18.
+#[derive(Clone, Copy)]
+enum Side {
+    /// The tracks below it.
+    Lower,
+    /// The tracks above it.
+    Upper,
+}
+
+impl Side {
+    /// The side of a track other than 18, and the track's distance from 18.
+    fn of(track: u8) -> (Side, u8)
+        requires range { (1 ≤ track) × (track < 36) }
+        requires side { track ≡ 18 → ⊥ }
+        ensures track { track_at result.0 result.1 ≡ track }
+        ensures distance { (1 ≤ result.1) × (result.1 < 18) }
+    {
+        if track < DIRECTORY_TRACK {
+            (Side::Lower, DIRECTORY_TRACK - track)
+        } else {
+            (Side::Upper, track - DIRECTORY_TRACK)
+        }
+    }
+
+    /// The other side.
+    fn other(self) -> Side
+        ensures { result ≡ other_side self }
+    {
+        match self {
+            Side::Lower => Side::Upper,
+            Side::Upper => Side::Lower,
+        }
+    }
+
+    /// The track at a distance from track 18.
+    fn track(self, distance: u8) -> u8
+        requires { (1 ≤ distance) × (distance < 18) }
+        ensures at { result ≡ track_at self distance }
+        ensures range { (1 ≤ result) × (result < 36) }
+    {
+        match self {
+            Side::Lower => DIRECTORY_TRACK - distance,
+            Side::Upper => DIRECTORY_TRACK + distance,
+        }
+    }
+}
+
+/// The first free block of a track from one sector up to another.
+fn pick_between(free: &BlockSet, track: u8, start: u8, end: u8) -> Option<BlockNo>
+    requires track { (1 ≤ track) × (track < 36) }
+    requires end { end ≤ sectors_on track }
+    ensures { result ≡ find (set.contains free.now) (range_with_len (first_block track + start) (end - start)) }
+{
+    for sector in start..end {
+        match BlockNo::of(track, sector) {
+            Some(block) => {
+                if free.has(block) {
+                    return Some(block);
+                }
+            }
+            None => {}
+        }
+    }
+    None
+}
+
+/// The first free block of a track.
+fn pick_on(free: &BlockSet, track: u8) -> Option<BlockNo>
+    requires { (1 ≤ track) × (track < 36) }
+    ensures { result ≡ find (set.contains free.now) (blocks_on track) }
+{
+    pick_between(free, track, 0, sector_count(track))
+}
+
+/// The first free block of a track from a sector on, and then from the track's beginning.
+fn pick_around(free: &BlockSet, track: u8, start: u8) -> Option<BlockNo>
+    requires track { (1 ≤ track) × (track < 36) }
+    requires start { start ≤ sectors_on track }
+    ensures { result ≡ find (set.contains free.now) (rotated start (blocks_on track)) }
+{
+    match pick_between(free, track, start, sector_count(track)) {
+        Some(block) => Some(block),
+        None => pick_between(free, track, 0, start),
+    }
+}
+
+/// The first free block on the tracks of a side from one distance up to another.
+fn pick_along(free: &BlockSet, side: Side, start: u8, end: u8) -> Option<BlockNo>
+    requires start { 1 ≤ start }
+    requires end { end ≤ 18 }
+    ensures { result ≡ find (set.contains free.now) (flat_map blocks_on (tracks_along side start (end - start))) }
+{
+    for distance in start..end {
+        match pick_on(free, side.track(distance)) {
+            Some(block) => return Some(block),
+            None => {}
+        }
+    }
+    None
+}
+
+/// The first free block on the tracks beyond one of a side, then on the other side, then on the rest of the side.
+fn pick_beyond(free: &BlockSet, side: Side, distance: u8) -> Option<BlockNo>
+    requires { (1 ≤ distance) × (distance < 18) }
+    ensures { result ≡ find (set.contains free.now) (flat_map blocks_on (tracks_beyond side distance)) }
+{
+    match pick_along(free, side, distance + 1, DISTANCE_END) {
+        Some(block) => return Some(block),
+        None => {}
+    }
+    match pick_along(free, side.other(), 1, DISTANCE_END) {
+        Some(block) => Some(block),
+        None => pick_along(free, side, 1, distance),
+    }
+}
+
+/// The sector at which the search goes on after a sector of a track of so many sectors.
+fn sector_after(interleave: u8, sectors: u8, sector: u8) -> u8
+    requires interleave { interleave ≤ 10 }
+    requires sectors { (17 ≤ sectors) × (sectors < 22) }
+    requires sector { sector < 21 }
+    ensures after { result ≡ sector_after interleave sectors sector }
+    ensures within { result < sectors }
+{
+    let further = sector + interleave;
+    if further < sectors {
+        further
+    } else {
+        (further - sectors).saturating_sub(1)
+    }
+}
+
+/// The free block that a file's first block takes: on the tracks nearest to track 18 first, 17 before 19, by sectors rising.
+/// None where no block outside track 18 is free.
+pub fn pick_first(free: &BlockSet) -> Option<BlockNo>
+    ensures { result ≡ find (set.contains free.now) first_order }
+{
+    for distance in 1..DISTANCE_END {
+        match pick_on(free, DIRECTORY_TRACK - distance) {
+            Some(block) => return Some(block),
+            None => {}
+        }
+        match pick_on(free, DIRECTORY_TRACK + distance) {
+            Some(block) => return Some(block),
+            None => {}
+        }
+    }
+    None
+}
+
+/// The free block that a file's next block takes after the block that was taken last: ten sectors further on the same track,
+/// around its end, then on the tracks away from track 18, then on the other side, then on the rest of the first side.
+/// None where no block outside track 18 is free.
+pub fn pick_next(free: &BlockSet, last: BlockNo) -> Option<BlockNo>
+    ensures { result ≡ find (set.contains free.now) (next_order last) }
+{
+    let track = last.track();
+    if track == DIRECTORY_TRACK {
+        return pick_first(free);
+    }
+    let start = sector_after(FILE_INTERLEAVE, sector_count(track), last.sector());
+    match pick_around(free, track, start) {
+        Some(block) => return Some(block),
+        None => {}
+    }
+    let (side, distance) = Side::of(track);
+    pick_beyond(free, side, distance)
+}
+
+/// The free block that the directory's next block takes after its last one: three sectors further on track 18, around its end.
+/// None where no block of track 18 is free.
+pub fn pick_dir(free: &BlockSet, last: BlockNo) -> Option<BlockNo>
+    ensures { result ≡ find (set.contains free.now) (dir_order last) }
+{
+    if last.track() == DIRECTORY_TRACK {
+        let sectors = sector_count(DIRECTORY_TRACK);
+        pick_around(
+            free,
+            DIRECTORY_TRACK,
+            sector_after(DIRECTORY_INTERLEAVE, sectors, last.sector()),
+        )
+    } else {
+        pick_on(free, DIRECTORY_TRACK)
+    }
+}
+
+/// Whether a file may take a block: it is free, and lies outside track 18.
+fn is_free_for_files(free: &BlockSet, block: BlockNo) -> bool
+    ensures { result ≡ (set.contains free.now block && is_outside block) }
+{
+    free.has(block) && block.track() != DIRECTORY_TRACK
+}
+
+/// How many blocks of a set files may take: those outside track 18.
+pub fn room(free: &BlockSet) -> u32
+    ensures { result ≡ room free.now }
+{
+    let mut count = 0;
+    for index in 0..BLOCKS {
+        match BlockNo::at(index) {
+            Some(block) => {
+                if is_free_for_files(free, block) {
+                    count += 1;
+                }
+            }
+            None => {}
+        }
+    }
+    count
+}
