@@ -1,11 +1,11 @@
 -- runs of requests: a run with one request more, and what is free in a run
 use Rattle.std.proofs.Common.{◌≡◌, ◌≢◌, List, [], ◌∷◌, ◌++◌, None, refl, sym, ap, ap₂, ◌∙◌, subst, arith}
 use Rattle.std.proofs.lemmas.List.Elements.{All-head, All-tail}
-use Rattle.d64_shell.specs.Command.{cause_of}
+use Rattle.d64_dos.specs.Command.{cause_of}
 use Rattle.d64_shell.specs.History.{History}
 use Rattle.d64_shell.specs.Request.{Step, Run, HasMemory}
-use Rattle.d64_shell.specs.declared.command.Refusal.{Refusal}
-use Rattle.d64_shell.specs.declared.command.Refusal.TheVariants.{Memory}
+use Rattle.d64_dos.specs.declared.command.Refusal.{Refusal}
+use Rattle.d64_dos.specs.declared.command.Refusal.TheVariants.{Memory}
 use Rattle.d64_shell.specs.declared.request.Request.{Request}
 use Rattle.d64_shell.specs.declared.request.Request.TheVariants.{Apply, Undo, Redo}
 use Rattle.d64_shell.specs.declared.request.Answer.{Answer}

@@ -1,4 +1,5 @@
-use Rattle.std.specs.Prelude.{◌≡◌, ℕ, ◌<◌, List, [], ◌++◌, Bool, false, Option, Result, MatchResult, Ok, Err, ◌⊎◌}
+use Rattle.std.specs.Prelude.{◌≡◌, ℕ, ◌<◌, List, [], ◌++◌, Bool, true, false, Option, Result, MatchResult, Ok, Err, ◌⊎◌}
+use Rattle.cbm_text.specs.TextForm.{IsTextOf}
 use Rattle.d64_host.specs.Files.{Files}
 use Rattle.d64_host.specs.Host.{fault_number, Fetches, Stores, CountsDevice}
 use Rattle.d64_shell.specs.History.{History}
@@ -6,7 +7,7 @@ use Rattle.d64_script.specs.Status.{status_line}
 use Rattle.d64_host.specs.declared.host.HostFault.{HostFault}
 use Rattle.d64_host.specs.declared.host.HostFault.TheVariants.{Missing, Device, TooLong, Memory}
 use Rattle.d64_script.specs.declared.status.Status.{Status}
-use Rattle.d64_script.specs.declared.status.Status.TheVariants.{Done, HostFile, OutOfMemory}
+use Rattle.d64_script.specs.declared.status.Status.TheVariants.{Done, BadName, HostFile, OutOfMemory}
 
 -- what a line is answered: its output, its status, and whether it ends the run
 pub record LineAnswer : Type 0 where
@@ -40,6 +41,12 @@ pub data Act : Type 0 where
   FetchThen : List ℕ → ℕ → (List ℕ → Act) → Act
   -- bytes stored under a name of the host
   StoreOf : List ℕ → List ℕ → Act
+  -- the bytes that a word stands for in text form, where they pass a test, and then what they ask for; else the word is bad, or memory is wanting
+  ReadText : (List ℕ → Bool) → List ℕ → (List ℕ → Act) → Act
+
+-- a word stands for bytes in text form, and they pass a test
+abbrev pub IsSpelled : (List ℕ → Bool) → List ℕ → List ℕ → Type 0
+IsSpelled test word bytes = IsTextOf bytes word × (test bytes ≡ true)
 
 -- how a fault of the host is answered
 abbrev pub status_of_fault : HostFault → Status
@@ -68,6 +75,10 @@ Does (StoreOf name bytes) world answer after =
     (stored : Result (Unit {0}) HostFault)
     × Stores world.files name bytes stored after.files × CountsDevice world.failures after.failures stored
     × (answer ≡ plain (status_of_store stored)) × (after.history ≡ world.history)
+Does (ReadText test word next) world answer after =
+    ((bytes : List ℕ) × IsSpelled test word bytes × Does (next bytes) world answer after)
+    ⊎ ((((bytes : List ℕ) → IsSpelled test word bytes → ⊥) × (answer ≡ plain BadName) × (after ≡ world))
+    ⊎ ((answer ≡ plain OutOfMemory) × (after ≡ world)))
 
 -- the act is done by the session alone, whatever the host is
 abbrev pub DoesInSession : Act → History → LineAnswer → History → Type 0

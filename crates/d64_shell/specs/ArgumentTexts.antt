@@ -1,7 +1,21 @@
-use Rattle.std.specs.Prelude.{ℕ, List, Result, Ok, Err}
+use Rattle.std.specs.Prelude.{◌≡◌, ℕ, ◌⊎◌, List, Bool, Vec, Result, Ok, Err}
 use Rattle.std.specs.Borrow.{Bor}
+use Rattle.d64_script.specs.declared.status.Status.{Status}
+use Rattle.d64_script.specs.declared.status.Status.TheVariants.{BadName, OutOfMemory}
+use Rattle.d64_shell.specs.Act.{IsSpelled}
 
 -- a text that was answered, as its bytes
 abbrev pub texts : {E : Type 0} → Result (Bor (List ℕ)) E → Result (List ℕ) E
 texts (Ok text) = Ok text.now
 texts (Err fault) = Err fault
+
+-- a vector that was answered, as its list
+abbrev pub items : {A E : Type 0} → Result (Vec ℕ A) E → Result (List ℕ) E
+items (Ok bytes) = Ok bytes.items
+items (Err fault) = Err fault
+
+-- a word was read: the bytes that it stands for, which pass a test; or it stands for no such bytes, or memory was wanting
+abbrev pub Reads : (List ℕ → Bool) → List ℕ → Result (List ℕ) Status → Type 0
+Reads test word (Ok bytes) = IsSpelled test word bytes
+Reads test word (Err status) =
+    ((status ≡ BadName) × ((bytes : List ℕ) → IsSpelled test word bytes → ⊥)) ⊎ (status ≡ OutOfMemory)

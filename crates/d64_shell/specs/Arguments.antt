@@ -1,9 +1,11 @@
 -- What the words of a line stand for, or the status that refuses them.
 use Rattle.std.specs.Prelude.{ℕ, nat_lt, nat_le, List, length, ◌&&◌, if◌then◌else◌, Result, Ok, Err, ok_or}
 use Rattle.d64_image.specs.Block.{block_of}
+use Rattle.cbm_text.specs.declared.fault.TextFault.{TextFault}
+use Rattle.cbm_text.specs.declared.fault.TextFault.TheVariants.{UnknownName, OpenBrace, BadByte, Memory}
 use Rattle.d64_script.specs.Number.{number_of}
 use Rattle.d64_script.specs.declared.status.Status.{Status}
-use Rattle.d64_script.specs.declared.status.Status.TheVariants.{SyntaxError, BadName, IllegalBlock}
+use Rattle.d64_script.specs.declared.status.Status.TheVariants.{SyntaxError, BadName, IllegalBlock, OutOfMemory}
 
 -- a word that names a host file has 1 to 255 bytes
 unfoldable pub host_in : List ℕ → Result (List ℕ) Status
@@ -22,3 +24,10 @@ block_at (Ok track) (Ok sector) = ok_or (block_of track sector) (IllegalBlock tr
 -- the block of a track and a sector, each in a word
 unfoldable pub block_in : List ℕ → List ℕ → Result ℕ Status
 block_in track sector = block_at (number_in track) (number_in sector)
+
+-- how a fault of a word in text form is answered
+abbrev pub status_of_text : TextFault → Status
+status_of_text (UnknownName place) = BadName
+status_of_text (OpenBrace place) = BadName
+status_of_text (BadByte place) = BadName
+status_of_text (Memory error) = OutOfMemory

@@ -2,7 +2,7 @@ use Rattle.std.specs.Prelude.{ℕ, List, [], ◌∷◌, Option, find, codes, if�
 use Rattle.std.specs.Option.{option_map}
 use Rattle.std.specs.Str.{bytes_eq}
 use Rattle.d64_shell.specs.declared.command_word.CommandWord.{CommandWord}
-use Rattle.d64_shell.specs.declared.command_word.CommandWord.TheVariants.{Block, BlockRead, BlockWrite, Quit, Redo, Save, Undo}
+use Rattle.d64_shell.specs.declared.command_word.CommandWord.TheVariants.{Block, BlockRead, BlockWrite, Format, Quit, Redo, Save, Undo}
 
 -- the words that begin a line, and what each stands for
 abbrev pub command_words : List (List ℕ × CommandWord)
@@ -10,6 +10,7 @@ command_words =
     (codes "block", Block)
     ∷ (codes "bread", BlockRead)
     ∷ (codes "bwrite", BlockWrite)
+    ∷ (codes "format", Format)
     ∷ (codes "quit", Quit)
     ∷ (codes "redo", Redo)
     ∷ (codes "save", Save)
@@ -25,6 +26,7 @@ abbrev pub fewest : List ℕ → CommandWord → ℕ
 fewest home Block = 2
 fewest home BlockRead = 3
 fewest home BlockWrite = 3
+fewest home Format = 1
 fewest home Quit = 0
 fewest home Redo = 0
 fewest [] Save = 1
@@ -36,6 +38,7 @@ abbrev pub most : CommandWord → ℕ
 most Block = 2
 most BlockRead = 3
 most BlockWrite = 3
+most Format = 1
 most Quit = 0
 most Redo = 0
 most Save = 1

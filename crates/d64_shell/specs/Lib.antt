@@ -1,5 +1,9 @@
 pub use Rattle.d64_image.specs.Block
 pub use Rattle.d64_image.specs.Image
+pub use Rattle.d64_dos.specs.Command
+pub use Rattle.d64_dos.specs.Format
+pub use Rattle.d64_files.specs.Name
+pub use Rattle.cbm_text.specs.TextForm
 pub use Rattle.d64_host.specs.Files
 pub use Rattle.d64_host.specs.Host
 pub use Rattle.d64_host.specs.MemoryHost
@@ -8,7 +12,6 @@ pub use Rattle.d64_script.specs.RawLines
 pub use Rattle.d64_script.specs.Status
 pub mod History
 pub mod HistoryLaws
-pub mod Command
 pub mod Request
 pub mod CommandWord
 pub mod Arguments

@@ -1,25 +1,27 @@
-use Rattle.std.specs.Prelude.{◌≡◌, ℕ, nat_lt, List, [], ◌∷◌, length, false, true, ◌+◌, ◌==◌, if◌then◌else◌, Option, None, Some, MatchOption, Result, Ok, Err, slice_index_or}
+use Rattle.std.specs.Prelude.{◌≡◌, ℕ, nat_lt, List, [], ◌∷◌, length, false, true, ◌+◌, ◌==◌, if◌then◌else◌, Option, None, Some, MatchOption, Result, Ok, Err, slice_index_or, ◌&&◌, Bool, not, take, drop, position, option_map}
+use Rattle.d64_files.specs.Label.{holds_any_of}
+use Rattle.d64_files.specs.Name.{is_name, forbidden_in_names}
 use Rattle.d64_image.specs.Image.{sector_at, bytes_of}
 use Rattle.d64_shell.specs.History.{History, present, added, undone, redone}
-use Rattle.d64_shell.specs.Command.{after, reply_to, refusal_of}
+use Rattle.d64_dos.specs.Command.{after, reply_to, refusal_of}
 use Rattle.d64_script.specs.Words.{words_of}
 use Rattle.d64_image.specs.declared.image.TheConstants.{BLOCK_BYTES}
 use Rattle.d64_shell.specs.Arguments.{host_in, block_in}
 use Rattle.d64_script.specs.Dump.{dump}
 use Rattle.d64_script.specs.RawLines.{text_of, is_too_long, is_skipped}
 use Rattle.d64_shell.specs.CommandWord.{command_word_of, fewest, most}
-use Rattle.d64_shell.specs.Act.{Act, Settle, Try, FetchThen, StoreOf, plain, World, LineAnswer, Does}
+use Rattle.d64_shell.specs.Act.{Act, Settle, Try, FetchThen, StoreOf, ReadText, plain, World, LineAnswer, Does}
 use Rattle.d64_shell.specs.declared.handlers.TheConstants.{HOST_FILE_BYTES}
-use Rattle.d64_shell.specs.declared.command.Command.{Command}
-use Rattle.d64_shell.specs.declared.command.Command.TheVariants as commands
-use Rattle.d64_shell.specs.declared.command.Reply.{Reply}
-use Rattle.d64_shell.specs.declared.command.Reply.TheVariants as replies
-use Rattle.d64_shell.specs.declared.command.Refusal.{Refusal}
-use Rattle.d64_shell.specs.declared.command.Refusal.TheVariants as refusals
+use Rattle.d64_dos.specs.declared.command.Command.{Command}
+use Rattle.d64_dos.specs.declared.command.Command.TheVariants as commands
+use Rattle.d64_dos.specs.declared.command.Reply.{Reply}
+use Rattle.d64_dos.specs.declared.command.Reply.TheVariants as replies
+use Rattle.d64_dos.specs.declared.command.Refusal.{Refusal}
+use Rattle.d64_dos.specs.declared.command.Refusal.TheVariants as refusals
 use Rattle.d64_script.specs.declared.status.Status.{Status}
 use Rattle.d64_script.specs.declared.status.Status.TheVariants.{Done, SyntaxError, UnknownCommand, LongLine, MissingWord, NothingToUndo, NothingToRedo, NotOneBlock, OutOfMemory}
 use Rattle.d64_shell.specs.declared.command_word.CommandWord.{CommandWord}
-use Rattle.d64_shell.specs.declared.command_word.CommandWord.TheVariants.{Block, BlockRead, BlockWrite, Quit, Redo, Save, Undo}
+use Rattle.d64_shell.specs.declared.command_word.CommandWord.TheVariants.{Block, BlockRead, BlockWrite, Format, Quit, Redo, Save, Undo}
 
 -- the line is refused with a status, and changes nothing
 abbrev pub refuse : History → Status → Act
@@ -75,6 +77,24 @@ block_write_act history host track sector =
     reading history (host_in host) (λ name.
     reading history (block_in track sector) (λ block. FetchThen name HOST_FILE_BYTES (write_one_block history block)))
 
+-- a word in two at its first comma
+unfoldable pub at_comma : List ℕ → Option (List ℕ × List ℕ)
+at_comma word = option_map (λ place. (take place word, drop (place + 1) word)) (position (λ byte. byte == 44) word)
+
+-- bytes that are an id of a disk: two, and none that no name holds
+abbrev pub is_id : List ℕ → Bool
+is_id bytes = (length bytes == 2) && not (holds_any_of forbidden_in_names bytes)
+
+-- with the two parts of a word
+abbrev pub format_parts : History → Option (List ℕ × List ℕ) → Act
+format_parts history None = refuse history SyntaxError
+format_parts history (Some parts) =
+    ReadText is_name parts.0 (λ name. ReadText is_id parts.1 (λ id. command_act history (commands.Format name id)))
+
+-- `format`: the disk is made an empty one, with the name and the id in one word
+abbrev pub format_act : History → List ℕ → Act
+format_act history word = format_parts history (at_comma word)
+
 -- `quit`: the run ends
 abbrev pub quit_act : History → Act
 quit_act history = Settle (record { output = []; status = Done; closes = true }) history
@@ -98,6 +118,7 @@ abbrev pub act_of : List ℕ → History → CommandWord → List (List ℕ) →
 act_of home history Block words = block_act history (word_at words 0) (word_at words 1)
 act_of home history BlockRead words = block_read_act history (word_at words 0) (word_at words 1) (word_at words 2)
 act_of home history BlockWrite words = block_write_act history (word_at words 0) (word_at words 1) (word_at words 2)
+act_of home history Format words = format_act history (word_at words 0)
 act_of home history Quit words = quit_act history
 act_of home history Redo words = redo_act history
 act_of home history Save words = save_act home history words

@@ -1,15 +1,22 @@
 //! What the words of a line stand for.
-#![tactic(auto, unfolding(crate::specs::Arguments::host_in, crate::specs::Arguments::number_in, crate::specs::Arguments::block_in))]
+#![tactic(auto, unfolding(crate::specs::Arguments::host_in, crate::specs::Arguments::number_in, crate::specs::Arguments::block_in, crate::specs::Line::at_comma))]
 
-ghost use Rattle.std.specs.Prelude.{◌≡◌, ◌<◌, All, Result};
+ghost use Rattle.std.specs.Prelude.{◌≡◌, ◌<◌, All, Result, ◌==◌, true, option_map, position};
 ghost use Rattle.d64_shell.specs.Arguments.{host_in, number_in, block_in};
 ghost use Rattle.d64_script.specs.Words.{IsPrintable};
-ghost use Rattle.d64_shell.specs.ArgumentTexts.{texts};
+ghost use Rattle.d64_shell.specs.ArgumentTexts.{texts, items, Reads};
+ghost use Rattle.cbm_text.specs.TextForm.{HasOneReading};
+ghost use Rattle.d64_shell.specs.Line.{is_id, at_comma};
+ghost use Rattle.d64_files.specs.Name.{is_name};
 
+use crate::status_from::of_text_fault;
+use cbm_text::{from_text, one_outcome};
+use d64_files::Name;
 use d64_image::BlockNo;
 use d64_script::number::number;
 use d64_script::status::Status;
 use d64_script::words::as_text;
+use std::alloc::Global;
 
 /// The most bytes of the name of a host file.
 pub const HOST_NAME_BYTES: usize = 255;
@@ -39,4 +46,56 @@ pub(crate) fn block_in(track: &[u8], sector: &[u8]) -> Result<BlockNo, Status>
     let track = number_in(track)?;
     let sector = number_in(sector)?;
     BlockNo::of(track, sector).ok_or(Status::IllegalBlock { track, sector })
+}
+
+/// The bytes that a word stands for in text form.
+fn bytes_in(alloc: Global, word: &[u8]) -> Result<Vec<u8>, Status>
+    ensures read { Reads (λ bytes. true) word.now (items result) }
+    ensures one { HasOneReading word.now }
+{
+    one_outcome(word);
+    match from_text(alloc, word) {
+        Ok(bytes) => Ok(bytes),
+        Err(fault) => Err(of_text_fault(fault)),
+    }
+}
+
+/// The name of a disk or a file that a word stands for.
+pub(crate) fn name_in(alloc: Global, word: &[u8]) -> Result<Name, Status>
+    ensures { Reads is_name word.now result }
+{
+    let bytes = bytes_in(alloc, word)?;
+    match Name::new(bytes.as_slice()) {
+        Ok(name) => Ok(name),
+        Err(_) => Err(Status::BadName),
+    }
+}
+
+/// The id of a disk that a word stands for: two bytes, none of which is forbidden in names.
+pub(crate) fn id_in(alloc: Global, word: &[u8]) -> Result<[u8; 2], Status>
+    ensures { Reads is_id word.now result }
+{
+    let bytes = bytes_in(alloc, word)?;
+    let Some(id) = bytes.as_slice().as_array() else {
+        return Err(Status::BadName);
+    };
+    match Name::new(id) {
+        Ok(_) => Ok(*id),
+        Err(_) => Err(Status::BadName),
+    }
+}
+
+/// A word in two at its first comma, or None where it has none.
+pub(crate) fn at_comma(word: &[u8]) -> Option<(&[u8], &[u8])>
+    ensures { option_map (λ parts. (parts.0.now, parts.1.now)) result ≡ at_comma word.now }
+{
+    let comma = first_comma(word)?;
+    Some((&word[..comma], &word[comma + 1..]))
+}
+
+/// The place of the first comma.
+fn first_comma(word: &[u8]) -> Option<usize>
+    ensures { result ≡ position (λ byte. byte == 44) word.now }
+{
+    word.iter().position(|byte| *byte == b',')
 }

@@ -11,6 +11,8 @@ pub enum CommandWord {
     BlockRead,
     /// `bwrite host t s`: replaces a block by a host file.
     BlockWrite,
+    /// `format name,id`: makes the disk an empty one.
+    Format,
     /// `quit`: ends the run.
     Quit,
     /// `redo`: takes an undo back.
@@ -30,6 +32,7 @@ impl CommandWord {
             b"block" => Some(CommandWord::Block),
             b"bread" => Some(CommandWord::BlockRead),
             b"bwrite" => Some(CommandWord::BlockWrite),
+            b"format" => Some(CommandWord::Format),
             b"quit" => Some(CommandWord::Quit),
             b"redo" => Some(CommandWord::Redo),
             b"save" => Some(CommandWord::Save),
@@ -45,6 +48,7 @@ impl CommandWord {
         match self {
             CommandWord::Quit | CommandWord::Redo | CommandWord::Undo => 0,
             CommandWord::Save => usize::from(home.is_empty()),
+            CommandWord::Format => 1,
             CommandWord::Block => 2,
             CommandWord::BlockRead | CommandWord::BlockWrite => 3,
         }
@@ -56,7 +60,7 @@ impl CommandWord {
     {
         match self {
             CommandWord::Quit | CommandWord::Redo | CommandWord::Undo => 0,
-            CommandWord::Save => 1,
+            CommandWord::Format | CommandWord::Save => 1,
             CommandWord::Block => 2,
             CommandWord::BlockRead | CommandWord::BlockWrite => 3,
         }

@@ -5,13 +5,13 @@ ghost use Rattle.std.specs.Prelude.{◌≡◌, All, map};
 ghost use Rattle.d64_script.specs.Words.{IsPrintable};
 ghost use Rattle.d64_shell.specs.Act.{Settle, Does, World, DoesInSession};
 ghost use Rattle.d64_shell.specs.Answer.{answer_of};
-ghost use Rattle.d64_shell.specs.Line.{block_act, block_read_act, block_write_act, quit_act, redo_act, save_act, undo_act, command_act, write_one_block};
+ghost use Rattle.d64_shell.specs.Line.{block_act, block_read_act, block_write_act, format_act, quit_act, redo_act, save_act, undo_act, command_act, write_one_block};
 
 use crate::answer::{Answer, Output};
-use crate::arguments::{block_in, host_in};
-use crate::command::Command;
+use crate::arguments::{at_comma, block_in, host_in, id_in, name_in};
 use crate::session::Session;
-use crate::status_from::of_fault;
+use crate::status_from::{of_fault, of_refusal, of_reply};
+use d64_dos::Command;
 use d64_host::Host;
 use d64_image::BlockNo;
 use d64_script::dump::dump;
@@ -92,8 +92,24 @@ fn write_one_block(session: &mut Session, at: BlockNo, bytes: &[u8]) -> Result<A
 fn run_command(session: &mut Session, command: &Command) -> Result<Answer, Status>
     ensures { DoesInSession (command_act session.old command.now) session.old (answer_of result) session.new }
 {
-    let reply = session.run(command)?;
-    Ok(Answer::plain(reply.into()))
+    match session.run(command) {
+        Ok(reply) => Ok(Answer::plain(of_reply(reply))),
+        Err(refusal) => Err(of_refusal(refusal)),
+    }
+}
+
+/// `format`: the disk made an empty one. The word is cut at its first comma, into the name and the id.
+pub(crate) fn format(alloc: Global, session: &mut Session, word: &[u8]) -> Result<Answer, Status>
+    ensures { DoesInSession (format_act session.old word.now) session.old (answer_of result) session.new }
+{
+    let Some((name, id)) = at_comma(word) else {
+        return Err(Status::SyntaxError);
+    };
+    let name = name_in(alloc, name)?;
+    match id_in(alloc, id) {
+        Ok(id) => run_command(session, &Command::Format { name, id }),
+        Err(status) => Err(status),
+    }
 }
 
 /// `quit`: the end of the run.

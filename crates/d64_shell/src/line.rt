@@ -103,6 +103,7 @@ fn answer_command<H: Host>(
         CommandWord::BlockWrite => handlers::block_write(
             alloc, host, session, words[0], words[1], words[2],
         ),
+        CommandWord::Format => handlers::format(alloc, session, words[0]),
         CommandWord::Quit => handlers::quit(session),
         CommandWord::Redo => handlers::redo(session),
         CommandWord::Save => handlers::save(alloc, host, home, session, words),

@@ -1,8 +1,8 @@
 ghost use Rattle.std.specs.Prelude.{◌≡◌, IfOk, OnErr};
 ghost use Rattle.d64_shell.specs.Request.{Step, Run, MemoryAloneIsFree, MemoryForAcceptance};
 
-use crate::command::{Command, Refusal, Reply};
 use crate::session::{NothingToRedo, NothingToUndo, Session};
+use d64_dos::{Command, Refusal, Reply};
 use std::alloc::{AllocError, Global};
 
 /// What is asked of a session.

@@ -1,8 +1,8 @@
 ghost use Rattle.std.specs.Prelude.{◌≡◌, ◌+◌, ◌<◌, ◌↔◌, length, IsOk, OnOk, OnErr, IfOk};
-ghost use Rattle.d64_shell.specs.Command.{after, reply_to, refusal_of, refused_by};
+ghost use Rattle.d64_dos.specs.Command.{after, reply_to, refusal_of, refused_by};
 ghost use Rattle.d64_shell.specs.History.{IsHistory, present, begun, added, undone, redone};
 
-use crate::command::{Command, Refusal, Reply, apply};
+use d64_dos::{Command, Refusal, Reply, apply};
 use d64_image::Image;
 use std::alloc::Global;
 use std::marker::Model;

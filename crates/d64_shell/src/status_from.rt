@@ -1,11 +1,13 @@
 //! How faults, refusals and replies are answered: each has its status.
 ghost use Rattle.std.specs.Prelude.{◌≡◌};
 ghost use Rattle.d64_shell.specs.Act.{status_of_fault};
+ghost use Rattle.d64_shell.specs.Arguments.{status_of_text};
 ghost use Rattle.d64_shell.specs.Line.{status_of_refusal, status_of_reply};
 ghost use Rattle.d64_script.specs.declared.status.Status.TheVariants.{NothingToUndo, NothingToRedo};
 
-use crate::command::{Refusal, Reply};
 use crate::session;
+use cbm_text::TextFault;
+use d64_dos::{Refusal, Reply};
 use d64_host::HostFault;
 use d64_script::status::Status;
 
@@ -21,23 +23,33 @@ pub(crate) fn of_fault(fault: HostFault) -> Status
     }
 }
 
-impl From<Refusal> for Status {
-    ghost from_gives = { λ refusal status. status ≡ status_of_refusal refusal };
-
-    fn from(refusal: Refusal) -> Status {
-        match refusal {
-            Refusal::Memory => Status::OutOfMemory,
+/// The status of a fault of a word in text form.
+pub(crate) fn of_text_fault(fault: TextFault) -> Status
+    ensures { result ≡ status_of_text fault }
+{
+    match fault {
+        TextFault::Memory(_) => Status::OutOfMemory,
+        TextFault::UnknownName { .. } | TextFault::OpenBrace { .. } | TextFault::BadByte { .. } => {
+            Status::BadName
         }
     }
 }
 
-impl From<Reply> for Status {
-    ghost from_gives = { λ reply status. status ≡ status_of_reply reply };
+/// The status of a refusal of a command.
+pub(crate) fn of_refusal(refusal: Refusal) -> Status
+    ensures { result ≡ status_of_refusal refusal }
+{
+    match refusal {
+        Refusal::Memory => Status::OutOfMemory,
+    }
+}
 
-    fn from(reply: Reply) -> Status {
-        match reply {
-            Reply::Done => Status::Done,
-        }
+/// The status of a reply to a command.
+pub(crate) fn of_reply(reply: Reply) -> Status
+    ensures { result ≡ status_of_reply reply }
+{
+    match reply {
+        Reply::Done => Status::Done,
     }
 }
 

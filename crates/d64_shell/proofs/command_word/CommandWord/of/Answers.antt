@@ -5,3 +5,6 @@ use Rattle.d64_shell.proofs.command_word.CommandWord.of.Goals as goal
 
 pub returns-in-bwrite : goal.returns-in-bwrite
 returns-in-bwrite c = let word : c.args.word.now ≡ codes "bwrite" = text_from_reads _ _ (omega arith) (search (rules, arith)) in rw word refl
+
+pub returns-in-format : goal.returns-in-format
+returns-in-format c = let word : c.args.word.now ≡ codes "format" = text_from_reads _ _ (omega arith) (search (rules, arith)) in rw word refl

@@ -1,5 +1,5 @@
 use Rattle.std.proofs.Common.{◌≡◌, ℕ, List, [], ◌∷◌, ◌++◌, length, take, sym, ap, ◌∙◌, subst, arith}
-use Rattle.d64_shell.specs.Command.{after}
+use Rattle.d64_dos.specs.Command.{after}
 use Rattle.d64_shell.specs.History.{History, present, added}
 use Rattle.d64_shell.proofs.Histories.{surrounded, present-surrounded, added-surrounded}
 use Rattle.d64_shell.proofs.session.Session.run.Goals as goal

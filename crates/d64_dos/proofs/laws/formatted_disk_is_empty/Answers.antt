@@ -1,0 +1,14 @@
+use Rattle.d64_dos.proofs.EmptyDisks.{IsImage-formatted, free_blocks-formatted, counts-formatted, blocks_free-formatted}
+use Rattle.d64_dos.proofs.laws.formatted_disk_is_empty.Goals as goal
+
+pub returns-clause-image : goal.returns-clause-image
+returns-clause-image c = IsImage-formatted
+
+pub returns-clause-free : goal.returns-clause-free
+returns-clause-free c = free_blocks-formatted
+
+pub returns-clause-counts : goal.returns-clause-counts
+returns-clause-counts c = counts-formatted
+
+pub returns-clause-blocks_free : goal.returns-clause-blocks_free
+returns-clause-blocks_free c = blocks_free-formatted

@@ -1,0 +1,104 @@
+ghost use Rattle.std.specs.Prelude.{◌≡◌, ◌+◌, ◌≤◌, length, IfOk};
+ghost use Rattle.d64_map.specs.Map.{map_block};
+ghost use Rattle.d64_image.specs.declared.image.TheConstants.{BLOCK_BYTES};
+ghost use Rattle.d64_dos.specs.Format.{directory_start, written_at, header, empty_directory, free_when_formatted, formatted};
+
+use d64_files::Name;
+use d64_image::{BLOCK_BYTES, BLOCKS, BlockNo, BlockSet, Image};
+use d64_map::put_map;
+use std::alloc::{AllocError, Global};
+
+/// The track of the map and of the directory.
+const DIRECTORY_TRACK: u8 = 18;
+
+/// What begins the map's block: the link to the directory's first block, and the mark of the 1541's format.
+const LINK_AND_FORMAT: [u8; 4] = [DIRECTORY_TRACK, 1, 0x41, 0x00];
+
+/// The DOS version and the format, as a directory shows them: `2A`.
+const DOS_VERSION: [u8; 2] = [0x32, 0x41];
+
+/// The byte that fills what a label leaves free: a shifted space.
+const FILLER: u8 = 0xA0;
+
+/// Where the disk's name stands in the map's block.
+const NAME_START: usize = 0x90;
+
+/// Where the disk's id stands in the map's block.
+const ID_START: usize = 0xA2;
+
+/// Where the DOS version stands in the map's block.
+const DOS_VERSION_START: usize = 0xA5;
+
+/// How many bytes the disk's label has, from its name on: the name, the id and the DOS version.
+const LABEL_BYTES: usize = 27;
+
+/// The block in which the map stands.
+fn map_block() -> BlockNo
+    ensures { result ≡ map_block }
+{
+    BlockNo::of(DIRECTORY_TRACK, 0).unwrap()
+}
+
+/// The directory's first block.
+fn directory_start() -> BlockNo
+    ensures { result ≡ directory_start }
+{
+    BlockNo::of(DIRECTORY_TRACK, 1).unwrap()
+}
+
+/// Writes bytes into a block, from a place on.
+fn write_at(block: &mut [u8; BLOCK_BYTES], start: usize, bytes: &[u8])
+    requires { start + length bytes.now ≤ BLOCK_BYTES }
+    ensures { block.new ≡ written_at block.old start bytes.now }
+{
+    block[start..start + bytes.len()].copy_from_slice(bytes);
+}
+
+/// The map's block of a formatted disk, in which the map is still to be written.
+fn header(name: &Name, id: &[u8; 2]) -> [u8; BLOCK_BYTES]
+    ensures { result ≡ header name.now id.now }
+{
+    let mut header = [0; BLOCK_BYTES];
+    write_at(&mut header, 0, &LINK_AND_FORMAT);
+    write_at(&mut header, NAME_START, &[FILLER; LABEL_BYTES]);
+    write_at(&mut header, NAME_START, name.bytes());
+    write_at(&mut header, ID_START, id);
+    write_at(&mut header, DOS_VERSION_START, &DOS_VERSION);
+    header
+}
+
+/// The directory's first block of a formatted disk: no block follows it, and its eight slots are empty.
+fn empty_directory() -> [u8; BLOCK_BYTES]
+    ensures { result ≡ empty_directory }
+{
+    let mut directory = [0; BLOCK_BYTES];
+    directory[1] = 0xFF;
+    directory
+}
+
+/// The free blocks of a formatted disk: all but those of the map and of the directory.
+fn free_when_formatted() -> BlockSet
+    ensures { result ≡ free_when_formatted }
+{
+    let mut free = BlockSet::empty();
+    for index in 0..BLOCKS {
+        match BlockNo::at(index) {
+            Some(block) => free.add(block),
+            None => {}
+        }
+    }
+    free.remove(map_block());
+    free.remove(directory_start());
+    free
+}
+
+/// The image of an empty disk with that name and id.
+pub(crate) fn formatted(alloc: Global, name: &Name, id: &[u8; 2]) -> Result<Image, AllocError>
+    ensures { IfOk result (λ image. image ≡ formatted name.now id.now) }
+{
+    let mut image = Image::zeroed(alloc)?;
+    *image.sector_mut(map_block()) = header(name, id);
+    *image.sector_mut(directory_start()) = empty_directory();
+    put_map(&mut image, &free_when_formatted())?;
+    Ok(image)
+}

@@ -1,0 +1,166 @@
+//! The program `d64sh`, from its words to its exit status.
+ghost use Rattle.std.specs.Prelude.{◌≡◌, ◌≤◌, ◌==◌, if◌then◌else◌};
+
+use crate::runner::{Outcome, ShellFault, run};
+use crate::session::Session;
+use d64_host::{Host, HostFault};
+use d64_image::{Image, ImageFault};
+use std::alloc::{AllocError, Global};
+use std::io::{BufWriter, Read, Write};
+use thiserror::Error;
+
+/// The most bytes of an image file that are read, more than any image has.
+const IMAGE_FILE_BYTES: usize = 16_777_216;
+
+/// The exit status where all lines were accepted.
+const ALL_ACCEPTED: u8 = 0;
+
+/// The exit status where some line was refused.
+const SOME_REFUSED: u8 = 1;
+
+/// The exit status where the words are no use of the program, or the script did not run to its end.
+const NOT_RUN: u8 = 2;
+
+/// Why the program ends with status 2. Each is told by one line on the standard error.
+#[derive(Clone, Copy, Debug, PartialEq, Eq, Error)]
+pub enum ProgramFault {
+    /// The words ask for nothing that the program does.
+    #[error("usage: d64sh shell [IMAGE]")]
+    Usage,
+    /// The image file has this many bytes, and an image 174,848.
+    #[error("image: wrong length {0}")]
+    WrongLength(usize),
+    /// The image file is missing, cannot be read, or has more than 16,777,216 bytes.
+    #[error("image: cannot be read")]
+    UnreadableImage,
+    /// The script cannot be read to its end. The lines that were ended before have run.
+    #[error("read fault")]
+    Read,
+    /// The output takes no more bytes.
+    #[error("write fault")]
+    Write,
+    #[error("out of memory")]
+    Memory,
+}
+
+impl ProgramFault {
+    /// Writes the line that tells the fault, and answers the exit status. A line that cannot be written is dropped.
+    pub fn report<F: Write>(self, faults: &mut F) -> u8
+        ensures { result ≡ 2 }
+    {
+        let _ = writeln!(faults, "d64sh: {self}");
+        NOT_RUN
+    }
+
+    /// The fault of an image file that cannot be fetched.
+    fn of_image_file(fault: HostFault) -> ProgramFault {
+        match fault {
+            HostFault::Memory(_) => ProgramFault::Memory,
+            HostFault::Missing | HostFault::Device | HostFault::TooLong => {
+                ProgramFault::UnreadableImage
+            }
+        }
+    }
+}
+
+impl From<AllocError> for ProgramFault {
+    fn from(_error: AllocError) -> ProgramFault {
+        ProgramFault::Memory
+    }
+}
+
+impl From<ImageFault> for ProgramFault {
+    fn from(fault: ImageFault) -> ProgramFault {
+        match fault {
+            ImageFault::WrongLength(length) => ProgramFault::WrongLength(length),
+            ImageFault::Memory(_) => ProgramFault::Memory,
+        }
+    }
+}
+
+impl From<ShellFault> for ProgramFault {
+    fn from(fault: ShellFault) -> ProgramFault {
+        match fault {
+            ShellFault::Read => ProgramFault::Read,
+            ShellFault::Write => ProgramFault::Write,
+            ShellFault::Memory(_) => ProgramFault::Memory,
+        }
+    }
+}
+
+/// Does what the words after the program's name ask for, and answers the exit status: 0 where all lines of the script
+/// were accepted, 1 where some line was refused, 2 after a fault, which one line on `faults` tells.
+///
+/// `shell` runs the script that `reader` gives on a blank image; `shell IMAGE` runs it on the image that the host has
+/// under this name, which is also where `save` stores it by default. All that was answered is written out before a
+/// status is.
+pub fn program<R: Read, W: Write, F: Write, H: Host>(
+    alloc: Global,
+    words: &[&str],
+    reader: &mut R,
+    writer: &mut W,
+    faults: &mut F,
+    host: &mut H,
+) -> u8
+    ensures { result ≤ 2 }
+{
+    match shell(alloc, words, reader, writer, host) {
+        Ok(outcome) => exit_status(outcome),
+        Err(fault) => fault.report(faults),
+    }
+}
+
+/// The exit status of a script that ran to its end.
+fn exit_status(outcome: Outcome) -> u8
+    ensures { result ≡ (if outcome.refused == 0 then 0 else 1) }
+{
+    if outcome.refused == 0 {
+        ALL_ACCEPTED
+    } else {
+        SOME_REFUSED
+    }
+}
+
+/// Runs the script on the image that the words ask for.
+fn shell<R: Read, W: Write, H: Host>(
+    alloc: Global,
+    words: &[&str],
+    reader: &mut R,
+    writer: &mut W,
+    host: &mut H,
+) -> Result<Outcome, ProgramFault> {
+    let image_name = image_name(words)?;
+    let image = first_image(alloc, host, image_name)?;
+    let mut session = Session::new(alloc, image);
+    let mut output = BufWriter::new(alloc, writer).map_err(|_| ProgramFault::Memory)?;
+    let home = image_name.unwrap_or("");
+    let ran = run(alloc, reader, &mut output, host, home, &mut session);
+    match output.flush() {
+        Ok(()) => Ok(ran?),
+        Err(_) => Err(ProgramFault::Write),
+    }
+}
+
+/// The name of the image file that the words ask for, or None where they ask for a blank image.
+fn image_name<'a>(words: &[&'a str]) -> Result<Option<&'a str>, ProgramFault> {
+    match words {
+        ["shell"] => Ok(None),
+        ["shell", image] => Ok(Some(image)),
+        _ => Err(ProgramFault::Usage),
+    }
+}
+
+/// The image that the session begins with: a host file, or a blank one.
+fn first_image<H: Host>(
+    alloc: Global,
+    host: &mut H,
+    name: Option<&str>,
+) -> Result<Image, ProgramFault> {
+    let Some(name) = name else {
+        return Ok(Image::zeroed(alloc)?);
+    };
+    let bytes = host
+        .fetch(alloc, name, IMAGE_FILE_BYTES)
+        .map_err(ProgramFault::of_image_file)?;
+    Ok(Image::from_bytes(alloc, bytes.as_slice())?)
+}

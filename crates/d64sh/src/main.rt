@@ -1,0 +1,45 @@
+//! The program `d64sh`: hands its words, its streams and the files of the system to the shell.
+#![tactic(auto)]
+
+mod retrying;
+
+use d64_shell::{FolderHost, ProgramFault, program};
+use retrying::Retrying;
+use std::env;
+use std::io::{self, ErrorKind, Stderr};
+use std::process::ExitCode;
+
+fn main(rt: HostRuntime) -> ExitCode {
+    let mut faults = rt.stderr();
+    let status = match start(&rt, &mut faults) {
+        Ok(status) => status,
+        Err(fault) => fault.report(&mut faults),
+    };
+    ExitCode::from(status)
+}
+
+/// Does what the words of the process ask for, and answers the exit status.
+fn start(rt: &HostRuntime, faults: &mut Stderr) -> Result<u8, ProgramFault> {
+    let arguments = env::args(rt).map_err(fault_of_words)?;
+    let arguments: Vec<String> = arguments.skip(1).collect(rt.alloc())?;
+    let words: Vec<&str> = arguments
+        .iter()
+        .map(|word| word.as_str())
+        .collect(rt.alloc())?;
+    Ok(program(
+        rt.alloc(),
+        words.as_slice(),
+        &mut Retrying(rt.stdin()),
+        &mut rt.stdout(),
+        faults,
+        &mut FolderHost::new(rt),
+    ))
+}
+
+/// Why the words cannot be had: there is no memory for them, or one of them is no text.
+fn fault_of_words(error: io::Error) -> ProgramFault {
+    match error.kind() {
+        ErrorKind::OutOfMemory => ProgramFault::Memory,
+        _ => ProgramFault::Usage,
+    }
+}
