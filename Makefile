@@ -8,7 +8,7 @@ PROGRAM = crates/d64sh/out/d64sh
 
 all:
 	@$(NEEDS_RT)
-	@cd crates/d64sh && $(RT) run </dev/null >/dev/null; test -x out/d64sh
+	@cd crates/d64sh && $(RT) run -- shell </dev/null >/dev/null
 
 run: all
 	@printf 'block 17 0\nundo\n' | $(PROGRAM) shell; test $$? -le 1

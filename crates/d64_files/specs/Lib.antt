@@ -4,3 +4,5 @@ pub mod Pattern
 pub mod Chain
 pub mod ChainLaws
 pub mod FileData
+pub mod Slot
+pub mod Directory

@@ -1,15 +1,26 @@
-//! The files of a D64 image: their names, and the patterns that select them; their chains of blocks, and the data in those.
+//! The files of a D64 image: their names, and the patterns that select them; their chains of blocks, and the data in
+//! those; the directory and its entries.
 #![tactic(auto)]
 
 mod block_list;
 mod chain;
 pub mod chain_laws;
+mod dir_fault;
+mod entry;
 mod file_data;
+mod kind;
 mod label;
+mod lookup;
 mod name;
 mod pattern;
+mod slots;
 
 pub use block_list::BlockList;
+pub use dir_fault::DirFault;
+pub use entry::{Entry, SlotNo};
+pub use kind::Kind;
 pub use label::BadName;
+pub use lookup::find;
 pub use name::Name;
 pub use pattern::{Pattern, matches};
+pub use slots::Slots;

@@ -12,6 +12,8 @@ mod fakes;
 #[cfg(test)]
 mod folder_files;
 #[cfg(test)]
+mod formats;
+#[cfg(test)]
 mod limits;
 #[cfg(test)]
 mod programs;

@@ -23,6 +23,9 @@ fn lines_are_refused(rt: HostRuntime) -> Result<(), Fail> {
         ("undo now", "30,SYNTAX ERROR,00,00\n"),
         ("UNDO", "31,SYNTAX ERROR,00,00\n"),
         ("un\tdo", "30,SYNTAX ERROR,00,00\n"),
+        ("format abc", "30,SYNTAX ERROR,00,00\n"),
+        ("format ,01", "33,SYNTAX ERROR,00,00\n"),
+        ("format abc,1", "33,SYNTAX ERROR,00,00\n"),
     ];
     let mut host = small_host(rt.alloc())?;
     for (line, status) in lines {

@@ -1,0 +1,43 @@
+use Rattle.std.proofs.Common.{◌≡◌, ◌≢◌, ℕ, List, [], length, refl, sym, ap, ◌∙◌, subst, arith}
+use Rattle.std.specs.Prelude.{All}
+use Rattle.std.proofs.lemmas.Grind.{get_or_default_zero}
+use Rattle.std.proofs.lemmas.List.FromFn.{length-enumerate_from}
+use Rattle.d64_image.specs.Image.{sector_at}
+use Rattle.d64_files.specs.Slot.{cells, HasKind}
+use Rattle.d64_files.specs.Directory.{directory, slots_in}
+use Rattle.d64_files.proofs.Conditions.{both_hold, unknown_kind}
+use Rattle.d64_files.proofs.SlotLists.{all_kinds, kinds_of_block, length-slots_in}
+use Rattle.d64_files.proofs.slots.Slots.of.Goals as goal
+
+pub returns-then-not-kinds_are_known-clause-conditions : goal.returns-then-not-kinds_are_known-clause-conditions
+returns-then-not-kinds_are_known-clause-conditions c =
+    let image = c.args.image.now in
+    let items = c.as_slice-block-items.result.now in
+    let index = c.loop-block.block-index in
+    let exists : directory image ≢ [] = c.in-Some.ensures.exists.0 refl in
+    let same : items ≡ directory image = c.as_slice-block-items.ensures.value ∙ c.in-Some.ensures.value in
+    unknown_kind image exists (λ all.
+    let there = subst (λ (bs : List ℕ). All HasKind (slots_in image bs)) (sym same) all in
+    let block = c.block-item.is ∙ get_or_default_zero items index c.block-item.result (omega arith) in
+    let here = subst (λ (s : List ℕ). All HasKind (cells s)) (sym (c.sector.ensures.value ∙ ap (sector_at image) block)) (kinds_of_block image items index (omega arith) there) in
+    let known = c.kinds_are_known.ensures.1 here in
+    let unknown = c.if-not-kinds_are_known.true in
+    absurd (cc))
+
+pub invariant_of-result : goal.invariant_of-result
+invariant_of-result c =
+    subst (λ (bs : List ℕ). All HasKind (slots_in c.args.image.now bs)) c.as_slice-block-items.ensures.value
+    (all_kinds c.args.image.now c.as_slice-block-items.result.now (λ k within. c.loop-block.invariant k (omega arith)))
+
+pub returns-clause-conditions : goal.returns-clause-conditions
+returns-clause-conditions c =
+    both_hold c.args.image.now (c.in-Some.ensures.exists.0 refl)
+    (subst (λ (bs : List ℕ). All HasKind (slots_in c.args.image.now bs)) (c.as_slice-block-items.ensures.value ∙ c.in-Some.ensures.value)
+    (all_kinds c.args.image.now c.as_slice-block-items.result.now (λ k within. c.loop-block.invariant k (omega arith))))
+
+pub returns-clause-len : goal.returns-clause-len
+returns-clause-len c =
+    let slots = slots_in c.args.image.now c.in-Some.directory in
+    let same : length c.as_slice-block-items.result.now ≡ length c.in-Some.directory = ap length c.as_slice-block-items.ensures.value in
+    let few = c.as_slice-block-items.ensures.len in
+    omega (arith, length-enumerate_from 0 slots, length-slots_in c.args.image.now c.in-Some.directory)

@@ -1,0 +1,62 @@
+-- The directory of an image, its slots, and the conditions of a sound image.
+use Rattle.std.specs.Prelude.{◌≢◌, ℕ, ◌<◌, ◌≤◌, ◌&&◌, Bool, List, [], All, position, flat_map, Option, ⊤}
+use Rattle.std.specs.List.{enumerate_from}
+use Rattle.d64_image.specs.Image.{sector_at}
+use Rattle.d64_files.specs.Chain.{chain_from}
+use Rattle.d64_files.specs.Pattern.{matches}
+use Rattle.d64_files.specs.Slot.{cells, HasKind, is_used, name_of}
+use Rattle.d64_files.specs.declared.dir_fault.DirFault.{DirFault}
+use Rattle.d64_files.specs.declared.dir_fault.DirFault.TheVariants.{WrongCounts, NoDirectory, UnknownKind, NoChain, CrossLinked, MarkedFree}
+
+-- the directory's blocks: the chain from track 18, sector 1; the empty list where there is none
+abbrev pub directory : List (List ℕ) → List ℕ
+directory image = chain_from image 18 1
+
+-- the slots of blocks, eight a block, block after block
+abbrev pub slots_in : List (List ℕ) → List ℕ → List (List ℕ)
+slots_in image blocks = flat_map (λ block. cells (sector_at image block)) blocks
+
+-- the slots of the directory
+abbrev pub slots : List (List ℕ) → List (List ℕ)
+slots image = slots_in image (directory image)
+
+-- slots with their numbers, from 0
+abbrev pub numbered : List (List ℕ) → List (ℕ × List ℕ)
+numbered cells = enumerate_from 0 cells
+
+-- a used slot whose name the pattern matches
+abbrev pub is_named : List ℕ → List ℕ → Bool
+is_named pattern cell = is_used cell && matches pattern (name_of cell)
+
+-- the number of the first used slot whose name the pattern matches
+abbrev pub first_named : List ℕ → List (List ℕ) → Option ℕ
+first_named pattern cells = position (is_named pattern) cells
+
+-- the number of a condition
+abbrev pub number_of : DirFault → ℕ
+number_of WrongCounts = 1
+number_of NoDirectory = 2
+number_of UnknownKind = 3
+number_of NoChain = 4
+number_of CrossLinked = 5
+number_of MarkedFree = 6
+
+-- an image meets the condition that the fault names (the walk along the slots looks at two of them)
+abbrev pub Holds : List (List ℕ) → DirFault → Type 0
+Holds image WrongCounts = ⊤
+Holds image NoDirectory = directory image ≢ []
+Holds image UnknownKind = All HasKind (slots image)
+Holds image NoChain = ⊤
+Holds image CrossLinked = ⊤
+Holds image MarkedFree = ⊤
+
+-- an image meets the conditions of these numbers
+abbrev pub AllHold : List (List ℕ) → ℕ → ℕ → Type 0
+AllHold image first last = (fault : DirFault) → first ≤ number_of fault → number_of fault ≤ last → Holds image fault
+
+-- of the conditions of these numbers, the first that an image doesn't meet
+pub record IsFirstFault (image : List (List ℕ)) (first last : ℕ) (fault : DirFault) : Type 0 where
+  pub not_before : first ≤ number_of fault
+  pub not_after : number_of fault ≤ last
+  pub fails : ¬ (Holds image fault)
+  pub others_hold : (other : DirFault) → first ≤ number_of other → number_of other < number_of fault → Holds image other

@@ -1,0 +1,74 @@
+-- A slot of the directory: its 32 bytes, and what they say of a file.
+use Rattle.std.specs.Prelude.{ℕ, ◌+◌, ◌*◌, ◌%◌, ◌^◌, ◌≤◌, ◌==◌, Bool, not, if◌then◌else◌, List, [], ◌∷◌, map, take, drop, take_while, slice_index, slice_index_or, slice_range, bit_and, Option, Some, None}
+use Rattle.std.specs.List.{range_with_len}
+use Rattle.d64_image.specs.Block.{block_of}
+use Rattle.d64_files.specs.declared.kind.Kind.{Kind}
+use Rattle.d64_files.specs.declared.kind.Kind.TheVariants.{Del, Seq, Prg, Usr, Rel}
+
+-- the bytes of one slot of a block
+abbrev pub cell : List ℕ → ℕ → List ℕ
+cell bytes index = take 32 (drop (32 * index) bytes)
+
+-- the eight slots of a block
+unfoldable pub cells : List ℕ → List (List ℕ)
+cells bytes = map (cell bytes) (range_with_len 0 8)
+
+-- the type byte
+abbrev pub type_byte : List ℕ → ℕ
+type_byte cell = slice_index cell 2
+
+-- a bit of a byte is 1
+abbrev pub has_bit : ℕ → ℕ → Bool
+has_bit byte bit = not (bit_and byte (2 ^ bit) == 0)
+
+-- a slot is used where its type byte isn't 0
+abbrev pub is_used : List ℕ → Bool
+is_used cell = not (type_byte cell == 0)
+
+-- the number of a file's kind, the low four bits of the type byte
+abbrev pub kind_number : List ℕ → ℕ
+kind_number cell = type_byte cell % 16
+
+-- there is a kind of that number
+abbrev pub HasKind : List ℕ → Type 0
+HasKind cell = kind_number cell ≤ 4
+
+-- the kinds, in the order of their numbers
+abbrev pub kinds : List Kind
+kinds = Del ∷ Seq ∷ Prg ∷ Usr ∷ Rel ∷ []
+
+-- a file's kind
+abbrev pub kind_of : List ℕ → Kind
+kind_of cell = slice_index_or kinds (kind_number cell) Del
+
+-- a file is locked where bit 6 of the type byte is 1
+abbrev pub is_locked : List ℕ → Bool
+is_locked cell = has_bit (type_byte cell) 6
+
+-- a file is closed where bit 7 of the type byte is 1
+abbrev pub is_closed : List ℕ → Bool
+is_closed cell = has_bit (type_byte cell) 7
+
+-- the track and the sector of a file's first block
+abbrev pub first_pair : List ℕ → ℕ × ℕ
+first_pair cell = (slice_index cell 3, slice_index cell 4)
+
+-- a file's first block, where there is a block of that track and sector
+abbrev pub start_of : List ℕ → Option ℕ
+start_of cell = block_of (slice_index cell 3) (slice_index cell 4)
+
+-- the field of the name: 16 bytes
+abbrev pub field_of : List ℕ → List ℕ
+field_of cell = slice_range cell 5 21
+
+-- a file's name: the field up to its first shifted space
+abbrev pub name_of : List ℕ → List ℕ
+name_of cell = take_while (λ byte. not (byte == 0xA0)) (field_of cell)
+
+-- the track and the sector of a file's first side block; none where that track is 0
+abbrev pub side_pair : List ℕ → Option (ℕ × ℕ)
+side_pair cell = if slice_index cell 0x15 == 0 then None else Some (slice_index cell 0x15, slice_index cell 0x16)
+
+-- a file's shown size in blocks: two bytes, low first
+abbrev pub size_of : List ℕ → ℕ
+size_of cell = slice_index cell 0x1E + 256 * slice_index cell 0x1F

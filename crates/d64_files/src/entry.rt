@@ -1,0 +1,171 @@
+//! The slots of a directory, one at a time.
+ghost use Rattle.std.specs.Prelude.{◌≡◌, ◌<◌, ◌*◌, ◌+◌, IfSome, length, option_map};
+ghost use Rattle.d64_image.specs.declared.block.TheConstants.{BLOCKS};
+ghost use Rattle.d64_files.specs.Slot.{HasKind, is_used, kind_of, is_locked, is_closed, first_pair, start_of, field_of, name_of, side_pair, size_of};
+
+use crate::kind::Kind;
+use d64_image::BlockNo;
+use std::marker::Model;
+
+/// How many bytes a slot has.
+pub(crate) const SLOT_BYTES: usize = 32;
+
+/// The byte that fills the field of a name, a shifted space.
+const FILLER: u8 = 0xA0;
+
+/// A slot of the directory: its place in the order of the directory's chain, from 0.
+#[derive(Clone, Copy, Debug, PartialEq, Eq, PartialOrd, Ord, Hash)]
+pub struct SlotNo {
+    place: usize,
+}
+
+impl Model for SlotNo {
+    ghost use Rattle.std.specs.Prelude.{ℕ};
+
+    ghost Value = { ℕ };
+
+    ghost view = { λ slot. slot.place };
+
+    ghost inverse = { λ place. record { place = place } };
+}
+
+impl SlotNo {
+    /// The slot of that place.
+    pub fn at(place: usize) -> SlotNo
+        ensures { result ≡ place }
+    {
+        SlotNo { place }
+    }
+
+    /// The place of the slot, from 0.
+    pub fn place(self) -> usize
+        ensures { result ≡ self }
+    {
+        self.place
+    }
+}
+
+/// An entry of the directory: the 32 bytes of a slot, borrowed from the image (the VICE manual, "The D64 disk image
+/// format").
+#[derive(Drop)]
+pub struct Entry<'a> {
+    slot: SlotNo,
+    bytes: &'a [u8],
+}
+
+impl<'a> Model for Entry<'a> {
+    ghost use Rattle.std.specs.Prelude.{◌≡◌, ℕ, List, length};
+    ghost use Rattle.d64_files.specs.Slot.{HasKind};
+
+    ghost Value = { ℕ × List ℕ };
+
+    ghost view = { λ entry. (entry.slot, entry.bytes.now) };
+
+    ghost invariant = { λ entry. (length entry.bytes.now ≡ 32) × HasKind entry.bytes.now };
+}
+
+impl<'a> Entry<'a> {
+    /// The entry of a slot with these 32 bytes.
+    pub(crate) fn of(slot: SlotNo, bytes: &'a [u8]) -> Entry<'a>
+        requires len { length bytes.now ≡ 32 }
+        requires kind { HasKind bytes.now }
+        ensures { result ≡ (slot, bytes.now) }
+    {
+        Entry { slot, bytes }
+    }
+
+    /// The slot of the entry.
+    pub fn slot(&self) -> SlotNo
+        ensures { result ≡ self.now.0 }
+    {
+        self.slot
+    }
+
+    /// Whether the slot is used: its type byte isn't $00.
+    pub fn used(&self) -> bool
+        ensures { result ≡ is_used self.now.1 }
+    {
+        self.bytes[2] != 0
+    }
+
+    /// The kind of the file, the low four bits of the type byte.
+    pub fn kind(&self) -> Kind
+        ensures { result ≡ kind_of self.now.1 }
+    {
+        match self.bytes[2] % 16 {
+            0 => Kind::Del,
+            1 => Kind::Seq,
+            2 => Kind::Prg,
+            3 => Kind::Usr,
+            _ => Kind::Rel,
+        }
+    }
+
+    /// Whether the file was closed: bit 7 of the type byte is 1.
+    pub fn closed(&self) -> bool
+        ensures { result ≡ is_closed self.now.1 }
+    {
+        self.bytes[2] & (1 << 7) != 0
+    }
+
+    /// Whether the file is locked, so that it isn't deleted: bit 6 of the type byte is 1.
+    pub fn locked(&self) -> bool
+        ensures { result ≡ is_locked self.now.1 }
+    {
+        self.bytes[2] & (1 << 6) != 0
+    }
+
+    /// The field of the name: 16 bytes, of which the first $A0 ends the name.
+    pub fn field(&self) -> &'a [u8]
+        ensures value { result.now ≡ field_of self.now.1 }
+        ensures len { length result.now ≡ 16 }
+    {
+        &self.bytes[5..21]
+    }
+
+    /// The name: the field up to its first $A0, or all of it.
+    pub fn name(&self) -> &'a [u8]
+        ensures { result.now ≡ name_of self.now.1 }
+    {
+        let field = self.field();
+        match field.iter().position(|byte| *byte == FILLER) {
+            Some(end) => &field[..end],
+            None => field,
+        }
+    }
+
+    /// The first block of the file, or None where the disk has no block of that track and sector.
+    pub fn start(&self) -> Option<BlockNo>
+        ensures place { result ≡ start_of self.now.1 }
+        ensures within { IfSome result (λ block. block < BLOCKS) }
+    {
+        let (track, sector) = self.first_pair();
+        BlockNo::of(track, sector)
+    }
+
+    /// The track (from 1) and the sector (from 0) of the first block, as they stand in the entry.
+    pub fn first_pair(&self) -> (u8, u8)
+        ensures { result ≡ first_pair self.now.1 }
+    {
+        (self.bytes[3], self.bytes[4])
+    }
+
+    /// The track (from 1) and the sector (from 0) of the first side block of a REL file, as they stand in the entry, or
+    /// None where the track is 0: then there are no side blocks.
+    pub fn side_pair(&self) -> Option<(u8, u8)>
+        ensures { result ≡ side_pair self.now.1 }
+    {
+        if self.bytes[0x15] == 0 {
+            None
+        } else {
+            Some((self.bytes[0x15], self.bytes[0x16]))
+        }
+    }
+
+    /// The size of the file in blocks that the directory shows.
+    pub fn blocks(&self) -> u16
+        ensures { result ≡ size_of self.now.1 }
+    {
+        u16::from_le_bytes([self.bytes[0x1E], self.bytes[0x1F]])
+    }
+}
