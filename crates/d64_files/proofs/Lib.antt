@@ -1,7 +1,11 @@
 pub mod Chains
 pub mod Conditions
+pub mod Contents
 pub mod LabelTests
 pub mod Matching
+pub mod Owners
 pub mod Prefixes
+pub mod Repeats
 pub mod SlotLists
+pub mod Verdicts
 pub mod Walks

@@ -1,8 +1,11 @@
 -- The directory of an image, its slots, and the conditions of a sound image.
-use Rattle.std.specs.Prelude.{◌≢◌, ℕ, ◌<◌, ◌≤◌, ◌&&◌, Bool, List, [], All, position, flat_map, Option, ⊤}
-use Rattle.std.specs.List.{enumerate_from}
+use Rattle.std.specs.Prelude.{◌≢◌, ℕ, ◌<◌, ◌≤◌, ◌&&◌, nat_eq, Bool, List, [], ◌∷◌, ◌++◌, All, position, flat_map, Option}
+use Rattle.std.specs.List.{enumerate_from, IsDistinct, slice_get}
+use Rattle.std.specs.Option.{option_map_or}
 use Rattle.d64_image.specs.Image.{sector_at}
+use Rattle.d64_map.specs.Map.{map_block, CountsFit}
 use Rattle.d64_files.specs.Chain.{chain_from}
+use Rattle.d64_files.specs.Ownership.{owned_by, HasItsChains, NoneIsFree}
 use Rattle.d64_files.specs.Pattern.{matches}
 use Rattle.d64_files.specs.Slot.{cells, HasKind, is_used, name_of}
 use Rattle.d64_files.specs.declared.dir_fault.DirFault.{DirFault}
@@ -19,6 +22,14 @@ slots_in image blocks = flat_map (λ block. cells (sector_at image block)) block
 -- the slots of the directory
 abbrev pub slots : List (List ℕ) → List (List ℕ)
 slots image = slots_in image (directory image)
+
+-- the blocks that are owned: the map's, the directory's, and those of each slot
+unfoldable pub owned_blocks : List (List ℕ) → List ℕ
+owned_blocks image = map_block ∷ (directory image ++ flat_map (owned_by image) (slots image))
+
+-- the blocks that the slot of a number owns; none where there is no such slot
+abbrev pub slot_owns : List (List ℕ) → ℕ → List ℕ
+slot_owns image slot = option_map_or (owned_by image) (slice_get (slots image) slot) []
 
 -- slots with their numbers, from 0
 abbrev pub numbered : List (List ℕ) → List (ℕ × List ℕ)
@@ -41,14 +52,14 @@ number_of NoChain = 4
 number_of CrossLinked = 5
 number_of MarkedFree = 6
 
--- an image meets the condition that the fault names (the walk along the slots looks at two of them)
+-- an image meets the condition that the fault names
 abbrev pub Holds : List (List ℕ) → DirFault → Type 0
-Holds image WrongCounts = ⊤
+Holds image WrongCounts = CountsFit image
 Holds image NoDirectory = directory image ≢ []
 Holds image UnknownKind = All HasKind (slots image)
-Holds image NoChain = ⊤
-Holds image CrossLinked = ⊤
-Holds image MarkedFree = ⊤
+Holds image NoChain = All (HasItsChains image) (slots image)
+Holds image CrossLinked = IsDistinct nat_eq (owned_blocks image)
+Holds image MarkedFree = NoneIsFree image (owned_blocks image)
 
 -- an image meets the conditions of these numbers
 abbrev pub AllHold : List (List ℕ) → ℕ → ℕ → Type 0

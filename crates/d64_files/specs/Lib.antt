@@ -6,3 +6,6 @@ pub mod ChainLaws
 pub mod FileData
 pub mod Slot
 pub mod Directory
+pub mod Ownership
+pub mod Claims
+pub mod Reading

@@ -5,6 +5,7 @@
 mod block_list;
 mod chain;
 pub mod chain_laws;
+mod claims;
 mod dir_fault;
 mod entry;
 mod file_data;
@@ -13,7 +14,9 @@ mod label;
 mod lookup;
 mod name;
 mod pattern;
+mod reading;
 mod slots;
+mod soundness;
 
 pub use block_list::BlockList;
 pub use dir_fault::DirFault;
@@ -23,4 +26,6 @@ pub use label::BadName;
 pub use lookup::find;
 pub use name::Name;
 pub use pattern::{Pattern, matches};
+pub use reading::{ReadFault, content};
 pub use slots::Slots;
+pub use soundness::{check, owned, slot_blocks};

@@ -1,5 +1,10 @@
 //! Reading on where a signal interrupts.
 
+ghost use Rattle.std.specs.Prelude.{◌≢◌, IfErr};
+ghost use Rattle.std.specs.Io.{ReadsAtMost};
+ghost use Rattle.std.specs.Io.KnownBytes.{ReadConsumes};
+ghost use Rattle.std.specs.IoError.{error_kind};
+
 use std::io::{self, ErrorKind, Read};
 
 /// A reader that reads again where a read is interrupted.
@@ -9,13 +14,17 @@ pub struct Retrying<R>(pub R);
 impl<R: Read> Read for Retrying<R> {
     ghost remaining = { λ reader. R.remaining reader.0 };
 
-    fn read(&mut self, buffer: &mut [u8]) -> io::Result<usize> {
+    fn read(&mut self, buffer: &mut [u8]) -> io::Result<usize>
+        ensures bound { ReadsAtMost result buffer.new }
+        ensures bytes { ReadConsumes (R.remaining self.old.0) (R.remaining self.new.0) result buffer.new }
+        ensures retried { IfErr result (λ error. error_kind error ≢ ErrorKind.Interrupted) }
+    {
         for _ in 0..u64::MAX {
             match self.0.read(buffer) {
                 Err(error) if error.kind() == ErrorKind::Interrupted => {}
                 outcome => return outcome,
             }
         }
-        Err(io::Error::from(ErrorKind::Interrupted))
+        Err(io::Error::from(ErrorKind::TimedOut))
     }
 }

@@ -1,20 +1,24 @@
 //! Empty disks, made by `format`.
 
-use crate::expected::{blank_session, run_script, small_host};
+use crate::examples::{
+    assert_answers, assert_answers_on, blank_session, counted, example_host, uniform_dump,
+};
 use d64_image::BlockNo;
 use std::test::Fail;
 
 #[test]
 fn a_formatted_disk_has_its_map_and_its_name(rt: HostRuntime) -> Result<(), Fail> {
-    let mut host = small_host(rt.alloc())?;
+    let mut host = example_host(rt.alloc())?;
     let mut session = blank_session(rt.alloc())?;
-    let ran = run_script(
+    assert_answers_on(
+        &rt,
         rt.alloc(),
         &mut host,
         &mut session,
         "format \"test disk,01\"\n",
+        "00, OK,00,00\n",
+        counted(1, 0),
     );
-    assert_eq!(rt; ran.output.as_slice(), b"00, OK,00,00\n".as_slice());
     let header = BlockNo::of(18, 0).ok_or("no such block")?;
     let bytes = session.image().sector(header).as_slice();
     assert_eq!(rt;
@@ -32,20 +36,19 @@ fn a_formatted_disk_has_its_map_and_its_name(rt: HostRuntime) -> Result<(), Fail
 
 #[test]
 fn a_refused_format_keeps_what_can_be_redone(rt: HostRuntime) -> Result<(), Fail> {
-    let mut host = small_host(rt.alloc())?;
-    let mut session = blank_session(rt.alloc())?;
     let script = "format ab,01\nundo\nformat x*,01\nredo\nblock 18 1\n";
-    let ran = run_script(rt.alloc(), &mut host, &mut session, script);
-    let answers =
-        "00, OK,00,00\n00, OK,00,00\n33,SYNTAX ERROR,00,00\n00, OK,00,00\n00: 00 ff 00 00 00 00 00 00 00 00 00 00 00 00 00 00\n10: 00 00";
-    assert_eq!(rt;
-        ran.output.as_slice().get(..answers.len()),
-        Some(answers.as_bytes())
-    );
-    assert_eq!(rt;
-        ran.output.as_slice().ends_with(b"00 00\n00, OK,00,00\n"),
-        true
-    );
-    assert_eq!(rt; session.done(), 1);
-    Ok(())
+    let zeros = uniform_dump(rt.alloc(), "00")?;
+    let after_the_link = zeros.as_str().strip_prefix("00: 00 00").ok_or("no dump")?;
+    let answers = format!(in rt.alloc();
+        "00, OK,00,00\n00, OK,00,00\n33,SYNTAX ERROR,00,00\n00, OK,00,00\n00: 00 ff{after_the_link}00, OK,00,00\n"
+    )?;
+    let mut host = example_host(rt.alloc())?;
+    assert_answers(
+        &rt,
+        rt.alloc(),
+        &mut host,
+        script,
+        answers.as_str(),
+        counted(4, 1),
+    )
 }

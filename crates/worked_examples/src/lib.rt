@@ -4,9 +4,7 @@
 #![tactic(auto)]
 
 #[cfg(test)]
-mod block_lines;
-#[cfg(test)]
-mod expected;
+mod examples;
 #[cfg(test)]
 mod fakes;
 #[cfg(test)]
@@ -17,8 +15,6 @@ mod formats;
 mod limits;
 #[cfg(test)]
 mod programs;
-#[cfg(test)]
-mod refusals;
 #[cfg(test)]
 mod scripts;
 #[cfg(test)]

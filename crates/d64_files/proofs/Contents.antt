@@ -1,0 +1,197 @@
+-- What keeps a file from being read.
+use Rattle.std.proofs.Common.{◌≡◌, ◌≢◌, ℕ, zero, suc, ◌+◌, ◌≤◌, Bool, true, false, cond, not, eqb, List, [], ◌∷◌, Option, Some, None, refl, sym, ap, ◌∙◌, subst, inl, inr, arith}
+use Rattle.std.specs.Prelude.{All, find, nat_le, slice_get, option_map}
+use Rattle.std.specs.List.{enumerate_from, list_all}
+use Rattle.std.specs.Option.{option_or, option_map_or}
+use Rattle.std.proofs.lemmas.Bool.{eq-eqb, ne_eqb, cases_Bool, and_parts, and_from}
+use Rattle.std.proofs.lemmas.Bool.Decides.{nat_tests}
+use Rattle.std.proofs.lemmas.List.Elements.{All-nil, All-cons, All-head, All-tail}
+use Rattle.d64_files.specs.Slot.{HasKind, is_used, is_closed, kind_number, kind_of, first_pair}
+use Rattle.d64_files.specs.Ownership.{chain_at, owned_by}
+use Rattle.d64_files.specs.Directory.{directory, slots, slot_owns, numbered, AllHold, IsFirstFault}
+use Rattle.d64_files.specs.Reading.{is_nil, is_del, unreadable, file_refusal, file_content, content_at, slot_refusal, content_refusal}
+use Rattle.d64_files.specs.declared.dir_fault.DirFault.{DirFault}
+use Rattle.d64_files.specs.declared.dir_fault.DirFault.TheVariants.{WrongCounts, NoDirectory, UnknownKind, NoChain, CrossLinked, MarkedFree}
+use Rattle.d64_files.specs.declared.reading.ReadFault.{ReadFault}
+use Rattle.d64_files.specs.declared.reading.ReadFault.TheVariants.{Directory, NotFound, NotClosed, WrongType}
+
+-- the slot of a number, among those that are numbered from another one on
+slot_from : (k i : ℕ) (cells : List (List ℕ))
+    → find (λ (e : ℕ × List ℕ). eqb e.0 (k + i)) (enumerate_from k cells) ≡ option_map (λ (c : List ℕ). (k + i, c)) (slice_get cells i)
+slot_from k i [] = refl
+slot_from k zero (c ∷ cells) =
+    let e : k + 0 ≡ k = omega arith in
+    let P : ℕ → Type 0 = λ n. cond (eqb k n) (Some (k, c)) (find (λ (e : ℕ × List ℕ). eqb e.0 n) (enumerate_from (k + 1) cells)) ≡ Some (n, c) in
+    subst P (sym e)
+    (ap (λ (b : Bool). cond b (Some (k, c)) (find (λ (e : ℕ × List ℕ). eqb e.0 k) (enumerate_from (k + 1) cells))) (eq-eqb k k refl))
+slot_from k (suc i) (c ∷ cells) =
+    let e : k + suc i ≡ k + 1 + i = omega arith in
+    ap (λ (b : Bool). cond b (Some (k, c)) (find (λ (e : ℕ × List ℕ). eqb e.0 (k + suc i)) (enumerate_from (k + 1) cells))) (ne_eqb k (k + suc i) (λ e. omega arith))
+    ∙ ap (λ (n : ℕ). find (λ (e : ℕ × List ℕ). eqb e.0 n) (enumerate_from (k + 1) cells)) e
+    ∙ slot_from (k + 1) i cells
+    ∙ ap (λ (n : ℕ). option_map (λ (c : List ℕ). (n, c)) (slice_get cells i)) (sym e)
+
+-- the slot of a number
+slot_of_number : (cells : List (List ℕ)) (slot : ℕ)
+    → find (λ (e : ℕ × List ℕ). eqb e.0 slot) (numbered cells) ≡ option_map (λ (c : List ℕ). (slot, c)) (slice_get cells slot)
+slot_of_number cells slot =
+    let e : slot ≡ 0 + slot = omega arith in
+    ap (λ (n : ℕ). find (λ (e : ℕ × List ℕ). eqb e.0 n) (numbered cells)) e
+    ∙ slot_from 0 slot cells
+    ∙ ap (λ (n : ℕ). option_map (λ (c : List ℕ). (n, c)) (slice_get cells slot)) (sym e)
+
+-- a slot that was found by its number has these bytes
+bytes_of_found : (slot : ℕ) (bytes : Option (List ℕ)) (entry : ℕ × List ℕ) → Some entry ≡ option_map (λ (c : List ℕ). (slot, c)) bytes → bytes ≡ Some entry.1
+bytes_of_found slot None entry e = cc
+bytes_of_found slot (Some c) entry e = let f : entry ≡ (slot, c) = cc in ap (λ (x : ℕ × List ℕ). Some x.1) (sym f)
+
+-- and where none was found there is none
+none_of_found : (slot : ℕ) (bytes : Option (List ℕ)) → ◌≡◌ {A = Option (ℕ × List ℕ)} None (option_map (λ (c : List ℕ). (slot, c)) bytes) → bytes ≡ None
+none_of_found slot None e = refl
+none_of_found slot (Some c) e = cc
+
+-- the bytes of a slot that was found along a walk
+pub found_bytes : (image : List (List ℕ)) (slot : ℕ) (walk : List (ℕ × List ℕ)) (entry : ℕ × List ℕ) → walk ≡ numbered (slots image)
+    → Some entry ≡ find (λ (e : ℕ × List ℕ). eqb e.0 slot) walk → slice_get (slots image) slot ≡ Some entry.1
+found_bytes image slot walk entry e found =
+    bytes_of_found slot (slice_get (slots image) slot) entry
+    (found ∙ ap (find (λ (e : ℕ × List ℕ). eqb e.0 slot)) e ∙ slot_of_number (slots image) slot)
+
+-- none where none was found
+pub no_bytes : (image : List (List ℕ)) (slot : ℕ) (walk : List (ℕ × List ℕ)) → walk ≡ numbered (slots image)
+    → None ≡ find (λ (e : ℕ × List ℕ). eqb e.0 slot) walk → slice_get (slots image) slot ≡ None
+no_bytes image slot walk e found =
+    none_of_found slot (slice_get (slots image) slot)
+    (found ∙ ap (find (λ (e : ℕ × List ℕ). eqb e.0 slot)) e ∙ slot_of_number (slots image) slot)
+
+-- a list that isn't the empty one
+not_nil : (blocks : List ℕ) → blocks ≢ [] → is_nil blocks ≡ false
+not_nil [] h = absurd (h refl)
+not_nil (block ∷ blocks) h = refl
+
+-- a list that is
+nil_is : (blocks : List ℕ) → ¬ (blocks ≢ []) → is_nil blocks ≡ true
+nil_is [] h = refl
+nil_is (block ∷ blocks) h = absurd (h (λ e. cc))
+
+-- the kind's number is small
+abbrev is_kind : List ℕ → Bool
+is_kind cell = nat_le (kind_number cell) 4
+
+-- slots that have kinds pass the test
+kinds_pass : (cells : List (List ℕ)) → All HasKind cells → list_all is_kind cells ≡ true
+kinds_pass [] h = refl
+kinds_pass (c ∷ cells) h =
+    let small : kind_number c ≤ 4 = All-head HasKind c cells h in
+    let one : nat_le (kind_number c) 4 ≡ true = grind (arith, nat_tests) in
+    and_from (is_kind c) (list_all is_kind cells) one (kinds_pass cells (All-tail HasKind c cells h))
+
+-- slots that pass the test have kinds
+have_kinds : (cells : List (List ℕ)) → list_all is_kind cells ≡ true → All HasKind cells
+have_kinds [] h = All-nil HasKind
+have_kinds (c ∷ cells) h =
+    let parts = and_parts (is_kind c) (list_all is_kind cells) h in
+    let one : nat_le (kind_number c) 4 ≡ true = parts.0 in
+    let small : kind_number c ≤ 4 = grind (arith, nat_tests) in
+    All-cons HasKind c cells small (have_kinds cells parts.1)
+
+-- what is why a directory can't be read, by both tests
+abbrev why : Bool → Bool → Option DirFault
+why missing known = cond missing (Some NoDirectory) (cond known None (Some UnknownKind))
+
+-- a directory that meets the conditions 2 and 3 can be read
+readable : (image : List (List ℕ)) → AllHold image 2 3 → unreadable image ≡ None
+readable image h =
+    ap (λ (b : Bool). why b (list_all is_kind (slots image))) (not_nil (directory image) (h NoDirectory (omega arith) (omega arith)))
+    ∙ ap (why false) (kinds_pass (slots image) (h UnknownKind (omega arith) (omega arith)))
+
+-- one that fails one of them can't, for the first that it fails
+first_reason : (image : List (List ℕ)) (fault : DirFault) → IsFirstFault image 2 3 fault → unreadable image ≡ Some fault
+first_reason image WrongCounts f = absurd (let h = f.not_before in omega arith)
+first_reason image NoDirectory f = ap (λ (b : Bool). why b (list_all is_kind (slots image))) (nil_is (directory image) f.fails)
+first_reason image UnknownKind f =
+    let some : list_all is_kind (slots image) ≡ false =
+    elim (cases_Bool (list_all is_kind (slots image))) [
+      | inl t ↦ absurd (f.fails (have_kinds (slots image) t))
+      | inr t ↦ t
+    ] in
+    ap (λ (b : Bool). why b (list_all is_kind (slots image))) (not_nil (directory image) (f.others_hold NoDirectory (omega arith) (omega arith)))
+    ∙ ap (why false) some
+first_reason image NoChain f = absurd (let h = f.not_after in omega arith)
+first_reason image CrossLinked f = absurd (let h = f.not_after in omega arith)
+first_reason image MarkedFree f = absurd (let h = f.not_after in omega arith)
+
+-- such a directory refuses each slot
+pub refused_directory : (image : List (List ℕ)) (slot : ℕ) (fault : DirFault) → IsFirstFault image 2 3 fault → Some (Directory fault) ≡ content_refusal image slot
+unfolding content_refusal
+refused_directory image slot fault f =
+    sym (ap (λ (o : Option DirFault). option_or (option_map Directory o) (slot_refusal image (slice_get (slots image) slot))) (first_reason image fault f))
+
+-- the other one leaves it to the slot
+pub refused_slot : (image : List (List ℕ)) (slot : ℕ) (bytes : Option (List ℕ)) → AllHold image 2 3 → slice_get (slots image) slot ≡ bytes
+    → content_refusal image slot ≡ slot_refusal image bytes
+unfolding content_refusal
+refused_slot image slot bytes h e =
+    ap (λ (o : Option DirFault). option_or (option_map Directory o) (slot_refusal image (slice_get (slots image) slot))) (readable image h)
+    ∙ ap (slot_refusal image) e
+
+-- why a file can't be read, by the four tests
+abbrev reason : Bool → Bool → Bool → Bool → Option ReadFault
+reason used closed del gone =
+    cond (not used) (Some NotFound) (cond (not closed) (Some NotClosed) (cond del (Some WrongType) (cond gone (Some (Directory NoChain)) None)))
+
+-- the answer of the first test alone
+by_used : (image : List (List ℕ)) (cell : List ℕ) (used : Bool) → is_used cell ≡ used
+    → file_refusal image cell ≡ reason used (is_closed cell) (is_del (kind_of cell)) (is_nil (chain_at image (first_pair cell)))
+unfolding file_refusal
+by_used image cell used e = ap (λ (b : Bool). reason b (is_closed cell) (is_del (kind_of cell)) (is_nil (chain_at image (first_pair cell)))) e
+
+-- the answers of the first two
+by_closed : (image : List (List ℕ)) (cell : List ℕ) (closed : Bool) → is_used cell ≡ true → is_closed cell ≡ closed
+    → file_refusal image cell ≡ reason true closed (is_del (kind_of cell)) (is_nil (chain_at image (first_pair cell)))
+by_closed image cell closed used e =
+    by_used image cell true used ∙ ap (λ (b : Bool). reason true b (is_del (kind_of cell)) (is_nil (chain_at image (first_pair cell)))) e
+
+-- the answers of the first three
+by_kind : (image : List (List ℕ)) (cell : List ℕ) (del : Bool) → is_used cell ≡ true → is_closed cell ≡ true → is_del (kind_of cell) ≡ del
+    → file_refusal image cell ≡ reason true true del (is_nil (chain_at image (first_pair cell)))
+by_kind image cell del used closed e =
+    by_closed image cell true used closed ∙ ap (λ (b : Bool). reason true true b (is_nil (chain_at image (first_pair cell)))) e
+
+-- an unused slot
+pub unused : (image : List (List ℕ)) (cell : List ℕ) → is_used cell ≡ false → Some NotFound ≡ file_refusal image cell
+unused image cell e = sym (by_used image cell false e)
+
+-- an unclosed file
+pub unclosed : (image : List (List ℕ)) (cell : List ℕ) → is_used cell ≡ true → is_closed cell ≡ false → Some NotClosed ≡ file_refusal image cell
+unclosed image cell used e = sym (by_closed image cell false used e)
+
+-- a DEL entry
+pub deleted : (image : List (List ℕ)) (cell : List ℕ) → is_used cell ≡ true → is_closed cell ≡ true → is_del (kind_of cell) ≡ true → Some WrongType ≡ file_refusal image cell
+deleted image cell used closed e = sym (by_kind image cell true used closed e)
+
+-- a file without a chain
+pub chainless : (image : List (List ℕ)) (cell : List ℕ) → is_used cell ≡ true → is_closed cell ≡ true → is_del (kind_of cell) ≡ false
+    → chain_at image (first_pair cell) ≡ [] → Some (Directory NoChain) ≡ file_refusal image cell
+chainless image cell used closed kind e =
+    sym (by_kind image cell false used closed kind ∙ ap (λ (bs : List ℕ). reason true true false (is_nil bs)) e)
+
+-- a file that can be read
+pub has_chain : (image : List (List ℕ)) (cell : List ℕ) → is_used cell ≡ true → is_closed cell ≡ true → is_del (kind_of cell) ≡ false
+    → chain_at image (first_pair cell) ≢ [] → None ≡ file_refusal image cell
+has_chain image cell used closed kind there =
+    sym (by_kind image cell false used closed kind ∙ ap (reason true true false) (not_nil (chain_at image (first_pair cell)) there))
+
+-- the content of a slot with these bytes
+pub content_of_bytes : (image : List (List ℕ)) (slot : ℕ) (cell : List ℕ) → slice_get (slots image) slot ≡ Some cell → content_at image slot ≡ file_content image cell
+content_of_bytes image slot cell e = ap (λ (o : Option (List ℕ)). option_map_or (file_content image) o []) e
+
+-- what holds of all slots holds of one
+pub slot_has : (P : List ℕ → Type 0) (cells : List (List ℕ)) (slot : ℕ) (cell : List ℕ) → All P cells → slice_get cells slot ≡ Some cell → P cell
+slot_has P [] slot cell all e = cc
+slot_has P (c ∷ cells) zero cell all e = let same : c ≡ cell = cc in subst P same (All-head P c cells all)
+slot_has P (c ∷ cells) (suc slot) cell all e = slot_has P cells slot cell (All-tail P c cells all) e
+
+-- what a slot with these bytes owns
+pub owns_by_bytes : (image : List (List ℕ)) (slot : ℕ) (bytes : Option (List ℕ)) → slice_get (slots image) slot ≡ bytes → slot_owns image slot ≡ option_map_or (owned_by image) bytes []
+owns_by_bytes image slot bytes e = ap (λ (o : Option (List ℕ)). option_map_or (owned_by image) o []) e

@@ -1,0 +1,38 @@
+-- Which blocks the files of an image own.
+use Rattle.std.specs.Prelude.{◌≡◌, ◌≢◌, ℕ, false, if◌then◌else◌, List, [], ◌∷◌, All}
+use Rattle.std.specs.List.{flat_map}
+use Rattle.std.specs.Option.{option_to_list}
+use Rattle.std.specs.FinSet as set
+use Rattle.d64_map.specs.Map.{free_blocks}
+use Rattle.d64_files.specs.Chain.{chain_from}
+use Rattle.d64_files.specs.Slot.{is_closed, kind_of, first_pair, side_pair}
+use Rattle.d64_files.specs.declared.kind.Kind.{Kind}
+use Rattle.d64_files.specs.declared.kind.Kind.TheVariants.{Del, Seq, Prg, Usr, Rel}
+
+-- the track and the sector from which each chain of a closed file leads: a REL file has a second one, unless its side track is 0
+abbrev pub roots_of : Kind → List ℕ → List (ℕ × ℕ)
+roots_of Del cell = []
+roots_of Seq cell = first_pair cell ∷ []
+roots_of Prg cell = first_pair cell ∷ []
+roots_of Usr cell = first_pair cell ∷ []
+roots_of Rel cell = first_pair cell ∷ option_to_list (side_pair cell)
+
+-- the same for any slot: one that isn't closed has none
+abbrev pub roots : List ℕ → List (ℕ × ℕ)
+roots cell = if is_closed cell then roots_of (kind_of cell) cell else []
+
+-- the chain from a track and a sector, or the empty list where there is none
+abbrev pub chain_at : List (List ℕ) → ℕ × ℕ → List ℕ
+chain_at image root = chain_from image root.0 root.1
+
+-- the blocks that a slot owns: its chain and its side chain
+abbrev pub owned_by : List (List ℕ) → List ℕ → List ℕ
+owned_by image cell = flat_map (chain_at image) (roots cell)
+
+-- each chain that a slot should have is there
+abbrev pub HasItsChains : List (List ℕ) → List ℕ → Type 0
+HasItsChains image cell = All (λ root. chain_at image root ≢ []) (roots cell)
+
+-- the map marks none of the blocks free
+abbrev pub NoneIsFree : List (List ℕ) → List ℕ → Type 0
+NoneIsFree image blocks = All (λ block. set.contains (free_blocks image) block ≡ false) blocks

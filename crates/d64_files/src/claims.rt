@@ -1,0 +1,121 @@
+//! Claims of blocks: which blocks are owned, and whether one is owned twice.
+ghost use Rattle.std.specs.Prelude.{◌≡◌, ◌≢◌, List, ℕ, [], ◌∷◌, ◌++◌, nat_eq, All, OnOk, MatchResult};
+ghost use Rattle.std.specs.List.{flat_map, IsDistinct};
+ghost use Rattle.std.specs.FinSet as set;
+ghost use Rattle.d64_files.specs.Claims.{claims_of};
+ghost use Rattle.d64_files.specs.Ownership.{chain_at, owned_by, HasItsChains};
+ghost use Rattle.d64_files.specs.declared.dir_fault.DirFault.TheVariants.{NoChain, CrossLinked};
+
+use crate::chain::chain_from;
+use crate::dir_fault::DirFault;
+use crate::entry::Entry;
+use crate::kind::Kind;
+use crate::slots::Slots;
+use d64_image::{BlockNo, BlockSet, Image};
+
+/// The blocks that were claimed so far.
+#[derive(Drop)]
+pub(crate) struct Claims {
+    blocks: BlockSet,
+    /// Whether a block was claimed that had been claimed before.
+    crossed: bool,
+}
+
+impl Claims {
+    /// No claims.
+    pub(crate) fn none() -> Claims
+        ensures { result ≡ claims_of [] }
+    {
+        Claims {
+            blocks: BlockSet::empty(),
+            crossed: false,
+        }
+    }
+
+    /// Claims a block.
+    pub(crate) fn claim(&mut self, block: BlockNo)
+        ensures { (before : List ℕ) → self.old ≡ claims_of before → self.new ≡ claims_of (before ++ block ∷ []) }
+    {
+        self.crossed |= self.blocks.has(block);
+        self.blocks.add(block);
+    }
+
+    /// Claims each of the blocks.
+    fn claim_each(&mut self, blocks: &[BlockNo])
+        ensures { (before : List ℕ) → self.old ≡ claims_of before → self.new ≡ claims_of (before ++ blocks.now) }
+    {
+        for block in blocks {
+            self.claim(*block);
+        }
+    }
+
+    /// Claims the chain from the block of a track (from 1) and a sector (from 0), or answers `NoChain` where there is
+    /// none.
+    pub(crate) fn claim_chain(&mut self, image: &Image, root: (u8, u8)) -> Result<(), DirFault>
+        ensures chain { MatchResult result (λ _. chain_at image.now root ≢ []) (λ fault. (fault ≡ NoChain) × (chain_at image.now root ≡ [])) }
+        ensures claimed { OnOk result ((before : List ℕ) → self.old ≡ claims_of before → self.new ≡ claims_of (before ++ chain_at image.now root)) }
+    {
+        match chain_from(image, root.0, root.1) {
+            Some(blocks) => {
+                self.claim_each(blocks.as_slice());
+                Ok(())
+            }
+            None => Err(DirFault::NoChain),
+        }
+    }
+
+    /// Claims what an entry owns: the chain of a closed SEQ, PRG, USR or REL file, and the side chain of a REL file that
+    /// has one. Answers `NoChain` where one of them is missing.
+    pub(crate) fn claim_file(&mut self, image: &Image, entry: &Entry) -> Result<(), DirFault>
+        ensures chains { MatchResult result (λ _. HasItsChains image.now entry.now.1) (λ fault. (fault ≡ NoChain) × ¬ (HasItsChains image.now entry.now.1)) }
+        ensures claimed { OnOk result ((before : List ℕ) → self.old ≡ claims_of before → self.new ≡ claims_of (before ++ owned_by image.now entry.now.1)) }
+    {
+        if !entry.closed() {
+            return Ok(());
+        }
+        match entry.kind() {
+            Kind::Del => Ok(()),
+            Kind::Seq | Kind::Prg | Kind::Usr => self.claim_chain(image, entry.first_pair()),
+            Kind::Rel => {
+                self.claim_chain(image, entry.first_pair())?;
+                match entry.side_pair() {
+                    Some(side) => self.claim_chain(image, side),
+                    None => Ok(()),
+                }
+            }
+        }
+    }
+
+    /// Claims what the slots own, or answers `NoChain` where a chain of one of them is missing.
+    pub(crate) fn claim_files(&mut self, image: &Image, slots: Slots) -> Result<(), DirFault>
+        ensures chains { MatchResult result (λ _. All (λ slot. HasItsChains image.now slot.1) slots.entry) (λ fault. (fault ≡ NoChain) × ¬ (All (λ slot. HasItsChains image.now slot.1) slots.entry)) }
+        ensures claimed { OnOk result ((before : List ℕ) → self.old ≡ claims_of before → self.new ≡ claims_of (before ++ flat_map (λ slot. owned_by image.now slot.1) slots.entry)) }
+    {
+        for entry in slots {
+            match self.claim_file(image, &entry) {
+                Ok(()) => {}
+                Err(fault) => return Err(fault),
+            }
+        }
+        Ok(())
+    }
+
+    /// The blocks that were claimed.
+    pub(crate) fn into_blocks(self) -> BlockSet
+        ensures { (blocks : List ℕ) → self ≡ claims_of blocks → result ≡ set.from_list blocks }
+    {
+        self.blocks
+    }
+
+    /// The blocks that were claimed, or `CrossLinked` where one was claimed twice.
+    pub(crate) fn finish(self) -> Result<BlockSet, DirFault>
+        ensures { (blocks : List ℕ) → self ≡ claims_of blocks
+            → MatchResult result (λ owned. (owned ≡ set.from_list blocks) × IsDistinct nat_eq blocks) (λ fault. (fault ≡ CrossLinked) × ¬ (IsDistinct nat_eq blocks)) }
+    {
+        if self.crossed {
+            Err(DirFault::CrossLinked)
+        } else {
+            Ok(self.blocks)
+        }
+    }
+}

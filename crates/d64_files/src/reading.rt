@@ -1,0 +1,107 @@
+//! The contents of files.
+ghost use Rattle.std.specs.Prelude.{◌≡◌, ◌==◌, ℕ, List, find, IfOk};
+ghost use Rattle.d64_files.specs.Slot.{first_pair};
+ghost use Rattle.d64_files.specs.Ownership.{chain_at};
+ghost use Rattle.d64_files.specs.Reading.{is_del, refused_by, file_refusal, content_refusal, content_at};
+
+use crate::block_list::BlockList;
+use crate::chain::chain_from;
+use crate::dir_fault::DirFault;
+use crate::entry::{Entry, SlotNo};
+use crate::file_data::data_along;
+use crate::kind::Kind;
+use crate::slots::Slots;
+use d64_image::Image;
+use std::alloc::{AllocError, Global};
+use thiserror::Error;
+
+/// Why a file can't be read.
+#[derive(Debug, Drop, Error)]
+pub enum ReadFault {
+    /// The directory, or the file's chain of blocks, isn't as it should be.
+    #[error("the disk can't be read: {0}")]
+    Directory(DirFault),
+    /// There is no such slot, or it isn't used.
+    #[error("there is no such file: list the directory to see which there are")]
+    NotFound,
+    /// The file was never closed, so its end isn't known.
+    #[error("the file was not closed after it was written: validate the disk to remove it")]
+    NotClosed,
+    /// A DEL entry has no content.
+    #[error("a DEL entry has no content to read")]
+    WrongType,
+    /// The content had no room in memory.
+    #[error("out of memory: {0}")]
+    Memory(AllocError),
+}
+
+/// The entry of a slot, among those that are left of a walk.
+pub(crate) fn entry_at<'a>(walk: Slots<'a>, slot: SlotNo) -> Option<Entry<'a>>
+    ensures { result ≡ find (λ (entry : ℕ × List ℕ). entry.0 == slot) walk.entry }
+{
+    for entry in walk {
+        if entry.slot().place() == slot.place() {
+            return Some(entry);
+        }
+    }
+    None
+}
+
+/// Whether a kind is DEL.
+fn is_del(kind: Kind) -> bool
+    ensures { result ≡ is_del kind }
+{
+    match kind {
+        Kind::Del => true,
+        Kind::Seq | Kind::Prg | Kind::Usr | Kind::Rel => false,
+    }
+}
+
+/// The chain of a file that can be read.
+fn readable_chain(image: &Image, entry: &Entry) -> Result<BlockList, ReadFault>
+    ensures refused { refused_by result ≡ file_refusal image.now entry.now.1 }
+    ensures chain { IfOk result (λ blocks. blocks ≡ chain_at image.now (first_pair entry.now.1)) }
+{
+    if !entry.used() {
+        return Err(ReadFault::NotFound);
+    }
+    if !entry.closed() {
+        return Err(ReadFault::NotClosed);
+    }
+    if is_del(entry.kind()) {
+        return Err(ReadFault::WrongType);
+    }
+    let (track, sector) = entry.first_pair();
+    match chain_from(image, track, sector) {
+        Some(blocks) => Ok(blocks),
+        None => Err(ReadFault::Directory(DirFault::NoChain)),
+    }
+}
+
+/// The content of the file of a slot: the data of its chain of blocks, without a REL file's side blocks.
+///
+/// Refused, in this order: with `Directory` where there is no chain of blocks from track 18, sector 1
+/// (`NoDirectory`), or where the low four bits of a slot's type byte are above 4 (`UnknownKind`); with `NotFound` where
+/// the slot isn't there or isn't used; with `NotClosed`; with `WrongType` for a DEL entry; with `Directory` where there
+/// is no chain from the file's first block (`NoChain`); with `Memory` where the content has no room.
+pub fn content(alloc: Global, image: &Image, slot: SlotNo) -> Result<Vec<u8>, ReadFault>
+    ensures refused { refused_by result ≡ content_refusal image.now slot }
+    ensures bytes { IfOk result (λ bytes. bytes.items ≡ content_at image.now slot) }
+{
+    let walk = match Slots::of(image) {
+        Ok(walk) => walk,
+        Err(fault) => return Err(ReadFault::Directory(fault)),
+    };
+    let entry = match entry_at(walk, slot) {
+        Some(entry) => entry,
+        None => return Err(ReadFault::NotFound),
+    };
+    let blocks = match readable_chain(image, &entry) {
+        Ok(blocks) => blocks,
+        Err(fault) => return Err(fault),
+    };
+    match data_along(alloc, image, blocks.as_slice()) {
+        Ok(bytes) => Ok(bytes),
+        Err(fault) => Err(ReadFault::Memory(fault)),
+    }
+}

@@ -1,0 +1,207 @@
+//! The conditions of a sound image.
+ghost use Rattle.std.specs.Prelude.{◌≡◌, ℕ, ◌↔◌, true, false, IsTrue, MatchResult};
+ghost use Rattle.std.specs.FinSet as set;
+ghost use Rattle.d64_image.specs.BlockSet.{MembersAreBlocks};
+ghost use Rattle.d64_map.specs.Map.{map_block, free_blocks};
+ghost use Rattle.d64_files.specs.Ownership.{owned_by, HasItsChains};
+ghost use Rattle.d64_files.specs.Directory.{owned_blocks, slot_owns, AllHold, IsFirstFault};
+
+use crate::claims::Claims;
+use crate::dir_fault::DirFault;
+use crate::entry::{Entry, SlotNo};
+use crate::reading::entry_at;
+use crate::slots::Slots;
+use d64_image::{BLOCKS, BlockNo, BlockSet, Image};
+use d64_map::{counts_fit, is_free};
+
+/// The track of the map and of the directory, from 1.
+const DIRECTORY_TRACK: u8 = 18;
+
+/// The sector of the map, from 0.
+const MAP_SECTOR: u8 = 0;
+
+/// The sector of the directory's first block.
+const DIRECTORY_SECTOR: u8 = 1;
+
+/// The block in which the map stands.
+fn map_block() -> BlockNo
+    ensures { result ≡ map_block }
+{
+    BlockNo::of(DIRECTORY_TRACK, MAP_SECTOR).unwrap()
+}
+
+// The members of a set of blocks are blocks of the disk.
+fn known_members(blocks: &BlockSet)
+    ensures { MembersAreBlocks blocks.now }
+{
+    let _ = blocks.has(map_block());
+}
+
+/// Whether the map marks none of the blocks free.
+fn none_is_free(image: &Image, blocks: &BlockSet) -> bool
+    ensures { IsTrue result ↔ ((block : ℕ) → set.contains blocks.now block ≡ true → set.contains (free_blocks image.now) block ≡ false) }
+{
+    known_members(blocks);
+    for index in 0..BLOCKS {
+        match BlockNo::at(index) {
+            Some(block) => {
+                if blocks.has(block) {
+                    if is_free(image, block) {
+                        return false;
+                    }
+                }
+            }
+            None => {}
+        }
+    }
+    true
+}
+
+/// The blocks that are owned: the map's block, the directory's chain, and the chains of the closed files other than DEL.
+/// It takes no memory.
+///
+/// Refused with the first of these conditions that fails: `NoDirectory`, where there is no chain of blocks from track
+/// 18, sector 1; `UnknownKind`, where the low four bits of a slot's type byte are above 4; `NoChain`, where a closed
+/// file's chain or side chain is missing; `CrossLinked`, where a block would be owned twice.
+pub fn owned(image: &Image) -> Result<BlockSet, DirFault>
+    ensures { MatchResult result (λ blocks. AllHold image.now 2 5 × (blocks ≡ set.from_list (owned_blocks image.now))) (IsFirstFault image.now 2 5) }
+{
+    let slots = match Slots::of(image) {
+        Ok(slots) => slots,
+        Err(fault) => return Err(fault),
+    };
+    let mut claims = Claims::none();
+    claims.claim(map_block());
+    match claims.claim_chain(image, (DIRECTORY_TRACK, DIRECTORY_SECTOR)) {
+        Ok(()) => {}
+        Err(fault) => return Err(fault),
+    }
+    match claims.claim_files(image, slots) {
+        Ok(()) => {}
+        Err(fault) => return Err(fault),
+    }
+    claims.finish()
+}
+
+/// The blocks that are owned, of a sound image. It takes no memory.
+///
+/// Refused with `WrongCounts` where a track's count of free blocks isn't the number of its blocks that the map marks
+/// free; then as `owned` is; and then with `MarkedFree` where the map marks a block free that is owned.
+pub fn check(image: &Image) -> Result<BlockSet, DirFault>
+    ensures { MatchResult result (λ blocks. AllHold image.now 1 6 × (blocks ≡ set.from_list (owned_blocks image.now))) (IsFirstFault image.now 1 6) }
+{
+    if !counts_fit(image) {
+        return Err(DirFault::WrongCounts);
+    }
+    let blocks = match owned(image) {
+        Ok(blocks) => blocks,
+        Err(fault) => return Err(fault),
+    };
+    if none_is_free(image, &blocks) {
+        Ok(blocks)
+    } else {
+        Err(DirFault::MarkedFree)
+    }
+}
+
+/// The blocks that an entry owns.
+fn blocks_of(image: &Image, entry: &Entry) -> BlockSet
+    requires { HasItsChains image.now entry.now.1 }
+    ensures { result ≡ set.from_list (owned_by image.now entry.now.1) }
+{
+    let mut claims = Claims::none();
+    match claims.claim_file(image, entry) {
+        Ok(()) => claims.into_blocks(),
+        Err(_) => BlockSet::empty(),
+    }
+}
+
+/// The blocks that a slot of a sound image owns: those of its chain and of its side chain, and none where it owns nothing
+/// or isn't there. It takes no memory.
+///
+/// The caller knows that `check` accepts the image.
+pub fn slot_blocks(image: &Image, slot: SlotNo) -> BlockSet
+    requires { AllHold image.now 1 6 }
+    ensures { result ≡ set.from_list (slot_owns image.now slot) }
+{
+    let walk = match Slots::of(image) {
+        Ok(walk) => walk,
+        Err(_) => return BlockSet::empty(),
+    };
+    match entry_at(walk, slot) {
+        Some(entry) => blocks_of(image, &entry),
+        None => BlockSet::empty(),
+    }
+}
+
+#[cfg(test)]
+mod tests {
+    use super::*;
+    use crate::reading::content;
+    use d64_map::put_map;
+    use std::test::Fail;
+
+    /// A disk with a REL file: its data in 17/0, its side sector in 17/1, its entry in the first slot of 18/1. The map
+    /// marks all blocks free but those of track 18, sectors 0 and 1.
+    fn rel_disk(rt: &HostRuntime) -> Result<Image, Fail> {
+        let mut image = Image::zeroed(rt.alloc())?;
+        let mut free = BlockSet::empty();
+        for index in 0..BLOCKS {
+            free.add(BlockNo::at(index).ok_or("no such block")?);
+        }
+        let directory = BlockNo::of(18, 1).ok_or("no 18/1")?;
+        free.remove(map_block());
+        free.remove(directory);
+        put_map(&mut image, &free)?;
+        let data = image.sector_mut(BlockNo::of(17, 0).ok_or("no 17/0")?);
+        data[1] = 0x0B;
+        for byte in &mut data[2..12] {
+            *byte = 7;
+        }
+        image.sector_mut(BlockNo::of(17, 1).ok_or("no 17/1")?)[1] = 0x11;
+        let slots = image.sector_mut(directory);
+        for (place, byte) in [
+            (1, 0xFF),
+            (2, 0x84),
+            (3, 0x11),
+            (5, 0x52),
+            (0x15, 0x11),
+            (0x16, 1),
+            (0x17, 0x0A),
+            (0x1E, 2),
+        ] {
+            slots[place] = byte;
+        }
+        for byte in &mut slots[6..21] {
+            *byte = 0xA0;
+        }
+        Ok(image)
+    }
+
+    #[test]
+    fn a_rel_file_owns_its_side_sector(rt: HostRuntime) -> Result<(), Fail> {
+        let mut image = rel_disk(&rt)?;
+        let fault = check(&image).err().ok_or("accepted")?;
+        assert_eq!(rt; fault.number(), 6);
+        let blocks = owned(&image).map_err(|_| "refused")?;
+        assert_eq!(rt; blocks.count(), 4);
+        assert!(rt; blocks.has(BlockNo::of(17, 1).ok_or("no 17/1")?));
+        let bytes = content(rt.alloc(), &image, SlotNo::at(0)).map_err(|_| "unreadable")?;
+        assert!(rt; bytes.as_slice() == [7; 10].as_slice());
+        put_map(&mut image, &BlockSet::empty())?;
+        assert_eq!(rt; check(&image).map_err(|_| "refused")?.count(), 4);
+        assert_eq!(rt; slot_blocks(&image, SlotNo::at(0)).count(), 2);
+        Ok(())
+    }
+
+    #[test]
+    fn two_files_with_one_block_are_cross_linked(rt: HostRuntime) -> Result<(), Fail> {
+        let mut image = rel_disk(&rt)?;
+        let slots = image.sector_mut(BlockNo::of(18, 1).ok_or("no 18/1")?);
+        slots[0x22] = 0x82;
+        slots[0x23] = 0x11;
+        let fault = check(&image).err().ok_or("accepted")?;
+        assert_eq!(rt; fault.number(), 5);
+        Ok(())
+    }
+}
