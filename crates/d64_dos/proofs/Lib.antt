@@ -1,3 +1,6 @@
-pub mod Places
-pub mod Headers
-pub mod EmptyDisks
+pub mod Plans
+pub mod Entries
+pub mod Spaces
+pub mod Refusals
+pub mod ListedRows
+pub mod Steps

@@ -1,3 +1,8 @@
-pub mod Format
+pub mod Refusal
 pub mod Command
-pub mod Laws
+pub mod Reading
+pub mod Listing
+pub mod Planning
+pub mod WriteRefusal
+pub mod Space
+pub mod Step

@@ -1,9 +1,9 @@
-ghost use Rattle.std.specs.Prelude.{◌≡◌, ◌+◌, ◌≤◌, length, IfOk};
+ghost use Rattle.std.specs.Prelude.{◌≡◌, IfOk};
 ghost use Rattle.d64_map.specs.Map.{map_block};
-ghost use Rattle.d64_image.specs.declared.image.TheConstants.{BLOCK_BYTES};
-ghost use Rattle.d64_dos.specs.Format.{directory_start, written_at, header, empty_directory, free_when_formatted, formatted};
+ghost use Rattle.d64_files.specs.Writing.{empty_directory};
+ghost use Rattle.d64_effects.specs.Format.{directory_start, header, free_when_formatted, formatted};
 
-use d64_files::Name;
+use d64_files::{Name, write_at};
 use d64_image::{BLOCK_BYTES, BLOCKS, BlockNo, BlockSet, Image};
 use d64_map::put_map;
 use std::alloc::{AllocError, Global};
@@ -18,22 +18,22 @@ const LINK_AND_FORMAT: [u8; 4] = [DIRECTORY_TRACK, 1, 0x41, 0x00];
 const DOS_VERSION: [u8; 2] = [0x32, 0x41];
 
 /// The byte that fills what a label leaves free: a shifted space.
-const FILLER: u8 = 0xA0;
+pub(crate) const FILLER: u8 = 0xA0;
 
 /// Where the disk's name stands in the map's block.
-const NAME_START: usize = 0x90;
+pub(crate) const NAME_START: usize = 0x90;
 
 /// Where the disk's id stands in the map's block.
-const ID_START: usize = 0xA2;
+pub(crate) const ID_START: usize = 0xA2;
 
 /// Where the DOS version stands in the map's block.
-const DOS_VERSION_START: usize = 0xA5;
+pub(crate) const DOS_VERSION_START: usize = 0xA5;
 
 /// How many bytes the disk's label has, from its name on: the name, the id and the DOS version.
 const LABEL_BYTES: usize = 27;
 
 /// The block in which the map stands.
-fn map_block() -> BlockNo
+pub(crate) fn map_block() -> BlockNo
     ensures { result ≡ map_block }
 {
     BlockNo::of(DIRECTORY_TRACK, 0).unwrap()
@@ -44,14 +44,6 @@ fn directory_start() -> BlockNo
     ensures { result ≡ directory_start }
 {
     BlockNo::of(DIRECTORY_TRACK, 1).unwrap()
-}
-
-/// Writes bytes into a block, from a place on.
-fn write_at(block: &mut [u8; BLOCK_BYTES], start: usize, bytes: &[u8])
-    requires { start + length bytes.now ≤ BLOCK_BYTES }
-    ensures { block.new ≡ written_at block.old start bytes.now }
-{
-    block[start..start + bytes.len()].copy_from_slice(bytes);
 }
 
 /// The map's block of a formatted disk, in which the map is still to be written.

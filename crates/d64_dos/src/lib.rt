@@ -5,10 +5,20 @@
 #![tactic(auto)]
 
 mod command;
+mod directory;
 mod format;
 pub mod laws;
+mod plan;
+mod read_back;
+mod refusal;
+mod row;
+mod write;
 
-pub use command::{Command, Refusal, Reply, apply};
+pub use command::{Command, Reply, apply};
+pub use directory::listing;
+pub use read_back::{ReadBack, read};
+pub use refusal::Refusal;
+pub use row::{Listing, Row};
 
 #[cfg(test)]
 mod tests;

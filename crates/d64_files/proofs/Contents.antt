@@ -65,12 +65,12 @@ no_bytes image slot walk e found =
     (found ∙ ap (find (λ (e : ℕ × List ℕ). eqb e.0 slot)) e ∙ slot_of_number (slots image) slot)
 
 -- a list that isn't the empty one
-not_nil : (blocks : List ℕ) → blocks ≢ [] → is_nil blocks ≡ false
+pub not_nil : (blocks : List ℕ) → blocks ≢ [] → is_nil blocks ≡ false
 not_nil [] h = absurd (h refl)
 not_nil (block ∷ blocks) h = refl
 
 -- a list that is
-nil_is : (blocks : List ℕ) → ¬ (blocks ≢ []) → is_nil blocks ≡ true
+pub nil_is : (blocks : List ℕ) → ¬ (blocks ≢ []) → is_nil blocks ≡ true
 nil_is [] h = refl
 nil_is (block ∷ blocks) h = absurd (h (λ e. cc))
 
@@ -79,7 +79,7 @@ abbrev is_kind : List ℕ → Bool
 is_kind cell = nat_le (kind_number cell) 4
 
 -- slots that have kinds pass the test
-kinds_pass : (cells : List (List ℕ)) → All HasKind cells → list_all is_kind cells ≡ true
+pub kinds_pass : (cells : List (List ℕ)) → All HasKind cells → list_all is_kind cells ≡ true
 kinds_pass [] h = refl
 kinds_pass (c ∷ cells) h =
     let small : kind_number c ≤ 4 = All-head HasKind c cells h in
@@ -87,7 +87,7 @@ kinds_pass (c ∷ cells) h =
     and_from (is_kind c) (list_all is_kind cells) one (kinds_pass cells (All-tail HasKind c cells h))
 
 -- slots that pass the test have kinds
-have_kinds : (cells : List (List ℕ)) → list_all is_kind cells ≡ true → All HasKind cells
+pub have_kinds : (cells : List (List ℕ)) → list_all is_kind cells ≡ true → All HasKind cells
 have_kinds [] h = All-nil HasKind
 have_kinds (c ∷ cells) h =
     let parts = and_parts (is_kind c) (list_all is_kind cells) h in

@@ -1,6 +1,9 @@
 pub mod Chains
 pub mod Conditions
 pub mod Contents
+pub mod FileBlocks
+pub mod FirstFaults
+pub mod Following
 pub mod LabelTests
 pub mod Matching
 pub mod Owners
@@ -9,3 +12,4 @@ pub mod Repeats
 pub mod SlotLists
 pub mod Verdicts
 pub mod Walks
+pub mod WrittenBytes

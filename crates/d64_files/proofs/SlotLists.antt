@@ -1,7 +1,7 @@
 -- The lists of slots: those of a block, those of blocks, and those that are left of a walk.
-use Rattle.std.proofs.Common.{◌≡◌, ℕ, ◌+◌, ◌*◌, ◌/◌, ◌%◌, ◌<◌, ◌≤◌, Bool, true, false, cond, List, [], ◌∷◌, length, get_or, take, drop, Some, refl, sym, ap, ap₂, ◌∙◌, subst, arith, length-append}
+use Rattle.std.proofs.Common.{◌≡◌, ℕ, ◌+◌, ◌*◌, ◌/◌, ◌%◌, ◌<◌, ◌≤◌, ◌||◌, Bool, true, false, cond, List, [], ◌∷◌, length, get_or, take, drop, Some, refl, sym, ap, ap₂, ◌∙◌, subst, arith, length-append}
 use Rattle.std.specs.Prelude.{All, find, position, option_map}
-use Rattle.std.specs.List.{enumerate_from, position_from}
+use Rattle.std.specs.List.{enumerate_from, list_any, position_from}
 use Rattle.std.proofs.Math.Nat.{div-add-mod}
 use Rattle.std.proofs.Math.ListN.{drop_of_length-le}
 use Rattle.std.proofs.lemmas.List.{drop_more, length-take-le}
@@ -135,3 +135,8 @@ found_from test n (c ∷ cells) = by_test (test c) (found_from test (n + 1) cell
 pub found-numbered : (test : List ℕ → Bool) (cells : List (List ℕ))
     → option_map (λ (e : ℕ × List ℕ). e.0) (find (λ (e : ℕ × List ℕ). test e.1) (numbered cells)) ≡ position test cells
 found-numbered test cells = found_from test 0 cells ∙ sym (position_from-zero test cells)
+
+-- a numbered slot passes where a slot does
+pub any-numbered : (test : List ℕ → Bool) (n : ℕ) (cells : List (List ℕ)) → list_any (λ (e : ℕ × List ℕ). test e.1) (enumerate_from n cells) ≡ list_any test cells
+any-numbered test n [] = refl
+any-numbered test n (c ∷ cells) = ap (λ (b : Bool). test c || b) (any-numbered test (n + 1) cells)

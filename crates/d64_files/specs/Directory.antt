@@ -1,6 +1,6 @@
 -- The directory of an image, its slots, and the conditions of a sound image.
-use Rattle.std.specs.Prelude.{◌≢◌, ℕ, ◌<◌, ◌≤◌, ◌&&◌, nat_eq, Bool, List, [], ◌∷◌, ◌++◌, All, position, flat_map, Option}
-use Rattle.std.specs.List.{enumerate_from, IsDistinct, slice_get}
+use Rattle.std.specs.Prelude.{◌≢◌, ℕ, ◌<◌, ◌≤◌, ◌&&◌, nat_eq, Bool, List, [], ◌∷◌, ◌++◌, All, position, flat_map, bytes_eq, Option}
+use Rattle.std.specs.List.{enumerate_from, list_any, IsDistinct, slice_get}
 use Rattle.std.specs.Option.{option_map_or}
 use Rattle.d64_image.specs.Image.{sector_at}
 use Rattle.d64_map.specs.Map.{map_block, CountsFit}
@@ -42,6 +42,10 @@ is_named pattern cell = is_used cell && matches pattern (name_of cell)
 -- the number of the first used slot whose name the pattern matches
 abbrev pub first_named : List ℕ → List (List ℕ) → Option ℕ
 first_named pattern cells = position (is_named pattern) cells
+
+-- a used slot has exactly this name
+abbrev pub is_name_taken : List ℕ → List (List ℕ) → Bool
+is_name_taken name cells = list_any (λ cell. is_used cell && bytes_eq (name_of cell) name) cells
 
 -- the number of a condition
 abbrev pub number_of : DirFault → ℕ

@@ -9,3 +9,6 @@ pub mod Directory
 pub mod Ownership
 pub mod Claims
 pub mod Reading
+pub mod Writing
+pub mod FirstFault
+pub mod FirstFaultLaws

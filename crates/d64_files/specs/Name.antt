@@ -1,5 +1,5 @@
 -- Which bytes are a name.
-use Rattle.std.specs.Prelude.{ℕ, Bool, List, ◌∷◌}
+use Rattle.std.specs.Prelude.{ℕ, ◌-◌, Bool, List, ◌∷◌, ◌++◌, length, replicate}
 use Rattle.d64_files.specs.Label.{IsLabel, is_label, star, question_mark, separators}
 
 -- the bytes that no name holds
@@ -13,3 +13,7 @@ IsName = IsLabel forbidden_in_names
 -- the same as a test of bytes
 abbrev pub is_name : List ℕ → Bool
 is_name = is_label forbidden_in_names
+
+-- a name in its field of 16 bytes, filled with shifted spaces
+abbrev pub filled : List ℕ → List ℕ
+filled name = name ++ replicate (16 - length name) 0xA0

@@ -25,6 +25,16 @@ impl Model for BlockList {
 }
 
 impl BlockList {
+    /// The list of no block.
+    pub fn empty() -> BlockList
+        ensures { result ≡ [] }
+    {
+        BlockList {
+            places: [BlockNo::at(0).unwrap(); BLOCKS],
+            len: 0,
+        }
+    }
+
     /// The list of one block.
     pub(crate) fn of(block: BlockNo) -> BlockList
         ensures { result ≡ block ∷ [] }
@@ -36,7 +46,9 @@ impl BlockList {
     }
 
     /// Appends a block.
-    pub(crate) fn push(&mut self, block: BlockNo)
+    ///
+    /// The caller knows that the list has room: that it has fewer blocks than an image.
+    pub fn push(&mut self, block: BlockNo)
         requires { length self.old < BLOCKS }
         ensures { self.new ≡ self.old ++ block ∷ [] }
     {

@@ -38,7 +38,7 @@ impl Link {
 
     /// The link of a block.
     #[tactic(auto, unfolding(crate::specs::Chain::led_by))]
-    fn of(image: &Image, block: BlockNo) -> Link
+    pub(crate) fn of(image: &Image, block: BlockNo) -> Link
         ensures link { result ≡ link_of image.now block }
         ensures block { block < length image.now }
     {

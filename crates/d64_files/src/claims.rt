@@ -1,17 +1,25 @@
 //! Claims of blocks: which blocks are owned, and whether one is owned twice.
-ghost use Rattle.std.specs.Prelude.{◌≡◌, ◌≢◌, List, ℕ, [], ◌∷◌, ◌++◌, nat_eq, All, OnOk, MatchResult};
+ghost use Rattle.std.specs.Prelude.{◌≡◌, ◌≢◌, List, ℕ, [], ◌∷◌, ◌++◌, nat_eq, length, All, OnOk, MatchResult};
 ghost use Rattle.std.specs.List.{flat_map, IsDistinct};
 ghost use Rattle.std.specs.FinSet as set;
+ghost use Rattle.d64_image.specs.declared.block.TheConstants.{BLOCKS};
 ghost use Rattle.d64_files.specs.Claims.{claims_of};
 ghost use Rattle.d64_files.specs.Ownership.{chain_at, owned_by, HasItsChains};
 ghost use Rattle.d64_files.specs.declared.dir_fault.DirFault.TheVariants.{NoChain, CrossLinked};
 
-use crate::chain::chain_from;
+use crate::chain::{Link, block_in};
 use crate::dir_fault::DirFault;
 use crate::entry::Entry;
 use crate::kind::Kind;
 use crate::slots::Slots;
-use d64_image::{BlockNo, BlockSet, Image};
+use d64_image::{BLOCKS, BlockNo, BlockSet, Image};
+
+// The image has as many blocks as the disk.
+fn known_length(image: &Image)
+    ensures { length image.now ≡ BLOCKS }
+{
+    let _ = image.bytes();
+}
 
 /// The blocks that were claimed so far.
 #[derive(Drop)]
@@ -40,28 +48,26 @@ impl Claims {
         self.blocks.add(block);
     }
 
-    /// Claims each of the blocks.
-    fn claim_each(&mut self, blocks: &[BlockNo])
-        ensures { (before : List ℕ) → self.old ≡ claims_of before → self.new ≡ claims_of (before ++ blocks.now) }
-    {
-        for block in blocks {
-            self.claim(*block);
-        }
-    }
-
     /// Claims the chain from the block of a track (from 1) and a sector (from 0), or answers `NoChain` where there is
     /// none.
     pub(crate) fn claim_chain(&mut self, image: &Image, root: (u8, u8)) -> Result<(), DirFault>
         ensures chain { MatchResult result (λ _. chain_at image.now root ≢ []) (λ fault. (fault ≡ NoChain) × (chain_at image.now root ≡ [])) }
         ensures claimed { OnOk result ((before : List ℕ) → self.old ≡ claims_of before → self.new ≡ claims_of (before ++ chain_at image.now root)) }
     {
-        match chain_from(image, root.0, root.1) {
-            Some(blocks) => {
-                self.claim_each(blocks.as_slice());
-                Ok(())
+        let mut last = match block_in(image, root.0, root.1) {
+            Some(start) => start,
+            None => return Err(DirFault::NoChain),
+        };
+        known_length(image);
+        for _ in 0..BLOCKS {
+            self.claim(last);
+            match Link::of(image, last) {
+                Link::End => return Ok(()),
+                Link::Broken => return Err(DirFault::NoChain),
+                Link::To(next) => last = next,
             }
-            None => Err(DirFault::NoChain),
         }
+        Err(DirFault::NoChain)
     }
 
     /// Claims what an entry owns: the chain of a closed SEQ, PRG, USR or REL file, and the side chain of a REL file that

@@ -11,7 +11,7 @@ use std::marker::Model;
 pub(crate) const SLOT_BYTES: usize = 32;
 
 /// The byte that fills the field of a name, a shifted space.
-const FILLER: u8 = 0xA0;
+pub(crate) const FILLER: u8 = 0xA0;
 
 /// A slot of the directory: its place in the order of the directory's chain, from 0.
 #[derive(Clone, Copy, Debug, PartialEq, Eq, PartialOrd, Ord, Hash)]

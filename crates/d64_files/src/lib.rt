@@ -2,12 +2,15 @@
 //! those; the directory and its entries.
 #![tactic(auto)]
 
+mod block_bytes;
 mod block_list;
 mod chain;
 pub mod chain_laws;
 mod claims;
 mod dir_fault;
+mod directory_blocks;
 mod entry;
+pub mod fault_laws;
 mod file_data;
 mod kind;
 mod label;
@@ -17,7 +20,10 @@ mod pattern;
 mod reading;
 mod slots;
 mod soundness;
+mod vacancy;
+mod writing;
 
+pub use block_bytes::write_at;
 pub use block_list::BlockList;
 pub use dir_fault::DirFault;
 pub use entry::{Entry, SlotNo};
@@ -29,3 +35,5 @@ pub use pattern::{Pattern, matches};
 pub use reading::{ReadFault, content};
 pub use slots::Slots;
 pub use soundness::{check, owned, slot_blocks};
+pub use vacancy::{dir_last, first_empty, is_taken};
+pub use writing::{blocks_for, grow, put_chain, put_entry};

@@ -6,20 +6,14 @@ ghost use Rattle.d64_files.specs.Slot.{HasKind, cell as slot_bytes, cells};
 ghost use Rattle.d64_files.specs.Directory.{slots, numbered, AllHold, IsFirstFault};
 
 use crate::block_list::BlockList;
-use crate::chain::chain_from;
 use crate::dir_fault::DirFault;
+use crate::directory_blocks::directory_blocks;
 use crate::entry::{Entry, SLOT_BYTES, SlotNo};
 use d64_image::{BLOCK_BYTES, Image};
 use std::marker::Model;
 
 /// How many slots a block of the directory has.
-const SLOTS_PER_BLOCK: usize = BLOCK_BYTES / SLOT_BYTES;
-
-/// The track of the directory's first block (the 1541 User's Guide), from 1.
-const DIRECTORY_TRACK: u8 = 18;
-
-/// The sector of the directory's first block on its track.
-const DIRECTORY_SECTOR: u8 = 1;
+pub(crate) const SLOTS_PER_BLOCK: usize = BLOCK_BYTES / SLOT_BYTES;
 
 /// The greatest number of a file's kind.
 const LAST_KIND: u8 = 4;
@@ -77,7 +71,7 @@ impl<'a> Slots<'a> {
         ensures len { IfOk result (λ walk. length walk ≤ 8 * BLOCKS) }
         ensures conditions { MatchResult result (λ _. AllHold image.now 2 3) (IsFirstFault image.now 2 3) }
     {
-        let Some(directory) = chain_from(image, DIRECTORY_TRACK, DIRECTORY_SECTOR) else {
+        let Some(directory) = directory_blocks(image) else {
             return Err(DirFault::NoDirectory);
         };
         for block in directory.as_slice() {

@@ -5,23 +5,19 @@ ghost use Rattle.d64_image.specs.BlockSet.{MembersAreBlocks};
 ghost use Rattle.d64_map.specs.Map.{map_block, free_blocks};
 ghost use Rattle.d64_files.specs.Ownership.{owned_by, HasItsChains};
 ghost use Rattle.d64_files.specs.Directory.{owned_blocks, slot_owns, AllHold, IsFirstFault};
+ghost use Rattle.d64_files.specs.FirstFault.{err_of, first_fault, owning_conditions, sound_conditions};
 
 use crate::claims::Claims;
 use crate::dir_fault::DirFault;
+use crate::directory_blocks::{DIRECTORY_SECTOR, DIRECTORY_TRACK};
 use crate::entry::{Entry, SlotNo};
 use crate::reading::entry_at;
 use crate::slots::Slots;
 use d64_image::{BLOCKS, BlockNo, BlockSet, Image};
 use d64_map::{counts_fit, is_free};
 
-/// The track of the map and of the directory, from 1.
-const DIRECTORY_TRACK: u8 = 18;
-
 /// The sector of the map, from 0.
 const MAP_SECTOR: u8 = 0;
-
-/// The sector of the directory's first block.
-const DIRECTORY_SECTOR: u8 = 1;
 
 /// The block in which the map stands.
 fn map_block() -> BlockNo
@@ -64,7 +60,8 @@ fn none_is_free(image: &Image, blocks: &BlockSet) -> bool
 /// 18, sector 1; `UnknownKind`, where the low four bits of a slot's type byte are above 4; `NoChain`, where a closed
 /// file's chain or side chain is missing; `CrossLinked`, where a block would be owned twice.
 pub fn owned(image: &Image) -> Result<BlockSet, DirFault>
-    ensures { MatchResult result (λ blocks. AllHold image.now 2 5 × (blocks ≡ set.from_list (owned_blocks image.now))) (IsFirstFault image.now 2 5) }
+    ensures verdict { MatchResult result (λ blocks. AllHold image.now 2 5 × (blocks ≡ set.from_list (owned_blocks image.now))) (IsFirstFault image.now 2 5) }
+    ensures first { err_of result ≡ first_fault image.now owning_conditions }
 {
     let slots = match Slots::of(image) {
         Ok(slots) => slots,
@@ -88,7 +85,8 @@ pub fn owned(image: &Image) -> Result<BlockSet, DirFault>
 /// Refused with `WrongCounts` where a track's count of free blocks isn't the number of its blocks that the map marks
 /// free; then as `owned` is; and then with `MarkedFree` where the map marks a block free that is owned.
 pub fn check(image: &Image) -> Result<BlockSet, DirFault>
-    ensures { MatchResult result (λ blocks. AllHold image.now 1 6 × (blocks ≡ set.from_list (owned_blocks image.now))) (IsFirstFault image.now 1 6) }
+    ensures verdict { MatchResult result (λ blocks. AllHold image.now 1 6 × (blocks ≡ set.from_list (owned_blocks image.now))) (IsFirstFault image.now 1 6) }
+    ensures first { err_of result ≡ first_fault image.now sound_conditions }
 {
     if !counts_fit(image) {
         return Err(DirFault::WrongCounts);

@@ -1,8 +1,8 @@
 -- bytes cut into pieces of equal length
-use Rattle.std.proofs.Common.{◌≡◌, ℕ, zero, suc, ◌*◌, ◌≤◌, List, [], ◌∷◌, ◌++◌, length, take, drop, refl, ap, ◌∙◌, arith}
+use Rattle.std.proofs.Common.{◌≡◌, ℕ, zero, suc, ◌*◌, ◌≤◌, List, [], ◌∷◌, ◌++◌, length, take, drop, refl, ap, ◌∙◌, subst, arith}
 use Rattle.std.specs.List.{All, flat_map}
 use Rattle.std.specs.Simd.{first_chunks}
-use Rattle.std.proofs.lemmas.List.{length-drop, length-take-le, take-append-drop}
+use Rattle.std.proofs.lemmas.List.{length-drop, length-take-le, take-append-drop, take_at, drop_at}
 use Rattle.std.proofs.lemmas.List.Elements.{All-nil, All-cons, All-take, All-drop}
 
 -- a list with no elements
@@ -26,3 +26,12 @@ All-first_chunks P n (suc k) xs h each =
     All-cons (λ piece. (length piece ≡ n) × All P piece) (take n xs) (first_chunks n k (drop n xs))
     (length-take-le n xs (omega arith), All-take P n xs each)
     (All-first_chunks P n k (drop n xs) (omega arith) (All-drop P n xs each))
+
+-- what holds of each element of joined pieces holds of each in a piece
+pub All-pieces : {X : Type 0} (P : X → Type 0) (pieces : List (List X)) → All P (flat_map (λ piece. piece) pieces) → All (λ piece. All P piece) pieces
+All-pieces P [] each = All-nil (λ piece. All P piece)
+All-pieces P (piece ∷ pieces) each =
+    let rest = flat_map (λ xs. xs) pieces in
+    All-cons (λ xs. All P xs) piece pieces
+    (subst (All P) (take_at piece rest (length piece) refl) (All-take P (length piece) (piece ++ rest) each))
+    (All-pieces P pieces (subst (All P) (drop_at piece rest (length piece) refl) (All-drop P (length piece) (piece ++ rest) each)))

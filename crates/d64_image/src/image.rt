@@ -41,6 +41,11 @@ impl Model for Image {
     ghost invariant = { λ image. length image.sectors.items ≡ BLOCKS };
 }
 
+// The sectors of a slice are known to have the bytes of a block.
+fn known_lengths(_sectors: &[[u8; BLOCK_BYTES]])
+    ensures { All (λ sector. length sector ≡ BLOCK_BYTES) _sectors.now }
+{}
+
 // The bytes of a slice are known to be bytes.
 fn known_bytes(_bytes: &[u8])
     ensures { All (λ byte. byte < 256) _bytes.now }
@@ -90,8 +95,12 @@ impl Image {
     pub fn bytes(&self) -> &[u8]
         ensures value { result.now ≡ bytes_of self.now }
         ensures len { length result.now ≡ BLOCKS * BLOCK_BYTES }
+        ensures image { IsImage self.now }
     {
-        self.sectors.as_flattened()
+        known_lengths(self.sectors.as_slice());
+        let bytes = self.sectors.as_flattened();
+        known_bytes(bytes);
+        bytes
     }
 
     /// The 256 bytes of a block, lent from the image's own buffer.

@@ -1,5 +1,5 @@
 -- the blocks that a map marks free
-use Rattle.std.proofs.Common.{◌≡◌, ℕ, ◌+◌, ◌*◌, ◌/◌, ◌%◌, ◌^◌, ◌<◌, ◌≤◌, ◌&&◌, bit_and, get_or, Bool, true, false, ltb, nat_eq, List, refl, sym, ap, ◌∙◌, arith}
+use Rattle.std.proofs.Common.{◌≡◌, ℕ, ◌+◌, ◌*◌, ◌/◌, ◌%◌, ◌^◌, ◌<◌, ◌≤◌, ◌&&◌, bit_and, get_or, Bool, true, false, ltb, nat_eq, List, refl, sym, ap, ap₂, ◌∙◌, arith}
 use Rattle.std.specs.List.{range_with_len, list_any, filter}
 use Rattle.std.specs.Ordering.{nat_cmp}
 use Rattle.std.specs.Cmp.{nat_cmp_total}
@@ -11,7 +11,7 @@ use Rattle.std.specs.Int.{bit_at}
 use Rattle.std.proofs.lemmas.Nat.Bits.{shr_and_one}
 use Rattle.d64_image.specs.Block.{pair_at}
 use Rattle.d64_image.specs.Image.{sector_at}
-use Rattle.d64_map.specs.Map.{map_block, blocks, is_free, free_blocks}
+use Rattle.d64_map.specs.Map.{map_block, blocks, bit_in, is_free, free_blocks}
 use Rattle.d64_map.proofs.Ranges.{any-range, contains-filtered, filter_more, filter_same}
 
 -- all blocks, counted one after another
@@ -53,14 +53,20 @@ set_same p n block s t so_far is fails same =
     same ∙ so_far ∙ ap (λ (xs : List ℕ). set.from_list {R = nat_cmp} xs) (sym (filter_same p 0 n (ap p (z ∙ sym is) ∙ fails)))
 
 -- the test that the code makes of a bit is that of the map
-pub bit_read : (image : List (List ℕ)) (block track sector : ℕ) (bytes : List ℕ) → bytes ≡ sector_at image map_block → track ≡ (pair_at block).0 → sector ≡ (pair_at block).1
-    → nat_eq (bit_and (get_or bytes (4 * track + 1 + sector / 8) 0 / 2 ^ (sector % 8)) 1) 1 ≡ is_free image block
+pub bit_read : (bytes : List ℕ) (track sector entry part : ℕ) → entry ≡ track → part ≡ sector / 8
+    → nat_eq (bit_and (get_or bytes (4 * entry + 1 + part) 0 / 2 ^ (sector % 8)) 1) 1 ≡ nat_eq (bit_in bytes track sector) 1
+bit_read bytes track sector entry part e f =
+    ap (λ (n : ℕ). nat_eq n 1) (shr_and_one (get_or bytes (4 * entry + 1 + part) 0) (sector % 8))
+    ∙ ap₂ (λ (t k : ℕ). nat_eq (bit_at (get_or bytes (4 * t + 1 + k) 0) (sector % 8)) 1) e f
+
+-- the bit of a block's track and sector tells whether the block is free
+pub bit_tells : (image : List (List ℕ)) (block track sector : ℕ) (bytes : List ℕ) → bytes ≡ sector_at image map_block
+    → track ≡ (pair_at block).0 → sector ≡ (pair_at block).1 → nat_eq (bit_in bytes track sector) 1 ≡ is_free image block
 unfolding is_free
-bit_read image block track sector bytes e f g =
-    ap (λ (n : ℕ). nat_eq n 1) (shr_and_one (get_or bytes (4 * track + 1 + sector / 8) 0) (sector % 8))
-    ∙ ap (λ (x : List ℕ). nat_eq (bit_at (get_or x (4 * track + 1 + sector / 8) 0) (sector % 8)) 1) e
-    ∙ ap (λ (t : ℕ). nat_eq (bit_at (get_or (sector_at image map_block) (4 * t + 1 + sector / 8) 0) (sector % 8)) 1) f
-    ∙ ap (λ (s : ℕ). nat_eq (bit_at (get_or (sector_at image map_block) (4 * (pair_at block).0 + 1 + s / 8) 0) (s % 8)) 1) g
+bit_tells image block track sector bytes e f g =
+    ap (λ (x : List ℕ). nat_eq (bit_in x track sector) 1) e
+    ∙ ap (λ (t : ℕ). nat_eq (bit_in (sector_at image map_block) t sector) 1) f
+    ∙ ap (λ (s : ℕ). nat_eq (bit_in (sector_at image map_block) (pair_at block).0 s) 1) g
 
 pub contains-free_blocks-both : (image : List (List ℕ)) (block : ℕ) → set.contains (free_blocks image) block ≡ (ltb block BLOCKS && is_free image block)
 unfolding free_blocks

@@ -17,9 +17,13 @@ map_block = 357
 abbrev pub count_of : List (List ℕ) → ℕ → ℕ
 count_of image track = slice_index (sector_at image map_block) (4 * track)
 
--- the bit of a sector, in the three bytes after its track's count, eight sectors a byte
+-- the bit of a sector in the map's block: in the three bytes after its track's count, eight sectors a byte
+abbrev pub bit_in : List ℕ → ℕ → ℕ → ℕ
+bit_in bytes track sector = bit_at (slice_index bytes (4 * track + 1 + sector / 8)) (sector % 8)
+
+-- the bit of a sector in an image
 abbrev pub bit_of : List (List ℕ) → ℕ → ℕ → ℕ
-bit_of image track sector = bit_at (slice_index (sector_at image map_block) (4 * track + 1 + sector / 8)) (sector % 8)
+bit_of image track sector = bit_in (sector_at image map_block) track sector
 
 -- whether the map marks a block free: its bit is 1
 unfoldable pub is_free : List (List ℕ) → ℕ → Bool
@@ -28,6 +32,10 @@ is_free image block = bit_of image (pair_at block).0 (pair_at block).1 == 1
 -- all blocks of the disk
 unfoldable pub blocks : List ℕ
 blocks = range_with_len 0 BLOCKS
+
+-- the set of the blocks below a number that the map marks free
+abbrev pub free_below : List (List ℕ) → ℕ → set.FinSet nat_cmp
+free_below image n = set.from_list (filter (is_free image) (range_with_len 0 n))
 
 -- the set of the blocks that the map marks free
 unfoldable pub free_blocks : List (List ℕ) → set.FinSet nat_cmp

@@ -1,11 +1,13 @@
-ghost use Rattle.std.specs.Prelude.{◌≡◌, ◌<◌, ◌≤◌, ◌↔◌, IsTrue, IsOk};
+ghost use Rattle.std.specs.Prelude.{◌≡◌, ◌+◌, ◌<◌, ◌≤◌, ◌==◌, ◌↔◌, IsTrue, IsOk};
 ghost use Rattle.std.specs.FinSet as set;
+ghost use Rattle.d64_image.specs.Block.{first_block};
 ghost use Rattle.d64_image.specs.BlockSet.{MembersAreBlocks};
 ghost use Rattle.d64_image.specs.Image.{IsBlock, sector_at};
-ghost use Rattle.d64_map.specs.Map.{map_block, count_of, is_free, free_blocks, blocks_free, CountsFit, bits_for, map_byte, with_map};
+ghost use Rattle.d64_image.specs.declared.block.TheConstants.{BLOCKS};
+ghost use Rattle.d64_map.specs.Map.{map_block, count_of, bit_in, is_free, free_below, free_blocks, blocks_free, CountsFit, bits_for, map_byte, with_map};
 
-use crate::tracks::{DIRECTORY_TRACK, TRACKS, has_sector, members_on};
-use d64_image::{BLOCKS, BlockNo, BlockSet, Image};
+use crate::tracks::{DIRECTORY_TRACK, TRACKS, has_sector, members_on, sector_count};
+use d64_image::{BLOCK_BYTES, BlockNo, BlockSet, Image};
 use std::alloc::AllocError;
 
 /// Where the first track's entry stands in the map's block. Each entry has four bytes.
@@ -42,15 +44,22 @@ fn known_members(blocks: &BlockSet)
     let _ = blocks.has(map_block());
 }
 
+/// Whether the map's block marks a sector of a track free.
+fn marks_free(map: &[u8; BLOCK_BYTES], track: u8, sector: u8) -> bool
+    requires sector { (track < 36) × (sector < 22) }
+    ensures { result ≡ (bit_in map.now track sector == 1) }
+{
+    let byte = map[4 * usize::from(track) + 1 + usize::from(sector / 8)];
+    (byte >> (sector % 8)) & 1 == 1
+}
+
 /// Whether the map marks a block free.
 pub fn is_free(image: &Image, block: BlockNo) -> bool
     ensures bit { result ≡ is_free image.now block }
     ensures member { result ≡ set.contains (free_blocks image.now) block }
 {
     known_block(block);
-    let sector = usize::from(block.sector());
-    let byte = image.sector(map_block())[4 * usize::from(block.track()) + 1 + sector / 8];
-    (byte >> (sector % 8)) & 1 == 1
+    marks_free(image.sector(map_block()), block.track(), block.sector())
 }
 
 /// The count byte of a track: how many of its sectors are free, as the map says.
@@ -74,20 +83,30 @@ pub fn blocks_free(image: &Image) -> u32
     sum
 }
 
+/// Adds the free blocks of a track to those of the tracks before it.
+fn add_free_on(free: &mut BlockSet, image: &Image, track: u8)
+    requires track { (1 ≤ track) × (track < 36) }
+    requires before { free.old ≡ free_below image.now (first_block track) }
+    ensures added { free.new ≡ free_below image.now (first_block (track + 1)) }
+{
+    let map = image.sector(map_block());
+    for sector in 0..sector_count(track) {
+        if marks_free(map, track, sector) {
+            match BlockNo::of(track, sector) {
+                Some(block) => free.add(block),
+                None => {}
+            }
+        }
+    }
+}
+
 /// The blocks that the map marks free.
 pub fn free_set(image: &Image) -> BlockSet
     ensures { result ≡ free_blocks image.now }
 {
     let mut free = BlockSet::empty();
-    for index in 0..BLOCKS {
-        match BlockNo::at(index) {
-            Some(block) => {
-                if is_free(image, block) {
-                    free.add(block);
-                }
-            }
-            None => {}
-        }
+    for track in 1..TRACKS + 1 {
+        add_free_on(&mut free, image, track);
     }
     free
 }

@@ -3,3 +3,7 @@ pub mod Runs
 pub mod ScriptRuns
 pub mod Transcripts
 pub mod TextArguments
+pub mod LastParts
+pub mod AsciiTexts
+pub mod FoundFiles
+pub mod SoundHistories

@@ -1,11 +1,11 @@
 -- runs of requests: a run with one request more, and what is free in a run
-use Rattle.std.proofs.Common.{◌≡◌, ◌≢◌, List, [], ◌∷◌, ◌++◌, None, refl, sym, ap, ap₂, ◌∙◌, subst, arith}
+use Rattle.std.proofs.Common.{◌≡◌, ◌≢◌, List, [], ◌∷◌, ◌++◌, Option, Some, None, refl, sym, ap, ap₂, ◌∙◌, subst, arith}
 use Rattle.std.proofs.lemmas.List.Elements.{All-head, All-tail}
-use Rattle.d64_dos.specs.Command.{cause_of}
+use Rattle.d64_dos.specs.Refusal.{cause_of}
 use Rattle.d64_shell.specs.History.{History}
 use Rattle.d64_shell.specs.Request.{Step, Run, HasMemory}
-use Rattle.d64_dos.specs.declared.command.Refusal.{Refusal}
-use Rattle.d64_dos.specs.declared.command.Refusal.TheVariants.{Memory}
+use Rattle.d64_dos.specs.declared.refusal.Refusal.{Refusal}
+use Rattle.d64_dos.specs.declared.refusal.Refusal.TheVariants.{NotClosed, NotFound, Exists, WrongType, Directory, DiskFull, Memory}
 use Rattle.d64_shell.specs.declared.request.Request.{Request}
 use Rattle.d64_shell.specs.declared.request.Request.TheVariants.{Apply, Undo, Redo}
 use Rattle.d64_shell.specs.declared.request.Answer.{Answer}
@@ -22,13 +22,28 @@ Run-push history between next (r ∷ requests) [] request answer run step = absu
 Run-push history between next (r ∷ requests) (a ∷ answers) request answer run step =
     (run.0, (run.1.0, Run-push run.0 between next requests answers request answer run.1.1 step))
 
+-- a refusal by its cause in the image
+abbrev refusal_by : Option Refusal → Refusal
+refusal_by (Some refusal) = refusal
+refusal_by None = Memory
+
+-- each refusal is that of its cause
+refusal_by-cause_of : (refusal : Refusal) → refusal_by (cause_of refusal) ≡ refusal
+refusal_by-cause_of NotClosed = refl
+refusal_by-cause_of NotFound = refl
+refusal_by-cause_of Exists = refl
+refusal_by-cause_of WrongType = refl
+refusal_by-cause_of (Directory fault) = refl
+refusal_by-cause_of DiskFull = refl
+refusal_by-cause_of Memory = refl
+
 -- want of memory alone has no cause in the image
 without_cause : (refusal : Refusal) → cause_of refusal ≡ None → refusal ≡ Memory
-without_cause Memory e = refl
+without_cause refusal e = sym (refusal_by-cause_of refusal) ∙ ap refusal_by e
 
 -- refusals with the same cause in the image are the same
 same_cause : (refusal other : Refusal) → cause_of refusal ≡ cause_of other → refusal ≡ other
-same_cause Memory Memory e = refl
+same_cause refusal other e = sym (refusal_by-cause_of refusal) ∙ ap refusal_by e ∙ refusal_by-cause_of other
 
 -- a step is a function of the history and the request
 same_step : (history : History) (request : Request) (answer other : Answer) (next after : History)

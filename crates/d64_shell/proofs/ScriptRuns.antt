@@ -1,9 +1,9 @@
 -- Runs of a first part of a script, as runs of the whole.
-use Rattle.std.proofs.Common.{◌≡◌, ℕ, List, [], ◌∷◌, ◌++◌, Bool, true, Option, None, Some, refl, sym, ap, ◌∙◌, subst, append_assoc}
+use Rattle.std.proofs.Common.{◌≡◌, ℕ, List, ◌∷◌, ◌++◌, true, Option, None, Some, sym, ap, ◌∙◌, subst, append_assoc}
 use Rattle.std.specs.Prelude.{IfSome}
 use Rattle.d64_script.specs.RawLines.{lines_of, ended_lines}
 use Rattle.d64_script.proofs.LineCuts.{ended_lines-first, lines_of-split, open_line}
-use Rattle.d64_shell.specs.Transcript.{Progress, Transcript}
+use Rattle.d64_shell.specs.Transcript.{Progress}
 use Rattle.d64_shell.specs.Runner.{Stand, begin, RanLines, StoppedAt, RanWhole, RanUpTo}
 use Rattle.d64_shell.specs.declared.runner.Outcome.{Outcome}
 use Rattle.d64_shell.proofs.Transcripts.{Transcript-closed}

@@ -1,9 +1,8 @@
-use Rattle.std.specs.Prelude.{◌≡◌, ℕ, ◌<◌, List, [], ◌++◌, Bool, true, false, Option, Result, MatchResult, Ok, Err, ◌⊎◌}
+use Rattle.std.specs.Prelude.{◌≡◌, ℕ, List, [], Bool, true, false, Option, Result, MatchResult, Ok, Err, ◌⊎◌}
 use Rattle.cbm_text.specs.TextForm.{IsTextOf}
 use Rattle.d64_host.specs.Files.{Files}
 use Rattle.d64_host.specs.Host.{fault_number, Fetches, Stores, CountsDevice}
 use Rattle.d64_shell.specs.History.{History}
-use Rattle.d64_script.specs.Status.{status_line}
 use Rattle.d64_host.specs.declared.host.HostFault.{HostFault}
 use Rattle.d64_host.specs.declared.host.HostFault.TheVariants.{Missing, Device, TooLong, Memory}
 use Rattle.d64_script.specs.declared.status.Status.{Status}

@@ -2,13 +2,14 @@ use Rattle.std.specs.Prelude.{ℕ, List, [], Result, Ok, Err}
 use Rattle.d64_shell.specs.Act.{LineAnswer, plain}
 use Rattle.d64_shell.specs.declared.answer.Answer.{Answer}
 use Rattle.d64_shell.specs.declared.answer.Output.{Output}
-use Rattle.d64_shell.specs.declared.answer.Output.TheVariants.{Nothing, Dump}
+use Rattle.d64_shell.specs.declared.answer.Output.TheVariants.{Nothing, Dump, Text}
 use Rattle.d64_script.specs.declared.status.Status.{Status}
 
 -- the bytes of an output
 abbrev pub output_bytes : Output → List ℕ
 output_bytes Nothing = []
 output_bytes (Dump lines) = lines.items
+output_bytes (Text text) = text.items
 
 -- an answer, with its output as bytes
 abbrev pub shown : Answer → LineAnswer

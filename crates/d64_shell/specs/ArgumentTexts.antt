@@ -1,5 +1,6 @@
 use Rattle.std.specs.Prelude.{◌≡◌, ℕ, ◌⊎◌, List, Bool, Vec, Result, Ok, Err}
 use Rattle.std.specs.Borrow.{Bor}
+use Rattle.d64_files.specs.declared.kind.Kind.{Kind}
 use Rattle.d64_script.specs.declared.status.Status.{Status}
 use Rattle.d64_script.specs.declared.status.Status.TheVariants.{BadName, OutOfMemory}
 use Rattle.d64_shell.specs.Act.{IsSpelled}
@@ -8,6 +9,11 @@ use Rattle.d64_shell.specs.Act.{IsSpelled}
 abbrev pub texts : {E : Type 0} → Result (Bor (List ℕ)) E → Result (List ℕ) E
 texts (Ok text) = Ok text.now
 texts (Err fault) = Err fault
+
+-- a text and a kind that were answered, the text as its bytes
+abbrev pub named : {E : Type 0} → Result (Bor (List ℕ) × Kind) E → Result (List ℕ × Kind) E
+named (Ok file) = Ok (file.0.now, file.1)
+named (Err fault) = Err fault
 
 -- a vector that was answered, as its list
 abbrev pub items : {A E : Type 0} → Result (Vec ℕ A) E → Result (List ℕ) E

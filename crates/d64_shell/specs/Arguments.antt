@@ -1,6 +1,12 @@
 -- What the words of a line stand for, or the status that refuses them.
-use Rattle.std.specs.Prelude.{ℕ, nat_lt, nat_le, List, length, ◌&&◌, if◌then◌else◌, Result, Ok, Err, ok_or}
+use Rattle.std.specs.Prelude.{ℕ, ◌+◌, ◌==◌, nat_lt, nat_le, List, [], ◌∷◌, length, take, drop, find, position, codes, ◌&&◌, Bool, not, if◌then◌else◌, Option, Some, None, option_map, Result, Ok, Err, ok_or}
+use Rattle.std.specs.List.{after_last}
+use Rattle.std.specs.Str.{bytes_eq}
 use Rattle.d64_image.specs.Block.{block_of}
+use Rattle.d64_files.specs.Label.{holds_any_of}
+use Rattle.d64_files.specs.Name.{forbidden_in_names}
+use Rattle.d64_files.specs.declared.kind.Kind.{Kind}
+use Rattle.d64_files.specs.declared.kind.Kind.TheVariants.{Seq, Prg, Usr, Rel}
 use Rattle.cbm_text.specs.declared.fault.TextFault.{TextFault}
 use Rattle.cbm_text.specs.declared.fault.TextFault.TheVariants.{UnknownName, OpenBrace, BadByte, Memory}
 use Rattle.d64_script.specs.Number.{number_of}
@@ -31,3 +37,37 @@ status_of_text (UnknownName place) = BadName
 status_of_text (OpenBrace place) = BadName
 status_of_text (BadByte place) = BadName
 status_of_text (Memory error) = OutOfMemory
+
+-- a word in two at its first comma
+unfoldable pub at_comma : List ℕ → Option (List ℕ × List ℕ)
+at_comma word = option_map (λ place. (take place word, drop (place + 1) word)) (position (λ byte. byte == 44) word)
+
+-- bytes that are an id of a disk: two, and none that no name holds
+abbrev pub is_id : List ℕ → Bool
+is_id bytes = (length bytes == 2) && not (holds_any_of forbidden_in_names bytes)
+
+-- the letters that stand for kinds
+abbrev pub kind_letters : List (List ℕ × Kind)
+kind_letters = (codes "p", Prg) ∷ (codes "s", Seq) ∷ (codes "u", Usr) ∷ (codes "l", Rel) ∷ []
+
+-- the kind that a letter stands for
+abbrev pub kind_of_letter : List ℕ → Option Kind
+kind_of_letter word = option_map (λ row. row.1) (find (λ row. bytes_eq word row.0) kind_letters)
+
+-- the two parts of a word: a name, and the letter of a kind
+abbrev pub with_kind : List ℕ → Option (List ℕ × List ℕ) → Result (List ℕ × Kind) Status
+with_kind word None = Ok (word, Prg)
+with_kind word (Some parts) = ok_or (option_map (λ kind. (parts.0, kind)) (kind_of_letter parts.1)) SyntaxError
+
+-- a name and a kind in a word that may be split at its first comma; PRG where it has none
+abbrev pub name_and_kind_in : List ℕ → Result (List ℕ × Kind) Status
+name_and_kind_in word = with_kind word (at_comma word)
+
+-- what stands after the last `/` of a word, or all of it
+unfoldable pub after_slash : List ℕ → List ℕ
+after_slash word = after_last (λ byte. byte == 47) word
+
+-- the name and the kind of a new file, from the words after that of its host file; by default the host file's own name, and PRG
+abbrev pub name_and_kind_of : List ℕ → List (List ℕ) → Result (List ℕ × Kind) Status
+name_and_kind_of host [] = Ok (after_slash host, Prg)
+name_and_kind_of host (word ∷ more) = name_and_kind_in word

@@ -1,8 +1,8 @@
-use Rattle.std.specs.Prelude.{ℕ, List, [], ◌∷◌, Option, find, codes, if◌then◌else◌}
+use Rattle.std.specs.Prelude.{ℕ, List, [], ◌∷◌, Option, find, codes}
 use Rattle.std.specs.Option.{option_map}
 use Rattle.std.specs.Str.{bytes_eq}
 use Rattle.d64_shell.specs.declared.command_word.CommandWord.{CommandWord}
-use Rattle.d64_shell.specs.declared.command_word.CommandWord.TheVariants.{Block, BlockRead, BlockWrite, Format, Quit, Redo, Save, Undo}
+use Rattle.d64_shell.specs.declared.command_word.CommandWord.TheVariants.{Block, BlockRead, BlockWrite, Format, ListDirectory, Quit, Read, Redo, Save, Undo, Write}
 
 -- the words that begin a line, and what each stands for
 abbrev pub command_words : List (List ℕ × CommandWord)
@@ -11,10 +11,13 @@ command_words =
     ∷ (codes "bread", BlockRead)
     ∷ (codes "bwrite", BlockWrite)
     ∷ (codes "format", Format)
+    ∷ (codes "list", ListDirectory)
     ∷ (codes "quit", Quit)
+    ∷ (codes "read", Read)
     ∷ (codes "redo", Redo)
     ∷ (codes "save", Save)
     ∷ (codes "undo", Undo)
+    ∷ (codes "write", Write)
     ∷ []
 
 -- what a line's first word stands for
@@ -27,11 +30,14 @@ fewest home Block = 2
 fewest home BlockRead = 3
 fewest home BlockWrite = 3
 fewest home Format = 1
+fewest home ListDirectory = 0
 fewest home Quit = 0
+fewest home Read = 1
 fewest home Redo = 0
 fewest [] Save = 1
 fewest (byte ∷ bytes) Save = 0
 fewest home Undo = 0
+fewest home Write = 1
 
 -- how many words follow at most
 abbrev pub most : CommandWord → ℕ
@@ -39,7 +45,10 @@ most Block = 2
 most BlockRead = 3
 most BlockWrite = 3
 most Format = 1
+most ListDirectory = 0
 most Quit = 0
+most Read = 2
 most Redo = 0
 most Save = 1
 most Undo = 0
+most Write = 2

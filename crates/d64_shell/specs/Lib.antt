@@ -1,7 +1,10 @@
 pub use Rattle.d64_image.specs.Block
 pub use Rattle.d64_image.specs.Image
+pub use Rattle.d64_dos.specs.Refusal
 pub use Rattle.d64_dos.specs.Command
-pub use Rattle.d64_dos.specs.Format
+pub use Rattle.d64_dos.specs.WriteRefusal
+pub use Rattle.d64_dos.specs.Reading
+pub use Rattle.d64_dos.specs.Listing
 pub use Rattle.d64_files.specs.Name
 pub use Rattle.cbm_text.specs.TextForm
 pub use Rattle.d64_host.specs.Files
@@ -12,10 +15,13 @@ pub use Rattle.d64_script.specs.RawLines
 pub use Rattle.d64_script.specs.Status
 pub mod History
 pub mod HistoryLaws
+pub mod SoundHistory
 pub mod Request
 pub mod CommandWord
 pub mod Arguments
 pub mod ArgumentTexts
+pub mod ListingText
+pub mod FoundFile
 pub mod Act
 pub mod Answer
 pub mod Line

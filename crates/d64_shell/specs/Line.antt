@@ -1,27 +1,36 @@
-use Rattle.std.specs.Prelude.{◌≡◌, ℕ, nat_lt, List, [], ◌∷◌, length, false, true, ◌+◌, ◌==◌, if◌then◌else◌, Option, None, Some, MatchOption, Result, Ok, Err, slice_index_or, ◌&&◌, Bool, not, take, drop, position, option_map}
-use Rattle.d64_files.specs.Label.{holds_any_of}
-use Rattle.d64_files.specs.Name.{is_name, forbidden_in_names}
+use Rattle.std.specs.Prelude.{◌≡◌, ℕ, nat_lt, List, [], ◌∷◌, length, false, true, ◌+◌, ◌==◌, if◌then◌else◌, Option, None, Some, MatchOption, Result, Ok, Err, slice_index_or, drop}
+use Rattle.d64_files.specs.Name.{is_name}
 use Rattle.d64_image.specs.Image.{sector_at, bytes_of}
 use Rattle.d64_shell.specs.History.{History, present, added, undone, redone}
 use Rattle.d64_dos.specs.Command.{after, reply_to, refusal_of}
+use Rattle.d64_dos.specs.Listing.{listing_of}
+use Rattle.d64_dos.specs.Reading.{directory_refusal, read_refusal}
+use Rattle.d64_dos.specs.WriteRefusal.{write_refusal}
+use Rattle.d64_effects.specs.Write.{written}
+use Rattle.d64_files.specs.Directory.{number_of}
+use Rattle.d64_files.specs.Pattern.{is_pattern}
 use Rattle.d64_script.specs.Words.{words_of}
 use Rattle.d64_image.specs.declared.image.TheConstants.{BLOCK_BYTES}
-use Rattle.d64_shell.specs.Arguments.{host_in, block_in}
+use Rattle.cbm_text.specs.Spelling.{spelling}
+use Rattle.d64_shell.specs.Arguments.{host_in, block_in, at_comma, is_id, name_and_kind_of}
+use Rattle.d64_shell.specs.FoundFile.{found_name, found_content, is_file_name}
+use Rattle.d64_shell.specs.ListingText.{listing_text}
 use Rattle.d64_script.specs.Dump.{dump}
 use Rattle.d64_script.specs.RawLines.{text_of, is_too_long, is_skipped}
 use Rattle.d64_shell.specs.CommandWord.{command_word_of, fewest, most}
 use Rattle.d64_shell.specs.Act.{Act, Settle, Try, FetchThen, StoreOf, ReadText, plain, World, LineAnswer, Does}
 use Rattle.d64_shell.specs.declared.handlers.TheConstants.{HOST_FILE_BYTES}
+use Rattle.d64_files.specs.declared.kind.Kind.{Kind}
 use Rattle.d64_dos.specs.declared.command.Command.{Command}
 use Rattle.d64_dos.specs.declared.command.Command.TheVariants as commands
 use Rattle.d64_dos.specs.declared.command.Reply.{Reply}
 use Rattle.d64_dos.specs.declared.command.Reply.TheVariants as replies
-use Rattle.d64_dos.specs.declared.command.Refusal.{Refusal}
-use Rattle.d64_dos.specs.declared.command.Refusal.TheVariants as refusals
+use Rattle.d64_dos.specs.declared.refusal.Refusal.{Refusal}
+use Rattle.d64_dos.specs.declared.refusal.Refusal.TheVariants as refusals
 use Rattle.d64_script.specs.declared.status.Status.{Status}
-use Rattle.d64_script.specs.declared.status.Status.TheVariants.{Done, SyntaxError, UnknownCommand, LongLine, MissingWord, NothingToUndo, NothingToRedo, NotOneBlock, OutOfMemory}
+use Rattle.d64_script.specs.declared.status.Status.TheVariants.{Done, SyntaxError, UnknownCommand, LongLine, BadName, MissingWord, WriteFileOpen, FileNotFound, FileExists, FileTypeMismatch, DirectoryError, DiskFull, NothingToUndo, NothingToRedo, NotOneBlock, OutOfMemory}
 use Rattle.d64_shell.specs.declared.command_word.CommandWord.{CommandWord}
-use Rattle.d64_shell.specs.declared.command_word.CommandWord.TheVariants.{Block, BlockRead, BlockWrite, Format, Quit, Redo, Save, Undo}
+use Rattle.d64_shell.specs.declared.command_word.CommandWord.TheVariants.{Block, BlockRead, BlockWrite, Format, ListDirectory, Quit, Read, Redo, Save, Undo, Write}
 
 -- the line is refused with a status, and changes nothing
 abbrev pub refuse : History → Status → Act
@@ -38,21 +47,31 @@ reading history (Err status) next = refuse history status
 
 -- how a refusal of a command is answered
 abbrev pub status_of_refusal : Refusal → Status
+status_of_refusal refusals.NotClosed = WriteFileOpen
+status_of_refusal refusals.NotFound = FileNotFound
+status_of_refusal refusals.Exists = FileExists
+status_of_refusal refusals.WrongType = FileTypeMismatch
+status_of_refusal (refusals.Directory fault) = DirectoryError (number_of fault)
+status_of_refusal refusals.DiskFull = DiskFull
 status_of_refusal refusals.Memory = OutOfMemory
 
 -- how an accepted command is answered
 abbrev pub status_of_reply : Reply → Status
 status_of_reply replies.Done = Done
 
+-- the first refusal where there is one, and else an act
+abbrev pub refused_or : History → Option Refusal → Act → Act
+refused_or history (Some refusal) act = refuse history (status_of_refusal refusal)
+refused_or history None act = act
+
 -- a command whose first refusal is known: that refusal, or the command's reply and one image more
-abbrev pub refused_or_added : History → Command → Option Refusal → Act
-refused_or_added history command (Some refusal) = refuse history (status_of_refusal refusal)
-refused_or_added history command None =
-    Try (plain (status_of_reply (reply_to (present history) command))) (added history (after (present history) command))
+abbrev pub refused_or_added : History → Option Refusal → Reply → List (List ℕ) → Act
+refused_or_added history refusal reply image = refused_or history refusal (Try (plain (status_of_reply reply)) (added history image))
 
 -- a command given to the session
 abbrev pub command_act : History → Command → Act
-command_act history command = refused_or_added history command (refusal_of (present history) command)
+command_act history command =
+    refused_or_added history (refusal_of (present history) command) (reply_to (present history) command) (after (present history) command)
 
 -- `block`: a block is shown
 abbrev pub block_act : History → List ℕ → List ℕ → Act
@@ -77,14 +96,6 @@ block_write_act history host track sector =
     reading history (host_in host) (λ name.
     reading history (block_in track sector) (λ block. FetchThen name HOST_FILE_BYTES (write_one_block history block)))
 
--- a word in two at its first comma
-unfoldable pub at_comma : List ℕ → Option (List ℕ × List ℕ)
-at_comma word = option_map (λ place. (take place word, drop (place + 1) word)) (position (λ byte. byte == 44) word)
-
--- bytes that are an id of a disk: two, and none that no name holds
-abbrev pub is_id : List ℕ → Bool
-is_id bytes = (length bytes == 2) && not (holds_any_of forbidden_in_names bytes)
-
 -- with the two parts of a word
 abbrev pub format_parts : History → Option (List ℕ × List ℕ) → Act
 format_parts history None = refuse history SyntaxError
@@ -95,9 +106,32 @@ format_parts history (Some parts) =
 abbrev pub format_act : History → List ℕ → Act
 format_act history word = format_parts history (at_comma word)
 
+-- `list`: the directory is shown
+abbrev pub list_act : History → Act
+list_act history =
+    refused_or history (directory_refusal (present history))
+    (Try (record { output = listing_text (listing_of (present history)); status = Done; closes = false }) history)
+
 -- `quit`: the run ends
 abbrev pub quit_act : History → Act
 quit_act history = Settle (record { output = []; status = Done; closes = true }) history
+
+-- the file that a pattern finds is stored in the host file of its own name, in text form, where that may name one
+abbrev pub store_as_found : List ℕ → List ℕ → History → Act
+store_as_found name bytes history = if is_file_name name then StoreOf name bytes else Try (plain BadName) history
+
+-- the file that a pattern finds is stored in the host file of a word, or by default in that of its own name
+abbrev pub read_to : History → List ℕ → List (List ℕ) → Act
+read_to history pattern [] =
+    refused_or history (read_refusal (present history) pattern)
+    (store_as_found (spelling (found_name (present history) pattern)) (found_content (present history) pattern) history)
+read_to history pattern (host ∷ more) =
+    reading history (host_in host) (λ name.
+    refused_or history (read_refusal (present history) pattern) (StoreOf name (found_content (present history) pattern)))
+
+-- `read`: a file of the disk is stored in a host file
+abbrev pub read_act : History → List ℕ → List (List ℕ) → Act
+read_act history name words = ReadText is_pattern name (λ pattern. read_to history pattern words)
 
 -- `redo`
 abbrev pub redo_act : History → Act
@@ -113,16 +147,31 @@ save_act home history (host ∷ more) = reading history (host_in host) (λ name.
 abbrev pub undo_act : History → Act
 undo_act history = if nat_lt 0 history.cursor then Settle (plain Done) (undone history) else refuse history NothingToUndo
 
+-- the bytes of a host file become a file of the disk
+abbrev pub write_file : History → List ℕ → Kind → List ℕ → Act
+write_file history name kind bytes =
+    refused_or_added history (write_refusal (present history) name kind (length bytes)) replies.Done (written (present history) name kind bytes)
+
+-- `write`: a host file is written to the disk, under the name and with the kind of a word, or by default under its own name and as PRG
+abbrev pub write_act : History → List ℕ → List (List ℕ) → Act
+write_act history host words =
+    reading history (host_in host) (λ source.
+    reading history (name_and_kind_of host words) (λ file.
+    ReadText is_name file.0 (λ name. FetchThen source HOST_FILE_BYTES (write_file history name file.1))))
+
 -- what a command word and the words after it ask for, where they are as many as it takes
 abbrev pub act_of : List ℕ → History → CommandWord → List (List ℕ) → Act
 act_of home history Block words = block_act history (word_at words 0) (word_at words 1)
 act_of home history BlockRead words = block_read_act history (word_at words 0) (word_at words 1) (word_at words 2)
 act_of home history BlockWrite words = block_write_act history (word_at words 0) (word_at words 1) (word_at words 2)
 act_of home history Format words = format_act history (word_at words 0)
+act_of home history ListDirectory words = list_act history
 act_of home history Quit words = quit_act history
+act_of home history Read words = read_act history (word_at words 0) (drop 1 words)
 act_of home history Redo words = redo_act history
 act_of home history Save words = save_act home history words
 act_of home history Undo words = undo_act history
+act_of home history Write words = write_act history (word_at words 0) (drop 1 words)
 
 -- what a command word and the words after it ask for: too few words first, then too many
 abbrev pub act_of_command : List ℕ → History → CommandWord → List (List ℕ) → Act

@@ -1,8 +1,9 @@
 use Rattle.std.specs.Prelude.{◌≡◌, ◌≢◌, ◌+◌, ◌<◌, ◌≤◌, List, [], ◌∷◌, length, None, All}
-use Rattle.d64_dos.specs.Command.{after, reply_to, refusal_of, cause_of}
+use Rattle.d64_dos.specs.Command.{after, reply_to, refusal_of}
+use Rattle.d64_dos.specs.Refusal.{cause_of}
 use Rattle.d64_shell.specs.History.{History, present, added, undone, redone}
 use Rattle.d64_dos.specs.declared.command.Command.{Command}
-use Rattle.d64_dos.specs.declared.command.Refusal.TheVariants.{Memory}
+use Rattle.d64_dos.specs.declared.refusal.Refusal.TheVariants.{Memory}
 use Rattle.d64_shell.specs.declared.request.Request.{Request}
 use Rattle.d64_shell.specs.declared.request.Request.TheVariants.{Apply, Undo, Redo}
 use Rattle.d64_shell.specs.declared.request.Answer.{Answer}

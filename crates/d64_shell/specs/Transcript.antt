@@ -1,5 +1,5 @@
 use Rattle.std.specs.Prelude.{◌≡◌, ℕ, ◌+◌, nat_lt, List, [], ◌∷◌, ◌++◌, Bool, MatchBool, MatchOption, if◌then◌else◌}
-use Rattle.d64_shell.specs.Act.{Act, Does, LineAnswer, World}
+use Rattle.d64_shell.specs.Act.{Does, LineAnswer, World}
 use Rattle.d64_shell.specs.Line.{act_of_line}
 use Rattle.d64_script.specs.Status.{status_number, status_line}
 

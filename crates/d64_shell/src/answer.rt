@@ -14,6 +14,8 @@ pub(crate) enum Output {
     Nothing,
     /// The sixteen lines of a block.
     Dump(ArrayVec<u8, DUMP_LEN>),
+    /// Other lines.
+    Text(Vec<u8>),
 }
 
 impl Output {
@@ -25,6 +27,7 @@ impl Output {
         match self {
             Output::Nothing => &[],
             Output::Dump(lines) => lines.as_slice(),
+            Output::Text(text) => text.as_slice(),
         }
     }
 }

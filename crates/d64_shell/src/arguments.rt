@@ -1,17 +1,17 @@
 //! What the words of a line stand for.
-#![tactic(auto, unfolding(crate::specs::Arguments::host_in, crate::specs::Arguments::number_in, crate::specs::Arguments::block_in, crate::specs::Line::at_comma))]
+#![tactic(auto, unfolding(crate::specs::Arguments::host_in, crate::specs::Arguments::number_in, crate::specs::Arguments::block_in, crate::specs::Arguments::at_comma, crate::specs::Arguments::after_slash))]
 
-ghost use Rattle.std.specs.Prelude.{◌≡◌, ◌<◌, All, Result, ◌==◌, true, option_map, position};
-ghost use Rattle.d64_shell.specs.Arguments.{host_in, number_in, block_in};
+ghost use Rattle.std.specs.Prelude.{◌≡◌, ◌<◌, All, Result, ◌==◌, true, map, option_map, position};
+ghost use Rattle.d64_shell.specs.Arguments.{host_in, number_in, block_in, is_id, at_comma, kind_of_letter, name_and_kind_in, after_slash, name_and_kind_of};
 ghost use Rattle.d64_script.specs.Words.{IsPrintable};
-ghost use Rattle.d64_shell.specs.ArgumentTexts.{texts, items, Reads};
+ghost use Rattle.d64_shell.specs.ArgumentTexts.{texts, named, items, Reads};
 ghost use Rattle.cbm_text.specs.TextForm.{HasOneReading};
-ghost use Rattle.d64_shell.specs.Line.{is_id, at_comma};
 ghost use Rattle.d64_files.specs.Name.{is_name};
+ghost use Rattle.d64_files.specs.Pattern.{is_pattern};
 
 use crate::status_from::of_text_fault;
 use cbm_text::{from_text, one_outcome};
-use d64_files::Name;
+use d64_files::{Kind, Name, Pattern};
 use d64_image::BlockNo;
 use d64_script::number::number;
 use d64_script::status::Status;
@@ -71,13 +71,25 @@ pub(crate) fn name_in(alloc: Global, word: &[u8]) -> Result<Name, Status>
     }
 }
 
+/// The pattern that a word stands for, with which the names of files are compared.
+pub(crate) fn pattern_in(alloc: Global, word: &[u8]) -> Result<Pattern, Status>
+    ensures { Reads is_pattern word.now result }
+{
+    let bytes = bytes_in(alloc, word)?;
+    match Pattern::new(bytes.as_slice()) {
+        Ok(pattern) => Ok(pattern),
+        Err(_) => Err(Status::BadName),
+    }
+}
+
 /// The id of a disk that a word stands for: two bytes, none of which is forbidden in names.
 pub(crate) fn id_in(alloc: Global, word: &[u8]) -> Result<[u8; 2], Status>
     ensures { Reads is_id word.now result }
 {
     let bytes = bytes_in(alloc, word)?;
-    let Some(id) = bytes.as_slice().as_array() else {
-        return Err(Status::BadName);
+    let id = match bytes.as_slice().as_array() {
+        Some(id) => id,
+        None => return Err(Status::BadName),
     };
     match Name::new(id) {
         Ok(_) => Ok(*id),
@@ -98,4 +110,54 @@ fn first_comma(word: &[u8]) -> Option<usize>
     ensures { result ≡ position (λ byte. byte == 44) word.now }
 {
     word.iter().position(|byte| *byte == b',')
+}
+
+/// The kind that a letter stands for.
+fn kind_of_letter(word: &[u8]) -> Option<Kind>
+    ensures { result ≡ kind_of_letter word.now }
+{
+    match word {
+        b"p" => Some(Kind::Prg),
+        b"s" => Some(Kind::Seq),
+        b"u" => Some(Kind::Usr),
+        b"l" => Some(Kind::Rel),
+        _ => None,
+    }
+}
+
+/// The name and the kind of a file in a word that may be cut at its first comma. The kind is PRG where it isn't.
+fn name_and_kind_in(word: &[u8]) -> Result<(&[u8], Kind), Status>
+    ensures { named result ≡ name_and_kind_in word.now }
+{
+    let Some((name, letter)) = at_comma(word) else {
+        return Ok((word, Kind::Prg));
+    };
+    match kind_of_letter(letter) {
+        Some(kind) => Ok((name, kind)),
+        None => Err(Status::SyntaxError),
+    }
+}
+
+/// The part of a word after its last `/`, or all of it where it has none.
+fn after_slash(word: &[u8]) -> &[u8]
+    ensures { result.now ≡ after_slash word.now }
+{
+    match word.rsplit(|byte| *byte == b'/').next() {
+        Some(part) => part,
+        None => word,
+    }
+}
+
+/// The name and the kind of a new file, from the words that follow the one of its host file. Where there is none, the
+/// name is that of the host file without its folders, and the kind is PRG.
+pub(crate) fn name_and_kind_of<'a>(
+    host: &'a [u8],
+    words: &[&'a [u8]],
+) -> Result<(&'a [u8], Kind), Status>
+    ensures { named result ≡ name_and_kind_of host.now (map (λ word. word.now) words.now) }
+{
+    match words.first() {
+        Some(word) => name_and_kind_in(word),
+        None => Ok((after_slash(host), Kind::Prg)),
+    }
 }

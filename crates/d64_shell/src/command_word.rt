@@ -13,14 +13,20 @@ pub enum CommandWord {
     BlockWrite,
     /// `format name,id`: makes the disk an empty one.
     Format,
+    /// `list`: shows the directory.
+    ListDirectory,
     /// `quit`: ends the run.
     Quit,
+    /// `read name [host]`: stores a file in a host file.
+    Read,
     /// `redo`: takes an undo back.
     Redo,
     /// `save [host]`: stores the image.
     Save,
     /// `undo`: takes the last command back.
     Undo,
+    /// `write host [name[,t]]`: writes a host file to the disk.
+    Write,
 }
 
 impl CommandWord {
@@ -33,10 +39,13 @@ impl CommandWord {
             b"bread" => Some(CommandWord::BlockRead),
             b"bwrite" => Some(CommandWord::BlockWrite),
             b"format" => Some(CommandWord::Format),
+            b"list" => Some(CommandWord::ListDirectory),
             b"quit" => Some(CommandWord::Quit),
+            b"read" => Some(CommandWord::Read),
             b"redo" => Some(CommandWord::Redo),
             b"save" => Some(CommandWord::Save),
             b"undo" => Some(CommandWord::Undo),
+            b"write" => Some(CommandWord::Write),
             _ => None,
         }
     }
@@ -46,9 +55,12 @@ impl CommandWord {
         ensures { result ≡ fewest home.now self }
     {
         match self {
-            CommandWord::Quit | CommandWord::Redo | CommandWord::Undo => 0,
+            CommandWord::ListDirectory
+            | CommandWord::Quit
+            | CommandWord::Redo
+            | CommandWord::Undo => 0,
             CommandWord::Save => usize::from(home.is_empty()),
-            CommandWord::Format => 1,
+            CommandWord::Format | CommandWord::Read | CommandWord::Write => 1,
             CommandWord::Block => 2,
             CommandWord::BlockRead | CommandWord::BlockWrite => 3,
         }
@@ -59,9 +71,12 @@ impl CommandWord {
         ensures { result ≡ most self }
     {
         match self {
-            CommandWord::Quit | CommandWord::Redo | CommandWord::Undo => 0,
+            CommandWord::ListDirectory
+            | CommandWord::Quit
+            | CommandWord::Redo
+            | CommandWord::Undo => 0,
             CommandWord::Format | CommandWord::Save => 1,
-            CommandWord::Block => 2,
+            CommandWord::Block | CommandWord::Read | CommandWord::Write => 2,
             CommandWord::BlockRead | CommandWord::BlockWrite => 3,
         }
     }

@@ -1,21 +1,28 @@
 //! What each command word does: a handler a word.
 #![tactic(auto, unfolding(crate::specs::Act::Does))]
 
-ghost use Rattle.std.specs.Prelude.{◌≡◌, All, map};
+ghost use Rattle.std.specs.Prelude.{◌≡◌, ◌<◌, [], ◌∷◌, All, map};
 ghost use Rattle.d64_script.specs.Words.{IsPrintable};
-ghost use Rattle.d64_shell.specs.Act.{Settle, Does, World, DoesInSession};
+ghost use Rattle.d64_shell.specs.Act.{Settle, StoreOf, Does, World, DoesInSession};
 ghost use Rattle.d64_shell.specs.Answer.{answer_of};
-ghost use Rattle.d64_shell.specs.Line.{block_act, block_read_act, block_write_act, format_act, quit_act, redo_act, save_act, undo_act, command_act, write_one_block};
+ghost use Rattle.cbm_text.specs.Spelling.{spelling};
+ghost use Rattle.d64_shell.specs.FoundFile.{is_file_name};
+ghost use Rattle.d64_shell.specs.History.{History};
+ghost use Rattle.d64_shell.specs.Line.{block_act, block_read_act, block_write_act, format_act, list_act, quit_act, read_act, read_to, redo_act, save_act, undo_act, write_act, command_act, write_one_block};
 
 use crate::answer::{Answer, Output};
-use crate::arguments::{at_comma, block_in, host_in, id_in, name_in};
+use crate::arguments::{at_comma, block_in, host_in, id_in, name_and_kind_of, name_in, pattern_in};
+use crate::listing_text::listing_text;
 use crate::session::Session;
 use crate::status_from::{of_fault, of_refusal, of_reply};
+use cbm_text::to_text;
 use d64_dos::Command;
+use d64_files::Pattern;
 use d64_host::Host;
 use d64_image::BlockNo;
 use d64_script::dump::dump;
 use d64_script::status::Status;
+use d64_script::words::as_text;
 use std::alloc::Global;
 
 /// The most bytes that a command takes of a host file.
@@ -112,6 +119,24 @@ pub(crate) fn format(alloc: Global, session: &mut Session, word: &[u8]) -> Resul
     }
 }
 
+/// `list`: the lines that show the directory.
+pub(crate) fn list(alloc: Global, session: &Session) -> Result<Answer, Status>
+    ensures { DoesInSession (list_act session.now) session.now (answer_of result) session.now }
+{
+    let listing = match d64_dos::listing(alloc, session.image()) {
+        Ok(listing) => listing,
+        Err(refusal) => return Err(of_refusal(refusal)),
+    };
+    match listing_text(alloc, &listing) {
+        Ok(text) => Ok(Answer {
+            output: Output::Text(text),
+            status: Status::Done,
+            closes: false,
+        }),
+        Err(_) => Err(Status::OutOfMemory),
+    }
+}
+
 /// `quit`: the end of the run.
 pub(crate) fn quit(session: &Session) -> Result<Answer, Status>
     ensures { quit_act session.now ≡ Settle (answer_of result) session.now }
@@ -122,6 +147,75 @@ pub(crate) fn quit(session: &Session) -> Result<Answer, Status>
         status: Status::Done,
         closes: true,
     })
+}
+
+/// `read`: a file of the disk stored in a host file, by default in the one of the file's own name.
+pub(crate) fn read<H: Host>(
+    alloc: Global,
+    host: &mut H,
+    session: &Session,
+    name: &[u8],
+    words: &[&[u8]],
+) -> Result<Answer, Status>
+    requires { All (λ word. All IsPrintable word.now) words.now }
+    ensures { Does (read_act session.now name.now (map (λ word. word.now) words.now))
+        (record { files = H.files host.old; failures = H.failure_count host.old; history = session.now })
+        (answer_of result)
+        (record { files = H.files host.new; failures = H.failure_count host.new; history = session.now }) }
+{
+    let pattern = pattern_in(alloc, name)?;
+    match words.first() {
+        Some(word) => read_to(alloc, host, session, &pattern, word),
+        None => read_as_found(alloc, host, session, &pattern),
+    }
+}
+
+/// The file that a pattern finds, stored in the host file that a word names.
+fn read_to<H: Host>(
+    alloc: Global,
+    host: &mut H,
+    session: &Session,
+    pattern: &Pattern,
+    word: &[u8],
+) -> Result<Answer, Status>
+    requires { All IsPrintable word.now }
+    ensures { Does (read_to session.now pattern.now (word.now ∷ []))
+        (record { files = H.files host.old; failures = H.failure_count host.old; history = session.now })
+        (answer_of result)
+        (record { files = H.files host.new; failures = H.failure_count host.new; history = session.now }) }
+{
+    let name = host_in(word)?;
+    match d64_dos::read(alloc, session.image(), pattern) {
+        Ok(file) => store(alloc, host, name, file.bytes.as_slice()),
+        Err(refusal) => Err(of_refusal(refusal)),
+    }
+}
+
+/// The file that a pattern finds, stored in the host file of its own name in text form.
+fn read_as_found<H: Host>(
+    alloc: Global,
+    host: &mut H,
+    session: &Session,
+    pattern: &Pattern,
+) -> Result<Answer, Status>
+    ensures { Does (read_to session.now pattern.now [])
+        (record { files = H.files host.old; failures = H.failure_count host.old; history = session.now })
+        (answer_of result)
+        (record { files = H.files host.new; failures = H.failure_count host.new; history = session.now }) }
+{
+    let file = match d64_dos::read(alloc, session.image(), pattern) {
+        Ok(file) => file,
+        Err(refusal) => return Err(of_refusal(refusal)),
+    };
+    let name = match to_text(alloc, file.name.as_slice()) {
+        Ok(name) => name,
+        Err(_) => return Err(Status::OutOfMemory),
+    };
+    spelling_is_ascii(file.name.as_slice());
+    if !is_file_name(name.as_slice()) {
+        return Err(Status::BadName);
+    }
+    store(alloc, host, as_text(name.as_slice()), file.bytes.as_slice())
 }
 
 /// `redo`: the next image of the history.
@@ -161,4 +255,53 @@ pub(crate) fn undo(session: &mut Session) -> Result<Answer, Status>
 {
     session.undo()?;
     Ok(Answer::plain(Status::Done))
+}
+
+/// `write`: a host file written to the disk, by default under its own name and as PRG.
+pub(crate) fn write<H: Host>(
+    alloc: Global,
+    host: &mut H,
+    session: &mut Session,
+    name: &[u8],
+    words: &[&[u8]],
+) -> Result<Answer, Status>
+    requires { All IsPrintable name.now }
+    ensures { Does (write_act session.old name.now (map (λ word. word.now) words.now))
+        (record { files = H.files host.old; failures = H.failure_count host.old; history = session.old })
+        (answer_of result)
+        (record { files = H.files host.new; failures = H.failure_count host.new; history = session.new }) }
+{
+    let source = host_in(name)?;
+    let (name, kind) = name_and_kind_of(name, words)?;
+    let name = name_in(alloc, name)?;
+    match host.fetch(alloc, source, HOST_FILE_BYTES) {
+        Ok(bytes) => run_command(session, &Command::Write { name, kind, bytes }),
+        Err(fault) => Err(of_fault(fault)),
+    }
+}
+
+/// Bytes stored in a host file.
+fn store<H: Host>(alloc: Global, host: &mut H, name: &str, bytes: &[u8]) -> Result<Answer, Status>
+    ensures { (history : History) → Does (StoreOf name.now bytes.now)
+        (record { files = H.files host.old; failures = H.failure_count host.old; history = history })
+        (answer_of result)
+        (record { files = H.files host.new; failures = H.failure_count host.new; history = history }) }
+{
+    match host.store(alloc, name, bytes) {
+        Ok(()) => Ok(Answer::plain(Status::Done)),
+        Err(fault) => Err(of_fault(fault)),
+    }
+}
+
+/// The text form of bytes is ASCII.
+fn spelling_is_ascii(bytes: &[u8])
+    ensures { All (λ byte. byte < 128) (spelling bytes.now) }
+{}
+
+/// Whether a text can name a host file: it isn't empty, `.` or `..`, and has no `/`.
+#[tactic(auto, unfolding(crate::specs::FoundFile::is_file_name))]
+fn is_file_name(text: &[u8]) -> bool
+    ensures { result ≡ is_file_name text.now }
+{
+    !matches!(text, b"" | b"." | b"..") && !text.contains(&b'/')
 }

@@ -8,6 +8,7 @@ mod entry;
 mod handlers;
 mod history_laws;
 mod line;
+mod listing_text;
 mod request;
 mod runner;
 mod session;

@@ -104,9 +104,12 @@ fn answer_command<H: Host>(
             alloc, host, session, words[0], words[1], words[2],
         ),
         CommandWord::Format => handlers::format(alloc, session, words[0]),
+        CommandWord::ListDirectory => handlers::list(alloc, session),
         CommandWord::Quit => handlers::quit(session),
+        CommandWord::Read => handlers::read(alloc, host, session, words[0], &words[1..]),
         CommandWord::Redo => handlers::redo(session),
         CommandWord::Save => handlers::save(alloc, host, home, session, words),
         CommandWord::Undo => handlers::undo(session),
+        CommandWord::Write => handlers::write(alloc, host, session, words[0], &words[1..]),
     }
 }

@@ -1,6 +1,9 @@
 ghost use Rattle.std.specs.Prelude.{◌≡◌, ◌+◌, ◌<◌, ◌↔◌, length, IsOk, OnOk, OnErr, IfOk};
-ghost use Rattle.d64_dos.specs.Command.{after, reply_to, refusal_of, refused_by};
+ghost use Rattle.d64_dos.specs.Command.{after, reply_to, refusal_of};
+ghost use Rattle.d64_dos.specs.Refusal.{refused_by};
+ghost use Rattle.d64_effects.specs.View.{IsSound};
 ghost use Rattle.d64_shell.specs.History.{IsHistory, present, begun, added, undone, redone};
+ghost use Rattle.d64_shell.specs.SoundHistory.{IsSoundHistory, KeepsSound};
 
 use d64_dos::{Command, Refusal, Reply, apply};
 use d64_image::Image;
@@ -50,7 +53,8 @@ impl Model for Session {
 impl Session {
     /// The session that begins with an image, with nothing to undo or redo. Takes no memory.
     pub fn new(alloc: Global, image: Image) -> Session
-        ensures { result ≡ begun image }
+        ensures begun { result ≡ begun image }
+        ensures sound { IsSound image → IsSoundHistory result }
     {
         Session {
             alloc,
@@ -85,11 +89,14 @@ impl Session {
     /// Runs a command on the present image. Where it is accepted, the records after the cursor are dropped
     /// and one is added, also where nothing changed. It is refused by the first refusal that applies, and
     /// for want of memory only where none does; then image, records and cursor are as before.
+    ///
+    /// Where all images of the history are sound, so are all after an accepted file command, and after every refusal.
     pub fn run(&mut self, command: &Command) -> Result<Reply, Refusal>
         ensures refused { refused_by result ≡ refusal_of (present self.old) command.now }
         ensures reply { IfOk result (λ reply. reply ≡ reply_to (present self.old) command.now) }
         ensures accepted { OnOk result (self.new ≡ added self.old (after (present self.old) command.now)) }
         ensures unchanged { OnErr result (self.new ≡ self.old) }
+        ensures sound { KeepsSound command.now result → IsSoundHistory self.old → IsSoundHistory self.new }
     {
         let (image, reply) = apply(self.alloc, &self.image, command)?;
         self.others.reserve(1)?;
@@ -105,13 +112,22 @@ impl Session {
         ensures possible { IsOk result ↔ (0 < self.old.cursor) }
         ensures moved { OnOk result (self.new ≡ undone self.old) }
         ensures unchanged { OnErr result (self.new ≡ self.old) }
+        ensures sound { IsSoundHistory self.old → IsSoundHistory self.new }
     {
         if self.done == 0 {
             return Err(NothingToUndo);
         }
+        self.step_back();
+        Ok(())
+    }
+
+    // The cursor one record back.
+    fn step_back(&mut self)
+        requires { 0 < self.old.cursor }
+        ensures { self.new ≡ undone self.old }
+    {
         self.done -= 1;
         mem::swap(&mut self.image, &mut self.others[self.done]);
-        Ok(())
     }
 
     /// Goes one record forward. Refused where none is undone. Takes no memory.
@@ -119,13 +135,22 @@ impl Session {
         ensures possible { IsOk result ↔ (self.old.cursor + 1 < length self.old.images) }
         ensures moved { OnOk result (self.new ≡ redone self.old) }
         ensures unchanged { OnErr result (self.new ≡ self.old) }
+        ensures sound { IsSoundHistory self.old → IsSoundHistory self.new }
     {
         if self.done == self.others.len() {
             return Err(NothingToRedo);
         }
+        self.step_on();
+        Ok(())
+    }
+
+    // The cursor one record on.
+    fn step_on(&mut self)
+        requires { self.old.cursor + 1 < length self.old.images }
+        ensures { self.new ≡ redone self.old }
+    {
         mem::swap(&mut self.image, &mut self.others[self.done]);
         self.done += 1;
-        Ok(())
     }
 }
 

@@ -40,6 +40,14 @@ pub(crate) fn of_refusal(refusal: Refusal) -> Status
     ensures { result ≡ status_of_refusal refusal }
 {
     match refusal {
+        Refusal::NotClosed => Status::WriteFileOpen,
+        Refusal::NotFound => Status::FileNotFound,
+        Refusal::Exists => Status::FileExists,
+        Refusal::WrongType => Status::FileTypeMismatch,
+        Refusal::Directory(fault) => Status::DirectoryError {
+            condition: fault.number(),
+        },
+        Refusal::DiskFull => Status::DiskFull,
         Refusal::Memory => Status::OutOfMemory,
     }
 }

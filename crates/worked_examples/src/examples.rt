@@ -1,6 +1,6 @@
 //! What the examples share: where they run, what they answer, and the lines that show a block.
 
-use d64_image::Image;
+use d64_image::{BlockNo, Image};
 use d64_shell::{MemoryHost, Outcome, Session, run};
 use std::alloc::{AllocError, Global};
 use std::process::Abort;
@@ -53,6 +53,39 @@ pub fn assert_answers(
 ) -> Result<(), Fail> {
     let mut session = blank_session(alloc)?;
     assert_answers_on(rt, alloc, host, &mut session, script, answers, counts);
+    Ok(())
+}
+
+/// Runs a script on a session, with no file as its home, and gives its answers.
+pub fn answers_to(
+    alloc: Global,
+    host: &mut MemoryHost,
+    session: &mut Session,
+    script: &str,
+) -> Result<Vec<u8>, Fail> {
+    let mut output = Vec::new(alloc);
+    let mut reader = script.as_bytes();
+    run(alloc, &mut reader, &mut output, host, "", session)?;
+    Ok(output)
+}
+
+/// The 256 bytes of a block.
+pub fn block_of(session: &Session, track: u8, sector: u8) -> Result<[u8; 256], Fail> {
+    let block = BlockNo::of(track, sector).ok_or("no such block")?;
+    Ok(*session.image().sector(block))
+}
+
+/// Looks at the bytes of a block, by its track and sector, from a place on.
+pub fn assert_bytes(
+    rt: &impl Abort,
+    session: &Session,
+    block: (u8, u8),
+    place: usize,
+    expected: &[u8],
+) -> Result<(), Fail> {
+    let bytes = block_of(session, block.0, block.1)?;
+    let from_place = bytes.as_slice().get(place..).ok_or("no such place")?;
+    assert!(rt; from_place.starts_with(expected), "{block:?} at {place}");
     Ok(())
 }
 

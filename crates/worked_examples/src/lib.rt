@@ -4,9 +4,15 @@
 #![tactic(auto)]
 
 #[cfg(test)]
+mod damaged;
+#[cfg(test)]
+mod directories;
+#[cfg(test)]
 mod examples;
 #[cfg(test)]
 mod fakes;
+#[cfg(test)]
+mod files;
 #[cfg(test)]
 mod folder_files;
 #[cfg(test)]

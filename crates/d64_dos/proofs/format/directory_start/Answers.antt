@@ -1,5 +1,5 @@
 use Rattle.std.proofs.Common.{IsSome, sym, ◌∙◌, subst, rules}
-use Rattle.d64_dos.proofs.Places.{directory_start-place}
+use Rattle.d64_effects.proofs.Places.{directory_start-place}
 use Rattle.d64_dos.proofs.format.directory_start.Goals as goal
 
 pub unwrap-requires : goal.unwrap-requires

@@ -1,5 +1,5 @@
 use Rattle.std.proofs.Common.{rules}
-use Rattle.d64_dos.specs.Format.{empty_directory}
+use Rattle.d64_files.specs.Writing.{empty_directory}
 use Rattle.d64_dos.proofs.format.empty_directory.Goals as goal
 
 pub returns : goal.returns

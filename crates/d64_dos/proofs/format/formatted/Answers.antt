@@ -1,4 +1,4 @@
-use Rattle.d64_dos.proofs.EmptyDisks.{formatted_from_parts}
+use Rattle.d64_effects.proofs.EmptyDisks.{formatted_from_parts}
 use Rattle.d64_dos.proofs.format.formatted.Goals as goal
 
 pub returns : goal.returns

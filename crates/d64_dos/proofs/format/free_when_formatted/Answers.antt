@@ -2,8 +2,8 @@ use Rattle.std.proofs.Common.{◌≡◌, ℕ, List, ap, ◌∙◌, arith}
 use Rattle.std.specs.Ordering.{nat_cmp}
 use Rattle.std.specs.FinSet as set
 use Rattle.d64_map.proofs.FreeBlocks.{all_blocks}
-use Rattle.d64_dos.specs.Format.{free_when_formatted}
-use Rattle.d64_dos.proofs.EmptyDisks.{from_range_more}
+use Rattle.d64_effects.specs.Format.{free_when_formatted}
+use Rattle.d64_effects.proofs.EmptyDisks.{from_range_more}
 use Rattle.d64_dos.proofs.format.free_when_formatted.Goals as goal
 use Rattle.d64_dos.proofs.format.free_when_formatted.Goals.{in-Some, in-None}
 

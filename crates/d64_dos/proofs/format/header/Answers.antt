@@ -1,6 +1,6 @@
 use Rattle.std.proofs.Common.{ap, ◌∙◌}
-use Rattle.d64_dos.specs.Format.{written_at}
-use Rattle.d64_dos.proofs.Headers.{header_from_parts}
+use Rattle.d64_files.specs.Writing.{written_at}
+use Rattle.d64_effects.proofs.Headers.{header_from_parts}
 use Rattle.d64_dos.proofs.format.header.Goals as goal
 
 pub returns : goal.returns

@@ -1,5 +1,5 @@
 use Rattle.std.proofs.Common.{IsSome, sym, ◌∙◌, subst, rules}
-use Rattle.d64_dos.proofs.Places.{map_block-place}
+use Rattle.d64_effects.proofs.Places.{map_block-place}
 use Rattle.d64_dos.proofs.format.map_block.Goals as goal
 
 pub unwrap-requires : goal.unwrap-requires

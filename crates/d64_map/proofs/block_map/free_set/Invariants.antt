@@ -1,8 +1,7 @@
 use Rattle.std.proofs.Common.{◌≡◌}
-use Rattle.std.specs.List.{range_with_len, filter}
-use Rattle.std.specs.FinSet as set
-use Rattle.d64_map.specs.Map.{is_free}
+use Rattle.d64_image.specs.Block.{first_block}
+use Rattle.d64_map.specs.Map.{free_below}
 use Rattle.d64_map.proofs.block_map.free_set.Given as goal
 
-abbrev pub invariant-loop-index : goal.invariant-loop-index
-invariant-loop-index l = l.free ≡ set.from_list (filter (is_free l.image) (range_with_len 0 l.index))
+abbrev pub invariant-loop-track : goal.invariant-loop-track
+invariant-loop-track l = l.free ≡ free_below l.image (first_block l.track)

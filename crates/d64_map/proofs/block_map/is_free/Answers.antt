@@ -1,13 +1,13 @@
 use Rattle.std.proofs.Common.{sym, ap, ◌∙◌}
 use Rattle.d64_image.specs.Image.{sector_at}
-use Rattle.d64_map.proofs.FreeBlocks.{contains-free_blocks, bit_read}
+use Rattle.d64_map.proofs.FreeBlocks.{contains-free_blocks, bit_tells}
 use Rattle.d64_map.proofs.block_map.is_free.Goals as goal
 
 pub returns-clause-bit : goal.returns-clause-bit
 returns-clause-bit c =
-    bit_read c.args.image.now c.args.block c.from.result c.from-sector.result c.sector-2.result.now
-    (c.sector-2.ensures.value ∙ ap (sector_at c.args.image.now) c.map_block.ensures)
-    (c.from.ensures ∙ c.track.ensures.pair) (c.from-sector.ensures ∙ c.sector.ensures.pair)
+    c.marks_free.ensures
+    ∙ bit_tells c.args.image.now c.args.block c.track.result c.sector-2.result c.sector.result.now
+    (c.sector.ensures.value ∙ ap (sector_at c.args.image.now) c.map_block.ensures) c.track.ensures.pair c.sector-2.ensures.pair
 
 pub returns-clause-member : goal.returns-clause-member
 returns-clause-member c = returns-clause-bit c ∙ sym (contains-free_blocks c.args.image.now c.args.block c.known_block.ensures)

@@ -1,4 +1,4 @@
-use Rattle.std.proofs.Common.{◌≡◌, Ok}
+use Rattle.std.proofs.Common.{Ok}
 use Rattle.d64_shell.specs.Act.{Does}
 use Rattle.d64_shell.proofs.handlers.block_write.Goals as goal
 

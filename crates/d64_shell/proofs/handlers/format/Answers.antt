@@ -1,5 +1,6 @@
-use Rattle.d64_shell.specs.Act.{Act, World, ReadText}
-use Rattle.d64_shell.specs.Line.{is_id, command_act}
+use Rattle.d64_shell.specs.Act.{World, ReadText}
+use Rattle.d64_shell.specs.Arguments.{is_id}
+use Rattle.d64_shell.specs.Line.{command_act}
 use Rattle.d64_files.specs.Name.{is_name}
 use Rattle.d64_dos.specs.declared.command.Command.TheVariants.{Format}
 use Rattle.d64_shell.proofs.TextArguments.{Does-read, Does-unread}

@@ -1,8 +1,5 @@
-use Rattle.std.proofs.Common.{◌≡◌, ℕ, List, ◌++◌, true, refl, sym, ap, ◌∙◌, subst}
-use Rattle.std.specs.Prelude.{IfSome}
-use Rattle.d64_script.specs.RawLines.{lines_of, ended_lines}
+use Rattle.std.proofs.Common.{sym, ◌∙◌}
 use Rattle.d64_script.proofs.ScriptReads.{IsReadFrom-whole, IsReadFrom-first}
-use Rattle.d64_shell.specs.Runner.{RanLines, StoppedAt}
 use Rattle.d64_shell.proofs.ScriptRuns.{RanWhole-first, RanUpTo-first}
 use Rattle.d64_shell.proofs.runner.run.Goals as goal
 

@@ -1,4 +1,4 @@
-use Rattle.std.proofs.Common.{arith, rules, if◌then◌else◌, ◌≡◌, ℕ, ◌+◌, ◌≤◌, List, [], ◌∷◌, ◌++◌, length, Bool, true, false, refl, sym, ap, ◌∙◌, subst, append_assoc, length-append}
+use Rattle.std.proofs.Common.{arith, rules, if◌then◌else◌, ◌≡◌, ℕ, ◌+◌, List, [], ◌∷◌, ◌++◌, length, Bool, true, false, refl, sym, ap, ◌∙◌, subst, append_assoc, length-append}
 use Rattle.std.proofs.KnownBytes.{Appends-nil, Appends-trans}
 use Rattle.d64_script.specs.RawLines.{lines_of}
 use Rattle.d64_script.proofs.LineCuts.{length-lines_of}
@@ -124,6 +124,22 @@ returns-then-answer-clause-ran g c =
         world = refl;
       },
     )
+
+-- the same where the answer has memory of its own to give back, and where it has none
+pub loop-line-preserved-else-answer : goal.loop-line-preserved-else-answer
+loop-line-preserved-else-answer g c =
+    let i = c.loop-line.invariant in
+    let line = c.in-Some.line.now in
+    let said = shown c.in-Some-answer_line.answer in
+    record {
+      before = i.before ++ line ∷ [];
+      split = moved i.before line _ _ _ c.in-Some.ensures.steps i.split;
+      out = i.out ++ printed said;
+      told = Transcript-answered c.args.home.now i.before line _ i.out _ _ _ _ _ _ false said i.told
+          c.in-Some-answer_line.ensures (sym c.if-answer.false) c.count.ensures.accepted c.count.ensures.refused;
+      written = Appends-trans _ _ _ i.out (printed said) i.written c.in-Ok.ensures.ok;
+      few = omega (arith, i.few, length-append i.before (line ∷ []), c.count.ensures.accepted, c.count.ensures.refused, one_more (is_accepted said));
+    }
 
 pub loop-line-preserved : goal.loop-line-preserved
 loop-line-preserved g c =

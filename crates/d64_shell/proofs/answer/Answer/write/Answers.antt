@@ -1,8 +1,6 @@
-use Rattle.std.proofs.Common.{◌≡◌, ℕ, List, ◌++◌, Result, Ok, Err, ap, sym, ◌∙◌, append_assoc}
+use Rattle.std.proofs.Common.{◌++◌, Result, Ok, Err, ap, sym, ◌∙◌, append_assoc}
 use Rattle.std.specs.Prelude.{OnErr}
-use Rattle.std.specs.Io.KnownBytes.{Appends}
 use Rattle.std.proofs.KnownBytes.{Appends-trans}
-use Rattle.d64_script.specs.Output.{AppendsPart}
 use Rattle.d64_script.specs.Status.{status_line}
 use Rattle.d64_shell.specs.Answer.{output_bytes}
 use Rattle.d64_shell.proofs.answer.Answer.write.Goals as goal

@@ -1,6 +1,5 @@
 use Rattle.std.proofs.Common.{rules, ◌≡◌, codes, refl, arith}
 use Rattle.std.proofs.lemmas.Slice.Eq.{text_from_reads}
-use Rattle.d64_shell.specs.CommandWord.{command_word_of}
 use Rattle.d64_shell.proofs.command_word.CommandWord.of.Goals as goal
 
 pub returns-in-bwrite : goal.returns-in-bwrite

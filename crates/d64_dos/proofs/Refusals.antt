@@ -1,0 +1,88 @@
+-- What keeps a directory, or the file that a pattern selects, from being read.
+use Rattle.std.proofs.Common.{◌≡◌, ℕ, List, length, Option, Some, None, Err, refl, sym, ap, ◌∙◌, arith}
+use Rattle.std.specs.Prelude.{slice_get, option_map}
+use Rattle.std.specs.Option.{option_or}
+use Rattle.std.proofs.lemmas.Option.{slice_get_past}
+use Rattle.d64_files.specs.Directory.{slots, first_named, AllHold, IsFirstFault}
+use Rattle.d64_files.specs.Reading.{unreadable, slot_refusal, content_refusal}
+use Rattle.d64_files.specs.Reading as files
+use Rattle.d64_files.specs.declared.dir_fault.DirFault.{DirFault}
+use Rattle.d64_files.specs.declared.reading.ReadFault.{ReadFault}
+use Rattle.d64_files.specs.declared.reading.ReadFault.TheVariants as faults
+use Rattle.d64_files.proofs.Contents.{refused_directory, refused_slot}
+use Rattle.d64_dos.specs.Refusal.{cause_of, of_read_fault}
+use Rattle.d64_dos.specs.Reading.{directory_refusal, found_refusal, read_refusal}
+use Rattle.d64_dos.specs.declared.refusal.Refusal.{Refusal}
+use Rattle.d64_dos.specs.declared.refusal.Refusal.TheVariants.{Directory}
+
+-- where a slot that isn't there is refused as such, the directory can be read
+of_missing : (why : Option DirFault) → option_or (option_map faults.Directory why) (Some faults.NotFound) ≡ Some faults.NotFound → why ≡ None
+of_missing None e = refl
+of_missing (Some fault) e = cc
+
+-- where it is refused for the directory, the directory can't be read for that
+of_fault : (why : Option DirFault) (fault : DirFault)
+    → Some (faults.Directory fault) ≡ option_or (option_map faults.Directory why) (Some faults.NotFound) → why ≡ Some fault
+of_fault None fault e = cc
+of_fault (Some other) fault e = cc
+
+-- there is no slot after the last
+no_slot : (image : List (List ℕ)) → slice_get (slots image) (length (slots image)) ≡ None
+no_slot image = slice_get_past (slots image) (length (slots image)) (omega arith)
+
+-- the refusal of that slot
+refusal_past : (image : List (List ℕ))
+    → content_refusal image (length (slots image)) ≡ option_or (option_map faults.Directory (unreadable image)) (Some faults.NotFound)
+unfolding content_refusal
+refusal_past image = ap (λ (cell : Option (List ℕ)). option_or (option_map faults.Directory (unreadable image)) (slot_refusal image cell)) (no_slot image)
+
+-- a directory that meets the conditions 2 and 3 can be read
+pub readable : (image : List (List ℕ)) → AllHold image 2 3 → directory_refusal image ≡ None
+readable image h =
+    ap (option_map Directory)
+    (of_missing (unreadable image) (sym (refusal_past image) ∙ refused_slot image (length (slots image)) None h (no_slot image)))
+
+-- one that fails one of them can't, for the first that it fails
+pub not_readable : (image : List (List ℕ)) (fault : DirFault) → IsFirstFault image 2 3 fault → directory_refusal image ≡ Some (Directory fault)
+not_readable image fault f =
+    ap (option_map Directory) (of_fault (unreadable image) fault (refused_directory image (length (slots image)) fault f ∙ refusal_past image))
+
+-- such a directory refuses each pattern
+pub refused_pattern : (image : List (List ℕ)) (pattern : List ℕ) (fault : DirFault) → IsFirstFault image 2 3 fault
+    → read_refusal image pattern ≡ Some (Directory fault)
+unfolding read_refusal
+refused_pattern image pattern fault f =
+    ap (λ (why : Option Refusal). option_or why (found_refusal image (first_named pattern (slots image)))) (not_readable image fault f)
+
+-- the other one leaves it to the slot that is found
+pub refused_found : (image : List (List ℕ)) (pattern : List ℕ) (found : Option ℕ) → AllHold image 2 3 → found ≡ first_named pattern (slots image)
+    → read_refusal image pattern ≡ found_refusal image found
+unfolding read_refusal
+refused_found image pattern found h e =
+    ap (λ (why : Option Refusal). option_or why (found_refusal image (first_named pattern (slots image)))) (readable image h)
+    ∙ ap (found_refusal image) (sym e)
+
+-- the cause that a fault of reading has in the image stays as a refusal
+cause_of_fault : (fault : ReadFault) (refusal : Option ReadFault) → files.refused_by {A = List ℕ} (Err fault) ≡ refusal
+    → cause_of (of_read_fault fault) ≡ option_map of_read_fault refusal
+cause_of_fault (faults.Directory fault) refusal e = ap (option_map of_read_fault) e
+cause_of_fault faults.NotFound refusal e = ap (option_map of_read_fault) e
+cause_of_fault faults.NotClosed refusal e = ap (option_map of_read_fault) e
+cause_of_fault faults.WrongType refusal e = ap (option_map of_read_fault) e
+cause_of_fault (faults.Memory error) refusal e = ap (option_map of_read_fault) e
+
+-- what keeps the content of the slot that was found from being read keeps its file from it
+pub refused_content : (image : List (List ℕ)) (pattern : List ℕ) (slot : ℕ) (fault : ReadFault) → AllHold image 2 3
+    → Some slot ≡ first_named pattern (slots image) → files.refused_by {A = List ℕ} (Err fault) ≡ content_refusal image slot
+    → cause_of (of_read_fault fault) ≡ read_refusal image pattern
+refused_content image pattern slot fault h found e =
+    cause_of_fault fault (slot_refusal image (slice_get (slots image) slot))
+    (e ∙ refused_slot image slot (slice_get (slots image) slot) h refl)
+    ∙ sym (refused_found image pattern (Some slot) h found)
+
+-- and where nothing does, the file is read
+pub not_refused : (image : List (List ℕ)) (pattern : List ℕ) (slot : ℕ) → AllHold image 2 3
+    → Some slot ≡ first_named pattern (slots image) → None ≡ content_refusal image slot → read_refusal image pattern ≡ None
+not_refused image pattern slot h found e =
+    refused_found image pattern (Some slot) h found
+    ∙ ap (option_map of_read_fault) (sym (e ∙ refused_slot image slot (slice_get (slots image) slot) h refl))

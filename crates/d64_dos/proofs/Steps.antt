@@ -1,0 +1,110 @@
+-- accepted file commands leave sound disks
+use Rattle.std.proofs.Common.{◌≡◌, ◌≢◌, ℕ, ◌&&◌, ◌||◌, Bool, true, false, not, cond, leb, List, length, Option, Some, None, refl, sym, ap, subst, arith}
+use Rattle.std.specs.Prelude.{is_some, Result, Ok, Err, IfOk}
+use Rattle.std.specs.Option.{option_map, option_or}
+use Rattle.std.proofs.lemmas.Bool.Decides.{nat_tests}
+use Rattle.d64_map.specs.Map.{free_blocks}
+use Rattle.d64_map.specs.Plan.{room}
+use Rattle.d64_files.specs.Directory.{slots, is_name_taken}
+use Rattle.d64_files.specs.FirstFault.{first_fault, sound_conditions}
+use Rattle.d64_files.specs.Writing.{blocks_for, first_unused, dir_last}
+use Rattle.d64_files.specs.declared.dir_fault.DirFault.{DirFault}
+use Rattle.d64_files.specs.declared.kind.Kind.{Kind}
+use Rattle.d64_files.specs.declared.kind.Kind.TheVariants.{Del, Seq, Prg, Usr, Rel}
+use Rattle.d64_effects.specs.Laws.{HasRoom, IsWritable}
+use Rattle.d64_effects.specs.View.{IsSound}
+use Rattle.d64_effects.specs.Write.{next_of_directory}
+use Rattle.d64_effects.proofs.FormattedDisks.{holds-formatted, view-formatted}
+use Rattle.d64_effects.proofs.WrittenDisks.{written-is_sound, written-shows}
+use Rattle.d64_image.specs.Image.{IsImage}
+use Rattle.d64_dos.specs.Command.{after, reply_to, refusal_of}
+use Rattle.d64_dos.specs.Refusal.{refused_by}
+use Rattle.d64_dos.specs.Step.{FileCommandsKeepDisksSound, IsFileCommand, IsMade, Leaves, StartsFrom}
+use Rattle.d64_dos.specs.declared.command.Reply.{Reply}
+use Rattle.d64_dos.specs.WriteRefusal.{has_room, is_writable, write_refusal}
+use Rattle.d64_dos.specs.declared.command.Command.{Command}
+use Rattle.d64_dos.specs.declared.command.Command.TheVariants.{Format, Write, BlockWrite}
+use Rattle.d64_dos.specs.declared.refusal.Refusal.{Refusal}
+use Rattle.d64_dos.specs.declared.refusal.Refusal.TheVariants.{Exists, WrongType, Directory, DiskFull}
+
+-- what holds where none of a write's refusals applies
+none_applies : (writable taken fits : Bool) (fault : Option DirFault)
+    → cond (not writable) (Some WrongType) (option_or (option_map Directory fault) (cond taken (Some Exists) (cond fits None (Some DiskFull)))) ≡ None
+    → (writable ≡ true) × (fits ≡ true)
+none_applies false taken fits fault h = absurd (cc)
+none_applies true taken fits (Some fault) h = absurd (cc)
+none_applies true true fits None h = absurd (cc)
+none_applies true false false None h = absurd (cc)
+none_applies true false true None h = (refl, refl)
+
+-- a write that no refusal stops has a kind that can be written, and room
+accepted : (image : List (List ℕ)) (name : List ℕ) (kind : Kind) (bytes : ℕ) → write_refusal image name kind bytes ≡ None
+    → (is_writable kind ≡ true) × (has_room image bytes ≡ true)
+unfolding write_refusal
+accepted image name kind bytes h =
+    none_applies (is_writable kind) (is_name_taken name (slots image)) (has_room image bytes) (first_fault image sound_conditions) h
+
+-- files of such a kind are SEQ, PRG or USR
+writable : (kind : Kind) → is_writable kind ≡ true → IsWritable kind
+writable Del h = absurd (cc)
+writable Seq h = (λ e. cc, λ e. cc)
+writable Prg h = (λ e. cc, λ e. cc)
+writable Usr h = (λ e. cc, λ e. cc)
+writable Rel h = absurd (cc)
+
+-- one of two tests passes, and the first doesn't
+second_passes : (a b : Bool) → (a || b) ≡ true → a ≡ false → b ≡ true
+second_passes true b h fails = absurd (cc)
+second_passes false b h fails = h
+
+-- both of two tests pass
+both_pass : (a b : Bool) → (a && b) ≡ true → (a ≡ true) × (b ≡ true)
+both_pass true b h = (refl, h)
+both_pass false b h = absurd (cc)
+
+-- there is something, so it isn't nothing
+not_none : (found : Option ℕ) → is_some found ≡ true → found ≢ None
+not_none (Some block) h = λ e. cc
+not_none None h = absurd (cc)
+
+-- the test of room tells that there is room
+has_its_room : (image : List (List ℕ)) (bytes : ℕ) → has_room image bytes ≡ true → HasRoom image bytes
+has_its_room image bytes h =
+    let parts =
+    both_pass (leb (blocks_for bytes) (room (free_blocks image))) (is_some (first_unused (slots image)) || is_some (next_of_directory (free_blocks image) (dir_last image))) h in
+    record {
+      blocks = let enough = parts.0 in grind (arith, nat_tests);
+      slot = λ none. not_none (next_of_directory (free_blocks image) (dir_last image))
+          (second_passes (is_some (first_unused (slots image))) (is_some (next_of_directory (free_blocks image) (dir_last image))) parts.1 (ap is_some none));
+    }
+
+-- each accepted file command leaves a sound disk, which shows its change
+pub keeps_sound : FileCommandsKeepDisksSound
+keeps_sound image (Format name id) is made none from =
+    record { sound = λ fault first last. holds-formatted name id fault; shows = (refl, view-formatted name id made.0 made.1) }
+keeps_sound image (Write name kind bytes) is made none from =
+    let passes = accepted image name kind (length bytes.items) none in
+    let kinds = writable kind passes.0 in
+    let fits = has_its_room image (length bytes.items) passes.1 in
+    record {
+      sound = written-is_sound image name kind bytes.items is made.0 kinds made.1 from fits;
+      shows = (refl, written-shows image name kind bytes.items is made.0 kinds made.1 from fits);
+    }
+keeps_sound image (BlockWrite at block) is made none from = absurd from
+
+-- a file command may start from every sound image
+pub starts_from_sound : (image : List (List ℕ)) (command : Command) → IsFileCommand command → IsSound image → StartsFrom command image
+starts_from_sound image (Format name id) is sound = is
+starts_from_sound image (Write name kind bytes) is sound = sound
+starts_from_sound image (BlockWrite at block) is sound = absurd is
+
+-- what the answer of a command says of its image and its reply makes the step
+pub step_of : (image : List (List ℕ)) (command : Command) (result : Result (List (List ℕ) × Reply) Refusal)
+    → IsImage image → IsMade command → refused_by result ≡ refusal_of image command
+    → IfOk result (λ done. done.1 ≡ reply_to image command) → IfOk result (λ done. done.0 ≡ after image command)
+    → IfOk result (λ done. StartsFrom command image → Leaves image command done.1 done.0)
+step_of image command (Err refusal) is made refused reply accepted = tt
+step_of image command (Ok done) is made refused reply accepted =
+    λ from.
+    subst (λ (r : Reply). Leaves image command r done.0) (sym reply)
+    (subst (Leaves image command (reply_to image command)) (sym accepted) (keeps_sound image command is made (sym refused) from))

@@ -1,0 +1,36 @@
+use Rattle.std.proofs.Common.{◌≡◌, ◌==◌, not, ℕ, List, None, sym, ap, ◌∙◌, arith, rules}
+use Rattle.std.specs.Prelude.{take_while, slice_range}
+use Rattle.d64_image.specs.Image.{sector_at}
+use Rattle.d64_map.specs.Map.{map_block}
+use Rattle.d64_dos.specs.Listing.{rows_of}
+use Rattle.d64_dos.specs.Refusal.{refused_by}
+use Rattle.d64_dos.proofs.ListedRows.{rows-numbered, two_bytes, listing_by_fields}
+use Rattle.d64_dos.proofs.Refusals.{readable}
+use Rattle.d64_dos.proofs.directory.listing.Goals as goal
+
+pub returns-in_err-from_slice-clause-refused : goal.returns-in_err-from_slice-clause-refused
+returns-in_err-from_slice-clause-refused c =
+    let wants_memory : refused_by c.from_residual.result ≡ None = search rules in wants_memory ∙ sym (readable c.args.image.now c.in-Ok.ensures.conditions)
+
+pub returns-in_err-rows_of-clause-refused : goal.returns-in_err-rows_of-clause-refused
+returns-in_err-rows_of-clause-refused c =
+    let wants_memory : refused_by c.from_residual-in_err-rows_of.result ≡ None = search rules in
+    wants_memory ∙ sym (readable c.args.image.now c.in-Ok.ensures.conditions)
+
+pub returns-clause-refused : goal.returns-clause-refused
+returns-clause-refused c = sym (readable c.args.image.now c.in-Ok.ensures.conditions)
+
+pub returns-clause-listing : goal.returns-clause-listing
+returns-clause-listing c =
+    let image = c.args.image.now in
+    let header = c.sector-header.result.now in
+    let same : header ≡ sector_at image map_block = c.sector-header.ensures.value ∙ ap (sector_at image) c.map_block.ensures in
+    let long = c.sector-header.ensures.block.0 in
+    listing_by_fields image _ _ _ _ _
+    (c.in_ok-from_slice.ensures.items
+    ∙ c.disk_name.ensures
+    ∙ ap (λ (bytes : List ℕ). take_while (λ byte. not (byte == 0xA0)) (slice_range bytes 0x90 0xA0)) same)
+    (two_bytes header 0xA2 (omega (arith, long)) ∙ ap (λ (bytes : List ℕ). slice_range bytes 0xA2 0xA4) same)
+    (two_bytes header 0xA5 (omega (arith, long)) ∙ ap (λ (bytes : List ℕ). slice_range bytes 0xA5 0xA7) same)
+    (c.in_ok-rows_of.ensures ∙ ap rows_of c.in-Ok.ensures.slots ∙ rows-numbered image)
+    c.blocks_free.ensures

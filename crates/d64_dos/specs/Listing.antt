@@ -1,0 +1,58 @@
+-- What the directory of a disk lists.
+use Rattle.std.specs.Prelude.{ℕ, ◌==◌, not, Bool, List, map, filter, take_while, slice_range}
+use Rattle.d64_image.specs.Image.{sector_at}
+use Rattle.d64_map.specs.Map.{map_block, blocks_free}
+use Rattle.d64_files.specs.Directory.{slots}
+use Rattle.d64_files.specs.Slot.{is_used, name_of, is_closed, is_locked, kind_of, size_of}
+use Rattle.d64_files.specs.declared.kind.Kind.{Kind}
+use Rattle.d64_effects.specs.View.{disk_field, disk_id}
+use Rattle.d64_dos.specs.declared.row.Row.{Row}
+use Rattle.d64_dos.specs.declared.row.Listing.{Listing}
+
+-- a row of the directory
+pub record RowView : Type 0 where
+  pub blocks : ℕ
+  pub name : List ℕ
+  pub closed : Bool
+  pub kind : Kind
+  pub locked : Bool
+
+-- a directory: the disk's name up to its first shifted space, its id, its DOS version, a row for each used slot, and the number of free blocks that it shows
+pub record ListingView : Type 0 where
+  pub name : List ℕ
+  pub id : List ℕ
+  pub dos : List ℕ
+  pub rows : List RowView
+  pub free : ℕ
+
+-- the row of a slot
+abbrev pub row_of : List ℕ → RowView
+row_of cell = record { blocks = size_of cell; name = name_of cell; closed = is_closed cell; kind = kind_of cell; locked = is_locked cell }
+
+-- the rows of the used ones among numbered slots
+abbrev pub rows_of : List (ℕ × List ℕ) → List RowView
+rows_of walk = map (λ (entry : ℕ × List ℕ). row_of entry.1) (filter (λ (entry : ℕ × List ℕ). is_used entry.1) walk)
+
+-- what the directory of an image lists
+unfoldable pub listing_of : List (List ℕ) → ListingView
+listing_of image = record {
+  name = take_while (λ byte. not (byte == 0xA0)) (disk_field image);
+  id = disk_id image;
+  dos = slice_range (sector_at image map_block) 0xA5 0xA7;
+  rows = map row_of (filter is_used (slots image));
+  free = blocks_free image;
+}
+
+-- what a row shows
+abbrev pub shown_row : Row → RowView
+shown_row row = record { blocks = row.blocks; name = row.name.items; closed = row.closed; kind = row.kind; locked = row.locked }
+
+-- what a listing shows
+abbrev pub shown_listing : Listing → ListingView
+shown_listing listing = record {
+  name = listing.name.items;
+  id = listing.id;
+  dos = listing.dos;
+  rows = map shown_row listing.rows.items;
+  free = listing.free;
+}

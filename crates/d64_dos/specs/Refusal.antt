@@ -1,0 +1,29 @@
+-- Refusals, and the causes that an image gives for them.
+use Rattle.std.specs.Prelude.{Option, Some, None, Result, Ok, Err}
+use Rattle.d64_files.specs.declared.reading.ReadFault.{ReadFault}
+use Rattle.d64_files.specs.declared.reading.ReadFault.TheVariants as faults
+use Rattle.d64_dos.specs.declared.refusal.Refusal.{Refusal}
+use Rattle.d64_dos.specs.declared.refusal.Refusal.TheVariants.{NotClosed, NotFound, Exists, WrongType, Directory, DiskFull, Memory}
+
+-- the refusal that the image gave cause for: want of memory is none
+abbrev pub cause_of : Refusal → Option Refusal
+cause_of NotClosed = Some NotClosed
+cause_of NotFound = Some NotFound
+cause_of Exists = Some Exists
+cause_of WrongType = Some WrongType
+cause_of (Directory fault) = Some (Directory fault)
+cause_of DiskFull = Some DiskFull
+cause_of Memory = None
+
+-- the refusal that was answered with a cause in the image: none where the request was accepted or memory was wanting
+abbrev pub refused_by : {T : Type 0} → Result T Refusal → Option Refusal
+refused_by (Ok value) = None
+refused_by (Err refusal) = cause_of refusal
+
+-- the refusal for a file that can't be read
+abbrev pub of_read_fault : ReadFault → Refusal
+of_read_fault (faults.Directory fault) = Directory fault
+of_read_fault faults.NotFound = NotFound
+of_read_fault faults.NotClosed = NotClosed
+of_read_fault faults.WrongType = WrongType
+of_read_fault (faults.Memory error) = Memory

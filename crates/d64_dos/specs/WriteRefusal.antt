@@ -1,0 +1,35 @@
+-- When the writing of a file is refused.
+use Rattle.std.specs.Prelude.{ℕ, nat_le, ◌&&◌, ◌||◌, not, true, false, Bool, if◌then◌else◌, List, Option, Some, None, is_some, option_map}
+use Rattle.std.specs.Option.{option_or}
+use Rattle.d64_map.specs.Map.{free_blocks}
+use Rattle.d64_map.specs.Plan.{room}
+use Rattle.d64_files.specs.Directory.{slots, is_name_taken}
+use Rattle.d64_files.specs.FirstFault.{first_fault, sound_conditions}
+use Rattle.d64_files.specs.Writing.{blocks_for, first_unused, dir_last}
+use Rattle.d64_effects.specs.Write.{next_of_directory}
+use Rattle.d64_files.specs.declared.kind.Kind.{Kind}
+use Rattle.d64_files.specs.declared.kind.Kind.TheVariants.{Del, Seq, Prg, Usr, Rel}
+use Rattle.d64_dos.specs.declared.refusal.Refusal.{Refusal}
+use Rattle.d64_dos.specs.declared.refusal.Refusal.TheVariants.{Exists, WrongType, Directory, DiskFull}
+
+-- files of this kind can be written: SEQ, PRG and USR
+abbrev pub is_writable : Kind → Bool
+is_writable Del = false
+is_writable Seq = true
+is_writable Prg = true
+is_writable Usr = true
+is_writable Rel = false
+
+-- there is room for a file of so many bytes, and for its entry
+abbrev pub has_room : List (List ℕ) → ℕ → Bool
+has_room image bytes =
+    nat_le (blocks_for bytes) (room (free_blocks image))
+    && (is_some (first_unused (slots image)) || is_some (next_of_directory (free_blocks image) (dir_last image)))
+
+-- the first refusal of a write that applies: the kind, then the first condition of a sound image that fails, then the name, then the room
+unfoldable pub write_refusal : List (List ℕ) → List ℕ → Kind → ℕ → Option Refusal
+write_refusal image name kind bytes =
+    if not (is_writable kind)
+    then Some WrongType
+    else option_or (option_map Directory (first_fault image sound_conditions))
+    (if is_name_taken name (slots image) then Some Exists else (if has_room image bytes then None else Some DiskFull))

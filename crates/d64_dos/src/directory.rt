@@ -1,0 +1,49 @@
+//! Listing the directory.
+ghost use Rattle.std.specs.Prelude.{◌≡◌, ◌==◌, not, take_while, slice_range, IfOk};
+ghost use Rattle.d64_dos.specs.Listing.{listing_of, shown_listing};
+ghost use Rattle.d64_dos.specs.Reading.{directory_refusal};
+ghost use Rattle.d64_dos.specs.Refusal.{refused_by};
+
+use crate::format::{DOS_VERSION_START, FILLER, ID_START, NAME_START, map_block};
+use crate::refusal::Refusal;
+use crate::row::{Listing, rows_of};
+use d64_files::Slots;
+use d64_image::{BLOCK_BYTES, Image};
+use d64_map::blocks_free;
+use std::alloc::Global;
+
+/// Where the field of the disk's name ends in the map's block.
+const NAME_END: usize = NAME_START + 16;
+
+/// The disk's name, in the map's block: its field up to the first $A0, or all of it.
+fn disk_name(header: &[u8; BLOCK_BYTES]) -> &[u8]
+    ensures { result.now ≡ take_while (λ byte. not (byte == 0xA0)) (slice_range header.now 0x90 0xA0) }
+{
+    let field = &header[NAME_START..NAME_END];
+    match field.iter().position(|byte| *byte == FILLER) {
+        Some(end) => &field[..end],
+        None => field,
+    }
+}
+
+/// What the directory of an image lists. Neither the map's counts nor the files' chains need be as they should.
+///
+/// Refused with `Directory` where there is no chain of blocks from track 18, sector 1 (`NoDirectory`), or else the low
+/// four bits of a slot's type byte are above 4 (`UnknownKind`); then with `Memory`.
+pub fn listing(alloc: Global, image: &Image) -> Result<Listing, Refusal>
+    ensures refused { refused_by result ≡ directory_refusal image.now }
+    ensures listing { IfOk result (λ listing. shown_listing listing ≡ listing_of image.now) }
+{
+    let walk = match Slots::of(image) {
+        Ok(walk) => walk,
+        Err(fault) => return Err(Refusal::Directory(fault)),
+    };
+    let header = image.sector(map_block());
+    Ok(Listing {
+        name: Vec::from_slice(alloc, disk_name(header))?,
+        id: [header[ID_START], header[ID_START + 1]],
+        dos: [header[DOS_VERSION_START], header[DOS_VERSION_START + 1]],
+        rows: rows_of(alloc, walk)?,
+        free: blocks_free(image),
+    })
+}

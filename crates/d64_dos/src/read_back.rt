@@ -1,0 +1,62 @@
+//! Reading a file by its name.
+ghost use Rattle.std.specs.Prelude.{◌≡◌, IfOk};
+ghost use Rattle.d64_dos.specs.Reading.{directory_refusal, read_refusal, name_at, IsReadBack};
+ghost use Rattle.d64_dos.specs.Refusal.{refused_by};
+
+use crate::refusal::{Refusal, of_read_fault};
+use d64_files::{Pattern, SlotNo, Slots, content, find};
+use d64_image::Image;
+use std::alloc::Global;
+
+/// A file that was read.
+#[derive(Debug, Drop)]
+pub struct ReadBack {
+    /// The name, up to the first $A0 of its field: at most 16 bytes of PETSCII.
+    pub name: Vec<u8>,
+    /// The data of the file's blocks.
+    pub bytes: Vec<u8>,
+}
+
+/// The name in a slot; no bytes where there is no such slot.
+fn name_at(alloc: Global, image: &Image, slot: SlotNo) -> Result<Vec<u8>, Refusal>
+    ensures refused { refused_by result ≡ directory_refusal image.now }
+    ensures name { IfOk result (λ name. name.items ≡ name_at image.now slot) }
+{
+    let mut walk = match Slots::of(image) {
+        Ok(walk) => walk,
+        Err(fault) => return Err(Refusal::Directory(fault)),
+    };
+    match walk.nth(slot.place()) {
+        Some(entry) => Ok(Vec::from_slice(alloc, entry.name())?),
+        None => Ok(Vec::new(alloc)),
+    }
+}
+
+/// Reads the first used slot, in the order of the directory, whose name the pattern matches: its name, and the content
+/// of its file (1541 User's Guide). A REL file is read without its side blocks.
+///
+/// Refused, in this order: with `Directory` where there is no chain of blocks from track 18, sector 1 (`NoDirectory`),
+/// or the low four bits of a slot's type byte are above 4 (`UnknownKind`); with `NotFound`; with `NotClosed`; with
+/// `WrongType` for a DEL entry; with `Directory` where there is no chain from the file's first block (`NoChain`); with
+/// `Memory` where the name or the content has no room.
+pub fn read(alloc: Global, image: &Image, pattern: &Pattern) -> Result<ReadBack, Refusal>
+    ensures refused { refused_by result ≡ read_refusal image.now pattern.now }
+    ensures back { IfOk result (λ back. IsReadBack image.now pattern.now back.name.items back.bytes.items) }
+{
+    let found = match find(image, pattern) {
+        Ok(found) => found,
+        Err(fault) => return Err(Refusal::Directory(fault)),
+    };
+    let slot = match found {
+        Some(slot) => slot,
+        None => return Err(Refusal::NotFound),
+    };
+    let bytes = match content(alloc, image, slot) {
+        Ok(bytes) => bytes,
+        Err(fault) => return Err(of_read_fault(fault)),
+    };
+    match name_at(alloc, image, slot) {
+        Ok(name) => Ok(ReadBack { name, bytes }),
+        Err(refusal) => Err(refusal),
+    }
+}

@@ -1,0 +1,56 @@
+//! Why a command or a request is refused.
+ghost use Rattle.std.specs.Prelude.{◌≡◌};
+ghost use Rattle.d64_dos.specs.Refusal.{of_read_fault};
+
+use d64_files::{DirFault, ReadFault};
+use std::alloc::AllocError;
+use thiserror::Error;
+
+/// Why a command or a request is refused. The numbers of the 1541 User's Guide stand in the shell's status lines.
+#[derive(Clone, Copy, Debug, PartialEq, Eq, Error)]
+pub enum Refusal {
+    /// The file was never closed, so its end isn't known.
+    #[error("the file was not closed after it was written")]
+    NotClosed,
+    /// No used slot has the name.
+    #[error("there is no such file on the disk")]
+    NotFound,
+    /// A used slot has the name already.
+    #[error("there is a file of this name on the disk already")]
+    Exists,
+    /// A DEL or REL file can't be written, and a DEL entry can't be read.
+    #[error("files of this type can't be written or read")]
+    WrongType,
+    /// The disk fails this condition of a sound disk.
+    #[error("{0}")]
+    Directory(DirFault),
+    /// Too few blocks outside track 18 are free, or there is no slot for the entry and no block of track 18 for one more.
+    #[error("there is no room on the disk or in its directory")]
+    DiskFull,
+    #[error("out of memory")]
+    Memory,
+}
+
+impl From<AllocError> for Refusal {
+    ghost use Rattle.std.specs.Prelude.{◌≡◌};
+    ghost use Rattle.d64_dos.specs.declared.refusal.Refusal.TheVariants.{Memory};
+
+    ghost from_gives = { λ _ refusal. refusal ≡ Memory };
+
+    fn from(_fault: AllocError) -> Refusal {
+        Refusal::Memory
+    }
+}
+
+/// The refusal for a file that can't be read.
+pub(crate) fn of_read_fault(fault: ReadFault) -> Refusal
+    ensures { result ≡ of_read_fault fault }
+{
+    match fault {
+        ReadFault::Directory(fault) => Refusal::Directory(fault),
+        ReadFault::NotFound => Refusal::NotFound,
+        ReadFault::NotClosed => Refusal::NotClosed,
+        ReadFault::WrongType => Refusal::WrongType,
+        ReadFault::Memory(_) => Refusal::Memory,
+    }
+}

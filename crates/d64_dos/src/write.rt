@@ -1,0 +1,213 @@
+//! The writing of a file: its blocks, its entry, and the map.
+ghost use Rattle.std.specs.Prelude.{◌≡◌, ◌<◌, length, is_some, IfOk, IfSome, MatchOption};
+ghost use Rattle.d64_map.specs.Map.{free_blocks};
+ghost use Rattle.d64_files.specs.Directory.{slots, AllHold};
+ghost use Rattle.d64_files.specs.Writing.{entry_bytes};
+ghost use Rattle.d64_effects.specs.Write.{with_new_entry, written};
+ghost use Rattle.d64_dos.specs.Refusal.{refused_by};
+ghost use Rattle.d64_dos.specs.Space.{IsPlace, IsSpace, NoPlace};
+ghost use Rattle.d64_dos.specs.WriteRefusal.{has_room, is_writable, write_refusal};
+
+use crate::plan::take_plan;
+use crate::refusal::Refusal;
+use d64_files::{
+    BlockList, Kind, Name, SlotNo, Slots, blocks_for, check, dir_last, first_empty, grow, is_taken,
+    put_chain, put_entry,
+};
+use d64_image::{BlockNo, BlockSet, Image};
+use d64_map::laws::{dir_pick_is_on_track_18, plan_takes_free_blocks};
+use d64_map::{free_set, pick_dir, put_map, room};
+use std::alloc::{AllocError, Global};
+
+/// Where the entry of a new file goes.
+#[derive(Clone, Copy)]
+enum Place {
+    /// Into a slot of the directory that isn't used.
+    Vacant(SlotNo),
+    /// Into the first slot of a block that the directory takes.
+    New { slot: SlotNo, block: BlockNo },
+}
+
+/// What a new file takes.
+#[derive(Drop)]
+struct Space {
+    /// The blocks of its data, in order.
+    blocks: BlockList,
+    /// The place of its entry.
+    place: Place,
+    /// The blocks that stay free.
+    free: BlockSet,
+}
+
+/// Whether files of a kind can be written.
+fn is_writable(kind: Kind) -> bool
+    ensures { result ≡ is_writable kind }
+{
+    match kind {
+        Kind::Seq | Kind::Prg | Kind::Usr => true,
+        Kind::Del | Kind::Rel => false,
+    }
+}
+
+/// How many slots the directory has.
+fn slot_count(image: &Image) -> usize
+    requires { AllHold image.now 1 6 }
+    ensures { result ≡ length (slots image.now) }
+{
+    match Slots::of(image) {
+        Ok(walk) => walk.count(),
+        Err(_) => 0,
+    }
+}
+
+/// The place of one more entry, where the directory can take one of the free blocks. None where there is no such place.
+fn find_place(image: &Image, free: &BlockSet) -> Option<Place>
+    requires { AllHold image.now 1 6 }
+    ensures { MatchOption result (NoPlace image.now free.now) (IsPlace image.now free.now) }
+{
+    match first_empty(image) {
+        Ok(Some(slot)) => return Some(Place::Vacant(slot)),
+        Ok(None) => {}
+        Err(_) => return None,
+    }
+    let last = dir_last(image).ok()?;
+    let block = pick_dir(free, last)?;
+    Some(Place::New {
+        slot: SlotNo::at(slot_count(image)),
+        block,
+    })
+}
+
+/// What a file of so many bytes takes. None where there is no room for it.
+fn find_space(image: &Image, bytes: usize) -> Option<Space>
+    requires { AllHold image.now 1 6 }
+    ensures room { is_some result ≡ has_room image.now bytes }
+    ensures space { IfSome result (IsSpace image.now bytes) }
+{
+    plan_takes_free_blocks();
+    let mut free = free_set(image);
+    let count = blocks_for(bytes);
+    if count > room(&free) as usize {
+        return None;
+    }
+    let place = find_place(image, &free)?;
+    let blocks = take_plan(&mut free, count)?;
+    match place {
+        Place::Vacant(_) => {}
+        Place::New { slot: _, block } => free.remove(block),
+    }
+    Some(Space {
+        blocks,
+        place,
+        free,
+    })
+}
+
+/// What a file of this name, kind and number of bytes takes, or the first refusal that applies.
+#[tactic(auto, unfolding(crate::specs::WriteRefusal::write_refusal))]
+fn space_for(image: &Image, name: &Name, kind: Kind, bytes: usize) -> Result<Space, Refusal>
+    ensures refused { refused_by result ≡ write_refusal image.now name.now kind bytes }
+    ensures sound { IfOk result (λ _. AllHold image.now 1 6) }
+    ensures space { IfOk result (IsSpace image.now bytes) }
+{
+    if !is_writable(kind) {
+        return Err(Refusal::WrongType);
+    }
+    match check(image) {
+        Ok(_) => {}
+        Err(fault) => return Err(Refusal::Directory(fault)),
+    }
+    match is_taken(image, name) {
+        Ok(true) => return Err(Refusal::Exists),
+        Ok(false) => {}
+        Err(fault) => return Err(Refusal::Directory(fault)),
+    }
+    match find_space(image, bytes) {
+        Some(space) => Ok(space),
+        None => Err(Refusal::DiskFull),
+    }
+}
+
+// The image has each block.
+fn known_block(image: &Image, block: BlockNo)
+    ensures { block < length image.now }
+{
+    let _ = image.sector(block);
+}
+
+/// Writes the entry of a new file into its place.
+fn put_new_entry(
+    image: &mut Image,
+    place: Place,
+    name: &Name,
+    kind: Kind,
+    first: BlockNo,
+    blocks: u16,
+) -> Result<(), AllocError>
+    requires sound { AllHold image.old 1 6 }
+    requires place { IsPlace image.old (free_blocks image.old) place }
+    ensures { IfOk result (λ _. image.new ≡ with_new_entry image.old (entry_bytes name.now kind first blocks)) }
+{
+    match place {
+        Place::Vacant(slot) => put_entry(image, slot, name, kind, first, blocks),
+        Place::New { slot, block } => {
+            dir_pick_is_on_track_18();
+            known_block(image, block);
+            grow(image, block)?;
+            put_entry(image, slot, name, kind, first, blocks)
+        }
+    }
+}
+
+/// Writes a new file into its space: its entry, its data, and the map of the blocks that stay free.
+fn put_file(
+    image: &mut Image,
+    space: &Space,
+    name: &Name,
+    kind: Kind,
+    bytes: &[u8],
+) -> Result<(), AllocError>
+    requires sound { AllHold image.old 1 6 }
+    requires space { IsSpace image.old (length bytes.now) space.now }
+    ensures { IfOk result (λ _. image.new ≡ written image.old name.now kind bytes.now) }
+{
+    plan_takes_free_blocks();
+    let blocks = space.blocks.as_slice();
+    put_new_entry(
+        image,
+        space.place,
+        name,
+        kind,
+        blocks[0],
+        blocks.len() as u16,
+    )?;
+    put_chain(image, blocks, bytes)?;
+    put_map(image, &space.free)
+}
+
+/// The image after the writing of a file.
+///
+/// The first refusal that applies is answered: `WrongType` for a DEL or a REL file, `Directory` with the first condition
+/// of a sound image that fails, `Exists` where a used slot has the name, and `DiskFull` where too few blocks outside
+/// track 18 are free, or where no slot is empty and no block of track 18 is free. `Memory` comes only where none does.
+pub(crate) fn written(
+    alloc: Global,
+    image: &Image,
+    name: &Name,
+    kind: Kind,
+    bytes: &[u8],
+) -> Result<Image, Refusal>
+    ensures refused { refused_by result ≡ write_refusal image.now name.now kind (length bytes.now) }
+    ensures image { IfOk result (λ next. next ≡ written image.now name.now kind bytes.now) }
+{
+    let space = match space_for(image, name, kind, bytes.len()) {
+        Ok(space) => space,
+        Err(refusal) => return Err(refusal),
+    };
+    let mut next = image.try_clone(alloc)?;
+    put_file(&mut next, &space, name, kind, bytes)?;
+    Ok(next)
+}
+
+#[cfg(test)]
+mod tests;

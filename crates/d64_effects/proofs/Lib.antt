@@ -1,0 +1,16 @@
+pub mod Places
+pub mod Headers
+pub mod EmptyDisks
+pub mod CellFields
+pub mod FormattedDisks
+pub mod FileChains
+pub mod DirectoryEntries
+pub mod DirectoryGrowth
+pub mod Occurrences
+pub mod Rows
+pub mod Frames
+pub mod TakenBlocks
+pub mod NewDirectory
+pub mod WrittenImages
+pub mod NewOwners
+pub mod WrittenDisks

@@ -1,0 +1,42 @@
+-- The disk that a format leaves, byte for byte.
+use Rattle.std.specs.Prelude.{ℕ, List, [], ◌∷◌, ◌++◌, replicate}
+use Rattle.std.specs.Ordering.{nat_cmp}
+use Rattle.std.specs.FinSet as set
+use Rattle.d64_image.specs.declared.block.TheConstants.{BLOCKS}
+use Rattle.d64_image.specs.declared.image.TheConstants.{BLOCK_BYTES}
+use Rattle.d64_image.specs.Image.{with_sector}
+use Rattle.d64_map.specs.Map.{map_block, blocks, with_map}
+use Rattle.d64_files.specs.Name.{filled}
+use Rattle.d64_files.specs.Writing.{empty_directory}
+
+-- the directory's first block: track 18, sector 1
+abbrev pub directory_start : ℕ
+directory_start = 358
+
+-- the map's block before the map is written, part after part: the directory's first track and sector, the format `A`, no
+-- map yet, the name, the id, the DOS version `2A`, and nothing more
+unfoldable pub header : List ℕ → List ℕ → List ℕ
+header name id =
+    (0x12 ∷ 0x01 ∷ [])
+    ++ (0x41 ∷ 0x00 ∷ [])
+    ++ replicate 140 0x00
+    ++ filled name
+    ++ (0xA0 ∷ 0xA0 ∷ [])
+    ++ id
+    ++ (0xA0 ∷ [])
+    ++ (0x32 ∷ 0x41 ∷ [])
+    ++ replicate 4 0xA0
+    ++ replicate 85 0x00
+
+-- the free blocks: all but the map's block and the directory's first one
+unfoldable pub free_when_formatted : set.FinSet nat_cmp
+free_when_formatted = set.remove (set.remove (set.from_list blocks) map_block) directory_start
+
+-- the blank image, all of whose bytes are 0
+unfoldable pub blank : List (List ℕ)
+blank = replicate BLOCKS (replicate BLOCK_BYTES 0)
+
+-- the blank image with the map's block and the directory's first one, and the map of the free blocks
+unfoldable pub formatted : List ℕ → List ℕ → List (List ℕ)
+formatted name id =
+    with_map (with_sector (with_sector blank map_block (header name id)) directory_start empty_directory) free_when_formatted

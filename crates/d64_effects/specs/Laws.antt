@@ -1,0 +1,67 @@
+-- What follows from the definitions of the effects.
+use Rattle.std.specs.Prelude.{◌≡◌, ◌≢◌, ℕ, ◌<◌, ◌≤◌, List, All, length, None}
+use Rattle.d64_files.specs.Name.{IsName}
+use Rattle.d64_files.specs.Directory.{slots}
+use Rattle.d64_files.specs.Writing.{blocks_for, first_unused, dir_last}
+use Rattle.d64_image.specs.Image.{IsImage}
+use Rattle.d64_map.specs.Map.{free_blocks, blocks_free}
+use Rattle.d64_map.specs.Plan.{room}
+use Rattle.d64_effects.specs.Format.{formatted}
+use Rattle.d64_effects.specs.View.{IsSound, view}
+use Rattle.d64_effects.specs.ViewAfter.{formatted_view, written_view}
+use Rattle.d64_effects.specs.Write.{written, next_of_directory}
+use Rattle.d64_files.specs.declared.kind.Kind.{Kind}
+use Rattle.d64_files.specs.declared.kind.Kind.TheVariants.{Del, Rel}
+
+-- an id: two bytes
+abbrev pub IsId : List ℕ → Type 0
+IsId id = (length id ≡ 2) × All (λ byte. byte < 256) id
+
+-- a formatted disk is an image
+abbrev pub FormattedIsImage : Type 0
+FormattedIsImage = (name id : List ℕ) → IsName name → IsId id → IsImage (formatted name id)
+
+-- 664 blocks of it are free
+abbrev pub FormattedHas664Free : Type 0
+FormattedHas664Free = (name id : List ℕ) → blocks_free (formatted name id) ≡ 664
+
+-- a formatted disk is sound
+abbrev pub FormattedIsSound : Type 0
+FormattedIsSound = (name id : List ℕ) → IsName name → IsId id → IsSound (formatted name id)
+
+-- and shows what it should
+abbrev pub FormattedShows : Type 0
+FormattedShows = (name id : List ℕ) → IsName name → IsId id → view (formatted name id) ≡ formatted_view name id
+
+-- there is room for a file of so many bytes and its entry
+pub record HasRoom (image : List (List ℕ)) (bytes : ℕ) : Type 0 where
+  pub blocks : blocks_for bytes ≤ room (free_blocks image)
+  pub slot : first_unused (slots image) ≡ None → next_of_directory (free_blocks image) (dir_last image) ≢ None
+
+-- bytes of a file
+abbrev pub AreBytes : List ℕ → Type 0
+AreBytes bytes = All (λ byte. byte < 256) bytes
+
+-- a kind of file that can be written
+abbrev pub IsWritable : Kind → Type 0
+IsWritable kind = (kind ≢ Del) × (kind ≢ Rel)
+
+-- the writing of a file leaves an image
+abbrev pub WrittenIsImage : Type 0
+WrittenIsImage =
+    (image : List (List ℕ)) (name : List ℕ) (kind : Kind) (bytes : List ℕ)
+    → IsImage image → IsName name → AreBytes bytes → IsSound image → HasRoom image (length bytes) → IsImage (written image name kind bytes)
+
+-- a sound image stays sound under the writing of a file
+abbrev pub WrittenIsSound : Type 0
+WrittenIsSound =
+    (image : List (List ℕ)) (name : List ℕ) (kind : Kind) (bytes : List ℕ)
+    → IsImage image → IsName name → IsWritable kind → AreBytes bytes → IsSound image → HasRoom image (length bytes)
+    → IsSound (written image name kind bytes)
+
+-- and its view changes as the definition says
+abbrev pub WrittenShows : Type 0
+WrittenShows =
+    (image : List (List ℕ)) (name : List ℕ) (kind : Kind) (bytes : List ℕ)
+    → IsImage image → IsName name → IsWritable kind → AreBytes bytes → IsSound image → HasRoom image (length bytes)
+    → view (written image name kind bytes) ≡ written_view (view image) name kind bytes

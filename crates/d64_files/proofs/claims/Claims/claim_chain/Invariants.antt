@@ -1,0 +1,5 @@
+use Rattle.d64_files.proofs.Following.{Followed}
+use Rattle.d64_files.proofs.claims.Claims.claim_chain.Given as goal
+
+abbrev pub invariant-loop : goal.invariant-loop
+invariant-loop l = Followed l.image l.initial.last l.last l.counter l.fn.self l.self

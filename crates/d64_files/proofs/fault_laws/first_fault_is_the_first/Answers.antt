@@ -1,0 +1,14 @@
+use Rattle.d64_files.proofs.FirstFaults.{sound_tells, owning_tells, reading_tells, unreadable_first}
+use Rattle.d64_files.proofs.fault_laws.first_fault_is_the_first.Goals as goal
+
+pub returns-clause-sound : goal.returns-clause-sound
+returns-clause-sound c = sound_tells
+
+pub returns-clause-owning : goal.returns-clause-owning
+returns-clause-owning c = owning_tells
+
+pub returns-clause-reading : goal.returns-clause-reading
+returns-clause-reading c = reading_tells
+
+pub returns-clause-unreadable : goal.returns-clause-unreadable
+returns-clause-unreadable c = unreadable_first

@@ -1,0 +1,39 @@
+use Rattle.std.proofs.Common.{◌≡◌, ℕ, ◌+◌, ◌<◌, refl, sym, ap, ◌∙◌, arith}
+use Rattle.std.proofs.lemmas.Option.{same_Some, none-some}
+use Rattle.d64_image.specs.Block.{sectors_on, first_block}
+use Rattle.d64_image.specs.Image.{sector_at}
+use Rattle.d64_image.proofs.Pairs.{pair_at-counted, block_of-legal}
+use Rattle.d64_map.specs.Map.{is_free, free_below}
+use Rattle.d64_map.proofs.FreeBlocks.{bit_tells, set_more, set_same}
+use Rattle.d64_map.proofs.Sectors.{first_block-next}
+use Rattle.d64_map.proofs.block_map.add_free_on.Goals as goal
+use Rattle.d64_map.proofs.block_map.add_free_on.Goals.{then-marks_free+in-Some, then-marks_free+in-None, else-marks_free}
+
+pub loop-sector-preserved : goal.loop-sector-preserved
+loop-sector-preserved c =
+    let image = c.args.image.now in
+    let track = c.args.track in
+    let sector = c.loop-sector.sector in
+    let block : ℕ = first_block track + sector in
+    let held : sector < sectors_on track = omega (arith, c.sector_count-sector-end.ensures.sectors) in
+    let place = block_of-legal track sector c.requires.track.0 c.requires.track.1 held in
+    let pair = pair_at-counted track sector c.requires.track.0 c.requires.track.1 held in
+    let marked =
+    c.marks_free.ensures
+    ∙ bit_tells image block track sector c.sector-map.result.now (c.sector-map.ensures.value ∙ ap (sector_at image) c.map_block.ensures)
+    (sym (ap (λ (p : ℕ × ℕ). p.0) pair)) (sym (ap (λ (p : ℕ × ℕ). p.1) pair)) in
+    let next = ap (free_below image) (let e : block + 1 ≡ first_block track + (sector + 1) = omega arith in e) in
+    elim c.if-marks_free.branch [
+      | then-marks_free+in-Some w ↦
+          let found : w.in-Some.block ≡ block = same_Some w.in-Some.block block (sym w.in-Some.is ∙ w.of.ensures.place ∙ place) in
+          let passes = ap (is_free image) found ∙ sym marked ∙ w.if-marks_free.true in
+          set_more (is_free image) block w.in-Some.block c.loop-sector.free _ c.loop-sector.invariant found passes (w.free-is ∙ w.add.ensures.value) ∙ next
+      | then-marks_free+in-None w ↦ absurd (none-some block (sym w.in-None.is ∙ w.of.ensures.place ∙ place))
+      | else-marks_free w ↦ set_same (is_free image) block block c.loop-sector.free _ c.loop-sector.invariant refl (sym marked ∙ w.if-marks_free.false) w.free-is ∙ next
+    ]
+
+pub returns : goal.returns
+returns c =
+    let n : c.loop-sector.sector ≡ sectors_on c.args.track = omega (arith, c.sector_count-sector-end.ensures.sectors) in
+    let end = ap (λ (k : ℕ). first_block c.args.track + k) n ∙ sym (first_block-next c.args.track c.requires.track.0) in
+    record { added = c.loop-sector.invariant ∙ ap (free_below c.args.image.now) end }

@@ -1,0 +1,39 @@
+-- The lines of a directory.
+use Rattle.std.specs.Prelude.{ℕ, ◌-◌, if◌then◌else◌, List, [], ◌++◌, length, replicate, codes}
+use Rattle.std.specs.Fmt.{decimal}
+use Rattle.std.specs.List.{flat_map}
+use Rattle.cbm_text.specs.Spelling.{spelling}
+use Rattle.d64_dos.specs.Listing.{RowView, ListingView}
+use Rattle.d64_files.specs.declared.kind.Kind.{Kind}
+use Rattle.d64_files.specs.declared.kind.Kind.TheVariants.{Del, Seq, Prg, Usr, Rel}
+
+-- a text filled with spaces up to a number of places; a longer one stays as it is
+abbrev pub padded : ℕ → List ℕ → List ℕ
+padded places text = text ++ replicate (places - length text) 32
+
+-- the three letters of a kind
+abbrev pub kind_text : Kind → List ℕ
+kind_text Del = codes "del"
+kind_text Seq = codes "seq"
+kind_text Prg = codes "prg"
+kind_text Usr = codes "usr"
+kind_text Rel = codes "rel"
+
+-- the first line: the disk's name, its id and its DOS version
+unfoldable pub header_line : ListingView → List ℕ
+header_line listing =
+    codes "0 \"" ++ padded 16 (spelling listing.name) ++ codes "\" " ++ spelling listing.id ++ codes " " ++ spelling listing.dos ++ codes "\n"
+
+-- the line of a file: its size in blocks, its name between quotes, whether it is closed, its kind, and whether it is locked
+unfoldable pub row_line : RowView → List ℕ
+row_line row =
+    padded 5 (decimal row.blocks) ++ codes " " ++ padded 18 (codes "\"" ++ spelling row.name ++ codes "\"")
+    ++ (if row.closed then codes " " else codes "*") ++ kind_text row.kind ++ (if row.locked then codes "<" else []) ++ codes "\n"
+
+-- the last line: the number of free blocks
+unfoldable pub free_line : ListingView → List ℕ
+free_line listing = decimal listing.free ++ codes " blocks free.\n"
+
+-- the lines that show a directory
+unfoldable pub listing_text : ListingView → List ℕ
+listing_text listing = header_line listing ++ flat_map row_line listing.rows ++ free_line listing
