@@ -88,11 +88,11 @@ pub(crate) fn id_in(alloc: Global, word: &[u8]) -> Result<[u8; 2], Status>
 {
     let bytes = bytes_in(alloc, word)?;
     let id = match bytes.as_slice().as_array() {
-        Some(id) => id,
+        Some(id) => *id,
         None => return Err(Status::BadName),
     };
-    match Name::new(id) {
-        Ok(_) => Ok(*id),
+    match Name::new(&id) {
+        Ok(_) => Ok(id),
         Err(_) => Err(Status::BadName),
     }
 }

@@ -1,7 +1,7 @@
 //! Directories, shown by `list`.
 
 use crate::examples::{
-    assert_answers, assert_answers_on, blank_session, block_of, counted, example_host,
+    assert_answers, assert_answers_on, blank_session, block_of, counted, example_host, is_filled,
 };
 use std::test::Fail;
 
@@ -76,7 +76,7 @@ fn a_rel_file_is_read_and_listed(rt: HostRuntime) -> Result<(), Fail> {
     let answers =
         "00, OK,00,00\n00, OK,00,00\n00, OK,00,00\n00, OK,00,00\n00, OK,00,00\n00, OK,00,00\n62,FILE NOT FOUND,00,00\n0 \"d               \" 01 2a\n2     \"r\"                rel\n664 blocks free.\n00, OK,00,00\n";
     assert_answers(&rt, rt.alloc(), &mut host, script, answers, counted(7, 1))?;
-    assert_eq!(rt; host.file("out"), Some([7; 10].as_slice()));
-    assert_eq!(rt; host.file("two"), Some([7; 10].as_slice()));
+    assert!(rt; is_filled(host.file("out"), 10, 7));
+    assert!(rt; is_filled(host.file("two"), 10, 7));
     Ok(())
 }
