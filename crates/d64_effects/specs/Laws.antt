@@ -4,9 +4,9 @@ use Rattle.d64_files.specs.Name.{IsName}
 use Rattle.d64_files.specs.Directory.{slots}
 use Rattle.d64_files.specs.Writing.{blocks_for, first_unused, dir_last}
 use Rattle.d64_image.specs.Image.{IsImage}
-use Rattle.d64_map.specs.Map.{free_blocks, blocks_free}
+use Rattle.d64_map.specs.Map.{free_blocks, blocks_free, CountsFit}
 use Rattle.d64_map.specs.Plan.{room}
-use Rattle.d64_effects.specs.Format.{formatted}
+use Rattle.d64_effects.specs.Format.{formatted, free_when_formatted}
 use Rattle.d64_effects.specs.View.{IsSound, view}
 use Rattle.d64_effects.specs.ViewAfter.{formatted_view, written_view}
 use Rattle.d64_effects.specs.Write.{written, next_of_directory}
@@ -20,6 +20,14 @@ IsId id = (length id ≡ 2) × All (λ byte. byte < 256) id
 -- a formatted disk is an image
 abbrev pub FormattedIsImage : Type 0
 FormattedIsImage = (name id : List ℕ) → IsName name → IsId id → IsImage (formatted name id)
+
+-- its map marks free all blocks but its own and the directory's first one, whatever its name and its id are
+abbrev pub FormattedIsFree : Type 0
+FormattedIsFree = (name id : List ℕ) → free_blocks (formatted name id) ≡ free_when_formatted
+
+-- and the counts of its map fit
+abbrev pub FormattedCountsFit : Type 0
+FormattedCountsFit = (name id : List ℕ) → CountsFit (formatted name id)
 
 -- 664 blocks of it are free
 abbrev pub FormattedHas664Free : Type 0

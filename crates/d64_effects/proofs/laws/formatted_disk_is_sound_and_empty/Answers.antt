@@ -1,4 +1,4 @@
-use Rattle.d64_effects.proofs.EmptyDisks.{IsImage-formatted, blocks_free-formatted}
+use Rattle.d64_effects.proofs.EmptyDisks.{IsImage-formatted, free_blocks-formatted, counts-formatted, blocks_free-formatted}
 use Rattle.d64_effects.proofs.FormattedDisks.{holds-formatted, view-formatted}
 use Rattle.d64_effects.proofs.laws.formatted_disk_is_sound_and_empty.Goals as goal
 
@@ -13,3 +13,9 @@ returns-clause-sound c = λ name id named two fault from to. holds-formatted nam
 
 pub returns-clause-view : goal.returns-clause-view
 returns-clause-view c = view-formatted
+
+pub returns-clause-free : goal.returns-clause-free
+returns-clause-free c = free_blocks-formatted
+
+pub returns-clause-counts : goal.returns-clause-counts
+returns-clause-counts c = counts-formatted
