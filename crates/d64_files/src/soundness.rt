@@ -1,8 +1,7 @@
 //! The conditions of a sound image.
-ghost use Rattle.std.specs.Prelude.{◌≡◌, ℕ, ◌↔◌, true, false, IsTrue, MatchResult};
+ghost use Rattle.std.specs.Prelude.{◌≡◌, MatchResult};
 ghost use Rattle.std.specs.FinSet as set;
-ghost use Rattle.d64_image.specs.BlockSet.{MembersAreBlocks};
-ghost use Rattle.d64_map.specs.Map.{map_block, free_blocks};
+ghost use Rattle.d64_map.specs.Map.{map_block};
 ghost use Rattle.d64_files.specs.Ownership.{owned_by, HasItsChains};
 ghost use Rattle.d64_files.specs.Directory.{owned_blocks, slot_owns, AllHold, IsFirstFault};
 ghost use Rattle.d64_files.specs.FirstFault.{err_of, first_fault, owning_conditions, sound_conditions};
@@ -13,8 +12,8 @@ use crate::directory_blocks::{DIRECTORY_SECTOR, DIRECTORY_TRACK};
 use crate::entry::{Entry, SlotNo};
 use crate::reading::entry_at;
 use crate::slots::Slots;
-use d64_image::{BLOCKS, BlockNo, BlockSet, Image};
-use d64_map::{counts_fit, is_free};
+use d64_image::{BlockNo, BlockSet, Image};
+use d64_map::{counts_fit, none_is_free};
 
 /// The sector of the map, from 0.
 const MAP_SECTOR: u8 = 0;
@@ -24,33 +23,6 @@ fn map_block() -> BlockNo
     ensures { result ≡ map_block }
 {
     BlockNo::of(DIRECTORY_TRACK, MAP_SECTOR).unwrap()
-}
-
-// The members of a set of blocks are blocks of the disk.
-fn known_members(blocks: &BlockSet)
-    ensures { MembersAreBlocks blocks.now }
-{
-    let _ = blocks.has(map_block());
-}
-
-/// Whether the map marks none of the blocks free.
-fn none_is_free(image: &Image, blocks: &BlockSet) -> bool
-    ensures { IsTrue result ↔ ((block : ℕ) → set.contains blocks.now block ≡ true → set.contains (free_blocks image.now) block ≡ false) }
-{
-    known_members(blocks);
-    for index in 0..BLOCKS {
-        match BlockNo::at(index) {
-            Some(block) => {
-                if blocks.has(block) {
-                    if is_free(image, block) {
-                        return false;
-                    }
-                }
-            }
-            None => {}
-        }
-    }
-    true
 }
 
 /// The blocks that are owned: the map's block, the directory's chain, and the chains of the closed files other than DEL.
@@ -136,6 +108,7 @@ pub fn slot_blocks(image: &Image, slot: SlotNo) -> BlockSet
 mod tests {
     use super::*;
     use crate::reading::content;
+    use d64_image::BLOCKS;
     use d64_map::put_map;
     use std::test::Fail;
 

@@ -1,17 +1,19 @@
 -- the blocks that a map marks free
-use Rattle.std.proofs.Common.{◌≡◌, ℕ, ◌+◌, ◌*◌, ◌/◌, ◌%◌, ◌^◌, ◌<◌, ◌≤◌, ◌&&◌, bit_and, get_or, Bool, true, false, ltb, nat_eq, List, refl, sym, ap, ap₂, ◌∙◌, arith}
+use Rattle.std.proofs.Common.{◌≡◌, ◌≢◌, ℕ, ◌+◌, ◌*◌, ◌/◌, ◌%◌, ◌^◌, ◌<◌, ◌≤◌, ◌&&◌, bit_and, get_or, Bool, true, false, ltb, nat_eq, List, refl, sym, ap, ap₂, ◌∙◌, subst, inl, inr, arith}
 use Rattle.std.specs.List.{range_with_len, list_any, filter}
 use Rattle.std.specs.Ordering.{nat_cmp}
 use Rattle.std.specs.Cmp.{nat_cmp_total}
 use Rattle.std.specs.FinSet as set
 use Rattle.std.specs.FinSet.{from_list_push, nat_cmp-IsAntisymmetric}
-use Rattle.std.proofs.lemmas.Bool.Decides.{nat_tests}
+use Rattle.std.proofs.lemmas.Bool.Decides.{nat_tests, eqb_tells}
 use Rattle.d64_image.specs.declared.block.TheConstants.{BLOCKS}
 use Rattle.std.specs.Int.{bit_at}
 use Rattle.std.proofs.lemmas.Nat.Bits.{shr_and_one}
-use Rattle.d64_image.specs.Block.{pair_at}
+use Rattle.d64_image.specs.Block.{sectors_on, first_block, pair_at}
 use Rattle.d64_image.specs.Image.{sector_at}
-use Rattle.d64_map.specs.Map.{map_block, blocks, bit_in, is_free, free_blocks}
+use Rattle.d64_image.proofs.Zones.{counted_below}
+use Rattle.d64_image.proofs.Pairs.{pair_at-counted}
+use Rattle.d64_map.specs.Map.{map_block, blocks, bit_in, is_free, free_blocks, NoneIsFreeBetween}
 use Rattle.d64_map.proofs.Ranges.{any-range, contains-filtered, filter_more, filter_same}
 
 -- all blocks, counted one after another
@@ -67,6 +69,24 @@ bit_tells image block track sector bytes e f g =
     ap (λ (x : List ℕ). nat_eq (bit_in x track sector) 1) e
     ∙ ap (λ (t : ℕ). nat_eq (bit_in (sector_at image map_block) t sector) 1) f
     ∙ ap (λ (s : ℕ). nat_eq (bit_in (sector_at image map_block) (pair_at block).0 s) 1) g
+
+-- the bit of a sector that the disk has tells whether its block is one of the free blocks
+pub bit_is_member : (image : List (List ℕ)) (track sector : ℕ) (bytes : List ℕ) → bytes ≡ sector_at image map_block
+    → 1 ≤ track → track < 36 → sector < sectors_on track
+    → nat_eq (bit_in bytes track sector) 1 ≡ set.contains (free_blocks image) (first_block track + sector)
+bit_is_member image track sector bytes e one last held =
+    let pair = pair_at-counted track sector one last held in
+    bit_tells image (first_block track + sector) track sector bytes e (sym (ap (λ (p : ℕ × ℕ). p.0) pair)) (sym (ap (λ (p : ℕ × ℕ). p.1) pair))
+    ∙ sym (contains-free_blocks image (first_block track + sector) (counted_below track sector last held))
+
+-- one block more, which is no free member
+pub none_more : (image : List (List ℕ)) (members : set.FinSet nat_cmp) (first block end : ℕ) → block + 1 ≡ end → NoneIsFreeBetween image members first block
+    → (set.contains members block ≡ true → set.contains (free_blocks image) block ≡ false) → NoneIsFreeBetween image members first end
+none_more image members first block end next none last other from to member =
+    elim (eqb_tells other block) [
+      | inl same ↦ subst (λ (b : ℕ). set.contains (free_blocks image) b ≡ false) (sym same.1) (last (ap (set.contains members) (sym same.1) ∙ member))
+      | inr apart ↦ none other from (let n : other ≢ block = apart.1 in omega arith) member
+    ]
 
 pub contains-free_blocks-both : (image : List (List ℕ)) (block : ℕ) → set.contains (free_blocks image) block ≡ (ltb block BLOCKS && is_free image block)
 unfolding free_blocks

@@ -1,4 +1,4 @@
-use Rattle.std.specs.Prelude.{◌≡◌, ℕ, ◌+◌, ◌-◌, ◌*◌, ◌/◌, ◌%◌, ◌^◌, ◌<◌, ◌≤◌, ◌==◌, ◌&&◌, nat_lt, nat_le, not, Bool, if◌then◌else◌, List, map, filter, sum_by, slice_index}
+use Rattle.std.specs.Prelude.{◌≡◌, ℕ, ◌+◌, ◌-◌, ◌*◌, ◌/◌, ◌%◌, ◌^◌, ◌<◌, ◌≤◌, ◌==◌, ◌&&◌, nat_lt, nat_le, not, Bool, true, false, if◌then◌else◌, List, map, filter, sum_by, slice_index}
 use Rattle.std.specs.List.{range_with_len}
 use Rattle.std.specs.Int.{bit_at}
 use Rattle.std.specs.Ordering.{nat_cmp}
@@ -40,6 +40,11 @@ free_below image n = set.from_list (filter (is_free image) (range_with_len 0 n))
 -- the set of the blocks that the map marks free
 unfoldable pub free_blocks : List (List ℕ) → set.FinSet nat_cmp
 free_blocks image = set.from_list (filter (is_free image) blocks)
+
+-- the map marks none of the members from one block up to another free
+abbrev pub NoneIsFreeBetween : List (List ℕ) → set.FinSet nat_cmp → ℕ → ℕ → Type 0
+NoneIsFreeBetween image members first end =
+    (block : ℕ) → first ≤ block → block < end → set.contains members block ≡ true → set.contains (free_blocks image) block ≡ false
 
 -- 'blocks free': the sum of the count bytes of all tracks but 18
 unfoldable pub blocks_free : List (List ℕ) → ℕ

@@ -1,10 +1,11 @@
-ghost use Rattle.std.specs.Prelude.{◌≡◌, ◌+◌, ◌<◌, ◌≤◌, ◌==◌, ◌↔◌, IsTrue, IsOk};
+ghost use Rattle.std.specs.Prelude.{◌≡◌, ℕ, ◌+◌, ◌<◌, ◌≤◌, ◌==◌, ◌↔◌, true, false, IsTrue, IsOk};
 ghost use Rattle.std.specs.FinSet as set;
 ghost use Rattle.d64_image.specs.Block.{first_block};
 ghost use Rattle.d64_image.specs.BlockSet.{MembersAreBlocks};
 ghost use Rattle.d64_image.specs.Image.{IsBlock, sector_at};
 ghost use Rattle.d64_image.specs.declared.block.TheConstants.{BLOCKS};
-ghost use Rattle.d64_map.specs.Map.{map_block, count_of, bit_in, is_free, free_below, free_blocks, blocks_free, CountsFit, bits_for, map_byte, with_map};
+ghost use Rattle.d64_map.specs.Track.{members_on};
+ghost use Rattle.d64_map.specs.Map.{map_block, count_of, bit_in, is_free, free_below, free_blocks, NoneIsFreeBetween, blocks_free, CountsFit, bits_for, map_byte, with_map};
 
 use crate::tracks::{DIRECTORY_TRACK, TRACKS, has_sector, members_on, sector_count};
 use d64_image::{BLOCK_BYTES, BlockNo, BlockSet, Image};
@@ -111,13 +112,56 @@ pub fn free_set(image: &Image) -> BlockSet
     free
 }
 
+/// Whether the map marks none of a track's blocks free that are members.
+fn none_is_free_on(image: &Image, blocks: &BlockSet, track: u8) -> bool
+    requires track { (1 ≤ track) × (track < 36) }
+    ensures none { IsTrue result ↔ NoneIsFreeBetween image.now blocks.now (first_block track) (first_block (track + 1)) }
+{
+    let map = image.sector(map_block());
+    for sector in 0..sector_count(track) {
+        if marks_free(map, track, sector) {
+            if has_sector(blocks, track, sector) {
+                return false;
+            }
+        }
+    }
+    true
+}
+
+/// Whether the map marks none of these blocks free.
+pub fn none_is_free(image: &Image, blocks: &BlockSet) -> bool
+    ensures { IsTrue result ↔ ((block : ℕ) → set.contains blocks.now block ≡ true → set.contains (free_blocks image.now) block ≡ false) }
+{
+    known_members(blocks);
+    for track in 1..TRACKS + 1 {
+        if !none_is_free_on(image, blocks, track) {
+            return false;
+        }
+    }
+    true
+}
+
+/// How many blocks of a track the map marks free.
+fn free_on(image: &Image, track: u8) -> u8
+    requires track { (1 ≤ track) × (track < 36) }
+    ensures free { result ≡ members_on (free_blocks image.now) track }
+{
+    let map = image.sector(map_block());
+    let mut count = 0;
+    for sector in 0..sector_count(track) {
+        if marks_free(map, track, sector) {
+            count += 1;
+        }
+    }
+    count
+}
+
 /// Whether each track's count byte is the number of its sectors that the map marks free.
 pub fn counts_fit(image: &Image) -> bool
     ensures { IsTrue result ↔ CountsFit image.now }
 {
-    let free = free_set(image);
     for track in 1..TRACKS + 1 {
-        if free_count(image, track) != members_on(&free, track) {
+        if free_count(image, track) != free_on(image, track) {
             return false;
         }
     }

@@ -1,0 +1,57 @@
+use Rattle.std.proofs.Common.{◌≡◌, ◌≢◌, ℕ, ◌+◌, ◌<◌, ◌≤◌, true, false, refl, sym, ap, ◌∙◌, inl, inr, arith}
+use Rattle.std.specs.FinSet as set
+use Rattle.std.proofs.lemmas.Bool.Decides.{eqb_tells}
+use Rattle.d64_image.specs.Block.{sectors_on, first_block}
+use Rattle.d64_image.specs.Image.{sector_at}
+use Rattle.d64_map.specs.Map.{free_blocks, NoneIsFreeBetween}
+use Rattle.d64_map.proofs.FreeBlocks.{bit_is_member, none_more}
+use Rattle.d64_map.proofs.Sectors.{first_block-next, has_sector-legal}
+use Rattle.d64_map.proofs.block_map.none_is_free_on.Goals as goal
+use Rattle.d64_map.proofs.block_map.none_is_free_on.Goals.{then-marks_free+else-has_sector, else-marks_free}
+
+pub returns-then-has_sector : goal.returns-then-has_sector
+returns-then-has_sector c =
+    let image = c.args.image.now in
+    let track = c.args.track in
+    let sector = c.loop-sector.sector in
+    let held : sector < sectors_on track = omega (arith, c.sector_count-sector-end.ensures.sectors) in
+    let next = first_block-next track c.requires.track.0 in
+    let bit =
+    c.marks_free.ensures
+    ∙ bit_is_member image track sector c.sector-map.result.now
+    (c.sector-map.ensures.value ∙ ap (sector_at image) c.map_block.ensures) c.requires.track.0 c.requires.track.1 held in
+    let has = c.has_sector.ensures ∙ has_sector-legal c.args.blocks.now track sector c.requires.track.0 c.requires.track.1 held in
+    record {
+      none = (λ e. absurd (cc), λ none.
+      let not_free = none (first_block track + sector) (omega arith) (omega arith) (sym has ∙ c.if-has_sector.true) in
+      let f : true ≡ false = sym c.if-marks_free.true ∙ bit ∙ not_free in
+      absurd (cc))
+    }
+
+pub loop-sector-preserved : goal.loop-sector-preserved
+loop-sector-preserved c =
+    let image = c.args.image.now in
+    let blocks = c.args.blocks.now in
+    let track = c.args.track in
+    let sector = c.loop-sector.sector in
+    let held : sector < sectors_on track = omega (arith, c.sector_count-sector-end.ensures.sectors) in
+    let bit =
+    c.marks_free.ensures
+    ∙ bit_is_member image track sector c.sector-map.result.now
+    (c.sector-map.ensures.value ∙ ap (sector_at image) c.map_block.ensures) c.requires.track.0 c.requires.track.1 held in
+    let end : first_block track + sector + 1 ≡ first_block track + (sector + 1) = omega arith in
+    elim c.if-marks_free.branch [
+      | then-marks_free+else-has_sector w ↦
+          let has = w.has_sector.ensures ∙ has_sector-legal blocks track sector c.requires.track.0 c.requires.track.1 held in
+          none_more image blocks (first_block track) (first_block track + sector) (first_block track + (sector + 1)) end c.loop-sector.invariant
+          (λ member. let f : true ≡ false = sym member ∙ sym has ∙ w.if-has_sector.false in absurd (cc))
+      | else-marks_free w ↦
+          none_more image blocks (first_block track) (first_block track + sector) (first_block track + (sector + 1)) end c.loop-sector.invariant
+          (λ member. sym bit ∙ w.if-marks_free.false)
+    ]
+
+pub returns : goal.returns
+returns c =
+    let next = first_block-next c.args.track c.requires.track.0 in
+    let n : c.loop-sector.sector ≡ sectors_on c.args.track = omega (arith, c.sector_count-sector-end.ensures.sectors) in
+    record { none = (λ e block from to. c.loop-sector.invariant block from (omega arith), λ none. refl) }
