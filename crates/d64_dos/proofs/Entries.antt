@@ -26,34 +26,21 @@ use Rattle.d64_effects.specs.Write.{grown_by, directory_grown, with_entry_in, wi
 use Rattle.d64_effects.proofs.DirectoryEntries.{Chain-directory, directory-from_Chain}
 use Rattle.d64_effects.proofs.DirectoryGrowth.{grown_with, dir_last-is_held, dir_last-within, not_held, sector_at-grown, length-grown}
 use Rattle.d64_effects.proofs.DirectoryGrowth.{link_of-grown_last, Chain-grown_new, Chain-appended}
+use Rattle.d64_effects.proofs.NewDirectory.{has_directory}
+use Rattle.d64_effects.proofs.Occurrences.{absent-from_occurs}
+use Rattle.d64_effects.proofs.TakenBlocks.{free_not_owned, occurs-owned}
+use Rattle.d64_effects.proofs.WrittenImages.{append_some}
 use Rattle.d64_dos.specs.Space.{IsPlace, grown_at}
 use Rattle.d64_dos.specs.declared.write.Place.{Place}
 use Rattle.d64_dos.specs.declared.write.Place.TheVariants.{Vacant, New}
 
--- a sound image has a directory
-pub has_directory : (image : List (List ℕ)) → AllHold image 1 6 → directory image ≢ []
-has_directory image sound = sound NoDirectory (omega arith) (omega arith)
-
--- a free block is none of those that aren't
-apart_from : (image : List (List ℕ)) (blocks : List ℕ) (new : ℕ) → NoneIsFree image blocks → set.contains (free_blocks image) new ≡ true
-    → list_any (eqb new) blocks ≡ false
-apart_from image blocks new none free =
-    list_any_none (eqb new) blocks
-    (All-weaker (λ block. set.contains (free_blocks image) block ≡ false) (λ block. eqb new block ≡ false)
-    (λ block taken. ne_eqb new block (λ e. let f : true ≡ false = sym free ∙ ap (set.contains (free_blocks image)) e ∙ taken in cc)) blocks none)
-
--- what holds of each block holds of the first ones
-front : (P : ℕ → Type 0) (xs ys : List ℕ) → All P (xs ++ ys) → All P xs
-front P xs ys all = λ k d h. subst P (get_or_append_left xs ys d k h) (all k d (let l = length-append xs ys in omega (arith, l)))
-
 -- a free block of a sound image isn't the directory's
-pub free_apart : (image : List (List ℕ)) (new : ℕ) → AllHold image 1 6 → set.contains (free_blocks image) new ≡ true
+free_apart : (image : List (List ℕ)) (new : ℕ) → AllHold image 1 6 → set.contains (free_blocks image) new ≡ true
     → list_any (eqb new) (directory image) ≡ false
-unfolding owned_blocks
 free_apart image new sound free =
-    let Taken : ℕ → Type 0 = λ block. set.contains (free_blocks image) block ≡ false in
-    let none : NoneIsFree image (owned_blocks image) = sound MarkedFree (omega arith) (omega arith) in
-    apart_from image (directory image) new (front Taken (directory image) _ (All-tail Taken map_block _ none)) free
+    let none = free_not_owned image sound new free in
+    let parts = occurs-owned image new in
+    absent-from_occurs new (directory image) (omega arith)
 
 -- a new block of the directory is empty, as it is with zeros for an entry
 zeros : List ℕ
@@ -86,11 +73,7 @@ directory-with_growth image new some small inside fresh =
     (λ block found apart.
     ap (λ (s : List ℕ). (get_or s 0 0, get_or s 1 0)) (sector_at-grown image new zeros block (not_held (directory image) new block fresh found) apart)))
 
--- a directory that grew isn't empty, and has a slot after the old ones
-pub grown_some : (old new : List ℕ) (block : ℕ) → new ≡ old ++ block ∷ [] → new ≢ []
-grown_some [] new block e empty = let f : block ∷ [] ≡ [] = sym e ∙ empty in cc
-grown_some (first ∷ old) new block e empty = let f : first ∷ (old ++ block ∷ []) ≡ [] = sym e ∙ empty in cc
-
+-- a directory that grew has a slot after the old ones
 pub slot_beyond : (image next : List (List ℕ)) (block : ℕ) → directory next ≡ directory image ++ block ∷ [] → length (slots image) < length (slots next)
 slot_beyond image next block e =
     let a = length-slots_in image (directory image) in
@@ -154,7 +137,7 @@ new_place image next place slot block e at sound picks inside grown =
     let blocks : directory next ≡ directory image ++ block ∷ [] =
     ap directory grown ∙ directory-with_growth image block some free.1 inside (free_apart image block sound free.0) in
     record {
-      some = grown_some (directory image) (directory next) block blocks;
+      some = λ none. append_some (directory image) (block ∷ []) some (sym blocks ∙ none);
       within = let l = slot_beyond image next block blocks in let here = is.2 in omega arith;
       entered = λ entry.
           ap (λ (vacant : Option ℕ). with_entry_in image vacant (directory_grown image) entry) is.0

@@ -8,6 +8,7 @@ use Rattle.d64_image.specs.Image.{sector_at}
 use Rattle.d64_map.specs.Map.{map_block, blocks_free}
 use Rattle.d64_files.specs.Slot.{is_used, name_of}
 use Rattle.d64_files.specs.Directory.{slots, numbered}
+use Rattle.d64_files.proofs.Contents.{bytes_of_found, none_of_found}
 use Rattle.d64_effects.specs.View.{disk_field, disk_id}
 use Rattle.d64_dos.specs.Listing.{RowView, row_of, rows_of, listing_of}
 use Rattle.d64_dos.specs.Reading.{name_at}
@@ -44,34 +45,27 @@ entry_from k (suc i) (cell ∷ cells) =
     entry_from (k + 1) i cells
     ∙ ap (λ (n : ℕ). option_map (λ (c : List ℕ). (n, c)) (slice_get cells i)) e
 
--- the name of an entry that was found by its number
-name_of_entry : (slot : ℕ) (cell : Option (List ℕ)) (entry : ℕ × List ℕ) → Some entry ≡ option_map (λ (c : List ℕ). (slot, c)) cell
-    → name_of entry.1 ≡ option_map_or name_of cell []
-name_of_entry slot None entry e = cc
-name_of_entry slot (Some cell) entry e = let f : entry ≡ (slot, cell) = cc in ap (λ (x : ℕ × List ℕ). name_of x.1) f
-
--- where none was found there is no name
-no_name : (slot : ℕ) (cell : Option (List ℕ)) → ◌≡◌ {A = Option (ℕ × List ℕ)} None (option_map (λ (c : List ℕ). (slot, c)) cell)
-    → [] ≡ option_map_or name_of cell []
-no_name slot None e = refl
-no_name slot (Some cell) e = cc
+-- the entry at a place along the directory is that of the slot of this number
+entry_at_place : (image : List (List ℕ)) (slot : ℕ)
+    → slice_get (numbered (slots image)) slot ≡ option_map (λ (cell : List ℕ). (slot, cell)) (slice_get (slots image) slot)
+entry_at_place image slot =
+    let same : 0 + slot ≡ slot = omega arith in
+    entry_from 0 slot (slots image) ∙ ap (λ (n : ℕ). option_map (λ (cell : List ℕ). (n, cell)) (slice_get (slots image) slot)) same
 
 -- the name of the slot at a place along the directory
 pub name_at_place : (image : List (List ℕ)) (slot : ℕ) (entry : ℕ × List ℕ) → Some entry ≡ slice_get (numbered (slots image)) slot
     → name_of entry.1 ≡ name_at image slot
 name_at_place image slot entry e =
-    let same : 0 + slot ≡ slot = omega arith in
-    name_of_entry slot (slice_get (slots image) slot) entry
-    (e ∙ entry_from 0 slot (slots image) ∙ ap (λ (n : ℕ). option_map (λ (c : List ℕ). (n, c)) (slice_get (slots image) slot)) same)
+    ap (λ (cell : Option (List ℕ)). option_map_or name_of cell [])
+    (sym (bytes_of_found slot (slice_get (slots image) slot) entry (e ∙ entry_at_place image slot)))
 
 -- no name past the directory's end
 pub no_name_at_place : (image : List (List ℕ)) (slot : ℕ)
     → ◌≡◌ {A = Option (ℕ × List ℕ)} None (slice_get (numbered (slots image)) slot)
     → [] ≡ name_at image slot
 no_name_at_place image slot e =
-    let same : 0 + slot ≡ slot = omega arith in
-    no_name slot (slice_get (slots image) slot)
-    (e ∙ entry_from 0 slot (slots image) ∙ ap (λ (n : ℕ). option_map (λ (c : List ℕ). (n, c)) (slice_get (slots image) slot)) same)
+    ap (λ (cell : Option (List ℕ)). option_map_or name_of cell [])
+    (sym (none_of_found slot (slice_get (slots image) slot) (e ∙ entry_at_place image slot)))
 
 -- two bytes next to each other
 pub two_bytes : (bytes : List ℕ) (place : ℕ) → place + 2 ≤ length bytes

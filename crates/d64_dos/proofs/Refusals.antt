@@ -1,51 +1,27 @@
 -- What keeps a directory, or the file that a pattern selects, from being read.
-use Rattle.std.proofs.Common.{◌≡◌, ℕ, List, length, Option, Some, None, Err, refl, sym, ap, ◌∙◌, arith}
+use Rattle.std.proofs.Common.{◌≡◌, ℕ, List, Option, Some, None, Err, refl, sym, ap, ◌∙◌}
 use Rattle.std.specs.Prelude.{slice_get, option_map}
 use Rattle.std.specs.Option.{option_or}
-use Rattle.std.proofs.lemmas.Option.{slice_get_past}
 use Rattle.d64_files.specs.Directory.{slots, first_named, AllHold, IsFirstFault}
-use Rattle.d64_files.specs.Reading.{unreadable, slot_refusal, content_refusal}
+use Rattle.d64_files.specs.Reading.{slot_refusal, content_refusal}
 use Rattle.d64_files.specs.Reading as files
 use Rattle.d64_files.specs.declared.dir_fault.DirFault.{DirFault}
 use Rattle.d64_files.specs.declared.reading.ReadFault.{ReadFault}
 use Rattle.d64_files.specs.declared.reading.ReadFault.TheVariants as faults
-use Rattle.d64_files.proofs.Contents.{refused_directory, refused_slot}
+use Rattle.d64_files.proofs.Contents.{first_reason, refused_slot}
+use Rattle.d64_files.proofs.Contents as contents
 use Rattle.d64_dos.specs.Refusal.{cause_of, of_read_fault}
 use Rattle.d64_dos.specs.Reading.{directory_refusal, found_refusal, read_refusal}
 use Rattle.d64_dos.specs.declared.refusal.Refusal.{Refusal}
 use Rattle.d64_dos.specs.declared.refusal.Refusal.TheVariants.{Directory}
 
--- where a slot that isn't there is refused as such, the directory can be read
-of_missing : (why : Option DirFault) → option_or (option_map faults.Directory why) (Some faults.NotFound) ≡ Some faults.NotFound → why ≡ None
-of_missing None e = refl
-of_missing (Some fault) e = cc
-
--- where it is refused for the directory, the directory can't be read for that
-of_fault : (why : Option DirFault) (fault : DirFault)
-    → Some (faults.Directory fault) ≡ option_or (option_map faults.Directory why) (Some faults.NotFound) → why ≡ Some fault
-of_fault None fault e = cc
-of_fault (Some other) fault e = cc
-
--- there is no slot after the last
-no_slot : (image : List (List ℕ)) → slice_get (slots image) (length (slots image)) ≡ None
-no_slot image = slice_get_past (slots image) (length (slots image)) (omega arith)
-
--- the refusal of that slot
-refusal_past : (image : List (List ℕ))
-    → content_refusal image (length (slots image)) ≡ option_or (option_map faults.Directory (unreadable image)) (Some faults.NotFound)
-unfolding content_refusal
-refusal_past image = ap (λ (cell : Option (List ℕ)). option_or (option_map faults.Directory (unreadable image)) (slot_refusal image cell)) (no_slot image)
-
 -- a directory that meets the conditions 2 and 3 can be read
 pub readable : (image : List (List ℕ)) → AllHold image 2 3 → directory_refusal image ≡ None
-readable image h =
-    ap (option_map Directory)
-    (of_missing (unreadable image) (sym (refusal_past image) ∙ refused_slot image (length (slots image)) None h (no_slot image)))
+readable image h = ap (option_map Directory) (contents.readable image h)
 
 -- one that fails one of them can't, for the first that it fails
 pub not_readable : (image : List (List ℕ)) (fault : DirFault) → IsFirstFault image 2 3 fault → directory_refusal image ≡ Some (Directory fault)
-not_readable image fault f =
-    ap (option_map Directory) (of_fault (unreadable image) fault (refused_directory image (length (slots image)) fault f ∙ refusal_past image))
+not_readable image fault f = ap (option_map Directory) (first_reason image fault f)
 
 -- such a directory refuses each pattern
 pub refused_pattern : (image : List (List ℕ)) (pattern : List ℕ) (fault : DirFault) → IsFirstFault image 2 3 fault

@@ -32,12 +32,12 @@ room-bound free =
 pub written-in_space : (image : List (List ℕ)) (name : List ℕ) (kind : Kind) (bytes : List ℕ) (space : Space)
     → IsSpace image (length bytes) space
     → written image name kind bytes
-    ≡ with_map (with_chain (with_new_entry image (entry_bytes name kind (get_or space.blocks 0 0) (length space.blocks))) space.blocks bytes) space.free
+    ≡ with_map (with_chain (with_new_entry image (entry_bytes name kind (get_or space.blocks.items 0 0) (length space.blocks.items))) space.blocks.items bytes) space.free
 unfolding written with_file
 written-in_space image name kind bytes space is =
-    let taken : taken_by (free_blocks image) (length bytes) ≡ space.blocks =
+    let taken : taken_by (free_blocks image) (length bytes) ≡ space.blocks.items =
     ap (λ (found : Option (List ℕ)). option_map_or (λ blocks. blocks) found []) is.taken in
-    let entry : List ℕ = entry_bytes name kind (get_or space.blocks 0 0) (length space.blocks) in
+    let entry : List ℕ = entry_bytes name kind (get_or space.blocks.items 0 0) (length space.blocks.items) in
     ap (with_file image name kind bytes) taken
-    ∙ ap (with_map (with_chain (with_new_entry image entry) space.blocks bytes))
-    (ap (λ (grown : List ℕ). without (free_blocks image) (space.blocks ++ grown)) (directory_grown-is image space.place is.place) ∙ sym is.left)
+    ∙ ap (with_map (with_chain (with_new_entry image entry) space.blocks.items bytes))
+    (ap (λ (grown : List ℕ). without (free_blocks image) (space.blocks.items ++ grown)) (directory_grown-is image space.place is.place) ∙ sym is.left)

@@ -2,6 +2,7 @@
 use Rattle.std.proofs.Common.{◌≡◌, ◌≢◌, ℕ, ◌&&◌, ◌||◌, Bool, true, false, not, cond, leb, List, length, Option, Some, None, refl, sym, ap, subst, arith}
 use Rattle.std.specs.Prelude.{is_some, Result, Ok, Err, IfOk}
 use Rattle.std.specs.Option.{option_map, option_or}
+use Rattle.std.proofs.lemmas.Bool.{and_parts}
 use Rattle.std.proofs.lemmas.Bool.Decides.{nat_tests}
 use Rattle.d64_map.specs.Map.{free_blocks}
 use Rattle.d64_map.specs.Plan.{room}
@@ -57,11 +58,6 @@ second_passes : (a b : Bool) → (a || b) ≡ true → a ≡ false → b ≡ tru
 second_passes true b h fails = absurd (cc)
 second_passes false b h fails = h
 
--- both of two tests pass
-both_pass : (a b : Bool) → (a && b) ≡ true → (a ≡ true) × (b ≡ true)
-both_pass true b h = (refl, h)
-both_pass false b h = absurd (cc)
-
 -- there is something, so it isn't nothing
 not_none : (found : Option ℕ) → is_some found ≡ true → found ≢ None
 not_none (Some block) h = λ e. cc
@@ -71,7 +67,7 @@ not_none None h = absurd (cc)
 has_its_room : (image : List (List ℕ)) (bytes : ℕ) → has_room image bytes ≡ true → HasRoom image bytes
 has_its_room image bytes h =
     let parts =
-    both_pass (leb (blocks_for bytes) (room (free_blocks image))) (is_some (first_unused (slots image)) || is_some (next_of_directory (free_blocks image) (dir_last image))) h in
+    and_parts (leb (blocks_for bytes) (room (free_blocks image))) (is_some (first_unused (slots image)) || is_some (next_of_directory (free_blocks image) (dir_last image))) h in
     record {
       blocks = let enough = parts.0 in grind (arith, nat_tests);
       slot = λ none. not_none (next_of_directory (free_blocks image) (dir_last image))

@@ -28,6 +28,6 @@ grown_at (New slot block) = block ∷ []
 
 -- what a new file of so many bytes takes, and the blocks that stay free
 pub record IsSpace (image : List (List ℕ)) (bytes : ℕ) (space : Space) : Type 0 where
-  pub taken : plan (free_blocks image) (blocks_for bytes) ≡ Some space.blocks
+  pub taken : plan (free_blocks image) (blocks_for bytes) ≡ Some space.blocks.items
   pub place : IsPlace image (free_blocks image) space.place
-  pub left : space.free ≡ without (free_blocks image) (space.blocks ++ grown_at space.place)
+  pub left : space.free ≡ without (free_blocks image) (space.blocks.items ++ grown_at space.place)

@@ -1,9 +1,10 @@
-ghost use Rattle.std.specs.Prelude.{◌≡◌, IfOk};
+ghost use Rattle.std.specs.Prelude.{◌≡◌, ◌+◌, ◌≤◌, length, IfOk};
+ghost use Rattle.d64_image.specs.declared.image.TheConstants.{BLOCK_BYTES};
 ghost use Rattle.d64_map.specs.Map.{map_block};
-ghost use Rattle.d64_files.specs.Writing.{empty_directory};
+ghost use Rattle.d64_files.specs.Writing.{written_at};
 ghost use Rattle.d64_effects.specs.Format.{directory_start, header, free_when_formatted, formatted};
 
-use d64_files::{Name, write_at};
+use d64_files::{Name, empty_directory};
 use d64_image::{BLOCK_BYTES, BLOCKS, BlockNo, BlockSet, Image};
 use d64_map::put_map;
 use std::alloc::{AllocError, Global};
@@ -46,6 +47,16 @@ fn directory_start() -> BlockNo
     BlockNo::of(DIRECTORY_TRACK, 1).unwrap()
 }
 
+/// Writes bytes into a block, from a place on. The other bytes of the block stay.
+///
+/// The caller knows that the bytes end within the block.
+fn write_at(block: &mut [u8; BLOCK_BYTES], start: usize, bytes: &[u8])
+    requires { start + length bytes.now ≤ BLOCK_BYTES }
+    ensures { block.new ≡ written_at block.old start bytes.now }
+{
+    block[start..start + bytes.len()].copy_from_slice(bytes);
+}
+
 /// The map's block of a formatted disk, in which the map is still to be written.
 fn header(name: &Name, id: &[u8; 2]) -> [u8; BLOCK_BYTES]
     ensures { result ≡ header name.now id.now }
@@ -57,15 +68,6 @@ fn header(name: &Name, id: &[u8; 2]) -> [u8; BLOCK_BYTES]
     write_at(&mut header, ID_START, id);
     write_at(&mut header, DOS_VERSION_START, &DOS_VERSION);
     header
-}
-
-/// The directory's first block of a formatted disk: no block follows it, and its eight slots are empty.
-fn empty_directory() -> [u8; BLOCK_BYTES]
-    ensures { result ≡ empty_directory }
-{
-    let mut directory = [0; BLOCK_BYTES];
-    directory[1] = 0xFF;
-    directory
 }
 
 /// The free blocks of a formatted disk: all but those of the map and of the directory.

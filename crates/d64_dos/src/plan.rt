@@ -1,13 +1,13 @@
 //! The blocks that a new file takes.
-ghost use Rattle.std.specs.Prelude.{◌≡◌, ◌≤◌, find, IfSome};
+ghost use Rattle.std.specs.Prelude.{◌≡◌, ◌≤◌, find, option_map, IfSome};
 ghost use Rattle.std.specs.FinSet as set;
 ghost use Rattle.d64_image.specs.declared.block.TheConstants.{BLOCKS};
 ghost use Rattle.d64_map.specs.Plan.{plan};
 ghost use Rattle.d64_effects.specs.Write.{without};
 ghost use Rattle.d64_dos.specs.Planning.{order_after};
 
-use d64_files::BlockList;
-use d64_image::{BlockNo, BlockSet};
+use arrayvec::ArrayVec;
+use d64_image::{BLOCKS, BlockNo, BlockSet};
 use d64_map::{pick_first, pick_next};
 
 /// The free block that a file takes after the one that it took last, or as its first one. None where no block outside
@@ -23,12 +23,15 @@ fn pick_after(free: &BlockSet, last: Option<BlockNo>) -> Option<BlockNo>
 
 /// Takes the blocks of a file of so many blocks from the free ones, in the file's order. None where too few blocks outside
 /// track 18 are free: then some of them may be taken.
-pub(crate) fn take_plan(free: &mut BlockSet, count: usize) -> Option<BlockList>
+pub(crate) fn take_plan(
+    free: &mut BlockSet,
+    count: usize,
+) -> Option<ArrayVec<BlockNo, BLOCKS>>
     requires { count ≤ BLOCKS }
-    ensures plan { result ≡ plan free.old count }
-    ensures left { IfSome result (λ blocks. free.new ≡ without free.old blocks) }
+    ensures plan { option_map (λ blocks. blocks.items) result ≡ plan free.old count }
+    ensures left { IfSome result (λ blocks. free.new ≡ without free.old blocks.items) }
 {
-    let mut blocks = BlockList::empty();
+    let mut blocks = ArrayVec::new();
     let mut last = None;
     for _ in 0..count {
         let next = pick_after(free, last)?;

@@ -10,11 +10,12 @@ ghost use Rattle.d64_dos.specs.WriteRefusal.{has_room, is_writable, write_refusa
 
 use crate::plan::take_plan;
 use crate::refusal::Refusal;
+use arrayvec::ArrayVec;
 use d64_files::{
-    BlockList, Kind, Name, SlotNo, Slots, blocks_for, check, dir_last, first_empty, grow, is_taken,
+    Kind, Name, SlotNo, Slots, blocks_for, check, dir_last, first_empty, grow, is_taken,
     put_chain, put_entry,
 };
-use d64_image::{BlockNo, BlockSet, Image};
+use d64_image::{BLOCKS, BlockNo, BlockSet, Image};
 use d64_map::laws::{dir_pick_is_on_track_18, plan_takes_free_blocks};
 use d64_map::{free_set, pick_dir, put_map, room};
 use std::alloc::{AllocError, Global};
@@ -32,7 +33,7 @@ enum Place {
 #[derive(Drop)]
 struct Space {
     /// The blocks of its data, in order.
-    blocks: BlockList,
+    blocks: ArrayVec<BlockNo, BLOCKS>,
     /// The place of its entry.
     place: Place,
     /// The blocks that stay free.

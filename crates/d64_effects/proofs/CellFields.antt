@@ -16,7 +16,7 @@ use Rattle.d64_files.specs.Slot.{type_byte, has_bit, is_used, kind_number, HasKi
 use Rattle.d64_files.specs.Writing.{number_of_kind, entry_bytes}
 use Rattle.d64_files.specs.declared.kind.Kind.{Kind}
 use Rattle.d64_files.specs.declared.kind.Kind.TheVariants.{Del, Seq, Prg, Usr, Rel}
-use Rattle.d64_effects.proofs.Headers.{length-filled}
+use Rattle.d64_files.proofs.WrittenBytes.{length-filled}
 
 -- slots that are the same from the type byte on
 abbrev pub SameBeyondLink : List ℕ → List ℕ → Type 0

@@ -16,6 +16,7 @@ use Rattle.d64_files.specs.Directory.{directory, slots, slots_in}
 use Rattle.d64_files.specs.Slot.{cell, cells}
 use Rattle.d64_files.specs.Writing.{written_at, slot_block, slot_start, with_entry}
 use Rattle.d64_files.proofs.Chains.{chain-is, is_chain, kept, distinct, within}
+use Rattle.d64_files.proofs.WrittenBytes.{length-written_at}
 use Rattle.d64_files.proofs.SlotLists.{length-slots_in, slot_at_place}
 use Rattle.d64_effects.specs.Format.{directory_start}
 use Rattle.d64_effects.proofs.Places.{directory_start-place}
@@ -48,16 +49,6 @@ get_or-written_past bytes part start k fits h =
     ∙ get_or-append_right part (drop (start + length part) bytes) (length part) (k - start) 0 refl (omega arith)
     ∙ get_or-drop (start + length part) bytes (k - start - length part) 0
     ∙ ap (λ (n : ℕ). get_or bytes n 0) e
-
--- there are as many bytes as before
-pub length-written_at : (bytes part : List ℕ) (start : ℕ) → start + length part ≤ length bytes → length (written_at bytes start part) ≡ length bytes
-unfolding written_at
-length-written_at bytes part start fits =
-    let a = length-append (take start bytes) (part ++ drop (start + length part) bytes) in
-    let b = length-append part (drop (start + length part) bytes) in
-    let c = length-take-le start bytes (omega arith) in
-    let d = length-drop (start + length part) bytes in
-    omega arith
 
 -- what holds of all bytes and of all of the part holds of all that is left
 pub All-written_at : (P : ℕ → Type 0) (bytes part : List ℕ) (start : ℕ) → All P bytes → All P part → All P (written_at bytes start part)

@@ -7,7 +7,7 @@ use Rattle.std.proofs.lemmas.Bool.{cases_eq, eq-eqb, ne_eqb, lt-ltb, or_right, o
 use Rattle.std.proofs.lemmas.Bool.Decides.{nat_tests}
 use Rattle.std.proofs.lemmas.List.{ext_get_or, get_or-set_same, get_or-set_other, get_or-drop, get_or-append_right, get_or-replicate, get_or-map, length-append, length-drop, length-map, length-set, map-append, take_at, append-nil}
 use Rattle.std.proofs.lemmas.List.Concat.{flat_map-cons}
-use Rattle.std.proofs.lemmas.List.Elements.{All-cons, All-replicate, All-set}
+use Rattle.std.proofs.lemmas.List.Elements.{All-nil, All-cons, All-set}
 use Rattle.std.proofs.lemmas.List.Folds.{list_any_at, list_any-append}
 use Rattle.std.proofs.lemmas.Grind.{flat_map-append}
 use Rattle.d64_image.specs.declared.block.TheConstants.{BLOCKS}
@@ -19,10 +19,13 @@ use Rattle.d64_files.specs.Chain.{Chain, block_in, held, led_by, link_at, link_o
 use Rattle.d64_files.specs.Directory.{directory, slots, slots_in}
 use Rattle.d64_files.specs.Slot.{cell, cells}
 use Rattle.d64_files.specs.Writing.{written_at, with_bytes, pair_bytes, dir_last, empty_directory, with_growth}
-use Rattle.d64_files.proofs.Chains.{chain_before, chain_of_one}
+use Rattle.d64_files.proofs.Chains.{chain_before, chain_of_one, led_by-alike}
 use Rattle.d64_files.proofs.SlotLists.{length-cells, get_or-cells}
+use Rattle.d64_files.proofs.WrittenBytes.{length-written_at}
 use Rattle.d64_effects.specs.Format.{directory_start}
-use Rattle.d64_effects.proofs.DirectoryEntries.{get_or-written_within, get_or-written_past, length-written_at, IsBlock-written_at, length-cell, get_or-cell, Chain-directory, directory-from_Chain, directory-within, block_at}
+use Rattle.d64_effects.proofs.DirectoryEntries.{get_or-written_within, get_or-written_past, IsBlock-written_at, length-cell, get_or-cell, Chain-directory, directory-from_Chain, directory-within, block_at}
+use Rattle.d64_effects.proofs.EmptyDisks.{IsBlock-empty_directory}
+use Rattle.d64_effects.proofs.FileChains.{leads_to, pair_small}
 
 -- the image whose directory has one block more, with an entry in that block's first slot
 abbrev pub grown_with : List (List ℕ) → ℕ → List ℕ → List (List ℕ)
@@ -104,25 +107,11 @@ length-grown image new entry =
     ∙ length-set image (dir_last image) (written_at (sector_at image (dir_last image)) 0 (pair_bytes new))
 
 -- a track and a sector are bytes
-few_sectors : (track : ℕ) → sectors_on track ≤ 21
-few_sectors track = grind (arith, nat_tests)
-
 pub pair_bytes-are_bytes : (block : ℕ) → block < BLOCKS → All (λ byte. byte < 256) (pair_bytes block)
 pair_bytes-are_bytes block h =
     let P : ℕ → Type 0 = λ byte. byte < 256 in
-    let p = counted_apart (pair_at block).0 (pair_at block).1 block h refl in
-    let track : (pair_at block).0 < 36 = p.1 in
-    let sector : (pair_at block).1 < sectors_on (pair_at block).0 = p.2 in
-    let few = few_sectors (pair_at block).0 in
-    All-cons P (pair_at block).0 ((pair_at block).1 ∷ []) (omega arith)
-    (All-cons P (pair_at block).1 [] (omega arith) (All-replicate P 0 0 (omega arith)))
-
--- an empty block of the directory is a block
-IsBlock-empty_directory : IsBlock empty_directory
-unfolding empty_directory
-IsBlock-empty_directory =
-    let P : ℕ → Type 0 = λ byte. byte < 256 in
-    (refl, All-cons P 0 (255 ∷ replicate 254 0) (omega arith) (All-cons P 255 (replicate 254 0) (omega arith) (All-replicate P 254 0 (omega arith))))
+    let small = pair_small block h in
+    All-cons P (pair_at block).0 ((pair_at block).1 ∷ []) small.0 (All-cons P (pair_at block).1 [] small.1 (All-nil P))
 
 -- an image stays one
 pub IsImage-grown : (image : List (List ℕ)) (new : ℕ) (entry : List ℕ) → IsImage image → directory image ≢ [] → new < BLOCKS
@@ -143,17 +132,6 @@ IsImage-grown image new entry is some inside full bytes =
       length-set grown new (written_at (sector_at grown new) 2 entry) ∙ m,
       All-set IsBlock grown new (written_at (sector_at grown new) 2 entry) (IsBlock-written_at (sector_at grown new) entry 2 here (omega arith) bytes) second,
     )
-
--- the link to a block leads there; in the test, the link (0, 0) stands for the end of a chain
-leads_to : (image : List (List ℕ)) (new : ℕ) → new < BLOCKS → new < length image → led_by image (pair_at new) ≡ link_to (Some new)
-unfolding led_by block_in
-leads_to image new small inside =
-    let p = counted_apart (pair_at new).0 (pair_at new).1 new small refl in
-    let some : (pair_at new).0 ≢ 0 = λ e. absurd (let one : 1 ≤ (pair_at new).0 = p.0 in omega arith) in
-    ap (λ (t : Bool). cond t (led_by image (0, 0)) (link_to (option_and_then (held image) (block_of (pair_at new).0 (pair_at new).1))))
-    (ne_eqb (pair_at new).0 0 some)
-    ∙ ap (λ (block : Option ℕ). link_to (option_and_then (held image) block)) (block_of-pair_at new small)
-    ∙ ap (λ (t : Bool). link_to (cond t (Some new) None)) (lt-ltb new (length image) inside)
 
 -- the directory's last block is linked to the new one
 pub link_of-grown_last : (image : List (List ℕ)) (new : ℕ) (entry : List ℕ) → dir_last image ≢ new → dir_last image < length image → new < BLOCKS
@@ -190,13 +168,6 @@ last_in-is-held : (block : ℕ) (rest : List ℕ) → list_any (eqb (last_in (bl
 last_in-is-held block rest =
     list_any_at (eqb (last_in (block ∷ rest))) (block ∷ rest) (length (block ∷ rest) - 1) 0 (omega arith)
     (eq-eqb (last_in (block ∷ rest)) (last_in (block ∷ rest)) refl)
-
--- images as long as one another lead alike by a link
-led_by-alike : (image other : List (List ℕ)) (link : ℕ × ℕ) → length other ≡ length image → led_by other link ≡ led_by image link
-unfolding led_by block_in
-led_by-alike image other link long =
-    ap (λ (n : ℕ). cond (eqb link.0 0) (led_by image (0, 0))
-    (link_to (option_and_then (λ block. cond (ltb block n) (Some block) None) (block_of link.0 link.1)))) long
 
 -- a block that isn't among others isn't the one that is
 other_alone : (start block new : ℕ) (rest : List ℕ) → block ≡ start → list_any (eqb new) (block ∷ rest) ≡ false → list_any (eqb start) (new ∷ []) ≡ false

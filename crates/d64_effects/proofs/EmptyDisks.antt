@@ -28,7 +28,7 @@ use Rattle.d64_effects.specs.Format.{directory_start, header, free_when_formatte
 use Rattle.d64_files.specs.Name.{filled}
 use Rattle.d64_files.specs.Writing.{empty_directory}
 use Rattle.d64_effects.specs.Laws.{IsId}
-use Rattle.d64_effects.proofs.Headers.{length-filled}
+use Rattle.d64_files.proofs.WrittenBytes.{length-filled}
 
 -- one step of the set of all blocks
 pub from_range_more : (n block : ℕ) (s t : set.FinSet nat_cmp) → s ≡ set.from_list (range_with_len 0 n) → block ≡ n
@@ -179,7 +179,8 @@ IsBlock-header name id named two =
     (All-append P name (replicate (16 - length name) 0xA0) named.in_range (All-replicate P (16 - length name) 0xA0 (omega arith)))
     two.1 (are_bytes (replicate 85 0) refl)
 
-IsBlock-empty_directory : IsBlock empty_directory
+-- the directory's first block is a block
+pub IsBlock-empty_directory : IsBlock empty_directory
 unfolding empty_directory
 IsBlock-empty_directory = (refl, are_bytes (0x00 ∷ 0xFF ∷ replicate 254 0) refl)
 

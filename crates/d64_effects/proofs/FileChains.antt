@@ -17,6 +17,8 @@ use Rattle.d64_files.specs.Chain.{Chain, link_to, link_of, led_by, block_in, hel
 use Rattle.d64_files.specs.FileData.{data_of, data_along}
 use Rattle.d64_files.specs.Writing.{blocks_for, linked_block, last_block, with_chain}
 use Rattle.d64_files.proofs.Chains.{chain_of_one, chain_before}
+use Rattle.d64_files.proofs.FileBlocks.{needs_one, fills_first, needs_less}
+use Rattle.d64_files.proofs.Repeats.{not_among}
 use Rattle.d64_effects.specs.Laws.{AreBytes}
 
 -- blocks that a file's bytes fit: as many as it needs, different ones, each of the disk
@@ -25,39 +27,20 @@ pub record Fits (taken bytes : List ℕ) : Type 0 where
   pub distinct : IsDistinct nat_eq taken
   pub within : All (λ block. block < BLOCKS) taken
 
--- a file needs one block at least
-pub blocks_for-positive : (n : ℕ) → 1 ≤ blocks_for n
-blocks_for-positive n = grind (arith, nat_tests)
-
 -- its blocks hold its bytes
 pub blocks_for-enough : (n : ℕ) → n ≤ 254 * blocks_for n
 blocks_for-enough n = grind (arith, nat_tests)
-
--- and no fewer do
-pub blocks_for-least : (n m : ℕ) → 1 ≤ m → n ≤ 254 * m → blocks_for n ≤ m
-blocks_for-least n m some enough = grind (arith, nat_tests)
 
 -- one block holds a file only if its bytes are that few
 one_holds : (n : ℕ) → 1 ≡ blocks_for n → n ≤ 254
 one_holds n e = let h = blocks_for-enough n in omega arith
 
--- a file of several blocks has more bytes
-several_need : (n k : ℕ) → suc (suc k) ≡ blocks_for n → 254 < n
-several_need n k e =
-    elim (cases_lt 254 n) [
-      | inl more ↦ more
-      | inr few ↦ let h = blocks_for-least n 1 (omega arith) (omega arith) in absurd (omega arith)
-    ]
-
--- and the bytes after its first block need one block less
-rest_needs : (n k : ℕ) → suc (suc k) ≡ blocks_for n → suc k ≡ blocks_for (n - 254)
+-- a file of several blocks fills the first, and the bytes after it need one block less
+rest_needs : (n k : ℕ) → suc (suc k) ≡ blocks_for n → (254 < n) × (suc k ≡ blocks_for (n - 254))
 rest_needs n k e =
-    let more = several_need n k e in
-    let h = blocks_for-enough n in
-    let r = blocks_for-enough (n - 254) in
-    let least = blocks_for-least (n - 254) (suc k) (omega arith) (omega arith) in
-    let above = blocks_for-least n (blocks_for (n - 254) + 1) (omega arith) (omega arith) in
-    omega arith
+    let more = fills_first n (omega arith) in
+    let less = needs_less n more in
+    (more, omega arith)
 
 -- blocks that so many bytes fill: each but the last one whole
 FilledBy : List ℕ → ℕ → Type 0
@@ -68,9 +51,10 @@ FilledBy (block ∷ next ∷ rest) n = (254 < n) × FilledBy (next ∷ rest) (n 
 -- as many blocks as a file needs are filled by its bytes
 filled_by_count : (taken : List ℕ) (n : ℕ) → length taken ≡ blocks_for n → FilledBy taken n
 unfolding FilledBy
-filled_by_count [] n e = absurd (let h = blocks_for-positive n in omega arith)
+filled_by_count [] n e = absurd (let h = needs_one n in omega arith)
 filled_by_count (block ∷ []) n e = one_holds n e
-filled_by_count (block ∷ next ∷ rest) n e = (several_need n (length rest) e, filled_by_count (next ∷ rest) (n - 254) (rest_needs n (length rest) e))
+filled_by_count (block ∷ next ∷ rest) n e =
+    let parts = rest_needs n (length rest) e in (parts.0, filled_by_count (next ∷ rest) (n - 254) parts.1)
 
 -- the bytes after the first block fill the other ones
 filled_rest : (block next : ℕ) (rest bytes : List ℕ) → FilledBy (block ∷ next ∷ rest) (length bytes) → FilledBy (next ∷ rest) (length (drop 254 bytes))
@@ -115,7 +99,7 @@ sector_at-with_chain image (block ∷ next ∷ rest) bytes q fresh =
     ∙ sector_at-other image block q (linked_block next bytes) parts.0
 
 -- the pair of a block is one of bytes
-pair_small : (block : ℕ) → block < BLOCKS → ((pair_at block).0 < 256) × ((pair_at block).1 < 256)
+pub pair_small : (block : ℕ) → block < BLOCKS → ((pair_at block).0 < 256) × ((pair_at block).1 < 256)
 pair_small block inside =
     let c = counted_apart (pair_at block).0 (pair_at block).1 block inside refl in
     let few = sectors_few (pair_at block).0 in
@@ -178,11 +162,6 @@ pub IsImage-with_chain : (image : List (List ℕ)) (taken bytes : List ℕ) → 
 IsImage-with_chain image taken bytes is bytes_are fits =
     IsImage-filled image taken bytes is bytes_are (filled_by_count taken (length bytes) fits.count) fits.within
 
--- a number that differs from each of others isn't among them
-not_among : (block : ℕ) (others : List ℕ) → AllByRecursion (λ other. eqb block other ≡ false) others → list_any (eqb block) others ≡ false
-not_among block [] h = refl
-not_among block (other ∷ others) h = or_from (eqb block other) (list_any (eqb block) others) h.0 (not_among block others h.1)
-
 -- the first of different blocks isn't among the other ones
 first_fresh : (block : ℕ) (others : List ℕ) → IsDistinct eqb (block ∷ others) → list_any (eqb block) others ≡ false
 unfolding IsDistinct
@@ -220,9 +199,9 @@ ends image block n rest inside e =
     chain_of_one image block inside (ap (λ (sector : List ℕ). led_by image (get_or sector 0 0, get_or sector 1 0)) e)
 
 -- the pair of a block leads to it
-leads : (image : List (List ℕ)) (next : ℕ) → next < BLOCKS → next < length image → led_by image (pair_at next) ≡ link_to (Some next)
+pub leads_to : (image : List (List ℕ)) (next : ℕ) → next < BLOCKS → next < length image → led_by image (pair_at next) ≡ link_to (Some next)
 unfolding led_by block_in
-leads image next inside there =
+leads_to image next inside there =
     ap (λ (t : Bool). cond t (led_by image (0, 0)) (link_to (option_and_then (held image) (block_of (pair_at next).0 (pair_at next).1))))
     (track_some next inside)
     ∙ ap (λ (found : Option ℕ). link_to (option_and_then (held image) found)) (block_of-pair_at next inside)
@@ -232,7 +211,7 @@ leads image next inside there =
 linked : (image : List (List ℕ)) (block next : ℕ) (rest : List ℕ) → next < BLOCKS → next < length image
     → sector_at image block ≡ (pair_at next).0 ∷ (pair_at next).1 ∷ rest → link_of image block ≡ link_to (Some next)
 linked image block next rest inside there e =
-    ap (λ (sector : List ℕ). led_by image (get_or sector 0 0, get_or sector 1 0)) e ∙ leads image next inside there
+    ap (λ (sector : List ℕ). led_by image (get_or sector 0 0, get_or sector 1 0)) e ∙ leads_to image next inside there
 
 -- what is written along the blocks is a chain
 Chain-along : (image : List (List ℕ)) (block : ℕ) (others bytes : List ℕ) → length image ≡ BLOCKS → IsDistinct eqb (block ∷ others)
@@ -260,7 +239,7 @@ Chain-along image block (next ∷ rest) bytes long different inside =
 -- the image with a file's bytes has the chain of its blocks
 pub Chain-with_chain : (image : List (List ℕ)) (taken bytes : List ℕ) → length image ≡ BLOCKS → Fits taken bytes
     → Chain (with_chain image taken bytes) (slice_index taken 0) taken
-Chain-with_chain image [] bytes long fits = absurd (let some = blocks_for-positive (length bytes) in let e = fits.count in omega arith)
+Chain-with_chain image [] bytes long fits = absurd (let some = needs_one (length bytes) in let e = fits.count in omega arith)
 Chain-with_chain image (block ∷ others) bytes long fits = Chain-along image block others bytes long fits.distinct fits.within
 
 -- the data of a block that is linked to another are its bytes from byte 2 on

@@ -34,7 +34,8 @@ use Rattle.d64_effects.specs.View.{View, FileView, slot_view, file_view, disk_fi
 use Rattle.d64_effects.specs.ViewAfter.{formatted_view}
 use Rattle.d64_effects.proofs.CellFields.{HasKind-unused, owned_by-unused, HasItsChains-unused}
 use Rattle.d64_effects.proofs.EmptyDisks.{length-parts, contains-free, free_blocks-formatted, counts-formatted, IsBlock-header}
-use Rattle.d64_effects.proofs.Headers.{length-filled}
+use Rattle.d64_files.proofs.WrittenBytes.{length-filled}
+use Rattle.d64_effects.proofs.Frames.{slot_view-unused}
 use Rattle.d64_effects.proofs.Places.{directory_start-place}
 
 pub length-formatted : (name id : List ℕ) → length (formatted name id) ≡ BLOCKS
@@ -156,7 +157,7 @@ holds-formatted name id MarkedFree =
     (All-cons P directory_start [] (is_marked name id directory_start (contains-free directory_start)) (All-nil P)))
 
 -- the map's block from the label on is as it was
-drop-map_for : (bytes : List ℕ) (free : set.FinSet nat_cmp) (n : ℕ) → length bytes ≡ 256 → 144 ≤ n → drop n (map_for bytes free) ≡ drop n bytes
+pub drop-map_for : (bytes : List ℕ) (free : set.FinSet nat_cmp) (n : ℕ) → length bytes ≡ 256 → 144 ≤ n → drop n (map_for bytes free) ≡ drop n bytes
 drop-map_for bytes free n long past =
     let whole = length-map_for bytes free in
     let a = length-drop n (map_for bytes free) in
@@ -228,11 +229,7 @@ disk_id-formatted : (name id : List ℕ) → IsName name → IsId id → disk_id
 disk_id-formatted name id named two =
     let both = label name id named two in part-formatted name id 0xA2 0xA4 named two (omega arith) ∙ both.1
 
--- an unused slot shows nothing
-slot_view-unused : (image : List (List ℕ)) (cell : List ℕ) → is_used cell ≡ false → slot_view image cell ≡ None
-unfolding slot_view
-slot_view-unused image cell unused = ap (λ (used : Bool). cond used (Some (file_view image cell)) None) unused
-
+-- so it shows nothing
 shown-formatted : (name id : List ℕ) → map (slot_view (formatted name id)) (slots (formatted name id)) ≡ replicate 8 None
 shown-formatted name id =
     let image : List (List ℕ) = formatted name id in

@@ -15,7 +15,8 @@ use Rattle.d64_files.specs.declared.kind.Kind.{Kind}
 use Rattle.d64_effects.proofs.CellFields.{SameBeyondLink, is_used-beyond_link, kind_of-beyond_link, is_closed-beyond_link, is_locked-beyond_link, field_of-beyond_link, size_of-beyond_link, roots-beyond_link}
 use Rattle.d64_effects.specs.View.{FileView, chain_of_root, file_view, slot_view}
 use Rattle.d64_effects.proofs.FileChains.{data_along-same}
-use Rattle.d64_effects.proofs.Occurrences.{occurs, occurs-append, occurs-present, All-from_occurs}
+use Rattle.d64_effects.proofs.Occurrences.{joined, occurs, occurs-append, occurs-present, All-from_occurs}
+use Rattle.d64_effects.proofs.Rows.{joined-map}
 
 -- what a slot shows, part by part
 abbrev pub shown : Bool → List ℕ → Kind → Bool → Bool → ℕ → List ℕ → List ℕ → List ℕ → Option FileView
@@ -84,12 +85,6 @@ chain_of_place image [] place = refl
 chain_of_place image (root ∷ from) zero = refl
 chain_of_place image (root ∷ from) (suc place) = chain_of_place image from place
 
--- lists that are one after another what chains are
-flat_map-map : (image : List (List ℕ)) (from : List (ℕ × ℕ))
-    → flat_map (chain_at image) from ≡ flat_map (λ (blocks : List ℕ). blocks) (map (chain_at image) from)
-flat_map-map image [] = refl
-flat_map-map image (root ∷ from) = ap (λ (blocks : List ℕ). chain_at image root ++ blocks) (flat_map-map image from)
-
 module _ (image other : List (List ℕ)) (cell : List ℕ) (has : HasItsChains image cell) (long : length other ≡ length image)
     (agree : Agree image other (owned_by image cell)) where
   all_same : map (chain_at other) (roots cell) ≡ map (chain_at image) (roots cell)
@@ -98,7 +93,7 @@ module _ (image other : List (List ℕ)) (cell : List ℕ) (has : HasItsChains i
   -- what a slot owns
   pub owned_by-same : owned_by other cell ≡ owned_by image cell
   owned_by-same =
-      flat_map-map other (roots cell) ∙ ap (flat_map (λ (blocks : List ℕ). blocks)) all_same ∙ sym (flat_map-map image (roots cell))
+      sym (joined-map (chain_at other) (roots cell)) ∙ ap joined all_same ∙ joined-map (chain_at image) (roots cell)
 
   pub chain_of_root-same : (place : ℕ) → chain_of_root other cell place ≡ chain_of_root image cell place
   chain_of_root-same place =

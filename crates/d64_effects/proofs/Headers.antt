@@ -4,6 +4,7 @@ use Rattle.std.proofs.Math.ListN.{replicate}
 use Rattle.std.proofs.lemmas.List.{append_assoc, take_at, drop_at, length-append, length-replicate, replicate-append-replicate}
 use Rattle.d64_files.specs.Name.{filled}
 use Rattle.d64_files.specs.Writing.{written_at}
+use Rattle.d64_files.proofs.WrittenBytes.{length-filled}
 use Rattle.d64_effects.specs.Format.{header}
 
 -- a part in the middle that is written over by one as long
@@ -32,13 +33,6 @@ named start back name filler short long fills =
     ∙ append_assoc (replicate (length name) 160) (rest ++ replicate 11 160) back
     ∙ ap (λ (xs : List ℕ). replicate (length name) 160 ++ xs) (append_assoc rest (replicate 11 160) back))
     ∙ written_between start (replicate (length name) 160) (rest ++ (replicate 11 160 ++ back)) name 144 long (length-replicate (length name) 160)
-
--- the field of a name has 16 bytes
-pub length-filled : (name : List ℕ) → length name ≤ 16 → length (filled name) ≡ 16
-length-filled name short = let rest : List ℕ = replicate (16 - length name) 160 in
-    let e : length (name ++ rest) ≡ length name + length rest = length-append name rest in
-    let f : length rest ≡ 16 - length name = length-replicate (16 - length name) 160 in
-    omega arith
 
 -- the id over the filler
 with_id : (start field back id : List ℕ) → length start ≡ 144 → length field ≡ 16 → length id ≡ 2

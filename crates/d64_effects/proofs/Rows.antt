@@ -5,6 +5,7 @@ use Rattle.std.specs.List.{flat_map, position_from}
 use Rattle.std.proofs.lemmas.List.{map-set, map-append}
 use Rattle.std.proofs.lemmas.List.Concat.{flat_map-append}
 use Rattle.std.proofs.lemmas.List.Elements.{All-nil, All-cons, All-head, All-tail, All-set, All-append, All-map, All-replicate, All-weaker}
+use Rattle.std.proofs.lemmas.List.Folds.{flat_map-map}
 use Rattle.std.proofs.lemmas.Iterator.Adapters.{position_from-zero}
 use Rattle.d64_effects.proofs.Occurrences.{occurs, occurs-append, occurs-set, joined}
 
@@ -45,8 +46,7 @@ map-same f g (row ∷ rows) all =
 
 -- lists that rows give, one after another
 pub joined-map : {A : Type 0} (f : A → List ℕ) (rows : List A) → joined (map f rows) ≡ flat_map f rows
-joined-map f [] = refl
-joined-map f (row ∷ rows) = ap (λ (xs : List ℕ). f row ++ xs) (joined-map f rows)
+joined-map f rows = flat_map-map (λ xs. xs) f rows
 
 -- the first of rows that passes a test stands where the first passes that is made of them
 first_mapped : {A B : Type 0} (f : A → B) (passes : B → Bool) (test : A → Bool) (n : ℕ) (rows : List A) → ((row : A) → passes (f row) ≡ test row)

@@ -23,12 +23,14 @@ use Rattle.d64_files.specs.Name.{IsName}
 use Rattle.d64_files.specs.Writing.{with_chain, entry_bytes, first_unused}
 use Rattle.d64_files.specs.declared.kind.Kind.{Kind}
 use Rattle.d64_files.proofs.Chains.{kept}
+use Rattle.d64_files.proofs.FileBlocks.{needs_one}
 use Rattle.d64_effects.specs.Laws.{AreBytes, HasRoom}
 use Rattle.d64_effects.specs.View.{IsSound, disk_field, disk_id}
 use Rattle.d64_effects.specs.Write.{taken_by, directory_grown, without, with_new_entry, with_file, written}
 use Rattle.d64_effects.proofs.CellFields.{length-entry_bytes, are_bytes-entry_bytes}
 use Rattle.d64_effects.proofs.DirectoryEntries.{directory-same, slots-same}
-use Rattle.d64_effects.proofs.FileChains.{Fits, blocks_for-positive, length-with_chain, sector_at-with_chain, IsImage-with_chain, Chain-with_chain, data_along-same, data_along-with_chain}
+use Rattle.d64_effects.proofs.FileChains.{Fits, length-with_chain, sector_at-with_chain, IsImage-with_chain, Chain-with_chain, data_along-same, data_along-with_chain}
+use Rattle.d64_effects.proofs.FormattedDisks.{drop-map_for}
 use Rattle.d64_effects.proofs.NewDirectory.{NewEntry, has_directory, new_entry}
 use Rattle.d64_effects.proofs.Occurrences.{occurs, occurs-append, occurs-present, occurs-from_All, All-from_occurs, absent-from_occurs}
 use Rattle.d64_effects.proofs.Rows.{with_row}
@@ -72,16 +74,6 @@ apart image taken grown bytes sound file dir =
             owned_not_taken image taken bytes sound file q (omega arith)
       ];
     }
-
--- the bytes of the map's block after the entries of the map are the old ones
-tail_same : (bytes : List ℕ) (free : set.FinSet nat_cmp) (n : ℕ) → length bytes ≡ 256 → 144 ≤ n → drop n (map_for bytes free) ≡ drop n bytes
-tail_same bytes free n long past =
-    let l = length-map_for bytes free in
-    let a = length-drop n (map_for bytes free) in
-    let b = length-drop n bytes in
-    ext_get_or 0 (drop n (map_for bytes free)) (drop n bytes) (omega arith) (λ k h.
-    let none : is_entry (n + k) ≡ false = grind (arith, nat_tests) in
-    get_or-drop n (map_for bytes free) k 0 ∙ elsewhere bytes free (n + k) long none ∙ sym (get_or-drop n bytes k 0))
 
 -- the members that are left are blocks of the disk
 left_are_blocks : (image : List (List ℕ)) (taken : List ℕ) → MembersAreBlocks (without (free_blocks image) taken)
@@ -172,7 +164,7 @@ module _ (image listed : List (List ℕ)) (place : Option ℕ) (taken grown entr
   same_tail n past =
       let inside : map_block < length image = let l = is.0 in omega arith in
       ap (drop n) (sector_at-with_map (with_chain listed taken bytes) free has_map_block ∙ ap (λ (old : List ℕ). map_for old free) old_map)
-      ∙ tail_same (sector_at image map_block) free n (is.1 map_block [] inside).0 past
+      ∙ drop-map_for (sector_at image map_block) free n (is.1 map_block [] inside).0 past
 
   -- what is left, where these blocks are marked free
   pub leaves : free ≡ without (free_blocks image) (taken ++ grown) → Leaves image (filed listed taken bytes free) place taken grown entry bytes
@@ -200,7 +192,7 @@ taken_fit image taken bytes file = record {
 -- the first of them, and how many they are
 first_taken : (taken bytes : List ℕ) → Fits taken bytes → get_or taken 0 0 < BLOCKS
 first_taken taken bytes fits =
-    All-get_or (λ block. block < BLOCKS) taken 0 0 (let some = blocks_for-positive (length bytes) in let e = fits.count in omega arith) fits.within
+    All-get_or (λ block. block < BLOCKS) taken 0 0 (let some = needs_one (length bytes) in let e = fits.count in omega arith) fits.within
 
 few_taken : (taken bytes : List ℕ) → Fits taken bytes → length taken ≤ BLOCKS
 few_taken taken bytes fits =

@@ -33,9 +33,9 @@ FormattedCountsFit = (name id : List ℕ) → CountsFit (formatted name id)
 abbrev pub FormattedHas664Free : Type 0
 FormattedHas664Free = (name id : List ℕ) → blocks_free (formatted name id) ≡ 664
 
--- a formatted disk is sound
+-- a formatted disk is sound, whatever its name and its id are
 abbrev pub FormattedIsSound : Type 0
-FormattedIsSound = (name id : List ℕ) → IsName name → IsId id → IsSound (formatted name id)
+FormattedIsSound = (name id : List ℕ) → IsSound (formatted name id)
 
 -- and shows what it should
 abbrev pub FormattedShows : Type 0

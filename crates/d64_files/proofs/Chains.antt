@@ -224,7 +224,7 @@ chain-none image start none = by_list (chain image start) (λ some. none (chain 
     by_list (block ∷ blocks) h = absurd (h (λ (e : block ∷ blocks ≡ []). cc))
 
 -- images as long as one another lead alike by a link
-led_by-alike : (image other : List (List ℕ)) (link : ℕ × ℕ) → length other ≡ length image → led_by other link ≡ led_by image link
+pub led_by-alike : (image other : List (List ℕ)) (link : ℕ × ℕ) → length other ≡ length image → led_by other link ≡ led_by image link
 unfolding led_by block_in
 led_by-alike image other link long =
     ap (λ (n : ℕ). cond (eqb link.0 0) End (link_to (option_and_then (λ block. cond (ltb block n) (Some block) None) (block_of link.0 link.1)))) long

@@ -41,12 +41,12 @@ slot_of_number cells slot =
     ∙ ap (λ (n : ℕ). option_map (λ (c : List ℕ). (n, c)) (slice_get cells slot)) (sym e)
 
 -- a slot that was found by its number has these bytes
-bytes_of_found : (slot : ℕ) (bytes : Option (List ℕ)) (entry : ℕ × List ℕ) → Some entry ≡ option_map (λ (c : List ℕ). (slot, c)) bytes → bytes ≡ Some entry.1
+pub bytes_of_found : (slot : ℕ) (bytes : Option (List ℕ)) (entry : ℕ × List ℕ) → Some entry ≡ option_map (λ (c : List ℕ). (slot, c)) bytes → bytes ≡ Some entry.1
 bytes_of_found slot None entry e = cc
 bytes_of_found slot (Some c) entry e = let f : entry ≡ (slot, c) = cc in ap (λ (x : ℕ × List ℕ). Some x.1) (sym f)
 
 -- and where none was found there is none
-none_of_found : (slot : ℕ) (bytes : Option (List ℕ)) → ◌≡◌ {A = Option (ℕ × List ℕ)} None (option_map (λ (c : List ℕ). (slot, c)) bytes) → bytes ≡ None
+pub none_of_found : (slot : ℕ) (bytes : Option (List ℕ)) → ◌≡◌ {A = Option (ℕ × List ℕ)} None (option_map (λ (c : List ℕ). (slot, c)) bytes) → bytes ≡ None
 none_of_found slot None e = refl
 none_of_found slot (Some c) e = cc
 
@@ -100,13 +100,13 @@ abbrev why : Bool → Bool → Option DirFault
 why missing known = cond missing (Some NoDirectory) (cond known None (Some UnknownKind))
 
 -- a directory that meets the conditions 2 and 3 can be read
-readable : (image : List (List ℕ)) → AllHold image 2 3 → unreadable image ≡ None
+pub readable : (image : List (List ℕ)) → AllHold image 2 3 → unreadable image ≡ None
 readable image h =
     ap (λ (b : Bool). why b (list_all is_kind (slots image))) (not_nil (directory image) (h NoDirectory (omega arith) (omega arith)))
     ∙ ap (why false) (kinds_pass (slots image) (h UnknownKind (omega arith) (omega arith)))
 
 -- one that fails one of them can't, for the first that it fails
-first_reason : (image : List (List ℕ)) (fault : DirFault) → IsFirstFault image 2 3 fault → unreadable image ≡ Some fault
+pub first_reason : (image : List (List ℕ)) (fault : DirFault) → IsFirstFault image 2 3 fault → unreadable image ≡ Some fault
 first_reason image WrongCounts f = absurd (let h = f.not_before in omega arith)
 first_reason image NoDirectory f = ap (λ (b : Bool). why b (list_all is_kind (slots image))) (nil_is (directory image) f.fails)
 first_reason image UnknownKind f =

@@ -9,11 +9,11 @@ use Rattle.d64_image.specs.Image.{with_sector}
 use Rattle.d64_files.specs.Writing.{blocks_for, linked_block, last_block, with_chain}
 
 -- bytes that need several blocks fill the first
-fills_first : (bytes : ℕ) → 2 ≤ blocks_for bytes → 254 < bytes
+pub fills_first : (bytes : ℕ) → 2 ≤ blocks_for bytes → 254 < bytes
 fills_first bytes several = grind (arith, nat_tests)
 
 -- without the first block's bytes they need a block less
-needs_less : (bytes : ℕ) → 254 < bytes → blocks_for bytes ≡ blocks_for (bytes - 254) + 1
+pub needs_less : (bytes : ℕ) → 254 < bytes → blocks_for bytes ≡ blocks_for (bytes - 254) + 1
 needs_less bytes several = grind (arith, nat_tests)
 
 -- some block is always needed

@@ -48,7 +48,7 @@ one_claimed before block old again crossed blocks is told is_crossed is_blocks =
     ap₂ made b x
 
 -- a block that differs from each of others isn't among them
-not_among : (block : ℕ) (others : List ℕ) → AllByRecursion (λ other. eqb block other ≡ false) others → list_any (eqb block) others ≡ false
+pub not_among : (block : ℕ) (others : List ℕ) → AllByRecursion (λ other. eqb block other ≡ false) others → list_any (eqb block) others ≡ false
 not_among block [] h = refl
 not_among block (other ∷ others) h = or_from (eqb block other) (list_any (eqb block) others) h.0 (not_among block others h.1)
 

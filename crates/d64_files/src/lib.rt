@@ -36,4 +36,4 @@ pub use reading::{ReadFault, content};
 pub use slots::Slots;
 pub use soundness::{check, owned, slot_blocks};
 pub use vacancy::{dir_last, first_empty, is_taken};
-pub use writing::{blocks_for, grow, put_chain, put_entry};
+pub use writing::{blocks_for, empty_directory, grow, put_chain, put_entry};

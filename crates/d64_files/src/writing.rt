@@ -121,7 +121,7 @@ pub fn put_chain(image: &mut Image, blocks: &[BlockNo], bytes: &[u8]) -> Result<
 }
 
 /// A block of the directory that no block follows, and whose eight slots are empty.
-fn empty_directory() -> [u8; BLOCK_BYTES]
+pub fn empty_directory() -> [u8; BLOCK_BYTES]
     ensures { result ≡ empty_directory }
 {
     let mut directory = [0; BLOCK_BYTES];

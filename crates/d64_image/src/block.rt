@@ -86,8 +86,8 @@ impl Zone {
 ///
 /// Blocks are numbered as they lie in a D64 image: track by track from 1, on each track by sector from 0.
 /// Tracks 1 to 17 have 21 sectors, 18 to 24 have 19, 25 to 30 have 18, and 31 to 35 have 17 (the 1541 User's
-/// Guide, "Disk format").
-#[derive(Clone, Copy, Debug, PartialEq, Eq, PartialOrd, Ord, Hash)]
+/// Guide, "Disk format"). The default is the first block.
+#[derive(Clone, Copy, Debug, Default, PartialEq, Eq, PartialOrd, Ord, Hash)]
 pub struct BlockNo {
     index: u16,
 }

@@ -11,11 +11,11 @@ pub returns : goal.returns
 returns c =
     let image = c.args.image.now in
     let space = c.args.space.now in
-    let count = (c.plan_takes_free_blocks.ensures.blocks (free_blocks image) (blocks_for (length c.args.bytes.now)) space.blocks c.requires.space.taken).0 in
-    let some : 0 < length space.blocks = let h = needs_one (length c.args.bytes.now) in omega (arith, h, count) in
+    let count = (c.plan_takes_free_blocks.ensures.blocks (free_blocks image) (blocks_for (length c.args.bytes.now)) space.blocks.items c.requires.space.taken).0 in
+    let some : 0 < length space.blocks.items = let h = needs_one (length c.args.bytes.now) in omega (arith, h, count) in
     let blocks = c.as_slice-blocks.ensures.value in
-    let first : c.index-blocks-0.result ≡ get_or space.blocks 0 0 =
-    c.index-blocks-0.is ∙ ap (λ xs. get_or xs 0 c.index-blocks-0.result) blocks ∙ get_or_default space.blocks 0 c.index-blocks-0.result 0 some in
+    let first : c.index-blocks-0.result ≡ get_or space.blocks.items 0 0 =
+    c.index-blocks-0.is ∙ ap (λ xs. get_or xs 0 c.index-blocks-0.result) blocks ∙ get_or_default space.blocks.items 0 c.index-blocks-0.result 0 some in
     let entered = c.in_ok-put_new_entry.ensures in
     let chained = c.put_chain.ensures.written in
     let mapped = c.put_map.ensures.written in

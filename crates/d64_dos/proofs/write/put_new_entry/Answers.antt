@@ -1,5 +1,6 @@
 use Rattle.std.proofs.Common.{◌∙◌, sym}
-use Rattle.d64_dos.proofs.Entries.{has_directory, vacant_place, new_place, whatever}
+use Rattle.d64_effects.proofs.NewDirectory.{has_directory}
+use Rattle.d64_dos.proofs.Entries.{vacant_place, new_place, whatever}
 use Rattle.d64_dos.proofs.write.put_new_entry.Goals as goal
 
 pub put_entry-requires-clause-slot : goal.put_entry-requires-clause-slot

@@ -9,7 +9,7 @@ pub returns-clause-blocks_free : goal.returns-clause-blocks_free
 returns-clause-blocks_free c = blocks_free-formatted
 
 pub returns-clause-sound : goal.returns-clause-sound
-returns-clause-sound c = λ name id named two fault from to. holds-formatted name id fault
+returns-clause-sound c = λ name id fault from to. holds-formatted name id fault
 
 pub returns-clause-view : goal.returns-clause-view
 returns-clause-view c = view-formatted
