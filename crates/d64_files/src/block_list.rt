@@ -7,7 +7,7 @@ use std::marker::Model;
 
 /// A list of at most as many blocks as an image has.
 #[derive(Drop)]
-pub struct BlockList {
+pub(crate) struct BlockList {
     /// The blocks of the list, and then others that are not part of it.
     places: [BlockNo; BLOCKS],
     len: usize,
@@ -25,16 +25,6 @@ impl Model for BlockList {
 }
 
 impl BlockList {
-    /// The list of no block.
-    pub fn empty() -> BlockList
-        ensures { result ≡ [] }
-    {
-        BlockList {
-            places: [BlockNo::at(0).unwrap(); BLOCKS],
-            len: 0,
-        }
-    }
-
     /// The list of one block.
     pub(crate) fn of(block: BlockNo) -> BlockList
         ensures { result ≡ block ∷ [] }
@@ -48,7 +38,7 @@ impl BlockList {
     /// Appends a block.
     ///
     /// The caller knows that the list has room: that it has fewer blocks than an image.
-    pub fn push(&mut self, block: BlockNo)
+    pub(crate) fn push(&mut self, block: BlockNo)
         requires { length self.old < BLOCKS }
         ensures { self.new ≡ self.old ++ block ∷ [] }
     {
@@ -57,7 +47,7 @@ impl BlockList {
     }
 
     /// The blocks of the list, in order.
-    pub fn as_slice(&self) -> &[BlockNo]
+    pub(crate) fn as_slice(&self) -> &[BlockNo]
         ensures value { result.now ≡ self.now }
         ensures len { length result.now ≤ BLOCKS }
     {

@@ -23,8 +23,6 @@ mod soundness;
 mod vacancy;
 mod writing;
 
-pub use block_bytes::write_at;
-pub use block_list::BlockList;
 pub use dir_fault::DirFault;
 pub use entry::{Entry, SlotNo};
 pub use kind::Kind;

@@ -120,7 +120,7 @@ pub fn put_chain(image: &mut Image, blocks: &[BlockNo], bytes: &[u8]) -> Result<
     Ok(())
 }
 
-/// A block of the directory that no block follows, and whose eight slots are empty.
+/// The bytes of a block of the directory that no block follows, and whose eight slots are empty.
 pub fn empty_directory() -> [u8; BLOCK_BYTES]
     ensures { result ≡ empty_directory }
 {
