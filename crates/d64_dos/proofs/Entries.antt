@@ -1,25 +1,20 @@
 -- the entry of a new file, in the slot that is there for it
 use Rattle.std.proofs.Common.{◌≡◌, ◌≢◌, ℕ, ◌/◌, ◌<◌, not, true, false, eqb, List, [], ◌∷◌, ◌++◌, length, get_or, replicate, refl, sym, ap, ◌∙◌, subst, arith}
 use Rattle.std.proofs.Common.{Option, Some, None, option_to_list, Result, Ok, Err, IfOk}
-use Rattle.std.specs.Prelude.{All, MatchOption}
+use Rattle.std.specs.Prelude.{MatchOption}
 use Rattle.std.specs.List.{list_any}
 use Rattle.std.specs.FinSet as set
 use Rattle.std.proofs.Math.Seq.{get_or-append_seam}
-use Rattle.std.proofs.lemmas.Bool.{ne_eqb}
-use Rattle.std.proofs.lemmas.List.{get_or_append_left, set-set, get_or-set_same, length-set, length-append}
-use Rattle.std.proofs.lemmas.List.Elements.{All-tail, All-weaker}
-use Rattle.std.proofs.lemmas.List.Folds.{list_any_none}
+use Rattle.std.proofs.lemmas.List.{set-set, get_or-set_same, length-set, length-append}
 use Rattle.std.proofs.lemmas.List.Quantifiers.{position-Some}
 use Rattle.d64_image.specs.declared.block.TheConstants.{BLOCKS}
 use Rattle.d64_image.specs.Image.{sector_at, with_sector}
-use Rattle.d64_map.specs.Map.{map_block, free_blocks}
+use Rattle.d64_map.specs.Map.{free_blocks}
 use Rattle.d64_map.specs.Laws.{IsFreeForDirectory, DirPickIsOnTrack18}
-use Rattle.d64_files.specs.Directory.{directory, slots, owned_blocks, AllHold}
-use Rattle.d64_files.specs.Ownership.{NoneIsFree}
+use Rattle.d64_files.specs.Directory.{directory, slots, AllHold}
 use Rattle.d64_files.specs.Slot.{is_used}
 use Rattle.d64_files.specs.Writing.{written_at, with_bytes, pair_bytes, empty_directory, with_growth}
 use Rattle.d64_files.specs.Writing.{first_unused, dir_last, slot_block, slot_start, with_entry}
-use Rattle.d64_files.specs.declared.dir_fault.DirFault.TheVariants.{NoDirectory, MarkedFree}
 use Rattle.d64_files.proofs.SlotLists.{length-slots_in}
 use Rattle.d64_effects.specs.Format.{directory_start}
 use Rattle.d64_effects.specs.Write.{grown_by, directory_grown, with_entry_in, with_new_entry}

@@ -23,10 +23,7 @@ fn pick_after(free: &BlockSet, last: Option<BlockNo>) -> Option<BlockNo>
 
 /// Takes the blocks of a file of so many blocks from the free ones, in the file's order. None where too few blocks outside
 /// track 18 are free: then some of them may be taken.
-pub(crate) fn take_plan(
-    free: &mut BlockSet,
-    count: usize,
-) -> Option<ArrayVec<BlockNo, BLOCKS>>
+pub(crate) fn take_plan(free: &mut BlockSet, count: usize) -> Option<ArrayVec<BlockNo, BLOCKS>>
     requires { count ≤ BLOCKS }
     ensures plan { option_map (λ blocks. blocks.items) result ≡ plan free.old count }
     ensures left { IfSome result (λ blocks. free.new ≡ without free.old blocks.items) }

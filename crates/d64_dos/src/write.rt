@@ -12,8 +12,8 @@ use crate::plan::take_plan;
 use crate::refusal::Refusal;
 use arrayvec::ArrayVec;
 use d64_files::{
-    Kind, Name, SlotNo, Slots, blocks_for, check, dir_last, first_empty, grow, is_taken,
-    put_chain, put_entry,
+    Kind, Name, SlotNo, Slots, blocks_for, check, dir_last, first_empty, grow, is_taken, put_chain,
+    put_entry,
 };
 use d64_image::{BLOCKS, BlockNo, BlockSet, Image};
 use d64_map::laws::{dir_pick_is_on_track_18, plan_takes_free_blocks};

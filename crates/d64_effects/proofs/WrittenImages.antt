@@ -1,21 +1,20 @@
 -- the image after the writing of a file: its blocks, its directory, its map
-use Rattle.std.proofs.Common.{◌≡◌, ◌≢◌, ℕ, ◌+◌, ◌<◌, ◌≤◌, ◌&&◌, Bool, true, false, not, ltb, nat_eq, List, [], ◌∷◌, ◌++◌, length, map, take, drop, get_or, Option, refl, sym, ap, ◌∙◌, inl, inr, arith}
+use Rattle.std.proofs.Common.{◌≡◌, ◌≢◌, ℕ, ◌<◌, ◌≤◌, ◌&&◌, Bool, true, false, not, ltb, nat_eq, List, [], ◌∷◌, ◌++◌, length, map, take, drop, get_or, Option, refl, sym, ap, ◌∙◌, inl, inr, arith}
 use Rattle.std.specs.Prelude.{replicate}
 use Rattle.std.specs.List.{list_any}
 use Rattle.std.specs.Ordering.{nat_cmp}
 use Rattle.std.specs.FinSet as set
 use Rattle.std.proofs.lemmas.Bool.{cases_lt}
 use Rattle.std.proofs.lemmas.Bool.Decides.{nat_tests}
-use Rattle.std.proofs.lemmas.List.{ext_get_or, get_or-drop, length-drop}
 use Rattle.std.proofs.lemmas.List.Elements.{All-weaker, All-get_or}
 use Rattle.std.proofs.lemmas.Map.Steps.{length-le_from_distinct_below}
 use Rattle.d64_image.specs.declared.block.TheConstants.{BLOCKS}
 use Rattle.d64_image.specs.BlockSet.{MembersAreBlocks}
 use Rattle.d64_image.specs.Image.{IsImage, sector_at}
 use Rattle.d64_map.specs.Laws.{IsFreeForFiles}
-use Rattle.d64_map.specs.Map.{map_block, free_blocks, is_free, is_entry, map_for, with_map, CountsFit}
+use Rattle.d64_map.specs.Map.{map_block, free_blocks, is_free, map_for, with_map, CountsFit}
 use Rattle.d64_map.proofs.FreeBlocks.{contains-free_blocks-both}
-use Rattle.d64_map.proofs.Maps.{length-map_for, elsewhere, sector_at-with_map, sector_at-with_map-other, length-with_map, free_blocks-with_map, counts-with_map, IsImage-with_map}
+use Rattle.d64_map.proofs.Maps.{sector_at-with_map, sector_at-with_map-other, length-with_map, free_blocks-with_map, counts-with_map, IsImage-with_map}
 use Rattle.d64_files.specs.Chain.{Chain, link_at}
 use Rattle.d64_files.specs.Directory.{directory, slots, slots_in, owned_blocks}
 use Rattle.d64_files.specs.FileData.{data_along}
