@@ -1,6 +1,6 @@
 -- the entry of a new file, in the slot that is there for it
 use Rattle.std.proofs.Common.{◌≡◌, ◌≢◌, ℕ, ◌/◌, ◌<◌, not, true, false, eqb, List, [], ◌∷◌, ◌++◌, length, get_or, replicate, refl, sym, ap, ◌∙◌, subst, arith}
-use Rattle.std.proofs.Common.{Option, Some, None, option_to_list, Result, Ok, Err, IfOk}
+use Rattle.std.proofs.Common.{Option, Some, None, option_to_list}
 use Rattle.std.specs.Prelude.{MatchOption}
 use Rattle.std.specs.List.{list_any}
 use Rattle.std.specs.FinSet as set
@@ -88,11 +88,6 @@ entry_beyond image next block entry e =
     ap (λ (k : ℕ). get_or (directory next) k 0) place ∙ ap (λ (blocks : List ℕ). get_or blocks (length (directory image)) 0) e
     ∙ get_or-append_seam (directory image) block [] 0 in
     ap (λ (b : ℕ). with_bytes next b (slot_start (length (slots image))) entry) at ∙ ap (λ (n : ℕ). with_bytes next block n entry) start
-
--- a fact holds of whatever was answered
-pub whatever : {T E : Type 0} (result : Result T E) (fact : Type 0) → fact → IfOk result (λ _. fact)
-whatever (Ok value) fact holds = holds
-whatever (Err fault) fact holds = tt
 
 -- an unused slot is one of the directory's, and takes the entry
 pub record TakesEntry (image next : List (List ℕ)) (slot : ℕ) : Type 0 where

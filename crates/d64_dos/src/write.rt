@@ -1,5 +1,5 @@
 //! The writing of a file: its blocks, its entry, and the map.
-ghost use Rattle.std.specs.Prelude.{◌≡◌, ◌<◌, length, is_some, IfOk, IfSome, MatchOption};
+ghost use Rattle.std.specs.Prelude.{◌≡◌, ◌<◌, length, is_some, IsOk, IfOk, IfSome, MatchOption};
 ghost use Rattle.d64_map.specs.Map.{free_blocks};
 ghost use Rattle.d64_files.specs.Directory.{slots, AllHold};
 ghost use Rattle.d64_files.specs.Writing.{entry_bytes};
@@ -136,7 +136,7 @@ fn known_block(image: &Image, block: BlockNo)
     let _ = image.sector(block);
 }
 
-/// Writes the entry of a new file into its place.
+/// Writes the entry of a new file into its place. It answers Ok.
 fn put_new_entry(
     image: &mut Image,
     place: Place,
@@ -147,7 +147,8 @@ fn put_new_entry(
 ) -> Result<(), AllocError>
     requires sound { AllHold image.old 1 6 }
     requires place { IsPlace image.old (free_blocks image.old) place }
-    ensures { IfOk result (λ _. image.new ≡ with_new_entry image.old (entry_bytes name.now kind first blocks)) }
+    ensures ok { IsOk result }
+    ensures written { image.new ≡ with_new_entry image.old (entry_bytes name.now kind first blocks) }
 {
     match place {
         Place::Vacant(slot) => put_entry(image, slot, name, kind, first, blocks),
@@ -160,7 +161,7 @@ fn put_new_entry(
     }
 }
 
-/// Writes a new file into its space: its entry, its data, and the map of the blocks that stay free.
+/// Writes a new file into its space: its entry, its data, and the map of the blocks that stay free. It answers Ok.
 fn put_file(
     image: &mut Image,
     space: &Space,
@@ -170,7 +171,8 @@ fn put_file(
 ) -> Result<(), AllocError>
     requires sound { AllHold image.old 1 6 }
     requires space { IsSpace image.old (length bytes.now) space.now }
-    ensures { IfOk result (λ _. image.new ≡ written image.old name.now kind bytes.now) }
+    ensures ok { IsOk result }
+    ensures written { image.new ≡ written image.old name.now kind bytes.now }
 {
     plan_takes_free_blocks();
     let blocks = space.blocks.as_slice();
