@@ -3,10 +3,20 @@ use Rattle.std.proofs.Common.{◌≡◌, ℕ, ◌<◌, ◌≤◌, ◌^◌, true,
 use Rattle.std.specs.Char.{is_ascii_digit}
 use Rattle.std.specs.List.{list_all}
 use Rattle.std.specs.Result.{result_ok, OkIff}
+use Rattle.std.specs.Str.{IsAscii}
 use Rattle.std.specs.Str.Parse.{ParsesUnsigned, digits_value}
 use Rattle.std.proofs.lemmas.Bool.Decides.{nat_tests}
+use Rattle.std.proofs.lemmas.List.Elements.{All-weaker}
+use Rattle.std.proofs.lemmas.List.Sums.{AllPass-from_list_all}
+use Rattle.std.proofs.lemmas.Str.Ascii.{IsAscii-from_all}
 use Rattle.std.proofs.lemmas.Str.Parse.{IsNumeralModel, numerals_by_value, parse_digits}
 use Rattle.d64_script.specs.Number.{number_of}
+
+-- digits are ASCII
+pub digits_ascii : (word : List ℕ) → list_all is_ascii_digit word ≡ true → IsAscii word
+digits_ascii word digits =
+    IsAscii-from_all word
+    (All-weaker (λ b. is_ascii_digit b ≡ true) (λ b. b < 128) (λ b digit. grind (arith, nat_tests)) word (AllPass-from_list_all is_ascii_digit word digits))
 
 -- the words of digits
 digits_model : IsNumeralModel (λ ds. list_all is_ascii_digit ds ≡ true) (digits_value 10)

@@ -32,9 +32,13 @@ before_end line = strip_last line_feed line
 abbrev pub text_of : List ℕ → List ℕ
 text_of line = if is_ended line then strip_last carriage_return (before_end line) else line
 
--- more than 1,024 bytes stand before the LF, a CR counted
+-- the most bytes of a line
+abbrev pub line_limit : ℕ
+line_limit = 1024
+
+-- more bytes than a line may have stand before the LF, a CR counted
 abbrev pub is_too_long : List ℕ → Bool
-is_too_long line = nat_lt 1024 (length (before_end line))
+is_too_long line = nat_lt line_limit (length (before_end line))
 
 -- the text asks for nothing: its first byte that is no space is `;`, or there is none
 abbrev pub is_skipped : List ℕ → Bool

@@ -4,7 +4,7 @@ ghost use Rattle.std.specs.Char.{is_ascii_digit};
 ghost use Rattle.std.specs.List.{list_all};
 ghost use Rattle.d64_script.specs.Number.{number_of};
 
-use crate::words::as_text;
+use std::str;
 
 /// The most digits of a number.
 const MAX_DIGITS: usize = 3;
@@ -18,7 +18,7 @@ pub fn number(word: &[u8]) -> Option<u8>
     if word.is_empty() || word.len() > MAX_DIGITS || !is_digits(word) {
         return None;
     }
-    as_text(word).parse().ok()
+    str::from_utf8(word).unwrap().parse().ok()
 }
 
 /// Whether all bytes are decimal digits.

@@ -1,26 +1,27 @@
 //! The words of a line of a script.
-ghost use Rattle.std.specs.Prelude.{◌≡◌, ◌<◌, ◌≤◌, length, map, position, All, option_map, IfSome};
+ghost use Rattle.std.specs.Prelude.{◌≡◌, ◌<◌, ◌≤◌, nat_le, if◌then◌else◌, length, map, position, All, None, option_map, IfSome};
 ghost use Rattle.std.specs.List.{list_all};
+ghost use Rattle.d64_script.specs.RawLines.{line_limit};
 ghost use Rattle.d64_script.specs.Words.{IsPrintable, is_printable, is_quote, ends_run, first_word, quoted_word, bare_word, word_before, split_words, words_of, HasWordsOfRule};
 
+use crate::raw_lines::LINE_BYTES;
 use arrayvec::ArrayVec;
-use std::str;
-
-/// The most bytes of a line.
-pub const MAX_LINE: usize = 1024;
 
 /// The most words of a line, since a space stands between two words.
 pub const MAX_WORDS: usize = 512;
 
-/// The words of a line of at most 1,024 bytes, in order, without the quotes round a quoted word. Spaces separate words.
-/// It is `None` where a byte is no printable ASCII character, or where a quote neither begins a word nor ends it. It
-/// takes no memory.
+/// The words of a line, in order, without the quotes round a quoted word. Spaces separate words. It is `None` where
+/// the line has more than `LINE_BYTES` bytes, where a byte is no printable ASCII character, or where a quote neither
+/// begins a word nor ends it. It takes no memory.
 #[tactic(auto, unfolding(crate::specs::Words::words_of))]
 pub fn words(line: &[u8]) -> Option<ArrayVec<&[u8], MAX_WORDS>>
-    requires { length line.now ≤ 1024 }
-    ensures words { option_map (λ words. map (λ word. word.now) words.items) result ≡ words_of line.now }
+    ensures words { option_map (λ words. map (λ word. word.now) words.items) result
+        ≡ (if nat_le (length line.now) line_limit then words_of line.now else None) }
     ensures printable { IfSome result (λ words. All (λ word. All IsPrintable word.now) words.items) }
 {
+    if line.len() > LINE_BYTES {
+        return None;
+    }
     if !is_printable_line(line) {
         return None;
     }
@@ -119,22 +120,12 @@ fn word_before<'a>(word: &'a [u8], rest: &'a [u8]) -> Option<(&'a [u8], &'a [u8]
     }
 }
 
-/// A word of ASCII bytes as a text.
-pub fn as_text(word: &[u8]) -> &str
-    requires { All (λ b. b < 128) word.now }
-    ensures { result.now ≡ word.now }
-{
-    str::from_utf8(word).unwrap()
-}
-
 #[cfg(test)]
 mod tests {
     use super::*;
     use std::process::Abort;
 
-    fn expect_words(rt: &impl Abort, line: &[u8], expected: &[&[u8]])
-        requires { length line.now ≤ 1024 }
-    {
+    fn expect_words(rt: &impl Abort, line: &[u8], expected: &[&[u8]]) {
         match words(line) {
             Some(words) => {
                 assert_eq!(rt; words.len(), expected.len());
@@ -170,18 +161,13 @@ mod tests {
             &b"a\x7f"[..],
             &b"a\tb"[..],
         ] {
-            if line.len() <= MAX_LINE {
-                assert!(rt; words(line).is_none());
-            }
+            assert!(rt; words(line).is_none());
         }
     }
 
     #[test]
-    fn gives_words_as_texts(rt: HostRuntime) {
-        if let Some(words) = words(b"save \"my image\"") {
-            for word in words.as_slice() {
-                assert!(rt; ["save", "my image"].contains(&as_text(word)));
-            }
-        }
+    fn refuses_lines_of_more_than_1024_bytes(rt: HostRuntime) {
+        expect_words(&rt, &[b' '; 1024], &[]);
+        assert!(rt; words(&[b' '; 1025]).is_none());
     }
 }

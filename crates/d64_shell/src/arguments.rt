@@ -15,8 +15,8 @@ use d64_files::{Kind, Name, Pattern};
 use d64_image::BlockNo;
 use d64_script::number::number;
 use d64_script::status::Status;
-use d64_script::words::as_text;
 use std::alloc::Global;
+use std::str;
 
 /// The most bytes of the name of a host file.
 pub const HOST_NAME_BYTES: usize = 255;
@@ -29,7 +29,7 @@ pub(crate) fn host_in(word: &[u8]) -> Result<&str, Status>
     if word.is_empty() || word.len() > HOST_NAME_BYTES {
         return Err(Status::BadName);
     }
-    Ok(as_text(word))
+    Ok(str::from_utf8(word).unwrap())
 }
 
 /// A number of one to three digits, of value at most 255.

@@ -22,8 +22,8 @@ use d64_host::Host;
 use d64_image::BlockNo;
 use d64_script::dump::dump;
 use d64_script::status::Status;
-use d64_script::words::as_text;
 use std::alloc::Global;
+use std::str;
 
 /// The most bytes that a command takes of a host file.
 pub const HOST_FILE_BYTES: usize = 1_048_576;
@@ -215,7 +215,8 @@ fn read_as_found<H: Host>(
     if !is_file_name(name.as_slice()) {
         return Err(Status::BadName);
     }
-    store(alloc, host, as_text(name.as_slice()), file.bytes.as_slice())
+    let name = str::from_utf8(name.as_slice()).unwrap();
+    store(alloc, host, name, file.bytes.as_slice())
 }
 
 /// `redo`: the next image of the history.

@@ -4,11 +4,6 @@ use Rattle.d64_script.specs.Words.{is_printable}
 use Rattle.d64_script.proofs.Splitting.{words_of-printable, lent_words_printable}
 use Rattle.d64_script.proofs.words.words.Goals as goal
 
-pub returns-clause-words : goal.returns-clause-words
-returns-clause-words c =
-    let printable : list_all is_printable c.args.line.now ≡ true = search rules in
-    c.split_words.ensures ∙ sym (words_of-printable c.args.line.now printable)
-
 pub returns-clause-printable : goal.returns-clause-printable
 returns-clause-printable c =
     let printable : list_all is_printable c.args.line.now ≡ true = search rules in

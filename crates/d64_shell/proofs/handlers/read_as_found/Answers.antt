@@ -1,4 +1,6 @@
-use Rattle.std.proofs.Common.{◌≡◌, ◌∙◌, ℕ, ◌<◌, sym, ap, subst, true, List, None, All, rules}
+use Rattle.std.proofs.Common.{◌≡◌, ◌∙◌, ℕ, ◌<◌, sym, ap, subst, true, List, None, All, arith, rules}
+use Rattle.std.proofs.lemmas.Str.{IsUtf8-from_ascii}
+use Rattle.std.proofs.lemmas.Str.Ascii.{IsAscii-from_all}
 use Rattle.cbm_text.specs.Spelling.{spelling}
 use Rattle.d64_dos.specs.Reading.{read_refusal}
 use Rattle.d64_shell.specs.FoundFile.{found_name, found_content, is_file_name}
@@ -29,11 +31,13 @@ returns-in-Err-to_text g c =
     Does-accepted history (read_refusal (present history) pattern) (store_as_found name bytes history) _ _ _ refused
     (store_as_found-memory name bytes (g.H.Host.files c.args.host.now) (g.H.Host.failure_count c.args.host.now) history)
 
-pub as_text-requires : goal.as_text-requires
-as_text-requires g c =
+pub unwrap-name-requires : goal.unwrap-name-requires
+unwrap-name-requires g c =
     let same : spelling c.as_slice-2.result.now ≡ c.as_slice-4.result.now =
     sym (c.as_slice-4.ensures.value ∙ c.in-Ok-to_text.ensures.spelled ∙ ap spelling (c.as_slice.ensures.value ∙ sym c.as_slice-2.ensures.value)) in
-    subst (λ (text : List ℕ). All (λ byte. byte < 128) text) same c.spelling_is_ascii.ensures
+    let ascii = subst (λ (text : List ℕ). All (λ byte. byte < 128) text) same c.spelling_is_ascii.ensures in
+    let text = IsUtf8-from_ascii c.as_slice-4.result.now (IsAscii-from_all c.as_slice-4.result.now ascii) in
+    grind arith
 
 pub returns : goal.returns
 returns g c =
@@ -43,7 +47,8 @@ returns g c =
     let refused : None ≡ read_refusal (present history) pattern = rw c.image.ensures.present at c.in-Ok.ensures.refused in
     let text : c.in-Ok-to_text.name.items ≡ spelling (found_name (present history) pattern) =
     c.in-Ok-to_text.ensures.spelled ∙ ap spelling (c.as_slice.ensures.value ∙ found_name-read (present history) pattern c.in-Ok.file.name.items c.in-Ok.file.bytes.items back) in
-    let name : c.as_text.result.now ≡ spelling (found_name (present history) pattern) = c.as_text.ensures ∙ c.as_slice-4.ensures.value ∙ text in
+    let same : c.unwrap-name.result.now ≡ c.as_slice-4.result.now = search rules in
+    let name : c.unwrap-name.result.now ≡ spelling (found_name (present history) pattern) = same ∙ c.as_slice-4.ensures.value ∙ text in
     let bytes : c.as_slice-5.result.now ≡ found_content (present history) pattern =
     c.as_slice-5.ensures.value ∙ found_content-read (present history) pattern c.in-Ok.file.name.items c.in-Ok.file.bytes.items back in
     let passes : c.is_file_name.result ≡ true = search rules in
