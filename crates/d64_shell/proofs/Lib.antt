@@ -7,3 +7,4 @@ pub mod LastParts
 pub mod AsciiTexts
 pub mod FoundFiles
 pub mod SoundHistories
+pub mod ProgramRuns

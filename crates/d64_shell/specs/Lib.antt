@@ -27,3 +27,4 @@ pub mod Answer
 pub mod Line
 pub mod Transcript
 pub mod Runner
+pub mod Program

@@ -1,12 +1,13 @@
 //! The program `d64sh`, from its words to its exit status.
-ghost use Rattle.std.specs.Prelude.{◌≡◌, ◌≤◌, ◌==◌, if◌then◌else◌};
+ghost use Rattle.std.specs.Prelude.{◌≡◌, ◌≢◌, ◌≤◌, map, Some, IfOk, option_copied};
+ghost use Rattle.d64_shell.specs.Program.{image_name_of, IsFirstImage, RanShell, RanTo, status_of};
 
 use crate::runner::{Outcome, ShellFault, run};
 use crate::session::Session;
 use d64_host::{Host, HostFault};
 use d64_image::{Image, ImageFault};
 use std::alloc::{AllocError, Global};
-use std::io::{BufWriter, Read, Write};
+use std::io::{Read, Write};
 use thiserror::Error;
 
 /// The most bytes of an image file that are read, more than any image has.
@@ -92,8 +93,8 @@ impl From<ShellFault> for ProgramFault {
 /// were accepted, 1 where some line was refused, 2 after a fault, which one line on `faults` tells.
 ///
 /// `shell` runs the script that `reader` gives on a blank image; `shell IMAGE` runs it on the image that the host has
-/// under this name, which is also where `save` stores it by default. All that was answered is written out before a
-/// status is.
+/// under this name, which is also where `save` stores it by default. The writer is flushed before a status comes; each
+/// answer is a few writes, so a writer that buffers is the faster one.
 pub fn program<R: Read, W: Write, F: Write, H: Host>(
     alloc: Global,
     words: &[&str],
@@ -102,7 +103,12 @@ pub fn program<R: Read, W: Write, F: Write, H: Host>(
     faults: &mut F,
     host: &mut H,
 ) -> u8
-    ensures { result ≤ 2 }
+    ensures status { result ≤ 2 }
+    ensures ran { result ≢ 2 → RanTo (map (λ word. word.now) words.now) (R.remaining reader.old)
+        (record { writer = W.contents writer.old; files = H.files host.old; failures = H.failure_count host.old })
+        (record { writer = W.contents writer.new; files = H.files host.new; failures = H.failure_count host.new })
+        result }
+    ensures silent { result ≢ 2 → faults.new ≡ faults.old }
 {
     match shell(alloc, words, reader, writer, host) {
         Ok(outcome) => exit_status(outcome),
@@ -112,7 +118,7 @@ pub fn program<R: Read, W: Write, F: Write, H: Host>(
 
 /// The exit status of a script that ran to its end.
 fn exit_status(outcome: Outcome) -> u8
-    ensures { result ≡ (if outcome.refused == 0 then 0 else 1) }
+    ensures { result ≡ status_of outcome }
 {
     if outcome.refused == 0 {
         ALL_ACCEPTED
@@ -128,21 +134,26 @@ fn shell<R: Read, W: Write, H: Host>(
     reader: &mut R,
     writer: &mut W,
     host: &mut H,
-) -> Result<Outcome, ProgramFault> {
+) -> Result<Outcome, ProgramFault>
+    ensures { IfOk result (RanShell (map (λ word. word.now) words.now) (R.remaining reader.old)
+        (record { writer = W.contents writer.old; files = H.files host.old; failures = H.failure_count host.old })
+        (record { writer = W.contents writer.new; files = H.files host.new; failures = H.failure_count host.new })) }
+{
     let image_name = image_name(words)?;
     let image = first_image(alloc, host, image_name)?;
     let mut session = Session::new(alloc, image);
-    let mut output = BufWriter::new(alloc, writer).map_err(|_| ProgramFault::Memory)?;
     let home = image_name.unwrap_or("");
-    let ran = run(alloc, reader, &mut output, host, home, &mut session);
-    match output.flush() {
+    let ran = run(alloc, reader, writer, host, home, &mut session);
+    match writer.flush() {
         Ok(()) => Ok(ran?),
         Err(_) => Err(ProgramFault::Write),
     }
 }
 
 /// The name of the image file that the words ask for, or None where they ask for a blank image.
-fn image_name<'a>(words: &[&'a str]) -> Result<Option<&'a str>, ProgramFault> {
+fn image_name<'a>(words: &[&'a str]) -> Result<Option<&'a str>, ProgramFault>
+    ensures { IfOk result (λ name. image_name_of (map (λ word. word.now) words.now) ≡ Some (option_copied name)) }
+{
     match words {
         ["shell"] => Ok(None),
         ["shell", image] => Ok(Some(image)),
@@ -155,7 +166,10 @@ fn first_image<H: Host>(
     alloc: Global,
     host: &mut H,
     name: Option<&str>,
-) -> Result<Image, ProgramFault> {
+) -> Result<Image, ProgramFault>
+    ensures image { IfOk result (IsFirstImage (H.files host.old) (option_copied name.entry)) }
+    ensures kept { H.files host.new ≡ H.files host.old }
+{
     let Some(name) = name else {
         return Ok(Image::zeroed(alloc)?);
     };

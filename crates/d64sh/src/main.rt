@@ -6,7 +6,7 @@ mod retrying;
 use d64_shell::{FolderHost, ProgramFault, program};
 use retrying::Retrying;
 use std::env;
-use std::io::{self, ErrorKind, Stderr};
+use std::io::{self, BufWriter, ErrorKind, Stderr};
 use std::process::ExitCode;
 
 fn main(rt: HostRuntime) -> ExitCode {
@@ -26,11 +26,12 @@ fn start(rt: &HostRuntime, faults: &mut Stderr) -> Result<u8, ProgramFault> {
         .iter()
         .map(|word| word.as_str())
         .collect(rt.alloc())?;
+    let mut output = BufWriter::new(rt.alloc(), rt.stdout()).map_err(|_| ProgramFault::Memory)?;
     Ok(program(
         rt.alloc(),
         words.as_slice(),
         &mut Retrying(rt.stdin()),
-        &mut rt.stdout(),
+        &mut output,
         faults,
         &mut FolderHost::new(rt),
     ))
