@@ -1,30 +1,105 @@
 -- Runs of the program.
-use Rattle.std.proofs.Common.{◌≡◌, ℕ, List, [], Bor, Option, None, Some, refl, option_copied, unwrap_or}
+use Rattle.std.proofs.Common.{◌≡◌, ℕ, List, [], ◌++◌, take, Bor, Option, None, Some, Result, Ok, Err, OnErr, refl, option_copied, unwrap_or}
 use Rattle.std.specs.Io.KnownBytes.{Keeps}
-use Rattle.std.proofs.KnownBytes.{Appends-kept}
-use Rattle.d64_shell.specs.Program.{home_of}
-use Rattle.d64_shell.specs.Runner.{Stand, RanWhole}
+use Rattle.std.proofs.KnownBytes.{Appends-kept, Keeps-trans}
+use Rattle.d64_script.specs.RawLines.{lines_of, ended_lines}
+use Rattle.d64_script.specs.Script.{script_limit}
+use Rattle.d64_host.specs.Files.{Files}
+use Rattle.d64_shell.specs.History.{History, begun}
+use Rattle.d64_shell.specs.Program.{image_name_of, home_of, IsFirstImage, Outside, RanShell}
+use Rattle.d64_shell.specs.Runner.{Stand, RanLines, StoppedAt, Ran}
+use Rattle.d64_shell.specs.Transcript.{Progress}
 use Rattle.d64_shell.specs.declared.runner.Outcome.{Outcome}
+use Rattle.d64_shell.specs.declared.runner.ShellFault.{ShellFault}
+use Rattle.d64_shell.specs.declared.runner.ShellFault.TheVariants.{Read, Write, Memory}
 
 -- where `save` stores by default
 pub home_is : (name : Option (Bor (List ℕ))) (empty : Bor (List ℕ)) → empty.now ≡ [] → (unwrap_or name empty).now ≡ home_of (option_copied name)
 home_is None empty e = e
 home_is (Some name) empty e = refl
 
--- a script has run also after its output was flushed
-pub RanWhole-flushed : (home : List ℕ) (reader : Option (List ℕ)) (old new : Stand) (flushed : Option (List ℕ)) (outcome : Outcome)
-    → RanWhole home reader old new outcome → Keeps new.writer flushed
-    → RanWhole home reader old (record { writer = flushed; world = new.world }) outcome
-RanWhole-flushed home reader old new flushed outcome ran kept = record {
+-- what holds at any end holds where that end is an error
+pub OnErr-always : {T E : Type 0} (r : Result T E) (P : Type 0) → P → OnErr r P
+OnErr-always (Ok value) P p = tt
+OnErr-always (Err fault) P p = p
+
+-- lines have run also after the output was flushed
+RanLines-flushed : (home : List ℕ) (old new : Stand) (lines : List (List ℕ)) (after : Progress) (flushed : Option (List ℕ))
+    → RanLines home old new lines after → Keeps new.writer flushed → RanLines home old (record { writer = flushed; world = new.world }) lines after
+RanLines-flushed home old new lines after flushed ran kept = record {
+  out = ran.out;
+  told = ran.told;
+  written = Appends-kept old.writer new.writer flushed ran.out ran.written kept;
+  world = ran.world;
+}
+
+-- so have those before a write that failed
+StoppedAt-flushed : (home : List ℕ) (old new : Stand) (lines : List (List ℕ)) (flushed : Option (List ℕ))
+    → StoppedAt home old new lines → Keeps new.writer flushed → StoppedAt home old (record { writer = flushed; world = new.world }) lines
+StoppedAt-flushed home old new lines flushed stopped kept = record {
+  before = stopped.before;
+  line = stopped.line;
+  rest = stopped.rest;
+  split = stopped.split;
+  out = stopped.out;
+  middle = stopped.middle;
+  told = stopped.told;
+  open_run = stopped.open_run;
+  answer = stopped.answer;
+  after = stopped.after;
+  answered = stopped.answered;
+  part = stopped.part;
+  unwritten = stopped.unwritten;
+  parts = stopped.parts;
+  written = Appends-kept old.writer new.writer flushed (stopped.out ++ stopped.part) stopped.written kept;
+  world = stopped.world;
+}
+
+-- a script has run also after its output was flushed, however it ended
+pub Ran-flushed : (home : List ℕ) (reader left : Option (List ℕ)) (old new : Stand) (flushed : Option (List ℕ)) (ended : Result Outcome ShellFault)
+    → Ran home reader left old new ended → Keeps new.writer flushed → Ran home reader left old (record { writer = flushed; world = new.world }) ended
+Ran-flushed home reader left old new flushed (Ok outcome) ran kept = record {
   script = ran.script;
   all = ran.all;
   after = ran.after;
-  ran = record {
-    out = ran.ran.out;
-    told = ran.ran.told;
-    written = Appends-kept old.writer new.writer flushed ran.ran.out ran.ran.written kept;
-    world = ran.ran.world;
-  };
+  ran = RanLines-flushed home old new (lines_of ran.script) ran.after flushed ran.ran kept;
   accepted = ran.accepted;
   refused = ran.refused;
+}
+Ran-flushed home reader left old new flushed (Err Read) ran kept = record {
+  consumed = ran.consumed;
+  lost = ran.lost;
+  after = ran.after;
+  ran = RanLines-flushed home old new (ended_lines (take script_limit ran.consumed)) ran.after flushed ran.ran kept;
+  open_run = ran.open_run;
+}
+Ran-flushed home reader left old new flushed (Err Write) ran kept = record {
+  script = ran.script;
+  all = ran.all;
+  stopped = StoppedAt-flushed home old new (lines_of ran.script) flushed ran.stopped kept;
+}
+Ran-flushed home reader left old new flushed (Err (Memory error)) ran kept = record {
+  written = Keeps-trans old.writer new.writer flushed ran.written kept;
+  world = ran.world;
+}
+
+-- a script has run on the first image, and then its output was flushed
+pub RanShell-flushed : (words : List (List ℕ)) (reader left : Option (List ℕ)) (old new : Outside) (ended : Result Outcome ShellFault)
+    (name : Option (List ℕ)) (image : List (List ℕ)) (home : List ℕ) (files : Option Files) (failures : ℕ) (first history : History) (writer : Option (List ℕ))
+    → image_name_of words ≡ Some name → IsFirstImage old.files name image → home ≡ home_of name → files ≡ old.files → first ≡ begun image
+    → Ran home reader left
+    (record { writer = old.writer; world = record { files = files; failures = failures; history = first } })
+    (record { writer = writer; world = record { files = new.files; failures = new.failures; history = history } }) ended
+    → Keeps writer new.writer → RanShell words reader left old new ended
+RanShell-flushed words reader left old new ended name image home files failures first history writer asked is_first at_home kept begins ran flushed = record {
+  name = name;
+  asked = asked;
+  image = image;
+  first = is_first;
+  failures = failures;
+  history = history;
+  ran = Ran-flushed (home_of name) reader left
+      (record { writer = old.writer; world = record { files = old.files; failures = failures; history = begun image } })
+      (record { writer = writer; world = record { files = new.files; failures = new.failures; history = history } }) new.writer ended
+      (rw (at_home, kept, begins) at ran) flushed;
 }

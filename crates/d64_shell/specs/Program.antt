@@ -1,14 +1,23 @@
 -- What the program does with its words, its streams and a host.
-use Rattle.std.specs.Prelude.{◌≡◌, ℕ, ◌==◌, if◌then◌else◌, List, [], ◌∷◌, replicate, codes, bytes_eq, Option, Some, None, Ok}
+use Rattle.std.specs.Prelude.{◌≡◌, ℕ, ◌==◌, if◌then◌else◌, List, [], ◌∷◌, replicate, codes, bytes_eq, Option, Some, None, Result, Ok, ◌⊎◌}
+use Rattle.std.specs.Io.KnownBytes.{Keeps}
 use Rattle.d64_host.specs.Files.{Files}
 use Rattle.d64_host.specs.Host.{Fetches}
+use Rattle.d64_host.specs.declared.host.HostFault.{HostFault}
+use Rattle.d64_host.specs.declared.host.HostFault.TheVariants.{Missing, Device, TooLong}
+use Rattle.d64_host.specs.declared.host.HostFault.TheVariants as files
+use Rattle.d64_image.specs.declared.image.ImageFault.{ImageFault}
+use Rattle.d64_image.specs.declared.image.ImageFault.TheVariants as images
 use Rattle.d64_image.specs.Image.{IsImage, bytes_of}
 use Rattle.d64_image.specs.declared.block.TheConstants.{BLOCKS}
 use Rattle.d64_image.specs.declared.image.TheConstants.{BLOCK_BYTES}
-use Rattle.d64_shell.specs.Act.{World}
 use Rattle.d64_shell.specs.History.{History, begun}
-use Rattle.d64_shell.specs.Runner.{Stand, RanWhole}
+use Rattle.d64_shell.specs.Runner.{Ran}
 use Rattle.d64_shell.specs.declared.runner.Outcome.{Outcome}
+use Rattle.d64_shell.specs.declared.runner.ShellFault.{ShellFault}
+use Rattle.d64_shell.specs.declared.runner.ShellFault.TheVariants as runs
+use Rattle.d64_shell.specs.declared.entry.ProgramFault.{ProgramFault}
+use Rattle.d64_shell.specs.declared.entry.ProgramFault.TheVariants.{WrongLength, UnreadableImage, Read, Write, Memory}
 
 -- the image file that the words after the program's name ask for, or None in its place where they ask for a blank image;
 -- None where they are no use of the program
@@ -38,22 +47,48 @@ pub record Outside : Type 0 where
   pub files : Option Files
   pub failures : ℕ
 
--- the script has run to its end on the image that the words ask for, and all that it answered is written
-pub record RanShell (words : List (List ℕ)) (reader : Option (List ℕ)) (old new : Outside) (outcome : Outcome) : Type 0 where
+-- the script has run on the image that the words ask for, and ended so
+pub record RanShell (words : List (List ℕ)) (reader left : Option (List ℕ)) (old new : Outside) (ended : Result Outcome ShellFault) : Type 0 where
   pub name : Option (List ℕ)
   pub asked : image_name_of words ≡ Some name
   pub image : List (List ℕ)
   pub first : IsFirstImage old.files name image
   pub failures : ℕ
   pub history : History
-  pub ran : RanWhole (home_of name) reader
+  pub ran : Ran (home_of name) reader left
       (record { writer = old.writer; world = record { files = old.files; failures = failures; history = begun image } })
-      (record { writer = new.writer; world = record { files = new.files; failures = new.failures; history = history } }) outcome
+      (record { writer = new.writer; world = record { files = new.files; failures = new.failures; history = history } }) ended
+
+-- no line has run
+abbrev pub HasNotBegun : Outside → Outside → Type 0
+HasNotBegun old new = Keeps old.writer new.writer × (new.files ≡ old.files)
+
+-- the program stopped with a fault: before the script, or after a part of it
+abbrev pub Stopped : List (List ℕ) → Option (List ℕ) → Option (List ℕ) → Outside → Outside → Type 0
+Stopped words reader left old new = HasNotBegun old new ⊎ ((ended : Result Outcome ShellFault) × RanShell words reader left old new ended)
 
 -- a script that ran to its end gives status 0 where all of its lines were accepted, and else 1
 abbrev pub status_of : Outcome → ℕ
 status_of outcome = if outcome.refused == 0 then 0 else 1
 
--- the script has run, and this is its status
-abbrev pub RanTo : List (List ℕ) → Option (List ℕ) → Outside → Outside → ℕ → Type 0
-RanTo words reader old new status = (outcome : Outcome) × RanShell words reader old new outcome × (status ≡ status_of outcome)
+-- the script has run to its end, and this is its status
+abbrev pub RanTo : List (List ℕ) → Option (List ℕ) → Option (List ℕ) → Outside → Outside → ℕ → Type 0
+RanTo words reader left old new status = (outcome : Outcome) × RanShell words reader left old new (Ok outcome) × (status ≡ status_of outcome)
+
+-- how the fault of an image file that cannot be fetched is told
+abbrev pub fault_of_file : HostFault → ProgramFault
+fault_of_file Missing = UnreadableImage
+fault_of_file Device = UnreadableImage
+fault_of_file TooLong = UnreadableImage
+fault_of_file (files.Memory error) = Memory
+
+-- how the fault of the bytes of an image file is told
+abbrev pub fault_of_image : ImageFault → ProgramFault
+fault_of_image (images.WrongLength length) = WrongLength length
+fault_of_image (images.Memory error) = Memory
+
+-- how the fault of a run is told
+abbrev pub fault_of_run : ShellFault → ProgramFault
+fault_of_run runs.Read = Read
+fault_of_run runs.Write = Write
+fault_of_run (runs.Memory error) = Memory

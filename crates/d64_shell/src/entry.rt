@@ -1,6 +1,7 @@
 //! The program `d64sh`, from its words to its exit status.
-ghost use Rattle.std.specs.Prelude.{◌≡◌, ◌≢◌, ◌≤◌, map, Some, IfOk, option_copied};
-ghost use Rattle.d64_shell.specs.Program.{image_name_of, IsFirstImage, RanShell, RanTo, status_of};
+ghost use Rattle.std.specs.Prelude.{◌≡◌, ◌≢◌, ◌≤◌, map, Some, Ok, IfOk, OnErr, option_copied};
+ghost use Rattle.d64_shell.specs.Program.{image_name_of, IsFirstImage, RanShell, Stopped, RanTo, status_of, fault_of_file, fault_of_image, fault_of_run};
+ghost use Rattle.d64_shell.specs.declared.entry.ProgramFault.TheVariants.{Memory};
 
 use crate::runner::{Outcome, ShellFault, run};
 use crate::session::Session;
@@ -54,7 +55,9 @@ impl ProgramFault {
     }
 
     /// The fault of an image file that cannot be fetched.
-    fn of_image_file(fault: HostFault) -> ProgramFault {
+    fn of_image_file(fault: HostFault) -> ProgramFault
+        ensures { result ≡ fault_of_file fault }
+    {
         match fault {
             HostFault::Memory(_) => ProgramFault::Memory,
             HostFault::Missing | HostFault::Device | HostFault::TooLong => {
@@ -65,12 +68,16 @@ impl ProgramFault {
 }
 
 impl From<AllocError> for ProgramFault {
+    ghost from_gives = { λ _ fault. fault ≡ Memory };
+
     fn from(_error: AllocError) -> ProgramFault {
         ProgramFault::Memory
     }
 }
 
 impl From<ImageFault> for ProgramFault {
+    ghost from_gives = { λ fault told. told ≡ fault_of_image fault };
+
     fn from(fault: ImageFault) -> ProgramFault {
         match fault {
             ImageFault::WrongLength(length) => ProgramFault::WrongLength(length),
@@ -80,6 +87,8 @@ impl From<ImageFault> for ProgramFault {
 }
 
 impl From<ShellFault> for ProgramFault {
+    ghost from_gives = { λ fault told. told ≡ fault_of_run fault };
+
     fn from(fault: ShellFault) -> ProgramFault {
         match fault {
             ShellFault::Read => ProgramFault::Read,
@@ -104,10 +113,13 @@ pub fn program<R: Read, W: Write, F: Write, H: Host>(
     host: &mut H,
 ) -> u8
     ensures status { result ≤ 2 }
-    ensures ran { result ≢ 2 → RanTo (map (λ word. word.now) words.now) (R.remaining reader.old)
+    ensures ran { result ≢ 2 → RanTo (map (λ word. word.now) words.now) (R.remaining reader.old) (R.remaining reader.new)
         (record { writer = W.contents writer.old; files = H.files host.old; failures = H.failure_count host.old })
         (record { writer = W.contents writer.new; files = H.files host.new; failures = H.failure_count host.new })
         result }
+    ensures stopped { result ≡ 2 → Stopped (map (λ word. word.now) words.now) (R.remaining reader.old) (R.remaining reader.new)
+        (record { writer = W.contents writer.old; files = H.files host.old; failures = H.failure_count host.old })
+        (record { writer = W.contents writer.new; files = H.files host.new; failures = H.failure_count host.new }) }
     ensures silent { result ≢ 2 → faults.new ≡ faults.old }
 {
     match shell(alloc, words, reader, writer, host) {
@@ -135,7 +147,10 @@ fn shell<R: Read, W: Write, H: Host>(
     writer: &mut W,
     host: &mut H,
 ) -> Result<Outcome, ProgramFault>
-    ensures { IfOk result (RanShell (map (λ word. word.now) words.now) (R.remaining reader.old)
+    ensures ran { IfOk result (λ outcome. RanShell (map (λ word. word.now) words.now) (R.remaining reader.old) (R.remaining reader.new)
+        (record { writer = W.contents writer.old; files = H.files host.old; failures = H.failure_count host.old })
+        (record { writer = W.contents writer.new; files = H.files host.new; failures = H.failure_count host.new }) (Ok outcome)) }
+    ensures stopped { OnErr result (Stopped (map (λ word. word.now) words.now) (R.remaining reader.old) (R.remaining reader.new)
         (record { writer = W.contents writer.old; files = H.files host.old; failures = H.failure_count host.old })
         (record { writer = W.contents writer.new; files = H.files host.new; failures = H.failure_count host.new })) }
 {

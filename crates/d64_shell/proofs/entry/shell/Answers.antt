@@ -1,22 +1,50 @@
 -- The script has run on the first image, and a flush of the output changes none of its bytes.
-use Rattle.std.proofs.Common.{◌≡◌, ◌∙◌, Ok, Result, ap, subst, option_copied, rules}
-use Rattle.d64_shell.specs.Runner.{Ran}
-use Rattle.d64_shell.specs.Program.{home_of}
-use Rattle.d64_shell.proofs.ProgramRuns.{home_is, RanWhole-flushed}
+use Rattle.std.proofs.Common.{◌≡◌, ◌∙◌, map, Ok, inr, ap, option_copied, rules}
+use Rattle.d64_shell.specs.Program.{home_of, Outside, Stopped}
+use Rattle.d64_shell.proofs.ProgramRuns.{home_is, OnErr-always, RanShell-flushed}
 use Rattle.d64_shell.proofs.entry.shell.Goals as goal
 
-pub returns-in-Ok : goal.returns-in-Ok
-returns-in-Ok g c =
-    let home : c.unwrap_or-home.result.now ≡ home_of (option_copied c.in_ok-image_name.image_name) =
+-- to its end
+pub returns-in-Ok-clause-ran : goal.returns-in-Ok-clause-ran
+returns-in-Ok-clause-ran g c =
+    let name = option_copied c.in_ok-image_name.image_name in
+    let home : c.unwrap_or-home.result.now ≡ home_of name =
     ap (λ text. text.now) c.unwrap_or-home.ensures ∙ home_is c.in_ok-image_name.image_name _ (search rules) in
+    let old : Outside = record { writer = g.W.Write.contents c.args.writer.now; files = g.H.Host.files c.args.host.now; failures = g.H.Host.failure_count c.args.host.now } in
+    let new : Outside = record { writer = g.W.Write.contents c.flush.new.self; files = g.H.Host.files c.run-ran.new.host; failures = g.H.Host.failure_count c.run-ran.new.host } in
     let is : c.run-ran.result ≡ Ok c.in_ok-ran-in-Ok.field-0 = search rules in
-    let ran = rw is at c.run-ran.ensures in
-    record {
-      name = option_copied c.in_ok-image_name.image_name;
-      asked = c.in_ok-image_name.ensures;
-      image = c.in_ok-image.image;
-      first = c.in_ok-image.ensures.image;
-      failures = g.H.Host.failure_count c.first_image.new.host;
-      history = c.run-ran.new.session;
-      ran = RanWhole-flushed _ _ _ _ (g.W.Write.contents c.flush.new.self) _ (rw (home, c.first_image.ensures.kept, c.new-session.ensures.begun) at ran) c.in-Ok.ensures.bytes;
-    }
+    RanShell-flushed (map (λ word. word.now) c.args.words.now) (g.R.Read.remaining c.args.reader.now) (g.R.Read.remaining c.run-ran.new.reader) old new (Ok c.in_ok-ran-in-Ok.field-0) name c.in_ok-image.image
+    c.unwrap_or-home.result.now (g.H.Host.files c.first_image.new.host) (g.H.Host.failure_count c.first_image.new.host) c.new-session.result c.run-ran.new.session (g.W.Write.contents c.run-ran.new.writer)
+    c.in_ok-image_name.ensures c.in_ok-image.ensures.image home c.first_image.ensures.kept c.new-session.ensures.begun (rw is at c.run-ran.ensures) c.in-Ok.ensures.bytes
+
+-- up to a fault
+pub returns-in_err-ran-in-Ok-clause-stopped : goal.returns-in_err-ran-in-Ok-clause-stopped
+returns-in_err-ran-in-Ok-clause-stopped g c =
+    let name = option_copied c.in_ok-image_name.image_name in
+    let home : c.unwrap_or-home.result.now ≡ home_of name =
+    ap (λ text. text.now) c.unwrap_or-home.ensures ∙ home_is c.in_ok-image_name.image_name _ (search rules) in
+    let old : Outside = record { writer = g.W.Write.contents c.args.writer.now; files = g.H.Host.files c.args.host.now; failures = g.H.Host.failure_count c.args.host.now } in
+    let new : Outside = record { writer = g.W.Write.contents c.flush.new.self; files = g.H.Host.files c.run-ran.new.host; failures = g.H.Host.failure_count c.run-ran.new.host } in
+    OnErr-always c.from_residual-in_err-ran-in-Ok.result
+    (Stopped (map (λ word. word.now) c.args.words.now) (g.R.Read.remaining c.args.reader.now) (g.R.Read.remaining c.run-ran.new.reader) old new)
+    (inr (
+      c.run-ran.result,
+      RanShell-flushed (map (λ word. word.now) c.args.words.now) (g.R.Read.remaining c.args.reader.now) (g.R.Read.remaining c.run-ran.new.reader) old new c.run-ran.result name c.in_ok-image.image
+          c.unwrap_or-home.result.now (g.H.Host.files c.first_image.new.host) (g.H.Host.failure_count c.first_image.new.host) c.new-session.result c.run-ran.new.session (g.W.Write.contents c.run-ran.new.writer)
+          c.in_ok-image_name.ensures c.in_ok-image.ensures.image home c.first_image.ensures.kept c.new-session.ensures.begun c.run-ran.ensures c.flush.ensures.bytes,
+    ))
+
+-- and the flush failed
+pub returns-clause-stopped : goal.returns-clause-stopped
+returns-clause-stopped g c =
+    let name = option_copied c.in_ok-image_name.image_name in
+    let home : c.unwrap_or-home.result.now ≡ home_of name =
+    ap (λ text. text.now) c.unwrap_or-home.ensures ∙ home_is c.in_ok-image_name.image_name _ (search rules) in
+    let old : Outside = record { writer = g.W.Write.contents c.args.writer.now; files = g.H.Host.files c.args.host.now; failures = g.H.Host.failure_count c.args.host.now } in
+    let new : Outside = record { writer = g.W.Write.contents c.flush.new.self; files = g.H.Host.files c.run-ran.new.host; failures = g.H.Host.failure_count c.run-ran.new.host } in
+    inr (
+      c.run-ran.result,
+      RanShell-flushed (map (λ word. word.now) c.args.words.now) (g.R.Read.remaining c.args.reader.now) (g.R.Read.remaining c.run-ran.new.reader) old new c.run-ran.result name c.in_ok-image.image
+          c.unwrap_or-home.result.now (g.H.Host.files c.first_image.new.host) (g.H.Host.failure_count c.first_image.new.host) c.new-session.result c.run-ran.new.session (g.W.Write.contents c.run-ran.new.writer)
+          c.in_ok-image_name.ensures c.in_ok-image.ensures.image home c.first_image.ensures.kept c.new-session.ensures.begun c.run-ran.ensures c.flush.ensures.bytes,
+    )
