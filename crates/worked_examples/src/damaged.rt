@@ -1,10 +1,8 @@
 //! Damaged disks: what is still read of them, and what is refused.
 
-use crate::examples::{
-    answers_to, assert_answers_on, blank_session, block_of, counted, example_host,
-};
-use d64_shell::{MemoryHost, Session};
+use crate::examples::{Scene, counted};
 use std::alloc::Global;
+use std::process::Abort;
 use std::test::Fail;
 
 const ACCEPTED: &str = "00, OK,00,00\n";
@@ -17,11 +15,11 @@ const NO_CHAIN: &str = "71,DIR ERROR,04,00\n";
 
 const CROSS_LINKED: &str = "71,DIR ERROR,05,00\n";
 
-/// A session on a formatted disk with a file `x` of one byte.
-fn disk_with_a_file(alloc: Global, host: &mut MemoryHost) -> Result<Session, Fail> {
-    let mut session = blank_session(alloc)?;
-    answers_to(alloc, host, &mut session, "format d,01\nwrite one x\n")?;
-    Ok(session)
+/// A formatted disk with a file `x` of one byte.
+fn disk_with_a_file(alloc: Global) -> Result<Scene, Fail> {
+    let mut scene = Scene::new(alloc)?;
+    scene.answers_to("format d,01\nwrite one x\n")?;
+    Ok(scene)
 }
 
 /// How many lines of these answers were accepted and refused.
@@ -40,25 +38,21 @@ fn a_file_whose_only_block_is_damaged(rt: HostRuntime) -> Result<(), Fail> {
         ([0x00, 0x01], ACCEPTED, Some(0), ACCEPTED),
     ];
     for (link, read, stored, write) in table {
-        let mut host = example_host(rt.alloc())?;
-        let mut session = disk_with_a_file(rt.alloc(), &mut host)?;
+        let mut scene = disk_with_a_file(rt.alloc())?;
         let mut block = [0; 256];
         block[0] = link[0];
         block[1] = link[1];
-        host.put("s", &block)?;
+        scene.host.put("s", &block)?;
         let answers = format!(in rt.alloc(); "{ACCEPTED}{read}{write}")?;
         let (accepted, refused) = tally(&[ACCEPTED, read, write]);
-        assert_answers_on(
+        scene.expect(
             &rt,
-            rt.alloc(),
-            &mut host,
-            &mut session,
             "bwrite s 17 0\nread x out\nwrite one y\n",
             answers.as_str(),
             counted(accepted, refused),
         );
         assert_eq!(rt;
-            host.file("out").map(|bytes| bytes.len()),
+            scene.host.file("out").map(|bytes| bytes.len()),
             stored,
             "{link:?}"
         );
@@ -66,11 +60,28 @@ fn a_file_whose_only_block_is_damaged(rt: HostRuntime) -> Result<(), Fail> {
     Ok(())
 }
 
+/// Gives the file `x` another type byte, and looks at the answers to a read of it and to a write beside it.
+fn check_type_byte(
+    rt: &impl Abort,
+    alloc: Global,
+    type_byte: u8,
+    read: &str,
+    write: &str,
+) -> Result<(), Fail> {
+    let mut scene = disk_with_a_file(alloc)?;
+    let mut directory = scene.block(18, 1)?;
+    directory[2] = type_byte;
+    scene.host.put("dir", &directory)?;
+    let answers = format!(in alloc; "{ACCEPTED}{read}{write}")?;
+    let (accepted, refused) = tally(&[ACCEPTED, read, write]);
+    let script = "bwrite dir 18 1\nread x out\nwrite one y\n";
+    scene.expect(rt, script, answers.as_str(), counted(accepted, refused));
+    Ok(())
+}
+
 #[test]
 fn an_entry_with_another_type_byte(rt: HostRuntime) -> Result<(), Fail> {
     let table = [
-        (0x85, UNKNOWN_KIND, UNKNOWN_KIND),
-        (0x8F, UNKNOWN_KIND, UNKNOWN_KIND),
         (0x02, "60,WRITE FILE OPEN,00,00\n", ACCEPTED),
         (0x80, "64,FILE TYPE MISMATCH,00,00\n", ACCEPTED),
         (0x81, ACCEPTED, ACCEPTED),
@@ -79,46 +90,35 @@ fn an_entry_with_another_type_byte(rt: HostRuntime) -> Result<(), Fail> {
         (0x00, "62,FILE NOT FOUND,00,00\n", ACCEPTED),
     ];
     for (type_byte, read, write) in table {
-        let mut host = example_host(rt.alloc())?;
-        let mut session = disk_with_a_file(rt.alloc(), &mut host)?;
-        let mut directory = block_of(&session, 18, 1)?;
-        directory[2] = type_byte;
-        host.put("dir", &directory)?;
-        let answers = format!(in rt.alloc(); "{ACCEPTED}{read}{write}")?;
-        let (accepted, refused) = tally(&[ACCEPTED, read, write]);
-        assert_answers_on(
-            &rt,
-            rt.alloc(),
-            &mut host,
-            &mut session,
-            "bwrite dir 18 1\nread x out\nwrite one y\n",
-            answers.as_str(),
-            counted(accepted, refused),
-        );
+        check_type_byte(&rt, rt.alloc(), type_byte, read, write)?;
+    }
+    Ok(())
+}
+
+#[test]
+fn an_entry_of_an_unknown_kind(rt: HostRuntime) -> Result<(), Fail> {
+    for kind in 5..16 {
+        check_type_byte(&rt, rt.alloc(), 0x80 + kind, UNKNOWN_KIND, UNKNOWN_KIND)?;
     }
     Ok(())
 }
 
 #[test]
 fn a_directory_of_two_blocks_that_loops(rt: HostRuntime) -> Result<(), Fail> {
-    let mut host = example_host(rt.alloc())?;
-    let mut session = disk_with_a_file(rt.alloc(), &mut host)?;
-    let mut first = block_of(&session, 18, 1)?;
+    let mut scene = disk_with_a_file(rt.alloc())?;
+    let mut first = scene.block(18, 1)?;
     first[0] = 0x12;
     first[1] = 0x04;
-    host.put("first", &first)?;
+    scene.host.put("first", &first)?;
     let mut second = [0; 256];
     second[0] = 0x12;
     second[1] = 0x01;
-    host.put("second", &second)?;
+    scene.host.put("second", &second)?;
     let answers = format!(in rt.alloc();
         "{ACCEPTED}{ACCEPTED}{NO_DIRECTORY}{NO_DIRECTORY}{NO_DIRECTORY}"
     )?;
-    assert_answers_on(
+    scene.expect(
         &rt,
-        rt.alloc(),
-        &mut host,
-        &mut session,
         "bwrite first 18 1\nbwrite second 18 4\nlist\nread x\nwrite one y\n",
         answers.as_str(),
         counted(2, 3),
@@ -152,31 +152,27 @@ fn a_rel_file_and_its_side_blocks(rt: HostRuntime) -> Result<(), Fail> {
         ([0x00, 0x05], "71,DIR ERROR,06,00\n"),
     ];
     for (side, write) in table {
-        let mut host = example_host(rt.alloc())?;
-        let mut session = blank_session(rt.alloc())?;
+        let mut scene = Scene::new(rt.alloc())?;
         let mut content = [0; 256];
         content[1] = 0x0B;
         for byte in &mut content[2..12] {
             *byte = 7;
         }
-        host.put("d0", &content)?;
+        scene.host.put("d0", &content)?;
         let mut sides = [0; 256];
         sides[1] = 0x11;
-        host.put("d1", &sides)?;
-        host.put("dir", &rel_directory(side))?;
+        scene.host.put("d1", &sides)?;
+        scene.host.put("dir", &rel_directory(side))?;
         let answers = format!(in rt.alloc();
             "{ACCEPTED}{ACCEPTED}{ACCEPTED}{ACCEPTED}{ACCEPTED}{write}"
         )?;
-        assert_answers_on(
+        scene.expect(
             &rt,
-            rt.alloc(),
-            &mut host,
-            &mut session,
             "format d,01\nbwrite d0 17 0\nbwrite d1 17 1\nbwrite dir 18 1\nread r out\nwrite one y\n",
             answers.as_str(),
             counted(5, 1),
         );
-        assert_eq!(rt; host.file("out"), Some([7; 10].as_slice()));
+        assert_eq!(rt; scene.host.file("out"), Some([7; 10].as_slice()));
     }
     Ok(())
 }

@@ -1,7 +1,7 @@
 //! What the examples share: where they run, what they answer, and the lines that show a block.
 
 use d64_image::{BlockNo, Image};
-use d64_shell::{MemoryHost, Outcome, Session, run};
+use d64_shell::{MemoryHost, Outcome, Session, ShellFault, run};
 use std::alloc::{AllocError, Global};
 use std::process::Abort;
 use std::test::Fail;
@@ -25,68 +25,71 @@ pub fn counted(accepted: u64, refused: u64) -> Outcome {
     Outcome { accepted, refused }
 }
 
-/// Runs a script on a session, with no file as its home, and looks at its answers.
-pub fn assert_answers_on(
-    rt: &impl Abort,
+/// A session on a blank image, and a host with the files of `example_host`.
+#[derive(Drop)]
+pub struct Scene {
     alloc: Global,
-    host: &mut MemoryHost,
-    session: &mut Session,
-    script: &str,
-    answers: &str,
-    counts: Outcome,
-) {
-    let mut output = Vec::new(alloc);
-    let mut reader = script.as_bytes();
-    let outcome = run(alloc, &mut reader, &mut output, host, "", session);
-    assert_eq!(rt; output.as_slice(), answers.as_bytes(), "{script}");
-    assert_eq!(rt; outcome, Ok(counts), "{script}");
+    pub host: MemoryHost,
+    pub session: Session,
 }
 
-/// Runs a script on a blank image, with no file as its home, and looks at its answers.
-pub fn assert_answers(
-    rt: &impl Abort,
-    alloc: Global,
-    host: &mut MemoryHost,
-    script: &str,
-    answers: &str,
-    counts: Outcome,
-) -> Result<(), Fail> {
-    let mut session = blank_session(alloc)?;
-    assert_answers_on(rt, alloc, host, &mut session, script, answers, counts);
-    Ok(())
-}
+impl Scene {
+    pub fn new(alloc: Global) -> Result<Scene, AllocError> {
+        Ok(Scene {
+            alloc,
+            host: example_host(alloc)?,
+            session: blank_session(alloc)?,
+        })
+    }
 
-/// Runs a script on a session, with no file as its home, and gives its answers.
-pub fn answers_to(
-    alloc: Global,
-    host: &mut MemoryHost,
-    session: &mut Session,
-    script: &str,
-) -> Result<Vec<u8>, Fail> {
-    let mut output = Vec::new(alloc);
-    let mut reader = script.as_bytes();
-    run(alloc, &mut reader, &mut output, host, "", session)?;
-    Ok(output)
-}
+    /// Runs a script, with no file as its home: its answers, and how many of its lines were accepted and refused.
+    fn run(&mut self, script: &str) -> (Vec<u8>, Result<Outcome, ShellFault>) {
+        let mut output = Vec::new(self.alloc);
+        let mut reader = script.as_bytes();
+        let outcome = run(
+            self.alloc,
+            &mut reader,
+            &mut output,
+            &mut self.host,
+            "",
+            &mut self.session,
+        );
+        (output, outcome)
+    }
 
-/// The 256 bytes of a block.
-pub fn block_of(session: &Session, track: u8, sector: u8) -> Result<[u8; 256], Fail> {
-    let block = BlockNo::of(track, sector).ok_or("no such block")?;
-    Ok(*session.image().sector(block))
-}
+    /// Runs a script, and looks at its answers and at how many of its lines were accepted and refused.
+    pub fn expect(&mut self, rt: &impl Abort, script: &str, answers: &str, counts: Outcome) {
+        let (output, outcome) = self.run(script);
+        assert_eq!(rt; output.as_slice(), answers.as_bytes(), "{script}");
+        assert_eq!(rt; outcome, Ok(counts), "{script}");
+    }
 
-/// Looks at the bytes of a block, by its track and sector, from a place on.
-pub fn assert_bytes(
-    rt: &impl Abort,
-    session: &Session,
-    block: (u8, u8),
-    place: usize,
-    expected: &[u8],
-) -> Result<(), Fail> {
-    let bytes = block_of(session, block.0, block.1)?;
-    let from_place = bytes.as_slice().get(place..).ok_or("no such place")?;
-    assert!(rt; from_place.starts_with(expected), "{block:?} at {place}");
-    Ok(())
+    /// Runs a script, and gives its answers.
+    pub fn answers_to(&mut self, script: &str) -> Result<Vec<u8>, Fail> {
+        let (output, outcome) = self.run(script);
+        outcome?;
+        Ok(output)
+    }
+
+    /// The 256 bytes of a block.
+    pub fn block(&self, track: u8, sector: u8) -> Result<[u8; 256], Fail> {
+        let block = BlockNo::of(track, sector).ok_or("no such block")?;
+        Ok(*self.session.image().sector(block))
+    }
+
+    /// Looks at the bytes of a block, by its track and sector, from a place on.
+    pub fn assert_bytes(
+        &self,
+        rt: &impl Abort,
+        block: (u8, u8),
+        place: usize,
+        expected: &[u8],
+    ) -> Result<(), Fail> {
+        let bytes = self.block(block.0, block.1)?;
+        let from_place = bytes.as_slice().get(place..).ok_or("no such place")?;
+        assert!(rt; from_place.starts_with(expected), "{block:?} at {place}");
+        Ok(())
+    }
 }
 
 /// Whether there are so many bytes, and all are the same.

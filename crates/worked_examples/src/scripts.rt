@@ -1,8 +1,6 @@
 //! Scripts and their answers, on a blank image and a host in memory.
 
-use crate::examples::{
-    assert_answers, blank_session, counted, example_host, is_filled, uniform_dump,
-};
+use crate::examples::{Scene, blank_session, counted, example_host, is_filled, uniform_dump};
 use crate::fakes::Pieces;
 use d64_shell::run;
 use std::test::Fail;
@@ -14,23 +12,18 @@ fn a_block_is_written_undone_and_redone(rt: HostRuntime) -> Result<(), Fail> {
     let answers = format!(in rt.alloc();
         "00, OK,00,00\n00, OK,00,00\n00, OK,00,00\n{dump}00, OK,00,00\n"
     )?;
-    let mut host = example_host(rt.alloc())?;
-    assert_answers(
-        &rt,
-        rt.alloc(),
-        &mut host,
-        script,
-        answers.as_str(),
-        counted(4, 0),
-    )
+    let mut scene = Scene::new(rt.alloc())?;
+    scene.expect(&rt, script, answers.as_str(), counted(4, 0));
+    Ok(())
 }
 
 #[test]
 fn a_command_after_an_undo_leaves_nothing_to_redo(rt: HostRuntime) -> Result<(), Fail> {
     let script = "bwrite b 17 0\nundo\nbwrite b 17 1\nredo\n";
     let answers = "00, OK,00,00\n00, OK,00,00\n00, OK,00,00\n82,NOTHING TO REDO,00,00\n";
-    let mut host = example_host(rt.alloc())?;
-    assert_answers(&rt, rt.alloc(), &mut host, script, answers, counted(3, 1))
+    let mut scene = Scene::new(rt.alloc())?;
+    scene.expect(&rt, script, answers, counted(3, 1));
+    Ok(())
 }
 
 #[test]
@@ -39,12 +32,12 @@ fn blocks_and_images_are_stored_in_host_files(rt: HostRuntime) -> Result<(), Fai
         "bread b 17 0\nbread b 17 0\nsave img\nsave\nbread \"\" 1 x\nbread \"my block\" 36 0\nbread \"my block\" 1 0\n";
     let answers =
         "80,HOST FILE,02,00\n00, OK,00,00\n00, OK,00,00\n34,SYNTAX ERROR,00,00\n33,SYNTAX ERROR,00,00\n66,ILLEGAL TRACK AND SECTOR,36,00\n00, OK,00,00\n";
-    let mut host = example_host(rt.alloc())?;
-    host.fail_at(1);
-    assert_answers(&rt, rt.alloc(), &mut host, script, answers, counted(3, 4))?;
-    assert!(rt; is_filled(host.file("b"), 256, 0));
-    assert!(rt; is_filled(host.file("my block"), 256, 0));
-    assert!(rt; is_filled(host.file("img"), 174_848, 0));
+    let mut scene = Scene::new(rt.alloc())?;
+    scene.host.fail_at(1);
+    scene.expect(&rt, script, answers, counted(3, 4));
+    assert!(rt; is_filled(scene.host.file("b"), 256, 0));
+    assert!(rt; is_filled(scene.host.file("my block"), 256, 0));
+    assert!(rt; is_filled(scene.host.file("img"), 174_848, 0));
     Ok(())
 }
 
@@ -79,9 +72,9 @@ fn lines_are_refused(rt: HostRuntime) -> Result<(), Fail> {
         ("UNDO", "31,SYNTAX ERROR,00,00\n"),
         ("un\tdo", "30,SYNTAX ERROR,00,00\n"),
     ];
-    let mut host = example_host(rt.alloc())?;
+    let mut scene = Scene::new(rt.alloc())?;
     for (line, answer) in lines {
-        assert_answers(&rt, rt.alloc(), &mut host, line, answer, counted(0, 1))?;
+        scene.expect(&rt, line, answer, counted(0, 1));
     }
     Ok(())
 }
@@ -94,31 +87,27 @@ fn a_line_of_more_than_1024_bytes_is_refused(rt: HostRuntime) -> Result<(), Fail
     }
     script.push_str("\nundo\n")?;
     let answers = "32,SYNTAX ERROR,00,00\n81,NOTHING TO UNDO,00,00\n";
-    let mut host = example_host(rt.alloc())?;
-    assert_answers(
-        &rt,
-        rt.alloc(),
-        &mut host,
-        script.as_str(),
-        answers,
-        counted(0, 2),
-    )
+    let mut scene = Scene::new(rt.alloc())?;
+    scene.expect(&rt, script.as_str(), answers, counted(0, 2));
+    Ok(())
 }
 
 #[test]
 fn blank_lines_and_comments_answer_nothing(rt: HostRuntime) -> Result<(), Fail> {
     let script = "; undo\r\n\r\n\n   \n  ; redo\nundo\r\n  redo  \nundo";
     let answers = "81,NOTHING TO UNDO,00,00\n82,NOTHING TO REDO,00,00\n81,NOTHING TO UNDO,00,00\n";
-    let mut host = example_host(rt.alloc())?;
-    assert_answers(&rt, rt.alloc(), &mut host, script, answers, counted(0, 3))
+    let mut scene = Scene::new(rt.alloc())?;
+    scene.expect(&rt, script, answers, counted(0, 3));
+    Ok(())
 }
 
 #[test]
 fn quit_is_accepted_and_ends_the_run(rt: HostRuntime) -> Result<(), Fail> {
     let script = "undo\nquit now\nquit\nundo\nquit\n";
     let answers = "81,NOTHING TO UNDO,00,00\n30,SYNTAX ERROR,00,00\n00, OK,00,00\n";
-    let mut host = example_host(rt.alloc())?;
-    assert_answers(&rt, rt.alloc(), &mut host, script, answers, counted(1, 2))
+    let mut scene = Scene::new(rt.alloc())?;
+    scene.expect(&rt, script, answers, counted(1, 2));
+    Ok(())
 }
 
 #[test]
