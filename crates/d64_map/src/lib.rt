@@ -9,7 +9,9 @@ pub mod laws;
 mod search;
 mod tracks;
 
-pub use block_map::{blocks_free, counts_fit, free_count, free_set, is_free, none_is_free, put_map};
+pub use block_map::{
+    blocks_free, counts_fit, free_count, free_set, is_free, none_is_free, put_map,
+};
 pub use search::{pick_dir, pick_first, pick_next, room};
 
 #[cfg(test)]

@@ -1,4 +1,4 @@
-use Rattle.std.proofs.Common.{◌≡◌, ℕ, ◌<◌, ◌≤◌, true, false, refl, sym, ap, ◌∙◌, inl, inr, arith}
+use Rattle.std.proofs.Common.{◌≡◌, true, false, refl, sym, ap, ◌∙◌, inl, inr, arith}
 use Rattle.std.proofs.lemmas.Bool.{cases_lt}
 use Rattle.d64_image.specs.Block.{first_block}
 use Rattle.d64_image.proofs.Zones.{first_block-fourth_zone}
@@ -9,11 +9,13 @@ unfolding first_block
 loop-track-init c block from to = absurd (omega arith)
 
 pub returns-then-not-none_is_free_on : goal.returns-then-not-none_is_free_on
-returns-then-not-none_is_free_on c =
-    (λ e. absurd (cc), λ none.
-    let told = c.none_is_free_on.ensures.none.1 (λ block from to member. none block member) in
-    let f : true ≡ false = sym told ∙ c.if-not-none_is_free_on.true in
-    absurd (cc))
+returns-then-not-none_is_free_on c = (
+  λ e. absurd (cc),
+  λ none.
+      let told = c.none_is_free_on.ensures.none.1 (λ block from to member. none block member) in
+      let f : true ≡ false = sym told ∙ c.if-not-none_is_free_on.true in
+      absurd (cc),
+)
 
 pub loop-track-preserved : goal.loop-track-preserved
 loop-track-preserved c block from to member =

@@ -1,9 +1,6 @@
-use Rattle.std.proofs.Common.{◌≡◌, ◌≢◌, ℕ, ◌+◌, ◌<◌, ◌≤◌, true, false, refl, sym, ap, ◌∙◌, inl, inr, arith}
-use Rattle.std.specs.FinSet as set
-use Rattle.std.proofs.lemmas.Bool.Decides.{eqb_tells}
+use Rattle.std.proofs.Common.{◌≡◌, ◌+◌, ◌<◌, true, false, refl, sym, ap, ◌∙◌, arith}
 use Rattle.d64_image.specs.Block.{sectors_on, first_block}
 use Rattle.d64_image.specs.Image.{sector_at}
-use Rattle.d64_map.specs.Map.{free_blocks, NoneIsFreeBetween}
 use Rattle.d64_map.proofs.FreeBlocks.{bit_is_member, none_more}
 use Rattle.d64_map.proofs.Sectors.{first_block-next, has_sector-legal}
 use Rattle.d64_map.proofs.block_map.none_is_free_on.Goals as goal
@@ -22,10 +19,13 @@ returns-then-has_sector c =
     (c.sector-map.ensures.value ∙ ap (sector_at image) c.map_block.ensures) c.requires.track.0 c.requires.track.1 held in
     let has = c.has_sector.ensures ∙ has_sector-legal c.args.blocks.now track sector c.requires.track.0 c.requires.track.1 held in
     record {
-      none = (λ e. absurd (cc), λ none.
-      let not_free = none (first_block track + sector) (omega arith) (omega arith) (sym has ∙ c.if-has_sector.true) in
-      let f : true ≡ false = sym c.if-marks_free.true ∙ bit ∙ not_free in
-      absurd (cc))
+      none = (
+        λ e. absurd (cc),
+        λ none.
+            let not_free = none (first_block track + sector) (omega arith) (omega arith) (sym has ∙ c.if-has_sector.true) in
+            let f : true ≡ false = sym c.if-marks_free.true ∙ bit ∙ not_free in
+            absurd (cc),
+      );
     }
 
 pub loop-sector-preserved : goal.loop-sector-preserved
