@@ -1,3 +1,4 @@
+//! Commands on an image, and what they answer.
 ghost use Rattle.std.specs.Prelude.{◌≡◌, IfOk};
 ghost use Rattle.d64_dos.specs.Command.{after, reply_to, refusal_of};
 ghost use Rattle.d64_dos.specs.Refusal.{refused_by};

@@ -1,3 +1,4 @@
+//! Blocks, and the zones of a disk.
 ghost use Rattle.std.specs.Prelude.{◌≡◌, ◌<◌, ◌≤◌, SomeIff, IfSome};
 ghost use Rattle.d64_image.specs.Block.{pair_at, block_of};
 ghost use Rattle.d64_image.specs.declared.block.TheConstants.{BLOCKS};

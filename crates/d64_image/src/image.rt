@@ -1,3 +1,4 @@
+//! Images of disks.
 ghost use Rattle.std.specs.Prelude.{◌≡◌, ◌<◌, ◌*◌, ◌==◌, if◌then◌else◌, Option, Some, None, IfOk, All, replicate, length};
 ghost use Rattle.std.specs.Borrow.{sem};
 ghost use Rattle.d64_image.specs.Image.{IsBlock, IsImage, bytes_of, sector_at};

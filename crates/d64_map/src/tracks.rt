@@ -1,3 +1,4 @@
+//! Tracks and their blocks.
 ghost use Rattle.std.specs.Prelude.{◌≡◌, ◌<◌, ◌≤◌};
 ghost use Rattle.d64_image.specs.Block.{sectors_on};
 ghost use Rattle.d64_map.specs.Track.{has_sector, members_on};

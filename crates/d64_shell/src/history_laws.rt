@@ -1,3 +1,4 @@
+//! What holds of histories.
 ghost use Rattle.d64_shell.specs.HistoryLaws.{UndoAfterCommand, RedoAfterUndo, Retraced};
 
 /// Undo after an accepted command gives the image from before it.

@@ -1,3 +1,4 @@
+//! Requests to a session, and whole runs of them.
 ghost use Rattle.std.specs.Prelude.{◌≡◌, IfOk, OnErr};
 ghost use Rattle.d64_shell.specs.Request.{Step, Run, MemoryAloneIsFree, MemoryForAcceptance};
 

@@ -1,3 +1,4 @@
+//! Sessions: an image with undo and redo.
 ghost use Rattle.std.specs.Prelude.{◌≡◌, ◌+◌, ◌<◌, ◌↔◌, length, IsOk, OnOk, OnErr, IfOk};
 ghost use Rattle.d64_dos.specs.Command.{after, reply_to, refusal_of};
 ghost use Rattle.d64_dos.specs.Refusal.{refused_by};
