@@ -1,0 +1,450 @@
+"""A plain model of disks and of the shell's lines, written from the specification and not from the code. It is slow and simple: an image is its
+bytes, a session a list of images, and each line is worked out anew.
+"""
+BLOCK = 256
+SECTORS = {track: 21 if track < 18 else 19 if track < 25 else 18 if track < 31 else 17 for track in range(1, 36)}
+PAIRS = [(track, sector) for track, count in SECTORS.items() for sector in range(count)]
+PLACES = {pair: place for place, pair in enumerate(PAIRS)}
+MAP, DIRECTORY = (18, 0), (18, 1)
+DEL, SEQ, PRG, USR, REL = range(5)
+FORBIDDEN = b'*?=:,"\x0d\xa0'
+
+CONTROLS = {
+    0x05: "wht", 0x0E: "swlc", 0x11: "down", 0x12: "rvon", 0x13: "home", 0x14: "del", 0x1C: "red", 0x1D: "rght", 0x1E: "grn", 0x1F: "blu",
+    0x81: "orng", 0x8E: "swuc", 0x90: "blk", 0x91: "up", 0x92: "rvof", 0x93: "clr", 0x94: "inst", 0x95: "brn", 0x96: "lred", 0x97: "gry1",
+    0x98: "gry2", 0x99: "lgrn", 0x9A: "lblu", 0x9B: "gry3", 0x9C: "pur", 0x9D: "left", 0x9E: "yel", 0x9F: "cyn",
+}
+
+TEXTS = {
+    0: " OK", 60: "WRITE FILE OPEN", 62: "FILE NOT FOUND", 63: "FILE EXISTS", 64: "FILE TYPE MISMATCH", 66: "ILLEGAL TRACK AND SECTOR",
+    71: "DIR ERROR", 72: "DISK FULL", 80: "HOST FILE", 81: "NOTHING TO UNDO", 82: "NOTHING TO REDO", 83: "NOT ONE BLOCK",
+    **{number: "SYNTAX ERROR" for number in range(30, 35)},
+}
+
+
+class Refused(Exception):
+    """A line that is refused, with its number and what stands behind it."""
+
+    def __init__(self, number, first=0, second=0):
+        super().__init__(number)
+        self.status = status(number, first, second)
+
+
+def status(number, first=0, second=0):
+    return f"{number:02},{TEXTS[number]},{first:02},{second:02}\n"
+
+
+# Text form
+
+def spell(byte):
+    if 0x41 <= byte <= 0x5A:
+        return chr(byte + 0x20)
+    if 0x20 <= byte <= 0x40 or 0x5B <= byte <= 0x5F:
+        return chr(byte)
+    if 0xC1 <= byte <= 0xDA:
+        return chr(byte - 0x80)
+    if byte == 0xFF:
+        return "~"
+    return "{" + CONTROLS.get(byte, f"${byte:02x}") + "}"
+
+
+def to_text(data):
+    return "".join(map(spell, data))
+
+
+UNITS = {**{f"{{${byte:02x}}}": byte for byte in range(256)}, **{spell(byte): byte for byte in range(256)}}
+
+
+def from_text(text):
+    """The bytes of a text, or None where it has a fault."""
+    data = bytearray()
+    while text:
+        length = text.find("}") + 1 if text[0] == "{" else 1
+        unit = text[:length].lower() if length > 1 else text[:length]
+        if unit not in UNITS:
+            return None
+        data.append(UNITS[unit])
+        text = text[length:]
+    return bytes(data)
+
+
+def name_in(text, allowed=b""):
+    name = from_text(text)
+    if name is None or not 1 <= len(name) <= 16 or any(byte in FORBIDDEN and byte not in allowed for byte in name):
+        raise Refused(33)
+    return name
+
+
+def matches(pattern, name):
+    if pattern[:1] == b"*" or not pattern:
+        return bool(pattern) or not name
+    return bool(name) and pattern[0] in (ord("?"), name[0]) and matches(pattern[1:], name[1:])
+
+
+# Disks
+
+class Slot:
+    """The 32 bytes of a slot of the directory, and where they stand."""
+
+    def __init__(self, block, place, data):
+        self.block, self.place, self.data = block, place, data
+        self.kind, self.used, self.closed, self.locked = data[2] & 15, data[2] != 0, data[2] & 0x80 != 0, data[2] & 0x40 != 0
+        self.first, self.side = tuple(data[3:5]), tuple(data[0x15:0x17])
+        self.name, self.size = up_to_filler(data[5:21]), int.from_bytes(data[30:32], "little")
+
+    def roots(self):
+        """The first blocks of the chains that it owns."""
+        if self.closed and self.kind != DEL:
+            yield self.first
+            if self.kind == REL and self.side[0] != 0:
+                yield self.side
+
+
+def up_to_filler(field):
+    return field.split(b"\xa0")[0]
+
+
+def filled(name):
+    return name.ljust(16, b"\xa0")
+
+
+class Disk:
+    def __init__(self, image):
+        self.image = image
+
+    def block(self, pair):
+        start = BLOCK * PLACES[pair]
+        return self.image[start:start + BLOCK]
+
+    def with_block(self, pair, data):
+        start = BLOCK * PLACES[pair]
+        return Disk(self.image[:start] + bytes(data) + self.image[start + BLOCK:])
+
+    def chain(self, pair):
+        """The chain from a block, or None."""
+        blocks = []
+        while pair in PLACES and pair not in blocks:
+            blocks.append(pair)
+            link = self.block(pair)
+            if link[0] == 0:
+                return blocks
+            pair = tuple(link[:2])
+        return None
+
+    def content(self, blocks):
+        parts = [self.block(pair) for pair in blocks]
+        return b"".join(part[2:] if part[0] else part[2:part[1] + 1] for part in parts)
+
+    def free(self):
+        bits = self.block(MAP)
+        return {(track, sector) for track, sector in PAIRS if bits[4 * track + 1 + sector // 8] >> sector % 8 & 1}
+
+    def with_free(self, free):
+        block = bytearray(self.block(MAP))
+        for track, count in SECTORS.items():
+            bits = sum(1 << sector for sector in range(count) if (track, sector) in free)
+            block[4 * track:4 * track + 4] = bytes([bits.bit_count()]) + bits.to_bytes(3, "little")
+        return self.with_block(MAP, block)
+
+    def slots(self):
+        for pair in self.chain(DIRECTORY):
+            block = self.block(pair)
+            yield from (Slot(pair, place, block[32 * place:32 * place + 32]) for place in range(8))
+
+    def refuse_directory(self):
+        if self.chain(DIRECTORY) is None:
+            raise Refused(71, 2)
+        if any(slot.kind > REL for slot in self.slots()):
+            raise Refused(71, 3)
+
+    def refuse_unsound(self):
+        free, counts = self.free(), self.block(MAP)
+        if any(counts[4 * track] != sum(pair[0] == track for pair in free) for track in SECTORS):
+            raise Refused(71, 1)
+        self.refuse_directory()
+        owned = [MAP] + self.chain(DIRECTORY)
+        for slot in self.slots():
+            for root in slot.roots():
+                blocks = self.chain(root)
+                if blocks is None:
+                    raise Refused(71, 4)
+                owned += blocks
+        if len(set(owned)) < len(owned):
+            raise Refused(71, 5)
+        if free & set(owned):
+            raise Refused(71, 6)
+
+    def written(self, name, kind, data):
+        if kind == REL:
+            raise Refused(64)
+        self.refuse_unsound()
+        slots, free, count = list(self.slots()), self.free(), max(1, -(-len(data) // 254))
+        if any(slot.used and slot.name == name for slot in slots):
+            raise Refused(63)
+        blocks = plan(free, count)
+        empty = next((slot for slot in slots if not slot.used), None)
+        last = slots[-1].block
+        grown = None if empty else first_of(directory_order(last), free)
+        if blocks is None or not (empty or grown):
+            raise Refused(72)
+        disk, block, place = self, empty and empty.block, empty and empty.place
+        if grown:
+            disk = disk.with_block(last, bytes(grown) + disk.block(last)[2:]).with_block(grown, b"\x00\xff" + bytes(254))
+            block, place = grown, 0
+        entry = bytes([0x80 + kind, *blocks[0]]) + filled(name) + bytes(9) + count.to_bytes(2, "little")
+        old = disk.block(block)
+        disk = disk.with_block(block, old[:32 * place + 2] + entry + old[32 * place + 32:])
+        for number, pair in enumerate(blocks):
+            part = data[254 * number:254 * number + 254]
+            link = bytes(blocks[number + 1]) if number + 1 < count else bytes([0, len(part) + 1])
+            disk = disk.with_block(pair, (link + part).ljust(BLOCK, b"\x00"))
+        return disk.with_free(free - set(blocks) - {grown})
+
+    def read(self, pattern):
+        self.refuse_directory()
+        slot = next((slot for slot in self.slots() if slot.used and matches(pattern, slot.name)), None)
+        if slot is None:
+            raise Refused(62)
+        if not slot.closed:
+            raise Refused(60)
+        if slot.kind == DEL:
+            raise Refused(64)
+        blocks = self.chain(slot.first)
+        if blocks is None:
+            raise Refused(71, 4)
+        return slot.name, self.content(blocks)
+
+    def listing(self):
+        self.refuse_directory()
+        head = self.block(MAP)
+        lines = [f'0 "{to_text(up_to_filler(head[0x90:0xA0])):16}" {to_text(head[0xA2:0xA4])} {to_text(head[0xA5:0xA7])}\n']
+        for slot in self.slots():
+            if slot.used:
+                quoted, kind = f'"{to_text(slot.name)}"', ("del", "seq", "prg", "usr", "rel")[slot.kind]
+                lines.append(f'{slot.size:<5} {quoted:18}{" " if slot.closed else "*"}{kind}{"<" if slot.locked else ""}\n')
+        lines.append(f"{sum(head[4 * track] for track in SECTORS if track != 18)} blocks free.\n")
+        return "".join(lines)
+
+
+def formatted(name, disk_id):
+    head = b"\x12\x01\x41\x00" + bytes(140) + filled(name) + b"\xa0\xa0" + disk_id + b"\xa02A" + b"\xa0" * 4 + bytes(85)
+    disk = Disk(bytes(BLOCK * len(PAIRS))).with_block(MAP, head).with_block(DIRECTORY, b"\x00\xff" + bytes(254))
+    return disk.with_free(set(PAIRS) - {MAP, DIRECTORY})
+
+
+# The order of search
+
+def along(tracks):
+    return [(track, sector) for track in tracks for sector in range(SECTORS[track])]
+
+
+def from_sector(track, sector, interleave):
+    """The sectors of a track after one of them: on by the interleave, and one less where that goes round."""
+    count = SECTORS[track]
+    start = sector + interleave
+    if start >= count:
+        start = max(start - count - 1, 0)
+    return [(track, (start + step) % count) for step in range(count)]
+
+
+FIRST_ORDER = along(track for distance in range(1, 18) for track in (18 - distance, 18 + distance))
+
+
+def next_order(last):
+    track, sector = last
+    if track < 18:
+        rest = [*range(track - 1, 0, -1), *range(19, 36), *range(17, track, -1)]
+    else:
+        rest = [*range(track + 1, 36), *range(17, 0, -1), *range(19, track)]
+    return from_sector(track, sector, 10) + along(rest)
+
+
+def directory_order(last):
+    return from_sector(*last, 3) if last[0] == 18 else along([18])
+
+
+def first_of(order, free):
+    return next((pair for pair in order if pair in free), None)
+
+
+def plan(free, count):
+    """The blocks of a file of so many, or None where too few are free."""
+    left, blocks = set(free), []
+    while len(blocks) < count:
+        block = first_of(next_order(blocks[-1]) if blocks else FIRST_ORDER, left)
+        if block is None:
+            return None
+        blocks.append(block)
+        left.remove(block)
+    return blocks
+
+
+# Lines
+
+FEWEST_AND_MOST = {"format": (1, 1), "list": (0, 0), "read": (1, 2), "write": (1, 2), "block": (2, 2), "bread": (3, 3), "bwrite": (3, 3),
+                   "undo": (0, 0), "redo": (0, 0), "save": (0, 1), "quit": (0, 0)}
+
+
+def words_of(line):
+    if any(not 32 <= byte <= 126 for byte in line):
+        raise Refused(30)
+    words, rest = [], line.decode()
+    while rest := rest.lstrip(" "):
+        if rest[0] == '"':
+            word, quote, rest = rest[1:].partition('"')
+            if not quote:
+                raise Refused(30)
+        else:
+            word = rest.replace('"', " ").split(" ")[0]
+            rest = rest[len(word):]
+        if rest and rest[0] != " ":
+            raise Refused(30)
+        words.append(word)
+    return words
+
+
+def number_in(word):
+    if not (1 <= len(word) <= 3 and word.isdigit() and int(word) <= 255):
+        raise Refused(30)
+    return int(word)
+
+
+def block_in(track, sector):
+    pair = (number_in(track), number_in(sector))
+    if pair not in PLACES:
+        raise Refused(66, *pair)
+    return pair
+
+
+def host_in(word):
+    if not 1 <= len(word) <= 255:
+        raise Refused(33)
+    return word
+
+
+class Shell:
+    """A session, the files of a folder, and the names of its folders."""
+
+    def __init__(self, image, files, folders, home):
+        self.images, self.cursor, self.files, self.folders, self.home = [Disk(image)], 0, dict(files), {".", "..", *folders}, home
+        self.accepted = self.refused = 0
+
+    def fetch(self, name):
+        if name in self.folders or name.rpartition("/")[0] in self.files:
+            raise Refused(80, 2)
+        if name not in self.files:
+            raise Refused(80, 1)
+        if len(self.files[name]) > 1_048_576:
+            raise Refused(80, 3)
+        return self.files[name]
+
+    def store(self, name, data):
+        folder = name.rpartition("/")[0]
+        if name in self.folders or folder and folder not in self.folders:
+            raise Refused(80, 2)
+        self.files[name] = data
+
+    def add(self, disk):
+        self.images[self.cursor + 1:] = [disk]
+        self.cursor += 1
+
+    def answer(self, line):
+        """What a line prints before its status."""
+        word, *arguments = words_of(line)
+        if word not in FEWEST_AND_MOST:
+            raise Refused(31)
+        fewest, most = FEWEST_AND_MOST[word]
+        if len(arguments) < fewest or word == "save" and not arguments and not self.home:
+            raise Refused(34)
+        if len(arguments) > most:
+            raise Refused(30)
+        return getattr(self, f"do_{word}")(self.images[self.cursor], *arguments) or ""
+
+    def do_format(self, _, word):
+        name, comma, disk_id = word.partition(",")
+        if not comma:
+            raise Refused(30)
+        name, disk_id = name_in(name), from_text(disk_id)
+        if disk_id is None or len(disk_id) != 2 or any(byte in FORBIDDEN for byte in disk_id):
+            raise Refused(33)
+        self.add(formatted(name, disk_id))
+
+    def do_list(self, disk):
+        return disk.listing()
+
+    def do_read(self, disk, pattern, host=None):
+        pattern = name_in(pattern, b"*?")
+        if host is not None:
+            host_in(host)
+        name, data = disk.read(pattern)
+        if host is None:
+            host = to_text(name)
+            if host in ("", ".", "..") or "/" in host:
+                raise Refused(33)
+        self.store(host, data)
+
+    def do_write(self, disk, host, word=None):
+        host_in(host)
+        name, _, kind = (host.rpartition("/")[2], "", "p") if word is None else word.partition(",") if "," in word else (word, "", "p")
+        kinds = {"s": SEQ, "p": PRG, "u": USR, "l": REL}
+        if kind not in kinds:
+            raise Refused(30)
+        name = name_in(name)
+        self.add(disk.written(name, kinds[kind], self.fetch(host)))
+
+    def do_block(self, disk, track, sector):
+        data = disk.block(block_in(track, sector))
+        return "".join(f"{start:02x}:" + "".join(f" {byte:02x}" for byte in data[start:start + 16]) + "\n" for start in range(0, BLOCK, 16))
+
+    def do_bread(self, disk, host, track, sector):
+        host_in(host)
+        self.store(host, disk.block(block_in(track, sector)))
+
+    def do_bwrite(self, disk, host, track, sector):
+        host_in(host)
+        pair, data = block_in(track, sector), self.fetch(host)
+        if len(data) != BLOCK:
+            raise Refused(83)
+        self.add(disk.with_block(pair, data))
+
+    def do_undo(self, _):
+        if self.cursor == 0:
+            raise Refused(81)
+        self.cursor -= 1
+
+    def do_redo(self, _):
+        if self.cursor + 1 == len(self.images):
+            raise Refused(82)
+        self.cursor += 1
+
+    def do_save(self, disk, host=None):
+        self.store(self.home if host is None else host_in(host), disk.image)
+
+    def do_quit(self, _):
+        pass
+
+    def run(self, script):
+        """What a script prints."""
+        answers = []
+        for line in lines_of(script):
+            if len(line.removesuffix(b"\n")) > 1_024:
+                self.refused += 1
+                answers.append(status(32))
+                continue
+            text = line.removesuffix(b"\r\n").removesuffix(b"\n")
+            if text.lstrip(b" ")[:1] in (b"", b";"):
+                continue
+            try:
+                answers += [self.answer(text), status(0)]
+                self.accepted += 1
+            except Refused as refused:
+                answers.append(refused.status)
+                self.refused += 1
+                continue
+            if words_of(text)[0] == "quit":
+                break
+        return "".join(answers)
+
+
+def lines_of(script):
+    return [line + b"\n" for line in script.split(b"\n")[:-1]] + [line for line in script.split(b"\n")[-1:] if line]
