@@ -1,6 +1,8 @@
 -- What the program does with its words, its streams and a host.
-use Rattle.std.specs.Prelude.{◌≡◌, ℕ, ◌==◌, if◌then◌else◌, List, [], ◌∷◌, replicate, codes, bytes_eq, Option, Some, None, Result, Ok, ◌⊎◌}
+use Rattle.std.specs.Prelude.{◌≡◌, ℕ, ◌==◌, if◌then◌else◌, List, [], ◌∷◌, ◌++◌, replicate, codes, bytes_eq, Option, Some, None, Result, Ok, ◌⊎◌}
+use Rattle.std.specs.Fmt.{decimal}
 use Rattle.std.specs.Io.KnownBytes.{Keeps}
+use Rattle.d64_script.specs.Output.{AppendsPart}
 use Rattle.d64_host.specs.Files.{Files}
 use Rattle.d64_host.specs.Host.{Fetches}
 use Rattle.d64_host.specs.declared.host.HostFault.{HostFault}
@@ -17,7 +19,7 @@ use Rattle.d64_shell.specs.declared.runner.Outcome.{Outcome}
 use Rattle.d64_shell.specs.declared.runner.ShellFault.{ShellFault}
 use Rattle.d64_shell.specs.declared.runner.ShellFault.TheVariants as runs
 use Rattle.d64_shell.specs.declared.entry.ProgramFault.{ProgramFault}
-use Rattle.d64_shell.specs.declared.entry.ProgramFault.TheVariants.{WrongLength, UnreadableImage, Read, Write, Memory}
+use Rattle.d64_shell.specs.declared.entry.ProgramFault.TheVariants.{Usage, WrongLength, UnreadableImage, Read, Write, Memory}
 
 -- the image file that the words after the program's name ask for, or None in its place where they ask for a blank image;
 -- None where they are no use of the program
@@ -92,3 +94,20 @@ abbrev pub fault_of_run : ShellFault → ProgramFault
 fault_of_run runs.Read = Read
 fault_of_run runs.Write = Write
 fault_of_run (runs.Memory error) = Memory
+
+-- the text that tells a fault
+abbrev pub fault_text : ProgramFault → List ℕ
+fault_text Usage = codes "usage: d64sh shell [IMAGE]"
+fault_text (WrongLength length) = codes "image: wrong length " ++ decimal length
+fault_text UnreadableImage = codes "image: cannot be read"
+fault_text Read = codes "read fault"
+fault_text Write = codes "write fault"
+fault_text Memory = codes "out of memory"
+
+-- the line that tells a fault, with the line feed at its end
+unfoldable pub fault_line : ProgramFault → List ℕ
+fault_line fault = codes "d64sh: " ++ fault_text fault ++ codes "\n"
+
+-- some fault is told: its line came to the writer, or a first part of it where a write failed
+abbrev pub Told : Option (List ℕ) → Option (List ℕ) → Type 0
+Told old new = (fault : ProgramFault) × AppendsPart old new (fault_line fault)

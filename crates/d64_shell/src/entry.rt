@@ -1,12 +1,17 @@
 //! The program `d64sh`, from its words to its exit status.
-ghost use Rattle.std.specs.Prelude.{◌≡◌, ◌≢◌, ◌≤◌, map, Some, Ok, IfOk, OnErr, option_copied};
-ghost use Rattle.d64_shell.specs.Program.{image_name_of, IsFirstImage, RanShell, Stopped, RanTo, status_of, fault_of_file, fault_of_image, fault_of_run};
+ghost use Rattle.std.specs.Prelude.{◌≡◌, ◌≢◌, ◌≤◌, ◌+◌, ◌++◌, length, codes, map, Some, Ok, IfOk, OnErr, option_copied};
+ghost use Rattle.arrayvec.specs.ArrayVec.{array_vec_len};
+ghost use Rattle.d64_script.specs.Output.{AppendsPart};
+ghost use Rattle.d64_shell.specs.Program.{image_name_of, IsFirstImage, RanShell, Stopped, RanTo, Told, status_of, fault_line, fault_of_file, fault_of_image, fault_of_run};
 ghost use Rattle.d64_shell.specs.declared.entry.ProgramFault.TheVariants.{Memory};
 
 use crate::runner::{Outcome, ShellFault, run};
 use crate::session::Session;
+use arrayvec::ArrayVec;
 use d64_host::{Host, HostFault};
 use d64_image::{Image, ImageFault};
+use d64_script::output::write_answer;
+use itoa::Buffer;
 use std::alloc::{AllocError, Global};
 use std::io::{Read, Write};
 use thiserror::Error;
@@ -22,6 +27,9 @@ const SOME_REFUSED: u8 = 1;
 
 /// The exit status where the words are no use of the program, or the script did not run to its end.
 const NOT_RUN: u8 = 2;
+
+/// The room for the line that tells a fault, in bytes.
+const MAX_FAULT_LINE: usize = 64;
 
 /// Why the program ends with status 2. Each is told by one line on the standard error.
 #[derive(Clone, Copy, Debug, PartialEq, Eq, Error)]
@@ -46,12 +54,31 @@ pub enum ProgramFault {
 }
 
 impl ProgramFault {
-    /// Writes the line that tells the fault, and answers the exit status. A line that cannot be written is dropped.
+    /// Writes the line that tells the fault, and answers the exit status. Where a write fails or takes nothing, the rest
+    /// of the line is dropped.
     pub fn report<F: Write>(self, faults: &mut F) -> u8
-        ensures { result ≡ 2 }
+        ensures status { result ≡ 2 }
+        ensures told { AppendsPart (F.contents faults.old) (F.contents faults.new) (fault_line self) }
     {
-        let _ = writeln!(faults, "d64sh: {self}");
+        let _ = write_answer(faults, self.line().as_slice());
         NOT_RUN
+    }
+
+    /// The line that tells the fault, with its line feed. It takes no memory.
+    fn line(self) -> ArrayVec<u8, MAX_FAULT_LINE>
+        ensures { result.items ≡ fault_line self }
+    {
+        match self {
+            ProgramFault::Usage => line_of(b"usage: d64sh shell [IMAGE]", b""),
+            ProgramFault::WrongLength(length) => line_of(
+                b"image: wrong length ",
+                Buffer::new().format(length).as_bytes(),
+            ),
+            ProgramFault::UnreadableImage => line_of(b"image: cannot be read", b""),
+            ProgramFault::Read => line_of(b"read fault", b""),
+            ProgramFault::Write => line_of(b"write fault", b""),
+            ProgramFault::Memory => line_of(b"out of memory", b""),
+        }
     }
 
     /// The fault of an image file that cannot be fetched.
@@ -65,6 +92,28 @@ impl ProgramFault {
             }
         }
     }
+}
+
+/// The line of a fault's text and of the number after it.
+fn line_of(text: &[u8], number: &[u8]) -> ArrayVec<u8, MAX_FAULT_LINE>
+    requires { length text.now + length number.now ≤ 56 }
+    ensures { result.items ≡ codes "d64sh: " ++ text.now ++ number.now ++ codes "\n" }
+{
+    let mut line = ArrayVec::new();
+    push_bytes(&mut line, b"d64sh: ");
+    push_bytes(&mut line, text);
+    push_bytes(&mut line, number);
+    push_bytes(&mut line, b"\n");
+    line
+}
+
+/// Appends bytes for which there is room.
+fn push_bytes(line: &mut ArrayVec<u8, MAX_FAULT_LINE>, bytes: &[u8])
+    requires { array_vec_len line.old + length bytes.now ≤ 64 }
+    ensures bytes { line.new.items ≡ line.old.items ++ bytes.now }
+    ensures len { array_vec_len line.new ≡ array_vec_len line.old + length bytes.now }
+{
+    let _ = line.try_extend_from_slice(bytes);
 }
 
 impl From<AllocError> for ProgramFault {
@@ -120,6 +169,7 @@ pub fn program<R: Read, W: Write, F: Write, H: Host>(
     ensures stopped { result ≡ 2 → Stopped (map (λ word. word.now) words.now) (R.remaining reader.old) (R.remaining reader.new)
         (record { writer = W.contents writer.old; files = H.files host.old; failures = H.failure_count host.old })
         (record { writer = W.contents writer.new; files = H.files host.new; failures = H.failure_count host.new }) }
+    ensures told { result ≡ 2 → Told (F.contents faults.old) (F.contents faults.new) }
     ensures silent { result ≢ 2 → faults.new ≡ faults.old }
 {
     match shell(alloc, words, reader, writer, host) {

@@ -1,0 +1,28 @@
+-- The text of each fault is that of the table.
+use Rattle.std.proofs.Common.{rules, append_assoc}
+use Rattle.d64_shell.specs.Program.{fault_line}
+use Rattle.d64_shell.proofs.entry.ProgramFault.line.Goals as goal
+
+pub returns-in-Usage : goal.returns-in-Usage
+unfolding fault_line
+returns-in-Usage c = search (rules, append_assoc)
+
+pub returns-in-WrongLength : goal.returns-in-WrongLength
+unfolding fault_line
+returns-in-WrongLength c = search (rules, append_assoc)
+
+pub returns-in-UnreadableImage : goal.returns-in-UnreadableImage
+unfolding fault_line
+returns-in-UnreadableImage c = search (rules, append_assoc)
+
+pub returns-in-Read : goal.returns-in-Read
+unfolding fault_line
+returns-in-Read c = search (rules, append_assoc)
+
+pub returns-in-Write : goal.returns-in-Write
+unfolding fault_line
+returns-in-Write c = search (rules, append_assoc)
+
+pub returns-in-Memory : goal.returns-in-Memory
+unfolding fault_line
+returns-in-Memory c = search (rules, append_assoc)
