@@ -1,12 +1,13 @@
 -- Runs of the program.
-use Rattle.std.proofs.Common.{◌≡◌, ℕ, List, [], ◌++◌, take, Bor, Option, None, Some, Result, Ok, Err, OnErr, refl, option_copied, unwrap_or}
+use Rattle.std.proofs.Common.{◌≡◌, ℕ, List, [], ◌++◌, take, Bor, Option, None, Some, Result, Ok, Err, IfErr, inr, refl, sym, subst, option_copied, unwrap_or}
+use Rattle.std.specs.Result.{IsErrAnd}
 use Rattle.std.specs.Io.KnownBytes.{Keeps}
 use Rattle.std.proofs.KnownBytes.{Appends-kept, Keeps-trans}
 use Rattle.d64_script.specs.RawLines.{lines_of, ended_lines}
 use Rattle.d64_script.specs.Script.{script_limit}
 use Rattle.d64_host.specs.Files.{Files}
 use Rattle.d64_shell.specs.History.{History, begun}
-use Rattle.d64_shell.specs.Program.{image_name_of, home_of, IsFirstImage, Outside, RanShell}
+use Rattle.d64_shell.specs.Program.{image_name_of, home_of, IsFirstImage, Outside, RanShell, StoppedBy, fault_of_run}
 use Rattle.d64_shell.specs.Runner.{Stand, RanLines, StoppedAt, Ran}
 use Rattle.d64_shell.specs.Transcript.{Progress}
 use Rattle.d64_shell.specs.declared.runner.Outcome.{Outcome}
@@ -18,10 +19,10 @@ pub home_is : (name : Option (Bor (List ℕ))) (empty : Bor (List ℕ)) → empt
 home_is None empty e = e
 home_is (Some name) empty e = refl
 
--- what holds at any end holds where that end is an error
-pub OnErr-always : {T E : Type 0} (r : Result T E) (P : Type 0) → P → OnErr r P
-OnErr-always (Ok value) P p = tt
-OnErr-always (Err fault) P p = p
+-- what holds of the error that a result has holds where it has one
+pub IfErr-of_error : {T E : Type 0} (r : Result T E) (error : E) (P : E → Type 0) → IsErrAnd r (λ told. told ≡ error) → P error → IfErr r P
+IfErr-of_error (Ok value) error P is p = tt
+IfErr-of_error (Err told) error P is p = subst P (sym is) p
 
 -- lines have run also after the output was flushed
 RanLines-flushed : (home : List ℕ) (old new : Stand) (lines : List (List ℕ)) (after : Progress) (flushed : Option (List ℕ))
@@ -103,3 +104,10 @@ RanShell-flushed words reader left old new ended name image home files failures 
       (record { writer = writer; world = record { files = new.files; failures = new.failures; history = history } }) new.writer ended
       (rw (at_home, kept, begins) at ran) flushed;
 }
+
+-- the fault of a run tells how the script ended
+pub StoppedBy-run : (words : List (List ℕ)) (reader left : Option (List ℕ)) (old new : Outside) (fault : ShellFault)
+    → RanShell words reader left old new (Err fault) → StoppedBy (fault_of_run fault) words reader left old new
+StoppedBy-run words reader left old new Read ran = ran
+StoppedBy-run words reader left old new Write ran = (Err Write, ran)
+StoppedBy-run words reader left old new (Memory error) ran = inr (error, ran)

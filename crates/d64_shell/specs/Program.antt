@@ -1,5 +1,6 @@
 -- What the program does with its words, its streams and a host.
-use Rattle.std.specs.Prelude.{◌≡◌, ℕ, ◌==◌, if◌then◌else◌, List, [], ◌∷◌, ◌++◌, replicate, codes, bytes_eq, Option, Some, None, Result, Ok, ◌⊎◌}
+use Rattle.std.specs.Prelude.{◌≡◌, ◌≢◌, ℕ, ◌*◌, ◌==◌, if◌then◌else◌, List, [], ◌∷◌, ◌++◌, length, replicate, codes, bytes_eq, Option, Some, None, Result, Ok, Err, ◌⊎◌, ⊤}
+use Rattle.std.specs.declared.alloc.AllocError.{AllocError}
 use Rattle.std.specs.Fmt.{decimal}
 use Rattle.std.specs.Io.KnownBytes.{Keeps}
 use Rattle.d64_script.specs.Output.{AppendsPart}
@@ -61,13 +62,9 @@ pub record RanShell (words : List (List ℕ)) (reader left : Option (List ℕ)) 
       (record { writer = old.writer; world = record { files = old.files; failures = failures; history = begun image } })
       (record { writer = new.writer; world = record { files = new.files; failures = new.failures; history = history } }) ended
 
--- no line has run
-abbrev pub HasNotBegun : Outside → Outside → Type 0
-HasNotBegun old new = Keeps old.writer new.writer × (new.files ≡ old.files)
-
--- the program stopped with a fault: before the script, or after a part of it
-abbrev pub Stopped : List (List ℕ) → Option (List ℕ) → Option (List ℕ) → Outside → Outside → Type 0
-Stopped words reader left old new = HasNotBegun old new ⊎ ((ended : Result Outcome ShellFault) × RanShell words reader left old new ended)
+-- nothing of the script was read, and no line has run
+abbrev pub HasNotBegun : Option (List ℕ) → Option (List ℕ) → Outside → Outside → Type 0
+HasNotBegun reader left old new = (left ≡ reader) × Keeps old.writer new.writer × (new.files ≡ old.files)
 
 -- a script that ran to its end gives status 0 where all of its lines were accepted, and else 1
 abbrev pub status_of : Outcome → ℕ
@@ -108,6 +105,36 @@ fault_text Memory = codes "out of memory"
 unfoldable pub fault_line : ProgramFault → List ℕ
 fault_line fault = codes "d64sh: " ++ fault_text fault ++ codes "\n"
 
--- some fault is told: its line came to the writer, or a first part of it where a write failed
-abbrev pub Told : Option (List ℕ) → Option (List ℕ) → Type 0
-Told old new = (fault : ProgramFault) × AppendsPart old new (fault_line fault)
+-- why the session has no image to begin with: the host refused to fetch the image file, or its bytes are no image's, or
+-- there is no memory
+abbrev pub HasNoFirstImage : ProgramFault → Option Files → Option (List ℕ) → Type 0
+HasNoFirstImage UnreadableImage files (Some name) = (fault : HostFault) × Fetches files name image_file_limit (Err fault) × (fault_of_file fault ≡ UnreadableImage)
+HasNoFirstImage UnreadableImage files None = ⊥
+HasNoFirstImage (WrongLength n) files (Some name) = (bytes : List ℕ) × Fetches files name image_file_limit (Ok bytes) × (length bytes ≡ n) × (n ≢ BLOCKS * BLOCK_BYTES)
+HasNoFirstImage (WrongLength n) files None = ⊥
+HasNoFirstImage Memory files name = ⊤
+HasNoFirstImage Usage files name = ⊥
+HasNoFirstImage Read files name = ⊥
+HasNoFirstImage Write files name = ⊥
+
+-- the words are a use of the program, and no line has run for want of the image that they ask for
+abbrev pub HasNotBegunFor : ProgramFault → List (List ℕ) → Option (List ℕ) → Option (List ℕ) → Outside → Outside → Type 0
+HasNotBegunFor fault words reader left old new =
+    (name : Option (List ℕ)) × (image_name_of words ≡ Some name) × HasNoFirstImage fault old.files name × HasNotBegun reader left old new
+
+-- what a fault says of the run: no line has run where the words are no use of the program or the image is not there; the
+-- script has run up to its read fault; it has run to some end, and the output takes no more bytes; or there is no memory
+abbrev pub StoppedBy : ProgramFault → List (List ℕ) → Option (List ℕ) → Option (List ℕ) → Outside → Outside → Type 0
+StoppedBy Usage words reader left old new = (image_name_of words ≡ None) × HasNotBegun reader left old new
+StoppedBy (WrongLength n) words reader left old new = HasNotBegunFor (WrongLength n) words reader left old new
+StoppedBy UnreadableImage words reader left old new = HasNotBegunFor UnreadableImage words reader left old new
+StoppedBy Read words reader left old new = RanShell words reader left old new (Err runs.Read)
+StoppedBy Write words reader left old new = (ended : Result Outcome ShellFault) × RanShell words reader left old new ended
+StoppedBy Memory words reader left old new =
+    HasNotBegunFor Memory words reader left old new ⊎ ((error : AllocError) × RanShell words reader left old new (Err (runs.Memory error)))
+
+-- the program stopped with a fault, and told it: its line came to the writer of faults, or a first part of it where a
+-- write failed
+abbrev pub Stopped : List (List ℕ) → Option (List ℕ) → Option (List ℕ) → Outside → Outside → Option (List ℕ) → Option (List ℕ) → Type 0
+Stopped words reader left old new faults told =
+    (fault : ProgramFault) × StoppedBy fault words reader left old new × AppendsPart faults told (fault_line fault)

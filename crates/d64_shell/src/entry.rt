@@ -1,9 +1,9 @@
 //! The program `d64sh`, from its words to its exit status.
-ghost use Rattle.std.specs.Prelude.{◌≡◌, ◌≢◌, ◌≤◌, ◌+◌, ◌++◌, length, codes, map, Some, Ok, IfOk, OnErr, option_copied};
+ghost use Rattle.std.specs.Prelude.{◌≡◌, ◌≢◌, ◌≤◌, ◌+◌, ◌++◌, length, codes, map, Some, None, Ok, IfOk, IfErr, option_copied};
 ghost use Rattle.arrayvec.specs.ArrayVec.{array_vec_len};
 ghost use Rattle.d64_script.specs.Output.{AppendsPart};
-ghost use Rattle.d64_shell.specs.Program.{image_name_of, IsFirstImage, RanShell, Stopped, RanTo, Told, status_of, fault_line, fault_of_file, fault_of_image, fault_of_run};
-ghost use Rattle.d64_shell.specs.declared.entry.ProgramFault.TheVariants.{Memory};
+ghost use Rattle.d64_shell.specs.Program.{image_name_of, IsFirstImage, HasNoFirstImage, RanShell, StoppedBy, Stopped, RanTo, status_of, fault_line, fault_of_file, fault_of_image, fault_of_run};
+ghost use Rattle.d64_shell.specs.declared.entry.ProgramFault.TheVariants.{Usage, Memory};
 
 use crate::runner::{Outcome, ShellFault, run};
 use crate::session::Session;
@@ -168,8 +168,8 @@ pub fn program<R: Read, W: Write, F: Write, H: Host>(
         result }
     ensures stopped { result ≡ 2 → Stopped (map (λ word. word.now) words.now) (R.remaining reader.old) (R.remaining reader.new)
         (record { writer = W.contents writer.old; files = H.files host.old; failures = H.failure_count host.old })
-        (record { writer = W.contents writer.new; files = H.files host.new; failures = H.failure_count host.new }) }
-    ensures told { result ≡ 2 → Told (F.contents faults.old) (F.contents faults.new) }
+        (record { writer = W.contents writer.new; files = H.files host.new; failures = H.failure_count host.new })
+        (F.contents faults.old) (F.contents faults.new) }
     ensures silent { result ≢ 2 → faults.new ≡ faults.old }
 {
     match shell(alloc, words, reader, writer, host) {
@@ -200,7 +200,7 @@ fn shell<R: Read, W: Write, H: Host>(
     ensures ran { IfOk result (λ outcome. RanShell (map (λ word. word.now) words.now) (R.remaining reader.old) (R.remaining reader.new)
         (record { writer = W.contents writer.old; files = H.files host.old; failures = H.failure_count host.old })
         (record { writer = W.contents writer.new; files = H.files host.new; failures = H.failure_count host.new }) (Ok outcome)) }
-    ensures stopped { OnErr result (Stopped (map (λ word. word.now) words.now) (R.remaining reader.old) (R.remaining reader.new)
+    ensures stopped { IfErr result (λ fault. StoppedBy fault (map (λ word. word.now) words.now) (R.remaining reader.old) (R.remaining reader.new)
         (record { writer = W.contents writer.old; files = H.files host.old; failures = H.failure_count host.old })
         (record { writer = W.contents writer.new; files = H.files host.new; failures = H.failure_count host.new })) }
 {
@@ -217,13 +217,19 @@ fn shell<R: Read, W: Write, H: Host>(
 
 /// The name of the image file that the words ask for, or None where they ask for a blank image.
 fn image_name<'a>(words: &[&'a str]) -> Result<Option<&'a str>, ProgramFault>
-    ensures { IfOk result (λ name. image_name_of (map (λ word. word.now) words.now) ≡ Some (option_copied name)) }
+    ensures name { IfOk result (λ name. image_name_of (map (λ word. word.now) words.now) ≡ Some (option_copied name)) }
+    ensures no_name { IfErr result (λ fault. (fault ≡ Usage) × (image_name_of (map (λ word. word.now) words.now) ≡ None)) }
 {
-    match words {
-        ["shell"] => Ok(None),
-        ["shell", image] => Ok(Some(image)),
-        _ => Err(ProgramFault::Usage),
+    let Some((first, rest)) = words.split_first() else {
+        return Err(ProgramFault::Usage);
+    };
+    if *first != "shell" {
+        return Err(ProgramFault::Usage);
     }
+    if rest.len() > 1 {
+        return Err(ProgramFault::Usage);
+    }
+    Ok(rest.first().copied())
 }
 
 /// The image that the session begins with: a host file, or a blank one.
@@ -233,6 +239,7 @@ fn first_image<H: Host>(
     name: Option<&str>,
 ) -> Result<Image, ProgramFault>
     ensures image { IfOk result (IsFirstImage (H.files host.old) (option_copied name.entry)) }
+    ensures no_image { IfErr result (λ fault. HasNoFirstImage fault (H.files host.old) (option_copied name.entry)) }
     ensures kept { H.files host.new ≡ H.files host.old }
 {
     let Some(name) = name else {
