@@ -28,3 +28,46 @@ impl<R: Read> Read for Retrying<R> {
         Err(io::Error::from(ErrorKind::TimedOut))
     }
 }
+
+#[cfg(test)]
+mod tests {
+    use super::*;
+    use std::test::Fail;
+
+    // A reader that fails once with an error of some kind, and then gives one byte a read.
+    #[derive(Drop)]
+    struct FailsOnce {
+        kind: Option<ErrorKind>,
+    }
+
+    impl Read for FailsOnce {
+        fn read(&mut self, buffer: &mut [u8]) -> io::Result<usize> {
+            match self.kind.take() {
+                Some(kind) => Err(io::Error::from(kind)),
+                None => b"a".as_slice().read(buffer),
+            }
+        }
+    }
+
+    #[test]
+    fn reads_on_after_an_interrupt_alone(rt: HostRuntime) -> Result<(), Fail> {
+        let mut buffer = [0; 4];
+        let mut interrupted = Retrying(FailsOnce {
+            kind: Some(ErrorKind::Interrupted),
+        });
+        assert_eq!(rt; interrupted.read(&mut buffer)?, 1);
+        for kind in [
+            ErrorKind::BrokenPipe,
+            ErrorKind::PermissionDenied,
+            ErrorKind::Other,
+            ErrorKind::UnexpectedEof,
+        ] {
+            let mut broken = Retrying(FailsOnce { kind: Some(kind) });
+            match broken.read(&mut buffer) {
+                Err(error) => assert!(rt; error.kind() == kind),
+                Ok(_) => assert!(rt; false, "read on after another error"),
+            }
+        }
+        Ok(())
+    }
+}
