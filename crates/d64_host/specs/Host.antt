@@ -1,4 +1,4 @@
-use Rattle.std.specs.Prelude.{◌≡◌, ℕ, ◌+◌, ◌-◌, min, ◌^◌, ◌<◌, ◌≤◌, ◌⊎◌, ⊤, List, length, Option, Some, None, IsSomeAnd, Result, Ok, Err, Vec}
+use Rattle.std.specs.Prelude.{◌≡◌, ℕ, ◌+◌, ◌-◌, min, ◌^◌, ◌<◌, ◌≤◌, ⊤, List, length, Option, Some, None, option_map, IsSomeAnd, Result, Ok, Err, Vec}
 use Rattle.std.specs.FinMap.{get, insert}
 use Rattle.d64_host.specs.Files.{Files}
 use Rattle.d64_host.specs.declared.host.HostFault.{HostFault}
@@ -38,20 +38,11 @@ IsOfDeviceOrMemory (Memory error) = ⊤
 IsOfDeviceOrMemory Missing = ⊥
 IsOfDeviceOrMemory TooLong = ⊥
 
--- what a host may answer to a store, and the files then: accepted, the named file alone has the new bytes;
--- refused, no file has changed. A host that tells nothing goes on telling nothing
+-- what a host may answer to a store, and the files then, where it tells them: accepted, the named file alone has the
+-- new bytes; refused, by the device's fault or for want of memory, no file has changed
 abbrev pub Stores : {A : Type 0} → Option Files → List ℕ → List ℕ → Result A HostFault → Option Files → Type 0
-Stores (Some files) name bytes (Ok done) after = after ≡ Some (insert files name bytes)
-Stores (Some files) name bytes (Err fault) after = (after ≡ Some files) × IsOfDeviceOrMemory fault
-Stores None name bytes answer after = after ≡ None
-
--- the device's fault is answered only where the count of failures rose, or stands at its greatest value
-abbrev pub CountsDevice : {A : Type 0} → ℕ → ℕ → Result A HostFault → Type 0
-CountsDevice before after (Err Device) = (before < after) ⊎ (after ≡ 2 ^ 64 - 1)
-CountsDevice before after (Err Missing) = ⊤
-CountsDevice before after (Err TooLong) = ⊤
-CountsDevice before after (Err (Memory error)) = ⊤
-CountsDevice before after (Ok value) = ⊤
+Stores files name bytes (Ok done) after = after ≡ option_map (λ all. insert all name bytes) files
+Stores files name bytes (Err fault) after = (after ≡ files) × IsOfDeviceOrMemory fault
 
 -- the count of failures with one more, up to the greatest number of 64 bits
 abbrev pub one_more_failure : ℕ → ℕ
@@ -65,10 +56,15 @@ failures_after count (Err Device) = one_more_failure count
 failures_after count (Err TooLong) = count
 failures_after count (Err (Memory error)) = count
 
--- the fault by which a call was refused, want of memory aside
-abbrev pub refused_by : {A : Type 0} → Result A HostFault → Option HostFault
-refused_by (Ok value) = None
-refused_by (Err Missing) = Some Missing
-refused_by (Err Device) = Some Device
-refused_by (Err TooLong) = Some TooLong
-refused_by (Err (Memory error)) = None
+-- the count of failures never falls, and rises by one exactly where the device's fault is answered, up to its greatest
+-- value
+abbrev pub CountsDevice : {A : Type 0} → ℕ → ℕ → Result A HostFault → Type 0
+CountsDevice before after answer = after ≡ failures_after before answer
+
+-- the fault that a call answered, want of memory aside
+abbrev pub answered_fault : {A : Type 0} → Result A HostFault → Option HostFault
+answered_fault (Ok value) = None
+answered_fault (Err Missing) = Some Missing
+answered_fault (Err Device) = Some Device
+answered_fault (Err TooLong) = Some TooLong
+answered_fault (Err (Memory error)) = None

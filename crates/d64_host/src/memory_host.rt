@@ -2,7 +2,7 @@
 
 ghost use Rattle.std.specs.Prelude.{◌≡◌, ℕ, ◌+◌, ◌↔◌, Some, OnOk, OnErr, IsTrue, option_copied};
 ghost use Rattle.std.specs.FinMap.{empty, get, insert};
-ghost use Rattle.d64_host.specs.Host.{fetched, Fetches, Stores, CountsDevice, refused_by};
+ghost use Rattle.d64_host.specs.Host.{fetched, Fetches, Stores, CountsDevice, answered_fault};
 ghost use Rattle.d64_host.specs.MemoryHost.{after_call, countdown_after, fetch_refusal, store_refusal};
 
 use crate::host::{Host, HostFault};
@@ -91,7 +91,7 @@ impl Host for MemoryHost {
     ghost failure_count = { λ host. host.failures };
 
     fn fetch(&mut self, alloc: Global, name: &str, limit: usize) -> Result<Vec<u8>, HostFault>
-        ensures refused { refused_by result ≡ fetch_refusal self.old name.now limit }
+        ensures refused { answered_fault result ≡ fetch_refusal self.old name.now limit }
         ensures after { self.new ≡ after_call self.old }
         ensures answer { Fetches (Some self.old.files) name.now limit (fetched result) }
         ensures files_kept { Some self.new.files ≡ Some self.old.files }
@@ -110,7 +110,7 @@ impl Host for MemoryHost {
     }
 
     fn store(&mut self, _alloc: Global, name: &str, bytes: &[u8]) -> Result<(), HostFault>
-        ensures refused { refused_by result ≡ store_refusal self.old }
+        ensures refused { answered_fault result ≡ store_refusal self.old }
         ensures accepted { OnOk result (self.new ≡ record (after_call self.old) { files = insert self.old.files name.now bytes.now }) }
         ensures unchanged { OnErr result (self.new ≡ after_call self.old) }
         ensures stored { Stores (Some self.old.files) name.now bytes.now result (Some self.new.files) }
