@@ -1,19 +1,4 @@
-//! Text for bytes of PETSCII, as listings and scripts write it, and the bytes that such a text
-//! stands for.
-//!
-//! A byte that shows as a character of its own is that character: `$41` is `a` and `$C1` is `A`, as
-//! on a Commodore 64 in its second character set. A control code is a name in braces, as `{clr}`,
-//! and every other byte is its value, as `{$07}`. What the codes do is in the Commodore 64
-//! Programmer's Reference Guide; the names are this project's.
+//! BASIC V2 programs as text, and the text form of the bytes that they are made of.
 #![tactic(auto)]
 
-mod character;
-mod control;
-mod fault;
-mod laws;
-mod text;
-mod unit;
-
-pub use fault::TextFault;
-pub use laws::{one_outcome, spelling_reads_back};
-pub use text::{from_text, to_text};
+pub use petscii::{TextFault, from_text, one_outcome, spelling_reads_back, to_text};

@@ -5,8 +5,8 @@ use Rattle.std.specs.List.{list_all}
 use Rattle.std.proofs.lemmas.Bool.{agree_below_at, ltb-true}
 use Rattle.std.proofs.lemmas.List.Elements.{All-head, All-tail, All-append}
 use Rattle.std.proofs.lemmas.List.Sums.{AllPass-from_list_all}
-use Rattle.cbm_text.specs.ControlNames.{control_names, control_name}
-use Rattle.cbm_text.specs.Spelling.{character, character_ranges, hex_digit, spell, spelling}
+use Rattle.petscii.specs.ControlNames.{control_names, control_name}
+use Rattle.petscii.specs.Spelling.{character, character_ranges, hex_digit, spell, spelling}
 
 -- whether all bytes are ASCII
 abbrev are_ascii : List ℕ → Bool

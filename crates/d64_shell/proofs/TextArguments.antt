@@ -1,9 +1,9 @@
 -- Words in text form: what they stand for, and what their reading does.
 use Rattle.std.proofs.Common.{◌≡◌, ℕ, ◌⊎◌, List, Bool, true, false, Ok, Err, inl, inr, refl, sym, ap, ◌∙◌}
-use Rattle.cbm_text.specs.TextForm.{IsTextOf, HasOneReading}
-use Rattle.cbm_text.specs.TextFault.{IsOfMemory, IsFirstFault, HasNoFaultIfRead}
-use Rattle.cbm_text.specs.declared.fault.TextFault.{TextFault}
-use Rattle.cbm_text.specs.declared.fault.TextFault.TheVariants.{UnknownName, OpenBrace, BadByte, Memory}
+use Rattle.petscii.specs.TextForm.{IsTextOf, HasOneReading}
+use Rattle.petscii.specs.TextFault.{IsOfMemory, IsFirstFault, HasNoFaultIfRead}
+use Rattle.petscii.specs.declared.fault.TextFault.{TextFault}
+use Rattle.petscii.specs.declared.fault.TextFault.TheVariants.{UnknownName, OpenBrace, BadByte, Memory}
 use Rattle.d64_script.specs.declared.status.Status.{Status}
 use Rattle.d64_shell.specs.Act.{Act, Does, ReadText, IsSpelled, LineAnswer, World, plain}
 use Rattle.d64_shell.specs.Arguments.{status_of_text}

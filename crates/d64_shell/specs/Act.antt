@@ -1,5 +1,5 @@
 use Rattle.std.specs.Prelude.{◌≡◌, ℕ, List, [], Bool, true, false, Option, Result, MatchResult, Ok, Err, ◌⊎◌}
-use Rattle.cbm_text.specs.TextForm.{IsTextOf}
+use Rattle.petscii.specs.TextForm.{IsTextOf}
 use Rattle.d64_host.specs.Files.{Files}
 use Rattle.d64_host.specs.Host.{fault_number, Fetches, Stores, CountsDevice}
 use Rattle.d64_shell.specs.History.{History}

@@ -7,8 +7,8 @@ use Rattle.d64_files.specs.Label.{holds_any_of}
 use Rattle.d64_files.specs.Name.{forbidden_in_names}
 use Rattle.d64_files.specs.declared.kind.Kind.{Kind}
 use Rattle.d64_files.specs.declared.kind.Kind.TheVariants.{Seq, Prg, Usr, Rel}
-use Rattle.cbm_text.specs.declared.fault.TextFault.{TextFault}
-use Rattle.cbm_text.specs.declared.fault.TextFault.TheVariants.{UnknownName, OpenBrace, BadByte, Memory}
+use Rattle.petscii.specs.declared.fault.TextFault.{TextFault}
+use Rattle.petscii.specs.declared.fault.TextFault.TheVariants.{UnknownName, OpenBrace, BadByte, Memory}
 use Rattle.d64_script.specs.Number.{number_of}
 use Rattle.d64_script.specs.declared.status.Status.{Status}
 use Rattle.d64_script.specs.declared.status.Status.TheVariants.{SyntaxError, BadName, IllegalBlock, OutOfMemory}

@@ -6,7 +6,7 @@ pub use Rattle.d64_dos.specs.WriteRefusal
 pub use Rattle.d64_dos.specs.Reading
 pub use Rattle.d64_dos.specs.Listing
 pub use Rattle.d64_files.specs.Name
-pub use Rattle.cbm_text.specs.TextForm
+pub use Rattle.petscii.specs.TextForm
 pub use Rattle.d64_host.specs.Files
 pub use Rattle.d64_host.specs.Host
 pub use Rattle.d64_host.specs.MemoryHost

@@ -11,7 +11,7 @@ use Rattle.d64_files.specs.Directory.{number_of}
 use Rattle.d64_files.specs.Pattern.{is_pattern}
 use Rattle.d64_script.specs.Words.{words_of}
 use Rattle.d64_image.specs.declared.image.TheConstants.{BLOCK_BYTES}
-use Rattle.cbm_text.specs.Spelling.{spelling}
+use Rattle.petscii.specs.Spelling.{spelling}
 use Rattle.d64_shell.specs.Arguments.{host_in, block_in, at_comma, is_id, name_and_kind_of}
 use Rattle.d64_shell.specs.FoundFile.{found_name, found_content, is_file_name}
 use Rattle.d64_shell.specs.ListingText.{listing_text}

@@ -5,7 +5,7 @@ ghost use Rattle.std.specs.Prelude.{◌≡◌, ◌<◌, All, Result, ◌==◌, t
 ghost use Rattle.d64_shell.specs.Arguments.{host_in, number_in, block_in, is_id, at_comma, kind_of_letter, name_and_kind_in, after_slash, name_and_kind_of};
 ghost use Rattle.d64_script.specs.Words.{IsPrintable};
 ghost use Rattle.d64_shell.specs.ArgumentTexts.{texts, named, items, Reads};
-ghost use Rattle.cbm_text.specs.TextForm.{HasOneReading};
+ghost use Rattle.petscii.specs.TextForm.{HasOneReading};
 ghost use Rattle.d64_files.specs.Name.{is_name};
 ghost use Rattle.d64_files.specs.Pattern.{is_pattern};
 

@@ -5,7 +5,7 @@ ghost use Rattle.std.specs.Prelude.{◌≡◌, ◌<◌, [], ◌∷◌, All, map}
 ghost use Rattle.d64_script.specs.Words.{IsPrintable};
 ghost use Rattle.d64_shell.specs.Act.{Settle, StoreOf, Does, World, DoesInSession};
 ghost use Rattle.d64_shell.specs.Answer.{answer_of};
-ghost use Rattle.cbm_text.specs.Spelling.{spelling};
+ghost use Rattle.petscii.specs.Spelling.{spelling};
 ghost use Rattle.d64_shell.specs.FoundFile.{is_file_name};
 ghost use Rattle.d64_shell.specs.History.{History};
 ghost use Rattle.d64_shell.specs.Line.{block_act, block_read_act, block_write_act, format_act, list_act, quit_act, read_act, read_to, redo_act, save_act, undo_act, write_act, command_act, write_one_block};

@@ -1,7 +1,7 @@
 //! The lines of a directory.
 ghost use Rattle.std.specs.Prelude.{◌≡◌, ◌++◌, ◌-◌, codes, if◌then◌else◌, [], replicate, OnOk, IfOk};
 ghost use Rattle.std.specs.Fmt.{decimal};
-ghost use Rattle.cbm_text.specs.Spelling.{spelling};
+ghost use Rattle.petscii.specs.Spelling.{spelling};
 ghost use Rattle.d64_dos.specs.Listing.{shown_row, shown_listing};
 ghost use Rattle.d64_shell.specs.ListingText.{padded, kind_text, header_line, row_line, listing_text};
 

@@ -1,7 +1,7 @@
 use Rattle.std.proofs.Common.{◌≡◌, ◌∙◌, ℕ, ◌<◌, sym, ap, subst, true, List, None, All, arith, rules}
 use Rattle.std.proofs.lemmas.Str.{IsUtf8-from_ascii}
 use Rattle.std.proofs.lemmas.Str.Ascii.{IsAscii-from_all}
-use Rattle.cbm_text.specs.Spelling.{spelling}
+use Rattle.petscii.specs.Spelling.{spelling}
 use Rattle.d64_dos.specs.Reading.{read_refusal}
 use Rattle.d64_shell.specs.FoundFile.{found_name, found_content, is_file_name}
 use Rattle.d64_shell.specs.History.{present}

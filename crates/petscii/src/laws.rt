@@ -1,0 +1,25 @@
+//! Laws of the text form: empty functions, whose contracts are the laws.
+
+ghost use Rattle.std.specs.Prelude.{◌≡◌, ℕ, List};
+ghost use Rattle.petscii.specs.declared.fault.TextFault.{TextFault};
+ghost use Rattle.petscii.specs.Spelling.{spelling};
+ghost use Rattle.petscii.specs.TextForm.{IsTextOf, HasOneReading};
+ghost use Rattle.petscii.specs.TextFault.{IsFirstFault, HasNoFaultIfRead, HasOneFault};
+
+/// A text has one outcome: it stands for at most one list of bytes, it has a fault only where it
+/// stands for none, and its leftmost fault is one.
+#[inline]
+pub fn one_outcome(text: &[u8])
+    ensures one_reading { HasOneReading text.now }
+    ensures no_fault { HasNoFaultIfRead text.now }
+    ensures one_fault { HasOneFault text.now }
+{}
+
+/// What `from_text` makes of what `to_text` wrote is the bytes, unless memory runs out: the text of
+/// bytes stands for these bytes and no others, and has no fault.
+#[inline]
+pub fn spelling_reads_back(bytes: &[u8])
+    ensures read { IsTextOf bytes.now (spelling bytes.now) }
+    ensures only { (others : List ℕ) → IsTextOf others (spelling bytes.now) → others ≡ bytes.now }
+    ensures no_fault { (fault : TextFault) → ¬ (IsFirstFault (spelling bytes.now) fault) }
+{}

@@ -1,0 +1,68 @@
+//! Bytes to text, and text to bytes.
+
+ghost use Rattle.std.specs.Prelude.{◌≡◌, ◌⊎◌, ◌++◌, IfOk, IfErr, OnOk};
+ghost use Rattle.petscii.specs.Spelling.{spell, spelling};
+ghost use Rattle.petscii.specs.TextForm.{IsTextOf};
+ghost use Rattle.petscii.specs.TextFault.{IsFirstFault, IsOfMemory};
+
+use crate::character::{character_of, digit_of};
+use crate::control::name_of_code;
+use crate::fault::TextFault;
+use crate::unit::read_unit;
+use std::alloc::{AllocError, Global};
+
+/// The text of bytes of PETSCII: each byte's character, else the name of the control code in
+/// braces, else its value as `{$xx}`, two hexadecimal digits in small letters.
+///
+/// An `Err` comes only where there is no memory for the text.
+#[tactic(auto, unfolding(crate::specs::Spelling::spelling))]
+pub fn to_text(alloc: Global, bytes: &[u8]) -> Result<Vec<u8>, AllocError>
+    ensures spelled { IfOk result (λ text. text.items ≡ spelling bytes.now) }
+{
+    let mut text = Vec::new(alloc);
+    for byte in bytes {
+        push_spelling(&mut text, *byte)?;
+    }
+    Ok(text)
+}
+
+/// Adds the text of one byte.
+#[tactic(auto, unfolding(crate::specs::Spelling::spell))]
+pub(crate) fn push_spelling(text: &mut Vec<u8>, byte: u8) -> Result<(), AllocError>
+    ensures spelled { OnOk result (text.new.items ≡ text.old.items ++ spell byte) }
+{
+    if let Some(shown) = character_of(byte) {
+        text.push(shown)?;
+        return Ok(());
+    }
+    text.push(b'{')?;
+    match name_of_code(byte) {
+        Some(name) => text.extend_from_slice(name)?,
+        None => text.extend_from_slice(&[b'$', digit_of(byte / 16), digit_of(byte % 16)])?,
+    }
+    text.push(b'}')?;
+    Ok(())
+}
+
+/// The bytes of PETSCII that a text stands for. Beside what `to_text` writes, names and hexadecimal
+/// digits may be in either case, and `{$xx}` stands for every byte.
+///
+/// An `Err` is the leftmost fault with its place: `UnknownName` and `OpenBrace` at the offset of
+/// the `{`, `BadByte` at the offset of the byte; or there is no memory for the bytes.
+pub fn from_text(alloc: Global, text: &[u8]) -> Result<Vec<u8>, TextFault>
+    ensures read { IfOk result (λ bytes. IsTextOf bytes.items text.now) }
+    ensures fault { IfErr result (λ fault. IsOfMemory fault ⊎ IsFirstFault text.now fault) }
+{
+    let mut bytes = Vec::new(alloc);
+    let mut left = text;
+    while let [first, after @ ..] = left {
+        let place = text.len() - left.len();
+        let (byte, rest) = read_unit(*first, after, place)?;
+        bytes.push(byte)?;
+        left = rest;
+    }
+    Ok(bytes)
+}
+
+#[cfg(test)]
+mod tests;
