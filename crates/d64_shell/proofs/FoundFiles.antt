@@ -55,14 +55,13 @@ Does-refused history Memory cause act files failures is memory =
 
 -- a refused store leaves the files
 Stores-memory : (files : Option Files) (name bytes : List ℕ) → Stores {A = Unit {0}} files name bytes (Err (faults.Memory alloc_error)) files
-Stores-memory None name bytes = refl
-Stores-memory (Some files) name bytes = (refl, tt)
+Stores-memory files name bytes = (refl, tt)
 
 -- memory may be wanting for a store
 pub StoreOf-memory : (name bytes : List ℕ) (files : Option Files) (failures : ℕ) (history : History)
     → Does (StoreOf name bytes) (world_of files failures history) (plain OutOfMemory) (world_of files failures history)
 unfolding Does
-StoreOf-memory name bytes files failures history = (Err (faults.Memory alloc_error), Stores-memory files name bytes, tt, refl, refl)
+StoreOf-memory name bytes files failures history = (Err (faults.Memory alloc_error), Stores-memory files name bytes, refl, refl, refl)
 
 -- the same where the name is the file's own
 as_found-memory : (test : Bool) (name bytes : List ℕ) (files : Option Files) (failures : ℕ) (history : History)

@@ -5,7 +5,7 @@ use Rattle.std.specs.Io.KnownBytes.{Keeps}
 use Rattle.std.proofs.KnownBytes.{Appends-kept, Keeps-trans}
 use Rattle.d64_script.specs.RawLines.{lines_of, ended_lines}
 use Rattle.d64_script.specs.Script.{script_limit}
-use Rattle.d64_host.specs.Files.{Files}
+use Rattle.d64_shell.specs.Act.{HostState}
 use Rattle.d64_shell.specs.History.{History, begun}
 use Rattle.d64_shell.specs.Program.{image_name_of, home_of, IsFirstImage, Outside, RanShell, StoppedBy, fault_of_run}
 use Rattle.d64_shell.specs.Runner.{Stand, RanLines, StoppedAt, Ran}
@@ -86,23 +86,23 @@ Ran-flushed home reader left old new flushed (Err (Memory error)) ran kept = rec
 
 -- a script has run on the first image, and then its output was flushed
 pub RanShell-flushed : (words : List (List ℕ)) (reader left : Option (List ℕ)) (old new : Outside) (ended : Result Outcome ShellFault)
-    (name : Option (List ℕ)) (image : List (List ℕ)) (home : List ℕ) (files : Option Files) (failures : ℕ) (first history : History) (writer : Option (List ℕ))
-    → image_name_of words ≡ Some name → IsFirstImage old.files name image → home ≡ home_of name → files ≡ old.files → first ≡ begun image
+    (name : Option (List ℕ)) (image : List (List ℕ)) (home : List ℕ) (host : HostState) (first history : History) (writer : Option (List ℕ))
+    → image_name_of words ≡ Some name → IsFirstImage old.host name image host → home ≡ home_of name → first ≡ begun image
     → Ran home reader left
-    (record { writer = old.writer; world = record { files = files; failures = failures; history = first } })
-    (record { writer = writer; world = record { files = new.files; failures = new.failures; history = history } }) ended
+    (record { writer = old.writer; world = record { files = host.files; failures = host.failures; history = first } })
+    (record { writer = writer; world = record { files = new.host.files; failures = new.host.failures; history = history } }) ended
     → Keeps writer new.writer → RanShell words reader left old new ended
-RanShell-flushed words reader left old new ended name image home files failures first history writer asked is_first at_home kept begins ran flushed = record {
+RanShell-flushed words reader left old new ended name image home host first history writer asked is_first at_home begins ran flushed = record {
   name = name;
   asked = asked;
   image = image;
+  host = host;
   first = is_first;
-  failures = failures;
   history = history;
   ran = Ran-flushed (home_of name) reader left
-      (record { writer = old.writer; world = record { files = old.files; failures = failures; history = begun image } })
-      (record { writer = writer; world = record { files = new.files; failures = new.failures; history = history } }) new.writer ended
-      (rw (at_home, kept, begins) at ran) flushed;
+      (record { writer = old.writer; world = record { files = host.files; failures = host.failures; history = begun image } })
+      (record { writer = writer; world = record { files = new.host.files; failures = new.host.failures; history = history } }) new.writer ended
+      (rw (at_home, begins) at ran) flushed;
 }
 
 -- the fault of a run tells how the script ended

@@ -18,6 +18,11 @@ pub record LineAnswer : Type 0 where
 abbrev pub plain : Status → LineAnswer
 plain status = record { output = []; status = status; closes = false }
 
+-- what a host shows: its files, where it tells them, and the count of its failures
+pub record HostState : Type 0 where
+  pub files : Option Files
+  pub failures : ℕ
+
 -- what the script works on: the host's files, where it tells them, the count of its failures, and the history
 pub record World : Type 0 where
   pub files : Option Files

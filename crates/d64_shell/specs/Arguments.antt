@@ -42,9 +42,9 @@ status_of_text (Memory error) = OutOfMemory
 unfoldable pub at_comma : List ℕ → Option (List ℕ × List ℕ)
 at_comma word = option_map (λ place. (take place word, drop (place + 1) word)) (position (λ byte. byte == 44) word)
 
--- bytes that are an id of a disk: two, and none that no name holds
-abbrev pub is_id : List ℕ → Bool
-is_id bytes = (length bytes == 2) && not (holds_any_of forbidden_in_names bytes)
+-- bytes that a word may give a disk as its id: two, and none that no name holds
+abbrev pub can_be_id : List ℕ → Bool
+can_be_id bytes = (length bytes == 2) && not (holds_any_of forbidden_in_names bytes)
 
 -- the letters that stand for kinds
 abbrev pub kind_letters : List (List ℕ × Kind)

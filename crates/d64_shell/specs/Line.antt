@@ -12,14 +12,13 @@ use Rattle.d64_files.specs.Pattern.{is_pattern}
 use Rattle.d64_script.specs.Words.{words_of}
 use Rattle.d64_image.specs.declared.image.TheConstants.{BLOCK_BYTES}
 use Rattle.petscii.specs.Spelling.{spelling}
-use Rattle.d64_shell.specs.Arguments.{host_in, block_in, at_comma, is_id, name_and_kind_of}
+use Rattle.d64_shell.specs.Arguments.{host_in, block_in, at_comma, can_be_id, name_and_kind_of}
 use Rattle.d64_shell.specs.FoundFile.{found_name, found_content, is_file_name}
 use Rattle.d64_shell.specs.ListingText.{listing_text}
 use Rattle.d64_script.specs.Dump.{dump}
 use Rattle.d64_script.specs.RawLines.{text_of, is_too_long, is_skipped}
 use Rattle.d64_shell.specs.CommandWord.{command_word_of, fewest, most}
 use Rattle.d64_shell.specs.Act.{Act, Settle, Try, FetchThen, StoreOf, ReadText, plain, World, LineAnswer, Does}
-use Rattle.d64_shell.specs.declared.handlers.TheConstants.{HOST_FILE_BYTES}
 use Rattle.d64_files.specs.declared.kind.Kind.{Kind}
 use Rattle.d64_dos.specs.declared.command.Command.{Command}
 use Rattle.d64_dos.specs.declared.command.Command.TheVariants as commands
@@ -85,6 +84,10 @@ block_read_act history host track sector =
     reading history (host_in host) (λ name.
     reading history (block_in track sector) (λ block. StoreOf name (sector_at (present history) block)))
 
+-- the most bytes that a command takes of a host file
+abbrev pub host_file_limit : ℕ
+host_file_limit = 1048576
+
 -- a host file of one block replaces a block
 abbrev pub write_one_block : History → ℕ → List ℕ → Act
 write_one_block history block bytes =
@@ -94,13 +97,13 @@ write_one_block history block bytes =
 abbrev pub block_write_act : History → List ℕ → List ℕ → List ℕ → Act
 block_write_act history host track sector =
     reading history (host_in host) (λ name.
-    reading history (block_in track sector) (λ block. FetchThen name HOST_FILE_BYTES (write_one_block history block)))
+    reading history (block_in track sector) (λ block. FetchThen name host_file_limit (write_one_block history block)))
 
 -- with the two parts of a word
 abbrev pub format_parts : History → Option (List ℕ × List ℕ) → Act
 format_parts history None = refuse history SyntaxError
 format_parts history (Some parts) =
-    ReadText is_name parts.0 (λ name. ReadText is_id parts.1 (λ id. command_act history (commands.Format name id)))
+    ReadText is_name parts.0 (λ name. ReadText can_be_id parts.1 (λ id. command_act history (commands.Format name id)))
 
 -- `format`: the disk is made an empty one, with the name and the id in one word
 abbrev pub format_act : History → List ℕ → Act
@@ -157,7 +160,7 @@ abbrev pub write_act : History → List ℕ → List (List ℕ) → Act
 write_act history host words =
     reading history (host_in host) (λ source.
     reading history (name_and_kind_of host words) (λ file.
-    ReadText is_name file.0 (λ name. FetchThen source HOST_FILE_BYTES (write_file history name file.1))))
+    ReadText is_name file.0 (λ name. FetchThen source host_file_limit (write_file history name file.1))))
 
 -- what a command word and the words after it ask for, where they are as many as it takes
 abbrev pub act_of : List ℕ → History → CommandWord → List (List ℕ) → Act

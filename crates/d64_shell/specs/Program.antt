@@ -4,8 +4,7 @@ use Rattle.std.specs.declared.alloc.AllocError.{AllocError}
 use Rattle.std.specs.Fmt.{decimal}
 use Rattle.std.specs.Io.KnownBytes.{Keeps}
 use Rattle.d64_script.specs.Output.{AppendsPart}
-use Rattle.d64_host.specs.Files.{Files}
-use Rattle.d64_host.specs.Host.{Fetches}
+use Rattle.d64_host.specs.Host.{Fetches, CountsDevice}
 use Rattle.d64_host.specs.declared.host.HostFault.{HostFault}
 use Rattle.d64_host.specs.declared.host.HostFault.TheVariants.{Missing, Device, TooLong}
 use Rattle.d64_host.specs.declared.host.HostFault.TheVariants as files
@@ -14,6 +13,7 @@ use Rattle.d64_image.specs.declared.image.ImageFault.TheVariants as images
 use Rattle.d64_image.specs.Image.{IsImage, bytes_of}
 use Rattle.d64_image.specs.declared.block.TheConstants.{BLOCKS}
 use Rattle.d64_image.specs.declared.image.TheConstants.{BLOCK_BYTES}
+use Rattle.d64_shell.specs.Act.{HostState}
 use Rattle.d64_shell.specs.History.{History, begun}
 use Rattle.d64_shell.specs.Runner.{Ran}
 use Rattle.d64_shell.specs.declared.runner.Outcome.{Outcome}
@@ -38,33 +38,37 @@ home_of (Some name) = name
 abbrev pub image_file_limit : ℕ
 image_file_limit = 16777216
 
--- the image that a session begins with: a blank one, or that of a host file
-abbrev pub IsFirstImage : Option Files → Option (List ℕ) → List (List ℕ) → Type 0
-IsFirstImage files None image = image ≡ replicate BLOCKS (replicate BLOCK_BYTES 0)
-IsFirstImage files (Some name) image = IsImage image × Fetches files name image_file_limit (Ok (bytes_of image))
-
--- what the program works on: the bytes of its output, where they are known, the host's files, where it tells them, and
--- the count of the host's failures
+-- what the program works on: the bytes of its output, where they are known, and its host
 pub record Outside : Type 0 where
   pub writer : Option (List ℕ)
-  pub files : Option Files
-  pub failures : ℕ
+  pub host : HostState
+
+-- what the host may answer to the fetch of an image file, and what it shows then
+pub record FetchesImage (old : HostState) (name : List ℕ) (fetched : Result (List ℕ) HostFault) (new : HostState) : Type 0 where
+  pub answer : Fetches old.files name image_file_limit fetched
+  pub counted : CountsDevice old.failures new.failures fetched
+  pub kept : new.files ≡ old.files
+
+-- the image that a session begins with, and what the host shows then: a blank image, or that of a host file
+abbrev pub IsFirstImage : HostState → Option (List ℕ) → List (List ℕ) → HostState → Type 0
+IsFirstImage old None image new = (image ≡ replicate BLOCKS (replicate BLOCK_BYTES 0)) × (new ≡ old)
+IsFirstImage old (Some name) image new = IsImage image × FetchesImage old name (Ok (bytes_of image)) new
 
 -- the script has run on the image that the words ask for, and ended so
 pub record RanShell (words : List (List ℕ)) (reader left : Option (List ℕ)) (old new : Outside) (ended : Result Outcome ShellFault) : Type 0 where
   pub name : Option (List ℕ)
   pub asked : image_name_of words ≡ Some name
   pub image : List (List ℕ)
-  pub first : IsFirstImage old.files name image
-  pub failures : ℕ
+  pub host : HostState
+  pub first : IsFirstImage old.host name image host
   pub history : History
   pub ran : Ran (home_of name) reader left
-      (record { writer = old.writer; world = record { files = old.files; failures = failures; history = begun image } })
-      (record { writer = new.writer; world = record { files = new.files; failures = new.failures; history = history } }) ended
+      (record { writer = old.writer; world = record { files = host.files; failures = host.failures; history = begun image } })
+      (record { writer = new.writer; world = record { files = new.host.files; failures = new.host.failures; history = history } }) ended
 
 -- nothing of the script was read, and no line has run
 abbrev pub HasNotBegun : Option (List ℕ) → Option (List ℕ) → Outside → Outside → Type 0
-HasNotBegun reader left old new = (left ≡ reader) × Keeps old.writer new.writer × (new.files ≡ old.files)
+HasNotBegun reader left old new = (left ≡ reader) × Keeps old.writer new.writer
 
 -- a script that ran to its end gives status 0 where all of its lines were accepted, and else 1
 abbrev pub status_of : Outcome → ℕ
@@ -105,27 +109,27 @@ fault_text Memory = codes "out of memory"
 unfoldable pub fault_line : ProgramFault → List ℕ
 fault_line fault = codes "d64sh: " ++ fault_text fault ++ codes "\n"
 
--- why the session has no image to begin with: the host refused to fetch the image file, or its bytes are no image's, or
--- there is no memory
-abbrev pub HasNoFirstImage : ProgramFault → Option Files → Option (List ℕ) → Type 0
-HasNoFirstImage UnreadableImage files (Some name) = (fault : HostFault) × Fetches files name image_file_limit (Err fault) × (fault_of_file fault ≡ UnreadableImage)
-HasNoFirstImage UnreadableImage files None = ⊥
-HasNoFirstImage (WrongLength n) files (Some name) = (bytes : List ℕ) × Fetches files name image_file_limit (Ok bytes) × (length bytes ≡ n) × (n ≢ BLOCKS * BLOCK_BYTES)
-HasNoFirstImage (WrongLength n) files None = ⊥
-HasNoFirstImage Memory files name = ⊤
-HasNoFirstImage Usage files name = ⊥
-HasNoFirstImage Read files name = ⊥
-HasNoFirstImage Write files name = ⊥
+-- why the session has no image to begin with, and what the host shows then: it refused to fetch the image file, or the
+-- bytes are no image's, or there is no memory
+abbrev pub HasNoFirstImage : ProgramFault → HostState → Option (List ℕ) → HostState → Type 0
+HasNoFirstImage UnreadableImage old (Some name) new = (fault : HostFault) × FetchesImage old name (Err fault) new × (fault_of_file fault ≡ UnreadableImage)
+HasNoFirstImage UnreadableImage old None new = ⊥
+HasNoFirstImage (WrongLength n) old (Some name) new = (bytes : List ℕ) × FetchesImage old name (Ok bytes) new × (length bytes ≡ n) × (n ≢ BLOCKS * BLOCK_BYTES)
+HasNoFirstImage (WrongLength n) old None new = ⊥
+HasNoFirstImage Memory old name new = new.files ≡ old.files
+HasNoFirstImage Usage old name new = ⊥
+HasNoFirstImage Read old name new = ⊥
+HasNoFirstImage Write old name new = ⊥
 
 -- the words are a use of the program, and no line has run for want of the image that they ask for
 abbrev pub HasNotBegunFor : ProgramFault → List (List ℕ) → Option (List ℕ) → Option (List ℕ) → Outside → Outside → Type 0
 HasNotBegunFor fault words reader left old new =
-    (name : Option (List ℕ)) × (image_name_of words ≡ Some name) × HasNoFirstImage fault old.files name × HasNotBegun reader left old new
+    (name : Option (List ℕ)) × (image_name_of words ≡ Some name) × HasNoFirstImage fault old.host name new.host × HasNotBegun reader left old new
 
 -- what a fault says of the run: no line has run where the words are no use of the program or the image is not there; the
 -- script has run up to its read fault; it has run to some end, and the output takes no more bytes; or there is no memory
 abbrev pub StoppedBy : ProgramFault → List (List ℕ) → Option (List ℕ) → Option (List ℕ) → Outside → Outside → Type 0
-StoppedBy Usage words reader left old new = (image_name_of words ≡ None) × HasNotBegun reader left old new
+StoppedBy Usage words reader left old new = (image_name_of words ≡ None) × (new.host ≡ old.host) × HasNotBegun reader left old new
 StoppedBy (WrongLength n) words reader left old new = HasNotBegunFor (WrongLength n) words reader left old new
 StoppedBy UnreadableImage words reader left old new = HasNotBegunFor UnreadableImage words reader left old new
 StoppedBy Read words reader left old new = RanShell words reader left old new (Err runs.Read)

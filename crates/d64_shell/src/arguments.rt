@@ -2,7 +2,7 @@
 #![tactic(auto, unfolding(crate::specs::Arguments::host_in, crate::specs::Arguments::number_in, crate::specs::Arguments::block_in, crate::specs::Arguments::at_comma, crate::specs::Arguments::after_slash))]
 
 ghost use Rattle.std.specs.Prelude.{◌≡◌, ◌<◌, All, Result, ◌==◌, true, map, option_map, position};
-ghost use Rattle.d64_shell.specs.Arguments.{host_in, number_in, block_in, is_id, at_comma, kind_of_letter, name_and_kind_in, after_slash, name_and_kind_of};
+ghost use Rattle.d64_shell.specs.Arguments.{host_in, number_in, block_in, can_be_id, at_comma, kind_of_letter, name_and_kind_in, after_slash, name_and_kind_of};
 ghost use Rattle.d64_script.specs.Words.{IsPrintable};
 ghost use Rattle.d64_shell.specs.ArgumentTexts.{texts, named, items, Reads};
 ghost use Rattle.petscii.specs.TextForm.{HasOneReading};
@@ -84,7 +84,7 @@ pub(crate) fn pattern_in(alloc: Global, word: &[u8]) -> Result<Pattern, Status>
 
 /// The id of a disk that a word stands for: two bytes, none of which is forbidden in names.
 pub(crate) fn id_in(alloc: Global, word: &[u8]) -> Result<[u8; 2], Status>
-    ensures { Reads is_id word.now result }
+    ensures { Reads can_be_id word.now result }
 {
     let bytes = bytes_in(alloc, word)?;
     let id = match bytes.as_slice().as_array() {

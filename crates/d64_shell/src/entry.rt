@@ -163,12 +163,12 @@ pub fn program<R: Read, W: Write, F: Write, H: Host>(
 ) -> u8
     ensures status { result ≤ 2 }
     ensures ran { result ≢ 2 → RanTo (map (λ word. word.now) words.now) (R.remaining reader.old) (R.remaining reader.new)
-        (record { writer = W.contents writer.old; files = H.files host.old; failures = H.failure_count host.old })
-        (record { writer = W.contents writer.new; files = H.files host.new; failures = H.failure_count host.new })
+        (record { writer = W.contents writer.old; host = record { files = H.files host.old; failures = H.failure_count host.old } })
+        (record { writer = W.contents writer.new; host = record { files = H.files host.new; failures = H.failure_count host.new } })
         result }
     ensures stopped { result ≡ 2 → Stopped (map (λ word. word.now) words.now) (R.remaining reader.old) (R.remaining reader.new)
-        (record { writer = W.contents writer.old; files = H.files host.old; failures = H.failure_count host.old })
-        (record { writer = W.contents writer.new; files = H.files host.new; failures = H.failure_count host.new })
+        (record { writer = W.contents writer.old; host = record { files = H.files host.old; failures = H.failure_count host.old } })
+        (record { writer = W.contents writer.new; host = record { files = H.files host.new; failures = H.failure_count host.new } })
         (F.contents faults.old) (F.contents faults.new) }
     ensures silent { result ≢ 2 → faults.new ≡ faults.old }
 {
@@ -198,11 +198,11 @@ fn shell<R: Read, W: Write, H: Host>(
     host: &mut H,
 ) -> Result<Outcome, ProgramFault>
     ensures ran { IfOk result (λ outcome. RanShell (map (λ word. word.now) words.now) (R.remaining reader.old) (R.remaining reader.new)
-        (record { writer = W.contents writer.old; files = H.files host.old; failures = H.failure_count host.old })
-        (record { writer = W.contents writer.new; files = H.files host.new; failures = H.failure_count host.new }) (Ok outcome)) }
+        (record { writer = W.contents writer.old; host = record { files = H.files host.old; failures = H.failure_count host.old } })
+        (record { writer = W.contents writer.new; host = record { files = H.files host.new; failures = H.failure_count host.new } }) (Ok outcome)) }
     ensures stopped { IfErr result (λ fault. StoppedBy fault (map (λ word. word.now) words.now) (R.remaining reader.old) (R.remaining reader.new)
-        (record { writer = W.contents writer.old; files = H.files host.old; failures = H.failure_count host.old })
-        (record { writer = W.contents writer.new; files = H.files host.new; failures = H.failure_count host.new })) }
+        (record { writer = W.contents writer.old; host = record { files = H.files host.old; failures = H.failure_count host.old } })
+        (record { writer = W.contents writer.new; host = record { files = H.files host.new; failures = H.failure_count host.new } })) }
 {
     let image_name = image_name(words)?;
     let image = first_image(alloc, host, image_name)?;
@@ -238,9 +238,14 @@ fn first_image<H: Host>(
     host: &mut H,
     name: Option<&str>,
 ) -> Result<Image, ProgramFault>
-    ensures image { IfOk result (IsFirstImage (H.files host.old) (option_copied name.entry)) }
-    ensures no_image { IfErr result (λ fault. HasNoFirstImage fault (H.files host.old) (option_copied name.entry)) }
-    ensures kept { H.files host.new ≡ H.files host.old }
+    ensures image { IfOk result (λ image. IsFirstImage
+        (record { files = H.files host.old; failures = H.failure_count host.old })
+        (option_copied name.entry) image
+        (record { files = H.files host.new; failures = H.failure_count host.new })) }
+    ensures no_image { IfErr result (λ fault. HasNoFirstImage fault
+        (record { files = H.files host.old; failures = H.failure_count host.old })
+        (option_copied name.entry)
+        (record { files = H.files host.new; failures = H.failure_count host.new })) }
 {
     let Some(name) = name else {
         return Ok(Image::zeroed(alloc)?);

@@ -1,8 +1,7 @@
 use Rattle.std.proofs.Common.{Ok}
 use Rattle.d64_files.specs.Name.{is_name}
 use Rattle.d64_shell.specs.Act.{World, FetchThen, Does}
-use Rattle.d64_shell.specs.Line.{write_file}
-use Rattle.d64_shell.specs.declared.handlers.TheConstants.{HOST_FILE_BYTES}
+use Rattle.d64_shell.specs.Line.{host_file_limit, write_file}
 use Rattle.d64_shell.proofs.TextArguments.{Does-read}
 use Rattle.d64_shell.proofs.handlers.write.Goals as goal
 
@@ -11,7 +10,7 @@ unfolding Does
 returns-in-Ok g c =
     let world : World = record { files = g.H.Host.files c.args.host.now; failures = g.H.Host.failure_count c.args.host.now; history = c.args.session.now } in
     rw (← c.in_ok-source.ensures, ← c.in_ok-name.ensures, c.fetch.ensures.files_kept)
-    (Does-read is_name c.in_ok-name.name.now (λ name. FetchThen c.in_ok-source.source.now HOST_FILE_BYTES (write_file c.args.session.now name c.in_ok-name.kind))
+    (Does-read is_name c.in_ok-name.name.now (λ name. FetchThen c.in_ok-source.source.now host_file_limit (write_file c.args.session.now name c.in_ok-name.kind))
     c.in_ok-name-2.name world _ _ c.in_ok-name-2.ensures (
       Ok c.in-Ok.bytes.items,
       g.H.Host.failure_count c.fetch.new.self,
