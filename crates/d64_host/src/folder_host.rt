@@ -1,13 +1,13 @@
 //! A host over the files of the system, as they lie in the current folder.
 
 ghost use Rattle.std.specs.Prelude.{◌≡◌, ◌≢◌, ◌+◌, ◌<◌, ◌≤◌, ◌↔◌, ◌++◌, length, vec_len, None, IfOk, IfErr, IfSome, OnOk, OnErr};
-ghost use Rattle.std.specs.Io.KnownBytes.{Appends};
 ghost use Rattle.d64_host.specs.Host.{failures_after};
 
 use crate::host::{Host, HostFault};
+use crate::whole_store::store_file;
 use std::alloc::Global;
 use std::fs::File;
-use std::io::{ErrorKind, Read, Write};
+use std::io::{ErrorKind, Read};
 use std::marker::Model;
 use std::rt::Files;
 
@@ -16,8 +16,8 @@ const READ_BYTES: usize = 4096;
 
 /// The files of the system, by their paths from the current folder.
 ///
-/// It tells a proof nothing of its files, since others write to them too. A store empties the file and
-/// then writes it, so what the file holds after a store that failed is open.
+/// It tells a proof nothing of its files, since others write to them too. A store replaces a file that is
+/// there in one step, or leaves it as it was; a new file is removed again where its writing fails.
 #[derive(Drop)]
 pub struct FolderHost<R> {
     rt: R,
@@ -52,8 +52,8 @@ impl<R: Files + Drop> Host for FolderHost<R> {
         outcome
     }
 
-    fn store(&mut self, _alloc: Global, name: &str, bytes: &[u8]) -> Result<(), HostFault> {
-        let outcome = write_file(&self.rt, name, bytes);
+    fn store(&mut self, alloc: Global, name: &str, bytes: &[u8]) -> Result<(), HostFault> {
+        let outcome = store_file(&self.rt, alloc, name, bytes);
         count_failure(&mut self.failures, &outcome);
         outcome
     }
@@ -134,27 +134,6 @@ fn add_piece(bytes: &mut Vec<u8>, piece: &[u8], limit: usize) -> Result<(), Host
         return Err(HostFault::TooLong);
     }
     bytes.extend_from_slice(piece).map_err(HostFault::Memory)
-}
-
-// Makes these bytes the whole content of the file at this path.
-fn write_file<R: Files>(rt: &R, path: &str, bytes: &[u8]) -> Result<(), HostFault>
-    ensures { IfErr result (λ fault. fault ≡ HostFault.Device) }
-{
-    match File::create(rt, path) {
-        Ok(mut file) => write_to_end(&mut file, bytes),
-        Err(_) => Err(HostFault::Device),
-    }
-}
-
-// Writes these bytes to a file, and what it holds back of them.
-fn write_to_end<F: Write>(file: &mut F, bytes: &[u8]) -> Result<(), HostFault>
-    ensures written { OnOk result (Appends (F.contents file.old) (F.contents file.new) bytes.now) }
-    ensures refused { IfErr result (λ fault. fault ≡ HostFault.Device) }
-{
-    if file.write_all(bytes).is_err() {
-        return Err(HostFault::Device);
-    }
-    file.flush().map_err(|_| HostFault::Device)
 }
 
 #[cfg(test)]

@@ -3,9 +3,12 @@
 //! A host in memory tells its files to a proof; one over the folders of a system tells nothing.
 #![tactic(auto)]
 
+mod draft;
 mod folder_host;
 mod host;
 mod memory_host;
+mod new_file;
+mod whole_store;
 
 pub use folder_host::FolderHost;
 pub use host::{Host, HostFault};

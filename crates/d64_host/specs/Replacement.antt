@@ -1,0 +1,36 @@
+use Rattle.std.specs.Prelude.{◌≡◌, Bool, true, false, ℕ, List, Option, Some, None, option_map, unwrap_or, IsSome}
+
+-- a file that is to be replaced, as the system has it: the bytes that its name stands for, those of the new file beside
+-- it, where there is one, and whether the new file's bytes are on the disk
+pub record Place : Type 0 where
+  pub content : List ℕ
+  pub beside : Option (List ℕ)
+  pub is_synced : Bool
+
+-- a file of these bytes, with nothing beside it
+abbrev pub alone : List ℕ → Place
+alone content = record { content = content; beside = None; is_synced = false }
+
+-- the new file holds these bytes
+abbrev pub filled : List ℕ → Place → Place
+filled bytes place = record place { beside = Some bytes; is_synced = false }
+
+-- what the new file holds is on the disk
+abbrev pub synced : Place → Place
+synced place = record place { is_synced = true }
+
+-- the name stands for the new file's bytes
+abbrev pub published : Place → Place
+published place = alone (unwrap_or place.beside place.content)
+
+-- the new file is gone
+abbrev pub discarded : Place → Place
+discarded place = alone place.content
+
+-- what the name stands for, where it is told
+abbrev pub content_of : Option Place → Option (List ℕ)
+content_of place = option_map (λ told. told.content) place
+
+-- there is a new file, and all of it is on the disk
+abbrev pub IsReady : Place → Type 0
+IsReady place = IsSome place.beside × (place.is_synced ≡ true)
