@@ -1,19 +1,25 @@
-# d64sh: `make` builds it, `make run` runs the main job, `make check` is the gate, `make bench` measures.
+# d64sh: `make` builds it, `make run` runs the main job, `make check` is the gate, `make bench` measures; `make install` and `make uninstall` put it
+# below PREFIX and take it away again.
 PREFIX ?= /usr/local
+# a ~ that the shell left as it is
+override PREFIX := $(patsubst ~/%,$(HOME)/%,$(PREFIX))
 RT ?= rt
-export RT
+export RT PREFIX DESTDIR
 NEEDS_RT = command -v $(RT) >/dev/null 2>&1 || { echo "d64sh: the Rattle toolchain is needed: put its command rt on the PATH" >&2; exit 2; }
 PROGRAM = crates/d64sh/out/d64sh
+# the program is there, and no source is newer
+IS_BUILT = [ -x $(PROGRAM) ] && [ -z "$$(find crates -name '*.rt' -newer $(PROGRAM))" ]
 
-.PHONY: all run check bench install
+.PHONY: all run check bench install uninstall
 
 all:
 	@$(NEEDS_RT)
 	@cd crates/d64sh && $(RT) run -- shell </dev/null >/dev/null
+	@touch $(PROGRAM)
 
 run: all
 	@rm -rf out/run && mkdir -p out && cp -r examples out/run
-	@cd out/run && ../../$(PROGRAM) shell holiday.d64 <first.script
+	@cd out/run && PATH="$$OLDPWD/$(dir $(PROGRAM)):$$PATH" ./answers first.script holiday.d64
 
 check:
 	@$(NEEDS_RT)
@@ -22,7 +28,12 @@ check:
 bench: all
 	@bench/measure $(PROGRAM)
 
-install: all
-	@install -d "$(DESTDIR)$(PREFIX)/bin" "$(DESTDIR)$(PREFIX)/share/man/man1"
-	@install -m 755 $(PROGRAM) "$(DESTDIR)$(PREFIX)/bin/d64sh"
-	@install -m 644 docs/d64sh.1 "$(DESTDIR)$(PREFIX)/share/man/man1/d64sh.1"
+# needs the toolchain only where the program has to be built first
+install:
+	@$(IS_BUILT) || $(MAKE) --no-print-directory all
+	@install -d "$$DESTDIR$$PREFIX/bin" "$$DESTDIR$$PREFIX/share/man/man1"
+	@install -m 755 $(PROGRAM) "$$DESTDIR$$PREFIX/bin/d64sh"
+	@install -m 644 docs/d64sh.1 "$$DESTDIR$$PREFIX/share/man/man1/d64sh.1"
+
+uninstall:
+	@rm -f "$$DESTDIR$$PREFIX/bin/d64sh" "$$DESTDIR$$PREFIX/share/man/man1/d64sh.1"
