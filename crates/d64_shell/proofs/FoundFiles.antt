@@ -13,7 +13,7 @@ use Rattle.d64_host.specs.declared.host.HostFault.TheVariants as faults
 use Rattle.d64_script.specs.declared.status.Status.TheVariants.{BadName, OutOfMemory}
 use Rattle.d64_shell.specs.Act.{Act, Try, StoreOf, Does, LineAnswer, World, plain}
 use Rattle.d64_shell.specs.FoundFile.{found_name, found_content, is_file_name}
-use Rattle.d64_shell.specs.History.{History}
+use Rattle.d64_undo.specs.History.{History}
 use Rattle.d64_shell.specs.Line.{refused_or, status_of_refusal, store_as_found}
 
 -- a world with a history

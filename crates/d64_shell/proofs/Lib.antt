@@ -1,10 +1,7 @@
-pub mod Histories
-pub mod Runs
 pub mod ScriptRuns
 pub mod Transcripts
 pub mod TextArguments
 pub mod LastParts
 pub mod AsciiTexts
 pub mod FoundFiles
-pub mod SoundHistories
 pub mod ProgramRuns

@@ -6,7 +6,7 @@ use Rattle.std.proofs.KnownBytes.{Appends-kept, Keeps-trans}
 use Rattle.d64_script.specs.RawLines.{lines_of, ended_lines}
 use Rattle.d64_script.specs.Script.{script_limit}
 use Rattle.d64_shell.specs.Act.{HostState}
-use Rattle.d64_shell.specs.History.{History, begun}
+use Rattle.d64_undo.specs.History.{History, begun}
 use Rattle.d64_shell.specs.Program.{image_name_of, home_of, IsFirstImage, Outside, RanShell, StoppedBy, fault_of_run}
 use Rattle.d64_shell.specs.Runner.{Stand, RanLines, StoppedAt, Ran}
 use Rattle.d64_shell.specs.Transcript.{Progress}

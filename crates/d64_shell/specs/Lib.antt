@@ -7,16 +7,13 @@ pub use Rattle.d64_dos.specs.Reading
 pub use Rattle.d64_dos.specs.Listing
 pub use Rattle.d64_files.specs.Name
 pub use Rattle.petscii.specs.TextForm
+pub use Rattle.d64_undo.specs.History
 pub use Rattle.d64_host.specs.Files
 pub use Rattle.d64_host.specs.Host
 pub use Rattle.d64_host.specs.MemoryHost
 pub use Rattle.d64_script.specs.Dump
 pub use Rattle.d64_script.specs.RawLines
 pub use Rattle.d64_script.specs.Status
-pub mod History
-pub mod HistoryLaws
-pub mod SoundHistory
-pub mod Request
 pub mod CommandWord
 pub mod Arguments
 pub mod ArgumentTexts

@@ -1,7 +1,7 @@
 use Rattle.std.specs.Prelude.{◌≡◌, ℕ, nat_lt, List, [], ◌∷◌, length, false, true, ◌+◌, ◌==◌, if◌then◌else◌, Option, None, Some, MatchOption, Result, Ok, Err, slice_index_or, drop}
 use Rattle.d64_files.specs.Name.{is_name}
 use Rattle.d64_image.specs.Image.{sector_at, bytes_of}
-use Rattle.d64_shell.specs.History.{History, present, added, undone, redone}
+use Rattle.d64_undo.specs.History.{History, present, added, undone, redone}
 use Rattle.d64_dos.specs.Command.{after, reply_to, refusal_of}
 use Rattle.d64_dos.specs.Listing.{listing_of}
 use Rattle.d64_dos.specs.Reading.{directory_refusal, read_refusal}

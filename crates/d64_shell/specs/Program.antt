@@ -14,7 +14,7 @@ use Rattle.d64_image.specs.Image.{IsImage, bytes_of}
 use Rattle.d64_image.specs.declared.block.TheConstants.{BLOCKS}
 use Rattle.d64_image.specs.declared.image.TheConstants.{BLOCK_BYTES}
 use Rattle.d64_shell.specs.Act.{HostState}
-use Rattle.d64_shell.specs.History.{History, begun}
+use Rattle.d64_undo.specs.History.{History, begun}
 use Rattle.d64_shell.specs.Runner.{Ran}
 use Rattle.d64_shell.specs.declared.runner.Outcome.{Outcome}
 use Rattle.d64_shell.specs.declared.runner.ShellFault.{ShellFault}

@@ -6,11 +6,11 @@ ghost use Rattle.d64_shell.specs.Program.{image_name_of, IsFirstImage, HasNoFirs
 ghost use Rattle.d64_shell.specs.declared.entry.ProgramFault.TheVariants.{Usage, Memory};
 
 use crate::runner::{Outcome, ShellFault, run};
-use crate::session::Session;
 use arrayvec::ArrayVec;
 use d64_host::{Host, HostFault};
 use d64_image::{Image, ImageFault};
 use d64_script::output::write_answer;
+use d64_undo::Session;
 use itoa::Buffer;
 use std::alloc::{AllocError, Global};
 use std::io::{Read, Write};

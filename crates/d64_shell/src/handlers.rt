@@ -7,14 +7,13 @@ ghost use Rattle.d64_shell.specs.Act.{Settle, StoreOf, Does, World, DoesInSessio
 ghost use Rattle.d64_shell.specs.Answer.{answer_of};
 ghost use Rattle.petscii.specs.Spelling.{spelling};
 ghost use Rattle.d64_shell.specs.FoundFile.{is_file_name};
-ghost use Rattle.d64_shell.specs.History.{History};
+ghost use Rattle.d64_undo.specs.History.{History};
 ghost use Rattle.d64_shell.specs.Line.{block_act, block_read_act, block_write_act, format_act, list_act, quit_act, read_act, read_to, redo_act, save_act, undo_act, write_act, command_act, write_one_block};
 
 use crate::answer::{Answer, Output};
 use crate::arguments::{at_comma, block_in, host_in, id_in, name_and_kind_of, name_in, pattern_in};
 use crate::listing_text::listing_text;
-use crate::session::Session;
-use crate::status_from::{of_fault, of_refusal, of_reply};
+use crate::status_from::{of_fault, of_nothing_to_redo, of_nothing_to_undo, of_refusal, of_reply};
 use cbm_text::to_text;
 use d64_dos::Command;
 use d64_files::Pattern;
@@ -22,6 +21,7 @@ use d64_host::Host;
 use d64_image::BlockNo;
 use d64_script::dump::dump;
 use d64_script::status::Status;
+use d64_undo::Session;
 use std::alloc::Global;
 use std::str;
 
@@ -223,7 +223,7 @@ fn read_as_found<H: Host>(
 pub(crate) fn redo(session: &mut Session) -> Result<Answer, Status>
     ensures { redo_act session.old ≡ Settle (answer_of result) session.new }
 {
-    session.redo()?;
+    session.redo().map_err(of_nothing_to_redo)?;
     Ok(Answer::plain(Status::Done))
 }
 
@@ -254,7 +254,7 @@ pub(crate) fn save<H: Host>(
 pub(crate) fn undo(session: &mut Session) -> Result<Answer, Status>
     ensures { undo_act session.old ≡ Settle (answer_of result) session.new }
 {
-    session.undo()?;
+    session.undo().map_err(of_nothing_to_undo)?;
     Ok(Answer::plain(Status::Done))
 }
 

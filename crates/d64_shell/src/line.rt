@@ -11,11 +11,11 @@ ghost use Rattle.d64_script.specs.Words.{words_of};
 use crate::answer::Answer;
 use crate::command_word::CommandWord;
 use crate::handlers;
-use crate::session::Session;
 use d64_host::Host;
 use d64_script::raw_lines;
 use d64_script::status::Status;
 use d64_script::words::words;
+use d64_undo::Session;
 use std::alloc::Global;
 
 /// The answer to a raw line, or None where it is skipped.

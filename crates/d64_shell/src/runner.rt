@@ -7,11 +7,11 @@ ghost use Rattle.d64_script.specs.Script.{script_limit};
 
 use crate::answer::Answer;
 use crate::line::answer_line;
-use crate::session::Session;
 use d64_host::Host;
 use d64_script::output::WriteFault;
 use d64_script::raw_lines::RawLines;
 use d64_script::script::read_script;
+use d64_undo::Session;
 use std::alloc::{AllocError, Global};
 use std::io::{Read, Write};
 use thiserror::Error;

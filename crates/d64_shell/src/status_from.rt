@@ -5,7 +5,6 @@ ghost use Rattle.d64_shell.specs.Arguments.{status_of_text};
 ghost use Rattle.d64_shell.specs.Line.{status_of_refusal, status_of_reply};
 ghost use Rattle.d64_script.specs.declared.status.Status.TheVariants.{NothingToUndo, NothingToRedo};
 
-use crate::session;
 use cbm_text::TextFault;
 use d64_dos::{Refusal, Reply};
 use d64_host::HostFault;
@@ -61,18 +60,16 @@ pub(crate) fn of_reply(reply: Reply) -> Status
     }
 }
 
-impl From<session::NothingToUndo> for Status {
-    ghost from_gives = { λ _ status. status ≡ NothingToUndo };
-
-    fn from(_refusal: session::NothingToUndo) -> Status {
-        Status::NothingToUndo
-    }
+/// The status of an undo that was refused.
+pub(crate) fn of_nothing_to_undo(_refusal: d64_undo::NothingToUndo) -> Status
+    ensures { result ≡ NothingToUndo }
+{
+    Status::NothingToUndo
 }
 
-impl From<session::NothingToRedo> for Status {
-    ghost from_gives = { λ _ status. status ≡ NothingToRedo };
-
-    fn from(_refusal: session::NothingToRedo) -> Status {
-        Status::NothingToRedo
-    }
+/// The status of a redo that was refused.
+pub(crate) fn of_nothing_to_redo(_refusal: d64_undo::NothingToRedo) -> Status
+    ensures { result ≡ NothingToRedo }
+{
+    Status::NothingToRedo
 }

@@ -4,7 +4,7 @@ use Rattle.std.proofs.lemmas.Str.Ascii.{IsAscii-from_all}
 use Rattle.petscii.specs.Spelling.{spelling}
 use Rattle.d64_dos.specs.Reading.{read_refusal}
 use Rattle.d64_shell.specs.FoundFile.{found_name, found_content, is_file_name}
-use Rattle.d64_shell.specs.History.{present}
+use Rattle.d64_undo.specs.History.{present}
 use Rattle.d64_shell.specs.Line.{store_as_found}
 use Rattle.d64_shell.proofs.FoundFiles.{found_name-read, found_content-read, Does-accepted, Does-refused, store_as_found-memory, Does-store_as_found}
 use Rattle.d64_shell.proofs.handlers.read_as_found.Goals as goal

@@ -2,7 +2,7 @@ use Rattle.std.proofs.Common.{◌≡◌, ◌∙◌, None}
 use Rattle.d64_dos.specs.Reading.{read_refusal}
 use Rattle.d64_shell.specs.Act.{Act, StoreOf}
 use Rattle.d64_shell.specs.FoundFile.{found_content}
-use Rattle.d64_shell.specs.History.{present}
+use Rattle.d64_undo.specs.History.{present}
 use Rattle.d64_shell.proofs.FoundFiles.{found_content-read, Does-accepted, Does-refused, StoreOf-memory}
 use Rattle.d64_shell.proofs.handlers.read_to.Goals as goal
 

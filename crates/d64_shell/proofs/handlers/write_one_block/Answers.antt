@@ -1,5 +1,5 @@
 use Rattle.std.proofs.Common.{rules, ◌≡◌, ℕ, List, length, refl}
-use Rattle.d64_shell.specs.History.{History}
+use Rattle.d64_undo.specs.History.{History}
 use Rattle.d64_shell.specs.Line.{command_act, write_one_block}
 use Rattle.d64_dos.specs.declared.command.Command.TheVariants.{BlockWrite}
 use Rattle.d64_shell.proofs.handlers.write_one_block.Goals as goal

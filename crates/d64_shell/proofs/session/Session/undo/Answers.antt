@@ -1,9 +1,0 @@
-use Rattle.std.proofs.Common.{refl, sym, subst}
-use Rattle.d64_shell.specs.History.{undone}
-use Rattle.d64_shell.specs.SoundHistory.{IsSoundHistory}
-use Rattle.d64_shell.proofs.SoundHistories.{moved-sound}
-use Rattle.d64_shell.proofs.session.Session.undo.Goals as goal
-
--- the images are the same
-pub returns-clause-sound : goal.returns-clause-sound
-returns-clause-sound c all = subst IsSoundHistory (sym c.step_back.ensures) (moved-sound c.args.self.now (undone c.args.self.now) refl all)

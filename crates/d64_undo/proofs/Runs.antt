@@ -1,0 +1,92 @@
+-- runs of requests: a run with one request more, and what is free in a run
+use Rattle.std.proofs.Common.{◌≡◌, ◌≢◌, List, [], ◌∷◌, ◌++◌, Option, Some, None, refl, sym, ap, ap₂, ◌∙◌, subst, arith}
+use Rattle.std.proofs.lemmas.List.Elements.{All-head, All-tail}
+use Rattle.d64_dos.specs.Refusal.{cause_of}
+use Rattle.d64_undo.specs.History.{History}
+use Rattle.d64_undo.specs.Request.{Step, Run, HasMemory}
+use Rattle.d64_dos.specs.declared.refusal.Refusal.{Refusal}
+use Rattle.d64_dos.specs.declared.refusal.Refusal.TheVariants.{NotClosed, NotFound, Exists, WrongType, Directory, DiskFull, Memory}
+use Rattle.d64_undo.specs.declared.request.Request.{Request}
+use Rattle.d64_undo.specs.declared.request.Request.TheVariants.{Apply, Undo, Redo}
+use Rattle.d64_undo.specs.declared.request.Answer.{Answer}
+use Rattle.d64_undo.specs.declared.request.Answer.TheVariants.{Accepted, Refused, Undone, Redone, NothingToUndo, NothingToRedo}
+
+-- a run and one step more are a run
+pub Run-push : (history between next : History) (requests : List Request) (answers : List Answer) (request : Request) (answer : Answer)
+    → Run history requests answers between → Step between request answer next
+    → Run history (requests ++ request ∷ []) (answers ++ answer ∷ []) next
+Run-push history between next [] [] request answer run step =
+    (next, (subst (λ (h : History). Step h request answer next) run step, refl))
+Run-push history between next [] (a ∷ answers) request answer run step = absurd run
+Run-push history between next (r ∷ requests) [] request answer run step = absurd run
+Run-push history between next (r ∷ requests) (a ∷ answers) request answer run step =
+    (run.0, (run.1.0, Run-push run.0 between next requests answers request answer run.1.1 step))
+
+-- a refusal by its cause in the image
+abbrev refusal_by : Option Refusal → Refusal
+refusal_by (Some refusal) = refusal
+refusal_by None = Memory
+
+-- each refusal is that of its cause
+refusal_by-cause_of : (refusal : Refusal) → refusal_by (cause_of refusal) ≡ refusal
+refusal_by-cause_of NotClosed = refl
+refusal_by-cause_of NotFound = refl
+refusal_by-cause_of Exists = refl
+refusal_by-cause_of WrongType = refl
+refusal_by-cause_of (Directory fault) = refl
+refusal_by-cause_of DiskFull = refl
+refusal_by-cause_of Memory = refl
+
+-- want of memory alone has no cause in the image
+without_cause : (refusal : Refusal) → cause_of refusal ≡ None → refusal ≡ Memory
+without_cause refusal e = sym (refusal_by-cause_of refusal) ∙ ap refusal_by e
+
+-- refusals with the same cause in the image are the same
+same_cause : (refusal other : Refusal) → cause_of refusal ≡ cause_of other → refusal ≡ other
+same_cause refusal other e = sym (refusal_by-cause_of refusal) ∙ ap refusal_by e ∙ refusal_by-cause_of other
+
+-- a step is a function of the history and the request
+same_step : (history : History) (request : Request) (answer other : Answer) (next after : History)
+    → Step history request answer next → Step history request other after
+    → answer ≢ Refused Memory → other ≢ Refused Memory → (answer ≡ other) × (next ≡ after)
+same_step history (Apply command) (Accepted reply) (Accepted also) next after p q f g =
+    (ap Accepted (p.1 ∙ sym q.1), p.2 ∙ sym q.2)
+same_step history (Apply command) (Accepted reply) (Refused refusal) next after p q f g =
+    absurd (g (ap Refused (without_cause refusal (q.0 ∙ p.0))))
+same_step history (Apply command) (Refused refusal) (Accepted reply) next after p q f g =
+    absurd (f (ap Refused (without_cause refusal (p.0 ∙ q.0))))
+same_step history (Apply command) (Refused refusal) (Refused also) next after p q f g =
+    (ap Refused (same_cause refusal also (p.0 ∙ sym q.0)), p.1 ∙ sym q.1)
+same_step history Undo Undone Undone next after p q f g = (refl, p.1 ∙ sym q.1)
+same_step history Undo NothingToUndo NothingToUndo next after p q f g = (refl, p.1 ∙ sym q.1)
+same_step history Undo Undone NothingToUndo next after p q f g = absurd (omega arith)
+same_step history Undo NothingToUndo Undone next after p q f g = absurd (omega arith)
+same_step history Redo Redone Redone next after p q f g = (refl, p.1 ∙ sym q.1)
+same_step history Redo NothingToRedo NothingToRedo next after p q f g = (refl, p.1 ∙ sym q.1)
+same_step history Redo Redone NothingToRedo next after p q f g = absurd (omega arith)
+same_step history Redo NothingToRedo Redone next after p q f g = absurd (omega arith)
+same_step history request answer other next after p q f g = absurd (assumption)
+
+-- no answer is want of memory, so the first is not
+first_with_memory : (answer : Answer) (answers : List Answer) → HasMemory (answer ∷ answers) → answer ≢ Refused Memory
+first_with_memory answer answers f = All-head (λ x. x ≢ Refused Memory) answer answers f
+
+-- no answer is want of memory, so none of the rest is
+rest_with_memory : (answer : Answer) (answers : List Answer) → HasMemory (answer ∷ answers) → HasMemory answers
+rest_with_memory answer answers f = All-tail (λ x. x ≢ Refused Memory) answer answers f
+
+-- a run is a function of the history and the requests
+pub same_run : (history : History) (requests : List Request) (answers others : List Answer) (next other : History)
+    → Run history requests answers next → Run history requests others other
+    → HasMemory answers → HasMemory others → (answers ≡ others) × (next ≡ other)
+same_run history [] [] [] next other p q f g = (refl, p ∙ sym q)
+same_run history [] [] (b ∷ others) next other p q f g = absurd q
+same_run history [] (a ∷ answers) others next other p q f g = absurd p
+same_run history (r ∷ requests) [] others next other p q f g = absurd p
+same_run history (r ∷ requests) (a ∷ answers) [] next other p q f g = absurd q
+same_run history (r ∷ requests) (a ∷ answers) (b ∷ others) next other p q f g =
+    let first = same_step history r a b p.0 q.0 p.1.0 q.1.0 (first_with_memory a answers f) (first_with_memory b others g) in
+    let rest =
+    same_run p.0 requests answers others next other p.1.1 (subst (λ (h : History). Run h requests others other) (sym first.1) q.1.1)
+    (rest_with_memory a answers f) (rest_with_memory b others g) in
+    (ap₂ (λ (x : Answer) (xs : List Answer). x ∷ xs) first.0 rest.0, rest.1)

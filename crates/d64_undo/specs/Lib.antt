@@ -1,0 +1,4 @@
+pub mod History
+pub mod HistoryLaws
+pub mod SoundHistory
+pub mod Request

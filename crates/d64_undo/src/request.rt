@@ -1,0 +1,95 @@
+//! Requests to a session, and whole runs of them.
+ghost use Rattle.std.specs.Prelude.{◌≡◌, IfOk, OnErr};
+ghost use Rattle.d64_undo.specs.Request.{Step, Run};
+
+use crate::session::{NothingToRedo, NothingToUndo, Session};
+use d64_dos::{Command, Refusal, Reply};
+use std::alloc::{AllocError, Global};
+
+/// What is asked of a session.
+#[derive(Debug, Drop)]
+pub enum Request {
+    /// To run a command on the present image.
+    Apply(Command),
+    Undo,
+    Redo,
+}
+
+/// What a session answers to a request.
+#[derive(Clone, Copy, Debug, PartialEq, Eq)]
+pub enum Answer {
+    Accepted(Reply),
+    Refused(Refusal),
+    Undone,
+    Redone,
+    NothingToUndo,
+    NothingToRedo,
+}
+
+// The answer to one request.
+fn run_one(session: &mut Session, request: &Request) -> Answer
+    ensures { Step session.old request.now result session.new }
+{
+    match request {
+        Request::Apply(command) => match session.run(command) {
+            Ok(reply) => Answer::Accepted(reply),
+            Err(refusal) => Answer::Refused(refusal),
+        },
+        Request::Undo => match session.undo() {
+            Ok(()) => Answer::Undone,
+            Err(NothingToUndo) => Answer::NothingToUndo,
+        },
+        Request::Redo => match session.redo() {
+            Ok(()) => Answer::Redone,
+            Err(NothingToRedo) => Answer::NothingToRedo,
+        },
+    }
+}
+
+/// Runs the requests one after another, and gives their answers. Where there is no memory for the answers
+/// themselves, no request has run.
+pub fn run_all(
+    alloc: Global,
+    session: &mut Session,
+    requests: &[Request],
+) -> Result<Vec<Answer>, AllocError>
+    ensures ran { IfOk result (λ answers. Run session.old requests.now answers.items session.new) }
+    ensures unchanged { OnErr result (session.new ≡ session.old) }
+{
+    let mut answers = Vec::with_capacity(alloc, requests.len())?;
+    for request in requests {
+        answers.push(run_one(session, request)).unwrap();
+    }
+    Ok(answers)
+}
+
+#[cfg(test)]
+mod tests {
+    use super::*;
+    use d64_image::{BlockNo, Image};
+    use std::test::Fail;
+
+    #[test]
+    fn answers_in_turn(rt: HostRuntime) -> Result<(), Fail> {
+        let mut session = Session::new(rt.alloc(), Image::zeroed(rt.alloc())?);
+        let at = BlockNo::of(17, 0).ok_or("no block")?;
+        let block = [1; 256];
+        let requests = [
+            Request::Redo,
+            Request::Apply(Command::BlockWrite { at, block }),
+            Request::Undo,
+            Request::Undo,
+            Request::Redo,
+        ];
+        let answers = run_all(rt.alloc(), &mut session, &requests)?;
+        let expected = [
+            Answer::NothingToRedo,
+            Answer::Accepted(Reply::Done),
+            Answer::Undone,
+            Answer::NothingToUndo,
+            Answer::Redone,
+        ];
+        assert_eq!(rt; answers.as_slice(), expected.as_slice());
+        Ok(())
+    }
+}
