@@ -18,13 +18,12 @@ use Rattle.d64_effects.specs.Write.{next_of_directory}
 use Rattle.d64_effects.proofs.FormattedDisks.{holds-formatted, view-formatted}
 use Rattle.d64_effects.proofs.WrittenDisks.{written-is_sound, written-shows}
 use Rattle.d64_image.specs.Image.{IsImage}
-use Rattle.d64_dos.specs.Command.{after, reply_to, refusal_of}
+use Rattle.d64_dos.specs.Change.{Change, Format, Write, BlockWrite}
+use Rattle.d64_dos.specs.Command.{after, reply_to, refusal_of, IsFileCommand, StartsFrom}
 use Rattle.d64_dos.specs.Refusal.{refused_by}
-use Rattle.d64_dos.specs.Step.{FileCommandsKeepDisksSound, IsFileCommand, IsMade, Leaves, StartsFrom}
+use Rattle.d64_dos.specs.Step.{FileCommandsKeepDisksSound, IsMade, Leaves}
 use Rattle.d64_dos.specs.declared.command.Reply.{Reply}
 use Rattle.d64_dos.specs.WriteRefusal.{has_room, is_writable, write_refusal}
-use Rattle.d64_dos.specs.declared.command.Command.{Command}
-use Rattle.d64_dos.specs.declared.command.Command.TheVariants.{Format, Write, BlockWrite}
 use Rattle.d64_dos.specs.declared.refusal.Refusal.{Refusal}
 use Rattle.d64_dos.specs.declared.refusal.Refusal.TheVariants.{Exists, WrongType, Directory, DiskFull}
 
@@ -79,28 +78,28 @@ pub keeps_sound : FileCommandsKeepDisksSound
 keeps_sound image (Format name id) is made none from =
     record { sound = λ fault first last. holds-formatted name id fault; shows = (refl, view-formatted name id made.0 made.1) }
 keeps_sound image (Write name kind bytes) is made none from =
-    let passes = accepted image name kind (length bytes.items) none in
+    let passes = accepted image name kind (length bytes) none in
     let kinds = writable kind passes.0 in
-    let fits = has_its_room image (length bytes.items) passes.1 in
+    let fits = has_its_room image (length bytes) passes.1 in
     record {
-      sound = written-is_sound image name kind bytes.items is made.0 kinds made.1 from fits;
-      shows = (refl, written-shows image name kind bytes.items is made.0 kinds made.1 from fits);
+      sound = written-is_sound image name kind bytes is made.0 kinds made.1 from fits;
+      shows = (refl, written-shows image name kind bytes is made.0 kinds made.1 from fits);
     }
 keeps_sound image (BlockWrite at block) is made none from = absurd from
 
 -- a file command may start from every sound image
-pub starts_from_sound : (image : List (List ℕ)) (command : Command) → IsFileCommand command → IsSound image → StartsFrom command image
-starts_from_sound image (Format name id) is sound = is
+pub starts_from_sound : (image : List (List ℕ)) (change : Change) → IsFileCommand change → IsSound image → StartsFrom change image
+starts_from_sound image (Format name id) is sound = tt
 starts_from_sound image (Write name kind bytes) is sound = sound
-starts_from_sound image (BlockWrite at block) is sound = absurd is
+starts_from_sound image (BlockWrite at block) is sound = absurd (cc)
 
 -- what the answer of a command says of its image and its reply makes the step
-pub step_of : (image : List (List ℕ)) (command : Command) (result : Result (List (List ℕ) × Reply) Refusal)
-    → IsImage image → IsMade command → refused_by result ≡ refusal_of image command
-    → IfOk result (λ done. done.1 ≡ reply_to image command) → IfOk result (λ done. done.0 ≡ after image command)
-    → IfOk result (λ done. StartsFrom command image → Leaves image command done.1 done.0)
-step_of image command (Err refusal) is made refused reply accepted = tt
-step_of image command (Ok done) is made refused reply accepted =
+pub step_of : (image : List (List ℕ)) (change : Change) (result : Result (List (List ℕ) × Reply) Refusal)
+    → IsImage image → IsMade change → refused_by result ≡ refusal_of image change
+    → IfOk result (λ done. done.1 ≡ reply_to image change) → IfOk result (λ done. done.0 ≡ after image change)
+    → IfOk result (λ done. StartsFrom change image → Leaves image change done.1 done.0)
+step_of image change (Err refusal) is made refused reply accepted = tt
+step_of image change (Ok done) is made refused reply accepted =
     λ from.
-    subst (λ (r : Reply). Leaves image command r done.0) (sym reply)
-    (subst (Leaves image command (reply_to image command)) (sym accepted) (keeps_sound image command is made (sym refused) from))
+    subst (λ (r : Reply). Leaves image change r done.0) (sym reply)
+    (subst (Leaves image change (reply_to image change)) (sym accepted) (keeps_sound image change is made (sym refused) from))

@@ -1,29 +1,81 @@
--- What commands do, and when they are refused: a table of each, with a row for each command.
-use Rattle.std.specs.Prelude.{ℕ, List, length, Option, None}
+-- What commands do, and when they are refused: a table with a row for each command.
+use Rattle.std.specs.Prelude.{◌≡◌, ℕ, List, length, Option, None, Some, IsSome, MatchOption}
 use Rattle.d64_image.specs.Image.{with_sector}
 use Rattle.d64_effects.specs.Format.{formatted}
+use Rattle.d64_effects.specs.View.{View, IsSound}
+use Rattle.d64_effects.specs.ViewAfter.{formatted_view, written_view}
 use Rattle.d64_effects.specs.Write.{written}
+use Rattle.d64_dos.specs.Change.{Change, Format, Write, BlockWrite}
 use Rattle.d64_dos.specs.WriteRefusal.{write_refusal}
-use Rattle.d64_dos.specs.declared.command.Command.{Command}
-use Rattle.d64_dos.specs.declared.command.Command.TheVariants.{Format, Write, BlockWrite}
 use Rattle.d64_dos.specs.declared.command.Reply.{Reply}
 use Rattle.d64_dos.specs.declared.command.Reply.TheVariants.{Done}
 use Rattle.d64_dos.specs.declared.refusal.Refusal.{Refusal}
 
--- the effect of a command: the image after it, of which every byte that the command does not name is as before
-abbrev pub after : List (List ℕ) → Command → List (List ℕ)
-after image (Format name id) = formatted name id
-after image (Write name kind bytes) = written image name kind bytes.items
-after image (BlockWrite at block) = with_sector image at block
+-- the disks from which a promise holds
+pub data Start : Type 0 where
+  AnyDisk : Start
+  SoundDisk : Start
 
--- what an accepted command answers
-abbrev pub reply_to : List (List ℕ) → Command → Reply
-reply_to image (Format name id) = Done
-reply_to image (Write name kind bytes) = Done
-reply_to image (BlockWrite at block) = Done
+-- what a file command promises of a disk: from which disks on, and, of what the disk shows, what is answered and what it shows then
+pub record Promise : Type 0 where
+  pub start : Start
+  pub reply : View → Reply
+  pub shows : View → View
+
+-- a command: of an image, the first refusal that applies, the image that it leaves, in which every byte that the command does not name is
+-- as before, and the reply; and what it promises of the disk's files. A command that is no file command promises nothing
+pub record Row : Type 0 where
+  pub refusal : List (List ℕ) → Option Refusal
+  pub effect : List (List ℕ) → List (List ℕ)
+  pub reply : List (List ℕ) → Reply
+  pub promise : Option Promise
+
+-- the table
+abbrev pub row : Change → Row
+row (Format name id) = record {
+  refusal = λ image. None;
+  effect = λ image. formatted name id;
+  reply = λ image. Done;
+  promise = Some (record { start = AnyDisk; reply = λ old. Done; shows = λ old. formatted_view name id });
+}
+row (Write name kind bytes) = record {
+  refusal = λ image. write_refusal image name kind (length bytes);
+  effect = λ image. written image name kind bytes;
+  reply = λ image. Done;
+  promise = Some (record { start = SoundDisk; reply = λ old. Done; shows = λ old. written_view old name kind bytes });
+}
+row (BlockWrite at block) = record {
+  refusal = λ image. None;
+  effect = λ image. with_sector image at block;
+  reply = λ image. Done;
+  promise = None;
+}
 
 -- the first refusal of a command that applies to the image, and none where the command is to be accepted
-abbrev pub refusal_of : List (List ℕ) → Command → Option Refusal
-refusal_of image (Format name id) = None
-refusal_of image (Write name kind bytes) = write_refusal image name kind (length bytes.items)
-refusal_of image (BlockWrite at block) = None
+abbrev pub refusal_of : List (List ℕ) → Change → Option Refusal
+refusal_of image change = (row change).refusal image
+
+-- the image after a command
+abbrev pub after : List (List ℕ) → Change → List (List ℕ)
+after image change = (row change).effect image
+
+-- what an accepted command answers
+abbrev pub reply_to : List (List ℕ) → Change → Reply
+reply_to image change = (row change).reply image
+
+-- a command that changes the files of a disk; a block write promises nothing of them
+abbrev pub IsFileCommand : Change → Type 0
+IsFileCommand change = IsSome (row change).promise
+
+-- the images from which a promise holds
+abbrev pub IsStart : Start → List (List ℕ) → Type 0
+IsStart AnyDisk image = Unit {0}
+IsStart SoundDisk image = IsSound image
+
+-- the images from which a file command is promised to leave a sound disk
+abbrev pub StartsFrom : Change → List (List ℕ) → Type 0
+StartsFrom change image = MatchOption (row change).promise ⊥ (λ promise. IsStart promise.start image)
+
+-- what a disk shows before a file command, the reply, and what it shows after it
+abbrev pub ViewStep : View → Change → Reply → View → Type 0
+ViewStep old change reply new = MatchOption (row change).promise ⊥ (λ promise. (reply ≡ promise.reply old) × (new ≡ promise.shows old))

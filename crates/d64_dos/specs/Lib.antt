@@ -1,4 +1,5 @@
 pub mod Refusal
+pub mod Change
 pub mod Command
 pub mod Reading
 pub mod Listing

@@ -1,8 +1,9 @@
 //! Commands on an image, and what they answer.
 ghost use Rattle.std.specs.Prelude.{◌≡◌, IfOk};
-ghost use Rattle.d64_dos.specs.Command.{after, reply_to, refusal_of};
+ghost use Rattle.d64_dos.specs.Change.{said};
+ghost use Rattle.d64_dos.specs.Command.{after, reply_to, refusal_of, StartsFrom};
 ghost use Rattle.d64_dos.specs.Refusal.{refused_by};
-ghost use Rattle.d64_dos.specs.Step.{IsMade, Leaves, StartsFrom};
+ghost use Rattle.d64_dos.specs.Step.{IsMade, Leaves};
 ghost use Rattle.d64_effects.specs.Laws.{AreBytes};
 
 use crate::format::formatted;
@@ -54,10 +55,10 @@ pub enum Reply {
 /// An accepted file command leaves a sound disk, which shows the command's change and nothing else: a format always, a write
 /// where the disk was sound.
 pub fn apply(alloc: Global, image: &Image, command: &Command) -> Result<(Image, Reply), Refusal>
-    ensures refused { refused_by result ≡ refusal_of image.now command.now }
-    ensures reply { IfOk result (λ done. done.1 ≡ reply_to image.now command.now) }
-    ensures accepted { IfOk result (λ done. done.0 ≡ after image.now command.now) }
-    ensures step { IfOk result (λ done. StartsFrom command.now image.now → Leaves image.now command.now done.1 done.0) }
+    ensures refused { refused_by result ≡ refusal_of image.now (said command.now) }
+    ensures reply { IfOk result (λ done. done.1 ≡ reply_to image.now (said command.now)) }
+    ensures accepted { IfOk result (λ done. done.0 ≡ after image.now (said command.now)) }
+    ensures step { IfOk result (λ done. StartsFrom (said command.now) image.now → Leaves image.now (said command.now) done.1 done.0) }
 {
     known_command(command);
     let _ = image.bytes();
@@ -71,7 +72,7 @@ fn known_bytes(_bytes: &[u8])
 
 // The parts of a command are known to be what they should.
 fn known_command(command: &Command)
-    ensures { IsMade command.now }
+    ensures { IsMade (said command.now) }
 {
     match command {
         Command::Format { name, id } => {
@@ -92,9 +93,9 @@ fn known_command(command: &Command)
 
 /// The image after a command, and the reply to it, byte for byte.
 fn carried_out(alloc: Global, image: &Image, command: &Command) -> Result<(Image, Reply), Refusal>
-    ensures refused { refused_by result ≡ refusal_of image.now command.now }
-    ensures reply { IfOk result (λ done. done.1 ≡ reply_to image.now command.now) }
-    ensures accepted { IfOk result (λ done. done.0 ≡ after image.now command.now) }
+    ensures refused { refused_by result ≡ refusal_of image.now (said command.now) }
+    ensures reply { IfOk result (λ done. done.1 ≡ reply_to image.now (said command.now)) }
+    ensures accepted { IfOk result (λ done. done.0 ≡ after image.now (said command.now)) }
 {
     match command {
         Command::Format { name, id } => {

@@ -1,0 +1,20 @@
+-- Commands as definitions see them: names and bytes are lists, so that a definition can say a command that no code has made.
+use Rattle.std.specs.Prelude.{ℕ, List}
+use Rattle.d64_files.specs.declared.kind.Kind.{Kind}
+use Rattle.d64_dos.specs.declared.command.Command.{Command}
+use Rattle.d64_dos.specs.declared.command.Command.TheVariants as commands
+
+-- a change of a disk
+pub data Change : Type 0 where
+  -- an empty disk with this name and this id
+  Format : List ℕ → List ℕ → Change
+  -- a file more, of this name, this kind and these bytes
+  Write : List ℕ → Kind → List ℕ → Change
+  -- other bytes in one block
+  BlockWrite : ℕ → List ℕ → Change
+
+-- the change that a command asks for
+abbrev pub said : Command → Change
+said (commands.Format name id) = Format name id
+said (commands.Write name kind bytes) = Write name kind bytes.items
+said (commands.BlockWrite at block) = BlockWrite at block
