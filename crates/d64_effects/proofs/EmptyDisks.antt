@@ -27,7 +27,7 @@ use Rattle.d64_files.specs.Name.{IsName}
 use Rattle.d64_effects.specs.Format.{directory_start, header, free_when_formatted, blank, formatted}
 use Rattle.d64_files.specs.Name.{filled}
 use Rattle.d64_files.specs.Writing.{empty_directory}
-use Rattle.d64_effects.specs.Laws.{IsId}
+use Rattle.d64_effects.specs.Laws.{AreTwoBytes}
 use Rattle.d64_files.proofs.WrittenBytes.{length-filled}
 
 -- one step of the set of all blocks
@@ -169,7 +169,7 @@ label_is_block start field id back l1 l2 l3 l4 a1 a2 a3 a4 =
           a4,
     )
 
-pub IsBlock-header : (name id : List ℕ) → IsName name → IsId id → IsBlock (header name id)
+pub IsBlock-header : (name id : List ℕ) → IsName name → AreTwoBytes id → IsBlock (header name id)
 unfolding header
 IsBlock-header name id named two =
     let P : ℕ → Type 0 = λ byte. byte < 256 in
@@ -188,7 +188,7 @@ blank_blocks : All IsBlock blank
 unfolding blank
 blank_blocks = All-replicate IsBlock BLOCKS zeros (refl, are_bytes zeros refl)
 
-pub IsImage-formatted : (name id : List ℕ) → IsName name → IsId id → IsImage (formatted name id)
+pub IsImage-formatted : (name id : List ℕ) → IsName name → AreTwoBytes id → IsImage (formatted name id)
 unfolding formatted
 IsImage-formatted name id named two =
     IsImage-with_map (with_sector (with_sector blank map_block (header name id)) directory_start empty_directory) free_when_formatted (

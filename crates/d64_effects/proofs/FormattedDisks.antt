@@ -29,7 +29,7 @@ use Rattle.d64_files.specs.declared.dir_fault.DirFault.TheVariants.{WrongCounts,
 use Rattle.d64_files.proofs.Chains.{chain_of_one, chain-is}
 use Rattle.d64_files.proofs.SlotLists.{length-cells}
 use Rattle.d64_effects.specs.Format.{directory_start, header, free_when_formatted, blank, formatted}
-use Rattle.d64_effects.specs.Laws.{IsId}
+use Rattle.d64_effects.specs.Laws.{AreTwoBytes}
 use Rattle.d64_effects.specs.View.{View, FileView, slot_view, disk_field, disk_id, view}
 use Rattle.d64_effects.specs.ViewAfter.{formatted_view}
 use Rattle.d64_effects.proofs.CellFields.{HasKind-unused, owned_by-unused, HasItsChains-unused}
@@ -209,23 +209,23 @@ name_and_id field id back sixteen two bytes is =
       shorter 0xA2 0xA4 (omega arith) (omega arith) ∙ range_at_end w2 id 0xA2 0xA4 (omega arith) two,
     )
 
-label : (name id : List ℕ) → IsName name → IsId id → (slice_range (header name id) 0x90 0xA0 ≡ filled name) × (slice_range (header name id) 0xA2 0xA4 ≡ id)
+label : (name id : List ℕ) → IsName name → AreTwoBytes id → (slice_range (header name id) 0x90 0xA0 ≡ filled name) × (slice_range (header name id) 0xA2 0xA4 ≡ id)
 unfolding header
 label name id named two = name_and_id (filled name) id (replicate 85 0) (length-filled name named.short) two.0 (header name id) refl
 
 -- the same in the formatted disk
-part-formatted : (name id : List ℕ) (from to : ℕ) → IsName name → IsId id → 144 ≤ from
+part-formatted : (name id : List ℕ) (from to : ℕ) → IsName name → AreTwoBytes id → 144 ≤ from
     → slice_range (sector_at (formatted name id) map_block) from to ≡ slice_range (header name id) from to
 part-formatted name id from to named two past =
     let block : IsBlock (header name id) = IsBlock-header name id named two in
     ap (λ (bytes : List ℕ). slice_range bytes from to) (map_block-formatted name id)
     ∙ ap (take (to - from)) (drop-map_for (header name id) free_when_formatted from block.0 past)
 
-disk_field-formatted : (name id : List ℕ) → IsName name → IsId id → disk_field (formatted name id) ≡ filled name
+disk_field-formatted : (name id : List ℕ) → IsName name → AreTwoBytes id → disk_field (formatted name id) ≡ filled name
 disk_field-formatted name id named two =
     let both = label name id named two in part-formatted name id 0x90 0xA0 named two (omega arith) ∙ both.0
 
-disk_id-formatted : (name id : List ℕ) → IsName name → IsId id → disk_id (formatted name id) ≡ id
+disk_id-formatted : (name id : List ℕ) → IsName name → AreTwoBytes id → disk_id (formatted name id) ≡ id
 disk_id-formatted name id named two =
     let both = label name id named two in part-formatted name id 0xA2 0xA4 named two (omega arith) ∙ both.1
 
@@ -242,7 +242,7 @@ shown-formatted name id =
 abbrev view_of : List ℕ → List ℕ → List ℕ → List (Option FileView) → set.FinSet nat_cmp → View
 view_of name id directory slots free = record { name = name; id = id; directory = directory; slots = slots; free = free }
 
-pub view-formatted : (name id : List ℕ) → IsName name → IsId id → view (formatted name id) ≡ formatted_view name id
+pub view-formatted : (name id : List ℕ) → IsName name → AreTwoBytes id → view (formatted name id) ≡ formatted_view name id
 unfolding view formatted_view
 view-formatted name id named two =
     let image : List (List ℕ) = formatted name id in

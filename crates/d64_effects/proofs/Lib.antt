@@ -14,3 +14,4 @@ pub mod NewDirectory
 pub mod WrittenImages
 pub mod NewOwners
 pub mod WrittenDisks
+pub mod ContentSteps

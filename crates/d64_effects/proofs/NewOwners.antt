@@ -31,7 +31,7 @@ use Rattle.d64_effects.proofs.NewDirectory.{has_directory}
 use Rattle.d64_effects.proofs.Occurrences.{tally, occurs, occurs-append, occurs-distinct, distinct-from_occurs, All-from_occurs, present-from_occurs, joined}
 use Rattle.d64_effects.proofs.Rows.{with_row, bare, map-same, map-slots, All-slots, occurs-with_row, joined-map}
 use Rattle.d64_effects.proofs.TakenBlocks.{Takes, Grows, occurs-owned, owned_once, owned_not_free, owned_not_taken, owned_not_grown, grown_not_taken, contains-without}
-use Rattle.d64_effects.proofs.WrittenImages.{Leaves, file_entry, append_some}
+use Rattle.d64_effects.proofs.WrittenImages.{LeftByWriting, file_entry, append_some}
 
 -- the slot of a new file, and one that is empty
 abbrev pub new_slot : List ℕ → Kind → List ℕ → List ℕ
@@ -54,7 +54,7 @@ empty_shows image = slot_view-unused image empty_slot empty_is_unused
 module _ (image other : List (List ℕ)) (name : List ℕ) (kind : Kind) (bytes taken grown : List ℕ)
     (sound : IsSound image) (short : length name ≤ 16) (owner : kind ≢ Del)
     (file : Takes image taken (length bytes)) (dir : Grows image grown) (is : length image ≡ BLOCKS)
-    (left : Leaves image other (first_unused (slots image)) taken grown (file_entry name kind taken) bytes) where
+    (left : LeftByWriting image other (first_unused (slots image)) taken grown (file_entry name kind taken) bytes) where
   is_new : IsNewEntry (new_slot name kind taken) name kind (get_or taken 0 0) (length taken)
   is_new = record { short = short; bytes = refl }
 

@@ -1,6 +1,6 @@
 -- lists with one more row: in the place of one that is there, or as the first of eight more
-use Rattle.std.proofs.Common.{◌≡◌, ℕ, ◌+◌, ◌<◌, Bool, cond, List, [], ◌∷◌, ◌++◌, length, map, drop, get_or, set, Option, Some, None, refl, sym, ap, ap₂, ◌∙◌, subst, arith}
-use Rattle.std.specs.Prelude.{All, IfSome, position, replicate}
+use Rattle.std.proofs.Common.{◌≡◌, ℕ, zero, suc, ◌+◌, ◌<◌, Bool, true, false, cond, List, [], ◌∷◌, ◌++◌, length, map, drop, get_or, set, Option, Some, None, refl, sym, ap, ap₂, ◌∙◌, subst, arith}
+use Rattle.std.specs.Prelude.{All, IfSome, position, replicate, option_map}
 use Rattle.std.specs.List.{flat_map, position_from}
 use Rattle.std.proofs.lemmas.List.{map-set, map-append}
 use Rattle.std.proofs.lemmas.List.Concat.{flat_map-append}
@@ -101,3 +101,24 @@ pub All-slots : (P : List ℕ → Type 0) (cells others : List (List ℕ)) (plac
 All-slots P cells others place entry alike e all here there =
     let Q : List ℕ → Type 0 = λ part. P (bare part) in
     from_parts P others alike (subst (All Q) (sym e) (All-with_row Q (map (drop 2) cells) place entry (replicate 30 0) (to_parts P cells alike all) here there))
+
+-- the first that passes a test, counted from one more
+position_from-suc : {A : Type 0} (test : A → Bool) (n m : ℕ) (rows : List A) → m ≡ suc n
+    → position_from test m rows ≡ option_map (λ (k : ℕ). suc k) (position_from test n rows)
+position_from-suc test n m [] e = refl
+position_from-suc test n m (row ∷ rows) e =
+    ap₂ (λ (here later : Option ℕ). cond (test row) here later) (ap (λ (k : ℕ). Some k) e) (position_from-suc test (n + 1) (m + 1) rows (omega arith))
+    ∙ moved (test row) (Some n) (position_from test (n + 1) rows)
+  where
+    moved : (b : Bool) (here later : Option ℕ)
+        → cond b (option_map (λ (k : ℕ). suc k) here) (option_map (λ (k : ℕ). suc k) later) ≡ option_map (λ (k : ℕ). suc k) (cond b here later)
+    moved true here later = refl
+    moved false here later = refl
+
+-- the first that passes a test among one row and others
+pub position-cons : {A : Type 0} (test : A → Bool) (row : A) (rows : List A)
+    → position test (row ∷ rows) ≡ cond (test row) (Some 0) (option_map (λ (k : ℕ). suc k) (position test rows))
+position-cons test row rows =
+    position_from-zero test (row ∷ rows)
+    ∙ ap (λ (later : Option ℕ). cond (test row) (Some 0) later)
+    (position_from-suc test 0 1 rows refl ∙ ap (option_map (λ (k : ℕ). suc k)) (sym (position_from-zero test rows)))

@@ -36,7 +36,7 @@ use Rattle.d64_effects.proofs.Rows.{with_row}
 use Rattle.d64_effects.proofs.TakenBlocks.{Takes, takes, Grows, grows, occurs-owned, owned_once, owned_not_taken, owned_not_grown, grown_not_taken, contains-without}
 
 -- what the writing of a file leaves
-pub record Leaves (image other : List (List ℕ)) (place : Option ℕ) (taken grown entry bytes : List ℕ) : Type 0 where
+pub record LeftByWriting (image other : List (List ℕ)) (place : Option ℕ) (taken grown entry bytes : List ℕ) : Type 0 where
   pub is_image : IsImage other
   pub counts : CountsFit other
   pub free : free_blocks other ≡ without (free_blocks image) (taken ++ grown)
@@ -166,7 +166,7 @@ module _ (image listed : List (List ℕ)) (place : Option ℕ) (taken grown entr
       ∙ drop-map_for (sector_at image map_block) free n (is.1 map_block [] inside).0 past
 
   -- what is left, where these blocks are marked free
-  pub leaves : free ≡ without (free_blocks image) (taken ++ grown) → Leaves image (filed listed taken bytes free) place taken grown entry bytes
+  pub leaves : free ≡ without (free_blocks image) (taken ++ grown) → LeftByWriting image (filed listed taken bytes free) place taken grown entry bytes
   leaves left = record {
     is_image = IsImage-with_map (with_chain listed taken bytes) free (IsImage-with_chain listed taken bytes new.is_image small fits);
     counts = counts-with_map (with_chain listed taken bytes) free has_map_block members;
@@ -206,7 +206,7 @@ file_entry name kind taken = entry_bytes name kind (get_or taken 0 0) (length ta
 file_leaves : (image : List (List ℕ)) (name : List ℕ) (kind : Kind) (bytes taken : List ℕ) → IsImage image → IsName name → AreBytes bytes
     → IsSound image → HasRoom image (length bytes)
     → Takes image taken (length bytes)
-    → Leaves image (with_file image name kind bytes taken) (first_unused (slots image)) taken (directory_grown image) (file_entry name kind taken) bytes
+    → LeftByWriting image (with_file image name kind bytes taken) (first_unused (slots image)) taken (directory_grown image) (file_entry name kind taken) bytes
 unfolding with_file
 file_leaves image name kind bytes taken is named small sound fits file =
     let fit = taken_fit image taken bytes file in
@@ -225,7 +225,7 @@ taken_for image bytes = taken_by (free_blocks image) (length bytes)
 
 pub written_leaves : (image : List (List ℕ)) (name : List ℕ) (kind : Kind) (bytes : List ℕ) → IsImage image → IsName name → AreBytes bytes
     → IsSound image → HasRoom image (length bytes)
-    → Leaves image (written image name kind bytes) (first_unused (slots image)) (taken_for image bytes) (directory_grown image)
+    → LeftByWriting image (written image name kind bytes) (first_unused (slots image)) (taken_for image bytes) (directory_grown image)
     (file_entry name kind (taken_for image bytes)) bytes
 unfolding written
 written_leaves image name kind bytes is named small sound fits =

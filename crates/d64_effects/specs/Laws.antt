@@ -13,13 +13,13 @@ use Rattle.d64_effects.specs.Write.{written, next_of_directory}
 use Rattle.d64_files.specs.declared.kind.Kind.{Kind}
 use Rattle.d64_files.specs.declared.kind.Kind.TheVariants.{Del, Rel}
 
--- an id: two bytes
-abbrev pub IsId : List ℕ → Type 0
-IsId id = (length id ≡ 2) × All (λ byte. byte < 256) id
+-- two bytes, as an id has
+abbrev pub AreTwoBytes : List ℕ → Type 0
+AreTwoBytes id = (length id ≡ 2) × All (λ byte. byte < 256) id
 
 -- a formatted disk is an image
 abbrev pub FormattedIsImage : Type 0
-FormattedIsImage = (name id : List ℕ) → IsName name → IsId id → IsImage (formatted name id)
+FormattedIsImage = (name id : List ℕ) → IsName name → AreTwoBytes id → IsImage (formatted name id)
 
 -- its map marks free all blocks but its own and the directory's first one, whatever its name and its id are
 abbrev pub FormattedIsFree : Type 0
@@ -39,7 +39,7 @@ FormattedIsSound = (name id : List ℕ) → IsSound (formatted name id)
 
 -- and shows what it should
 abbrev pub FormattedShows : Type 0
-FormattedShows = (name id : List ℕ) → IsName name → IsId id → view (formatted name id) ≡ formatted_view name id
+FormattedShows = (name id : List ℕ) → IsName name → AreTwoBytes id → view (formatted name id) ≡ formatted_view name id
 
 -- there is room for a file of so many bytes and its entry
 pub record HasRoom (image : List (List ℕ)) (bytes : ℕ) : Type 0 where

@@ -1,5 +1,11 @@
 pub mod Format
 pub mod Write
+pub mod Clear
+pub mod Delete
+pub mod Rename
+pub mod Validate
 pub mod View
+pub mod Contents
 pub mod ViewAfter
 pub mod Laws
+pub mod ContentsLaws

@@ -1,8 +1,14 @@
 -- What commands make of the view of a disk: what a case does not name stays as it was.
-use Rattle.std.specs.Prelude.{ℕ, ◌-◌, true, false, List, [], ◌∷◌, ◌++◌, length, replicate, position, slice_index, slice_set, Bool, Option, Some, None}
+use Rattle.std.specs.Prelude.{ℕ, ◌-◌, true, false, not, if◌then◌else◌, List, [], ◌∷◌, ◌++◌, map, length, replicate, position, slice_index, slice_set, bytes_eq, Bool, Option, Some, None}
+use Rattle.std.specs.List.{flat_map}
+use Rattle.d64_map.specs.Map.{map_block}
 use Rattle.d64_files.specs.Name.{filled}
+use Rattle.d64_effects.specs.Clear.{with_freed}
+use Rattle.d64_effects.specs.Contents.{name_in}
+use Rattle.d64_effects.specs.Delete.{is_scratched}
 use Rattle.d64_effects.specs.Format.{directory_start, free_when_formatted}
 use Rattle.d64_effects.specs.View.{View, FileView}
+use Rattle.d64_effects.specs.Validate.{all_but}
 use Rattle.d64_effects.specs.Write.{taken_by, grown_by, without}
 use Rattle.d64_files.specs.declared.kind.Kind.{Kind}
 
@@ -62,3 +68,71 @@ unfoldable pub written_view : View → List ℕ → Kind → List ℕ → View
 written_view old name kind bytes =
     view_with old (first_vacant old) (new_file name kind bytes (taken_by old.free (length bytes)))
     (taken_by old.free (length bytes)) (grown_by old.free (last_of_directory old) (first_vacant old))
+
+-- a slot that becomes unused where its file passes a test
+abbrev pub emptied_if : (FileView → Bool) → Option FileView → Option FileView
+emptied_if goes None = None
+emptied_if goes (Some file) = if goes file then None else Some file
+
+-- the chain and the side chain of a slot's file, where it passes a test
+abbrev pub blocks_if : (FileView → Bool) → Option FileView → List ℕ
+blocks_if goes None = []
+blocks_if goes (Some file) = if goes file then file.blocks ++ file.side_blocks else []
+
+-- whether patterns scratch a file
+abbrev pub is_scratched_file : List (List ℕ) → FileView → Bool
+is_scratched_file patterns file = is_scratched patterns file.closed file.locked (name_in file.field)
+
+-- after the deleting of the files that patterns match: their slots are unused, and their blocks are free
+unfoldable pub scratched_view : View → List (List ℕ) → View
+scratched_view old patterns = record {
+  name = old.name;
+  id = old.id;
+  directory = old.directory;
+  slots = map (emptied_if (is_scratched_file patterns)) old.slots;
+  free = with_freed old.free (flat_map (blocks_if (is_scratched_file patterns)) old.slots);
+}
+
+-- a file with another name
+abbrev pub with_field : FileView → List ℕ → FileView
+with_field file name = record {
+  field = filled name;
+  kind = file.kind;
+  closed = file.closed;
+  locked = file.locked;
+  size = file.size;
+  blocks = file.blocks;
+  side_blocks = file.side_blocks;
+  content = file.content;
+}
+
+-- slots of which the first file of a name has another
+abbrev pub renamed_slots : List (Option FileView) → List ℕ → List ℕ → List (Option FileView)
+renamed_slots [] old new = []
+renamed_slots (None ∷ slots) old new = None ∷ renamed_slots slots old new
+renamed_slots (Some file ∷ slots) old new =
+    if bytes_eq (name_in file.field) old then Some (with_field file new) ∷ slots else Some file ∷ renamed_slots slots old new
+
+-- after the renaming of the first file of a name
+unfoldable pub renamed_view : View → List ℕ → List ℕ → View
+renamed_view shown old new = record {
+  name = shown.name;
+  id = shown.id;
+  directory = shown.directory;
+  slots = renamed_slots shown.slots old new;
+  free = shown.free;
+}
+
+-- the blocks that a disk owns: the map's, the directory's, and those of its files
+abbrev pub blocks_owned : View → List ℕ
+blocks_owned shown = map_block ∷ (shown.directory ++ flat_map (blocks_if (λ file. true)) shown.slots)
+
+-- after a validation: the slots of unclosed files are unused, and free is what nobody owns
+unfoldable pub validated_view : View → View
+validated_view old = record {
+  name = old.name;
+  id = old.id;
+  directory = old.directory;
+  slots = map (emptied_if (λ file. not file.closed)) old.slots;
+  free = all_but (blocks_owned old);
+}

@@ -12,3 +12,4 @@ pub mod Reading
 pub mod Writing
 pub mod FirstFault
 pub mod FirstFaultLaws
+pub mod Clearing

@@ -1,0 +1,117 @@
+-- what the commands make of the directory's list of names and contents
+use Rattle.std.proofs.Common.{◌≡◌, ◌≢◌, ℕ, zero, suc, ◌-◌, ◌==◌, Bool, true, false, not, cond, List, [], ◌∷◌, ◌++◌, length, map, take, drop, get_or, Option, Some, None, refl, sym, ap, ap₂, ◌∙◌, subst, inl, inr, arith}
+use Rattle.std.specs.Prelude.{All, Contains, position, take_while, replicate, filter, option_map, bytes_eq}
+use Rattle.std.specs.List.{filter_map, cons_option}
+use Rattle.std.proofs.lemmas.Bool.Decides.{eqb_tells}
+use Rattle.std.proofs.lemmas.List.Elements.{All-head, All-tail, filter_agree}
+use Rattle.std.proofs.lemmas.List.Sums.{take_while-cons}
+use Rattle.d64_files.specs.Name.{IsName, forbidden_in_names, filled}
+use Rattle.d64_effects.specs.Contents.{ListedFile, name_in, listed, names_and_contents}
+use Rattle.d64_effects.specs.ContentsLaws.{FormattedListsNothing, WrittenListsTheFile, ScratchedListsTheOthers, RenamedListsTheName, ValidatedListsTheClosed, list_with, new_row, is_scratched_row, row_named, renamed_rows}
+use Rattle.d64_effects.specs.View.{View, FileView}
+use Rattle.d64_effects.specs.ViewAfter.{formatted_view, written_view, new_file, is_vacant, slots_with, first_vacant, emptied_if, scratched_view, with_field, renamed_slots, renamed_view, validated_view}
+use Rattle.d64_effects.specs.Write.{taken_by}
+use Rattle.d64_effects.proofs.Rows.{position-cons}
+use Rattle.d64_files.specs.declared.kind.Kind.{Kind}
+
+-- a byte that a name may hold is no shifted space
+no_filler : (byte : ℕ) → ¬ (Contains forbidden_in_names byte) → not (byte == 0xA0) ≡ true
+no_filler byte allowed =
+    elim (eqb_tells byte 0xA0) [
+      | inl same ↦ absurd (allowed (7, omega arith, sym same.1))
+      | inr other ↦ ap not other.0
+    ]
+
+-- the bytes before the fillers
+before_fillers : (bytes : List ℕ) (n : ℕ) → All (λ byte. ¬ (Contains forbidden_in_names byte)) bytes → name_in (bytes ++ replicate n 0xA0) ≡ bytes
+before_fillers [] zero all = refl
+before_fillers [] (suc n) all = refl
+before_fillers (byte ∷ bytes) n all =
+    let P : ℕ → Type 0 = λ b. ¬ (Contains forbidden_in_names b) in
+    take_while-cons (λ (b : ℕ). not (b == 0xA0)) byte (bytes ++ replicate n 0xA0)
+    ∙ ap (λ (passes : Bool). cond passes (byte ∷ name_in (bytes ++ replicate n 0xA0)) []) (no_filler byte (All-head P byte bytes all))
+    ∙ ap (λ (xs : List ℕ). byte ∷ xs) (before_fillers bytes n (All-tail P byte bytes all))
+
+-- a name that was put into a field
+pub name_in-filled : (name : List ℕ) → IsName name → name_in (filled name) ≡ name
+name_in-filled name named = before_fillers name (16 - length name) named.allowed
+
+-- what slots list
+abbrev rows_of : List (Option FileView) → List ListedFile
+rows_of slots = filter_map (option_map listed) slots
+
+pub formatted-lists_nothing : FormattedListsNothing
+unfolding formatted_view
+formatted-lists_nothing name id = refl
+
+-- a file in the first vacant slot
+rows-with : (slots : List (Option FileView)) (file : FileView) (place : Option ℕ) → position is_vacant slots ≡ place
+    → rows_of (slots_with slots place file) ≡ list_with (rows_of slots) place (listed file)
+rows-with [] file None e = refl
+rows-with [] file (Some place) e = cc
+rows-with (None ∷ slots) file place e =
+    subst (λ (p : Option ℕ). rows_of (slots_with (None ∷ slots) p file) ≡ list_with (rows_of slots) p (listed file))
+    (sym (position-cons is_vacant None slots) ∙ e) refl
+rows-with (Some first ∷ slots) file place e =
+    subst (λ (p : Option ℕ). rows_of (slots_with (Some first ∷ slots) p file) ≡ list_with (listed first ∷ rows_of slots) p (listed file))
+    (sym (position-cons is_vacant (Some first) slots) ∙ e) (behind (position is_vacant slots) (rows-with slots file (position is_vacant slots) refl))
+  where
+    behind : (later : Option ℕ) → rows_of (slots_with slots later file) ≡ list_with (rows_of slots) later (listed file)
+        → rows_of (slots_with (Some first ∷ slots) (option_map (λ (k : ℕ). suc k) later) file)
+        ≡ list_with (listed first ∷ rows_of slots) (option_map (λ (k : ℕ). suc k) later) (listed file)
+    behind None same = ap (λ (rows : List ListedFile). listed first ∷ rows) same
+    behind (Some k) same = ap (λ (rows : List ListedFile). listed first ∷ rows) same
+
+pub written-lists_the_file : WrittenListsTheFile
+unfolding written_view
+written-lists_the_file shown name kind bytes named =
+    let taken : List ℕ = taken_by shown.free (length bytes) in
+    rows-with shown.slots (new_file name kind bytes taken) (first_vacant shown) refl
+    ∙ ap (λ (known : List ℕ). list_with (names_and_contents shown) (first_vacant shown)
+    record { name = known; kind = kind; closed = true; locked = false; size = length taken; content = bytes }) (name_in-filled name named)
+
+-- the files that are left
+rows-emptied : (goes : ListedFile → Bool) (slots : List (Option FileView))
+    → rows_of (map (emptied_if (λ file. goes (listed file))) slots) ≡ filter (λ row. not (goes row)) (rows_of slots)
+rows-emptied goes [] = refl
+rows-emptied goes (None ∷ slots) = rows-emptied goes slots
+rows-emptied goes (Some file ∷ slots) =
+    ap (cons_option (option_map listed (emptied_if (λ f. goes (listed f)) (Some file)))) (rows-emptied goes slots)
+    ∙ by_test (goes (listed file)) (filter (λ row. not (goes row)) (rows_of slots))
+  where
+    by_test : (b : Bool) (rows : List ListedFile)
+        → cons_option (option_map listed (cond b None (Some file))) rows ≡ cond (not b) (listed file ∷ rows) rows
+    by_test true rows = refl
+    by_test false rows = refl
+
+pub scratched-lists_the_others : ScratchedListsTheOthers
+unfolding scratched_view
+scratched-lists_the_others shown patterns = rows-emptied (is_scratched_row patterns) shown.slots
+
+pub validated-lists_the_closed : ValidatedListsTheClosed
+unfolding validated_view
+validated-lists_the_closed shown =
+    rows-emptied (λ row. not row.closed) shown.slots
+    ∙ filter_agree (λ (row : ListedFile). not (not row.closed)) (λ row. row.closed) (λ row. twice row.closed) (names_and_contents shown)
+  where
+    twice : (b : Bool) → not (not b) ≡ b
+    twice true = refl
+    twice false = refl
+
+-- the first file of a name
+rows-renamed : (slots : List (Option FileView)) (old new : List ℕ) → IsName new
+    → rows_of (renamed_slots slots old new) ≡ renamed_rows (rows_of slots) old new
+rows-renamed [] old new named = refl
+rows-renamed (None ∷ slots) old new named = rows-renamed slots old new named
+rows-renamed (Some file ∷ slots) old new named =
+    by_test (bytes_eq (name_in file.field) old) (rows-renamed slots old new named)
+  where
+    by_test : (b : Bool) → rows_of (renamed_slots slots old new) ≡ renamed_rows (rows_of slots) old new
+        → rows_of (cond b (Some (with_field file new) ∷ slots) (Some file ∷ renamed_slots slots old new))
+        ≡ cond b (row_named (listed file) new ∷ rows_of slots) (listed file ∷ renamed_rows (rows_of slots) old new)
+    by_test true same = ap (λ (name : List ℕ). row_named (listed file) name ∷ rows_of slots) (name_in-filled new named)
+    by_test false same = ap (λ (rows : List ListedFile). listed file ∷ rows) same
+
+pub renamed-lists_the_name : RenamedListsTheName
+unfolding renamed_view
+renamed-lists_the_name shown old new named = rows-renamed shown.slots old new named
