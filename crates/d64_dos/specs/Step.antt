@@ -2,7 +2,7 @@
 use Rattle.std.specs.Prelude.{◌≡◌, ℕ, List, None}
 use Rattle.d64_files.specs.Name.{IsName}
 use Rattle.d64_image.specs.Image.{IsImage}
-use Rattle.d64_effects.specs.Laws.{IsId, AreBytes}
+use Rattle.d64_effects.specs.Laws.{AreTwoBytes, AreBytes}
 use Rattle.d64_effects.specs.View.{IsSound, view}
 use Rattle.d64_dos.specs.Change.{Change, Format, Write, BlockWrite}
 use Rattle.d64_dos.specs.Command.{after, reply_to, refusal_of, StartsFrom, ViewStep}
@@ -15,7 +15,7 @@ pub record Leaves (image : List (List ℕ)) (change : Change) (reply : Reply) (n
 
 -- a command as any caller can make it: names are names, and bytes are bytes
 abbrev pub IsMade : Change → Type 0
-IsMade (Format name id) = IsName name × IsId id
+IsMade (Format name id) = IsName name × AreTwoBytes id
 IsMade (Write name kind bytes) = IsName name × AreBytes bytes
 IsMade (BlockWrite at block) = Unit {0}
 

@@ -3,16 +3,14 @@ use Rattle.std.proofs.Common.{◌≡◌, ◌≢◌, List, [], ◌∷◌, ◌++�
 use Rattle.std.proofs.lemmas.List.Elements.{All-head, All-tail}
 use Rattle.d64_dos.specs.Refusal.{cause_of}
 use Rattle.d64_undo.specs.History.{History}
-use Rattle.d64_undo.specs.Request.{Step, Run, HasMemory}
+use Rattle.d64_undo.specs.Request.{Asked, Apply, Undo, Redo, Step, Run, HasMemory}
 use Rattle.d64_dos.specs.declared.refusal.Refusal.{Refusal}
 use Rattle.d64_dos.specs.declared.refusal.Refusal.TheVariants.{NotClosed, NotFound, Exists, WrongType, Directory, DiskFull, Memory}
-use Rattle.d64_undo.specs.declared.request.Request.{Request}
-use Rattle.d64_undo.specs.declared.request.Request.TheVariants.{Apply, Undo, Redo}
 use Rattle.d64_undo.specs.declared.request.Answer.{Answer}
 use Rattle.d64_undo.specs.declared.request.Answer.TheVariants.{Accepted, Refused, Undone, Redone, NothingToUndo, NothingToRedo}
 
 -- a run and one step more are a run
-pub Run-push : (history between next : History) (requests : List Request) (answers : List Answer) (request : Request) (answer : Answer)
+pub Run-push : (history between next : History) (requests : List Asked) (answers : List Answer) (request : Asked) (answer : Answer)
     → Run history requests answers between → Step between request answer next
     → Run history (requests ++ request ∷ []) (answers ++ answer ∷ []) next
 Run-push history between next [] [] request answer run step =
@@ -46,16 +44,16 @@ same_cause : (refusal other : Refusal) → cause_of refusal ≡ cause_of other �
 same_cause refusal other e = sym (refusal_by-cause_of refusal) ∙ ap refusal_by e ∙ refusal_by-cause_of other
 
 -- a step is a function of the history and the request
-same_step : (history : History) (request : Request) (answer other : Answer) (next after : History)
+same_step : (history : History) (request : Asked) (answer other : Answer) (next after : History)
     → Step history request answer next → Step history request other after
     → answer ≢ Refused Memory → other ≢ Refused Memory → (answer ≡ other) × (next ≡ after)
-same_step history (Apply command) (Accepted reply) (Accepted also) next after p q f g =
+same_step history (Apply change) (Accepted reply) (Accepted also) next after p q f g =
     (ap Accepted (p.1 ∙ sym q.1), p.2 ∙ sym q.2)
-same_step history (Apply command) (Accepted reply) (Refused refusal) next after p q f g =
+same_step history (Apply change) (Accepted reply) (Refused refusal) next after p q f g =
     absurd (g (ap Refused (without_cause refusal (q.0 ∙ p.0))))
-same_step history (Apply command) (Refused refusal) (Accepted reply) next after p q f g =
+same_step history (Apply change) (Refused refusal) (Accepted reply) next after p q f g =
     absurd (f (ap Refused (without_cause refusal (p.0 ∙ q.0))))
-same_step history (Apply command) (Refused refusal) (Refused also) next after p q f g =
+same_step history (Apply change) (Refused refusal) (Refused also) next after p q f g =
     (ap Refused (same_cause refusal also (p.0 ∙ sym q.0)), p.1 ∙ sym q.1)
 same_step history Undo Undone Undone next after p q f g = (refl, p.1 ∙ sym q.1)
 same_step history Undo NothingToUndo NothingToUndo next after p q f g = (refl, p.1 ∙ sym q.1)
@@ -76,7 +74,7 @@ rest_with_memory : (answer : Answer) (answers : List Answer) → HasMemory (answ
 rest_with_memory answer answers f = All-tail (λ x. x ≢ Refused Memory) answer answers f
 
 -- a run is a function of the history and the requests
-pub same_run : (history : History) (requests : List Request) (answers others : List Answer) (next other : History)
+pub same_run : (history : History) (requests : List Asked) (answers others : List Answer) (next other : History)
     → Run history requests answers next → Run history requests others other
     → HasMemory answers → HasMemory others → (answers ≡ others) × (next ≡ other)
 same_run history [] [] [] next other p q f g = (refl, p ∙ sym q)

@@ -2,21 +2,34 @@ use Rattle.std.specs.Prelude.{◌≡◌, ◌≢◌, ◌+◌, ◌<◌, ◌≤◌,
 use Rattle.d64_dos.specs.Command.{after, reply_to, refusal_of}
 use Rattle.d64_dos.specs.Refusal.{cause_of}
 use Rattle.d64_undo.specs.History.{History, present, added, undone, redone}
-use Rattle.d64_dos.specs.declared.command.Command.{Command}
+use Rattle.d64_dos.specs.Change.{Change, said}
 use Rattle.d64_dos.specs.declared.refusal.Refusal.TheVariants.{Memory}
 use Rattle.d64_undo.specs.declared.request.Request.{Request}
-use Rattle.d64_undo.specs.declared.request.Request.TheVariants.{Apply, Undo, Redo}
+use Rattle.d64_undo.specs.declared.request.Request.TheVariants as requests
 use Rattle.d64_undo.specs.declared.request.Answer.{Answer}
 use Rattle.d64_undo.specs.declared.request.Answer.TheVariants.{Accepted, Refused, Undone, Redone, NothingToUndo, NothingToRedo}
 
+-- what is asked of a session
+pub data Asked : Type 0 where
+  -- a change of the present disk
+  Apply : Change → Asked
+  Undo : Asked
+  Redo : Asked
+
+-- what a request asks
+abbrev pub asked : Request → Asked
+asked (requests.Apply command) = Apply (said command)
+asked requests.Undo = Undo
+asked requests.Redo = Redo
+
 -- a request, its answer, and the history before and after it: the one free choice is want of memory in the place of an acceptance
-abbrev pub Step : History → Request → Answer → History → Type 0
-Step history (Apply command) (Accepted reply) next =
-    (refusal_of (present history) command ≡ None)
-    × (reply ≡ reply_to (present history) command)
-    × (next ≡ added history (after (present history) command))
-Step history (Apply command) (Refused refusal) next =
-    (cause_of refusal ≡ refusal_of (present history) command) × (next ≡ history)
+abbrev pub Step : History → Asked → Answer → History → Type 0
+Step history (Apply change) (Accepted reply) next =
+    (refusal_of (present history) change ≡ None)
+    × (reply ≡ reply_to (present history) change)
+    × (next ≡ added history (after (present history) change))
+Step history (Apply change) (Refused refusal) next =
+    (cause_of refusal ≡ refusal_of (present history) change) × (next ≡ history)
 Step history Undo Undone next = (0 < history.cursor) × (next ≡ undone history)
 Step history Undo NothingToUndo next = (history.cursor ≡ 0) × (next ≡ history)
 Step history Redo Redone next = (history.cursor + 1 < length history.images) × (next ≡ redone history)
@@ -24,7 +37,7 @@ Step history Redo NothingToRedo next = (length history.images ≤ history.cursor
 Step history request answer next = ⊥
 
 -- requests, their answers in turn, and the history before the first and after the last
-abbrev pub Run : History → List Request → List Answer → History → Type 0
+abbrev pub Run : History → List Asked → List Answer → History → Type 0
 Run history [] [] next = next ≡ history
 Run history (request ∷ requests) (answer ∷ answers) next =
     (between : History) × (Step history request answer between × Run between requests answers next)
@@ -37,7 +50,7 @@ HasMemory answers = All (λ answer. answer ≢ Refused Memory) answers
 -- two runs of the same requests from the same history, in which memory never was wanting, are the same
 abbrev pub MemoryAloneIsFree : Type 0
 MemoryAloneIsFree =
-    (history : History) (requests : List Request) (answers others : List Answer) (next other : History)
+    (history : History) (requests : List Asked) (answers others : List Answer) (next other : History)
     → Run history requests answers next → Run history requests others other
     → HasMemory answers → HasMemory others
     → (answers ≡ others) × (next ≡ other)
@@ -45,7 +58,7 @@ MemoryAloneIsFree =
 -- where memory was wanting, the request is a command that could have been accepted there, and the history is as before
 abbrev pub MemoryForAcceptance : Type 0
 MemoryForAcceptance =
-    (history : History) (request : Request) (next : History)
+    (history : History) (request : Asked) (next : History)
     → Step history request (Refused Memory) next
-    → (next ≡ history) × ((command : Command) × ((request ≡ Apply command)
-    × Step history request (Accepted (reply_to (present history) command)) (added history (after (present history) command))))
+    → (next ≡ history) × ((change : Change) × ((request ≡ Apply change)
+    × Step history request (Accepted (reply_to (present history) change)) (added history (after (present history) change))))

@@ -1,7 +1,7 @@
 -- Histories of sound disks.
 use Rattle.std.specs.Prelude.{All, Result, Ok, Err}
-use Rattle.d64_dos.specs.Step.{IsFileCommand}
-use Rattle.d64_dos.specs.declared.command.Command.{Command}
+use Rattle.d64_dos.specs.Change.{Change}
+use Rattle.d64_dos.specs.Command.{IsFileCommand}
 use Rattle.d64_dos.specs.declared.command.Reply.{Reply}
 use Rattle.d64_dos.specs.declared.refusal.Refusal.{Refusal}
 use Rattle.d64_effects.specs.View.{IsSound}
@@ -12,6 +12,6 @@ unfoldable pub IsSoundHistory : History → Type 0
 IsSoundHistory history = All IsSound history.images
 
 -- a command that was run keeps sound disks sound: it is a file command, or it was refused
-abbrev pub KeepsSound : Command → Result Reply Refusal → Type 0
-KeepsSound command (Ok reply) = IsFileCommand command
-KeepsSound command (Err refusal) = Unit {0}
+abbrev pub KeepsSound : Change → Result Reply Refusal → Type 0
+KeepsSound change (Ok reply) = IsFileCommand change
+KeepsSound change (Err refusal) = Unit {0}

@@ -1,6 +1,6 @@
 //! Requests to a session, and whole runs of them.
-ghost use Rattle.std.specs.Prelude.{◌≡◌, IfOk, OnErr};
-ghost use Rattle.d64_undo.specs.Request.{Step, Run};
+ghost use Rattle.std.specs.Prelude.{◌≡◌, map, IfOk, OnErr};
+ghost use Rattle.d64_undo.specs.Request.{asked, Step, Run};
 
 use crate::session::{NothingToRedo, NothingToUndo, Session};
 use d64_dos::{Command, Refusal, Reply};
@@ -28,7 +28,7 @@ pub enum Answer {
 
 // The answer to one request.
 fn run_one(session: &mut Session, request: &Request) -> Answer
-    ensures { Step session.old request.now result session.new }
+    ensures { Step session.old (asked request.now) result session.new }
 {
     match request {
         Request::Apply(command) => match session.run(command) {
@@ -53,7 +53,7 @@ pub fn run_all(
     session: &mut Session,
     requests: &[Request],
 ) -> Result<Vec<Answer>, AllocError>
-    ensures ran { IfOk result (λ answers. Run session.old requests.now answers.items session.new) }
+    ensures ran { IfOk result (λ answers. Run session.old (map asked requests.now) answers.items session.new) }
     ensures unchanged { OnErr result (session.new ≡ session.old) }
 {
     let mut answers = Vec::with_capacity(alloc, requests.len())?;

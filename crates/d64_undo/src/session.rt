@@ -1,5 +1,6 @@
 //! Sessions: an image with undo and redo.
 ghost use Rattle.std.specs.Prelude.{◌≡◌, ◌+◌, ◌<◌, ◌↔◌, length, IsOk, OnOk, OnErr, IfOk};
+ghost use Rattle.d64_dos.specs.Change.{said};
 ghost use Rattle.d64_dos.specs.Command.{after, reply_to, refusal_of};
 ghost use Rattle.d64_dos.specs.Refusal.{refused_by};
 ghost use Rattle.d64_effects.specs.View.{IsSound};
@@ -93,11 +94,11 @@ impl Session {
     ///
     /// Where all images of the history are sound, so are all after an accepted file command, and after every refusal.
     pub fn run(&mut self, command: &Command) -> Result<Reply, Refusal>
-        ensures refused { refused_by result ≡ refusal_of (present self.old) command.now }
-        ensures reply { IfOk result (λ reply. reply ≡ reply_to (present self.old) command.now) }
-        ensures accepted { OnOk result (self.new ≡ added self.old (after (present self.old) command.now)) }
+        ensures refused { refused_by result ≡ refusal_of (present self.old) (said command.now) }
+        ensures reply { IfOk result (λ reply. reply ≡ reply_to (present self.old) (said command.now)) }
+        ensures accepted { OnOk result (self.new ≡ added self.old (after (present self.old) (said command.now))) }
         ensures unchanged { OnErr result (self.new ≡ self.old) }
-        ensures sound { KeepsSound command.now result → IsSoundHistory self.old → IsSoundHistory self.new }
+        ensures sound { KeepsSound (said command.now) result → IsSoundHistory self.old → IsSoundHistory self.new }
     {
         let (image, reply) = apply(self.alloc, &self.image, command)?;
         self.others.reserve(1)?;

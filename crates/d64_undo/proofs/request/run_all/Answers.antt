@@ -1,7 +1,7 @@
-use Rattle.std.proofs.Common.{◌≡◌, ◌+◌, List, [], ◌∷◌, ◌++◌, take, ap, sym, ◌∙◌, subst, arith}
+use Rattle.std.proofs.Common.{◌≡◌, ◌+◌, List, [], ◌∷◌, ◌++◌, map, take, ap, sym, ◌∙◌, subst, arith}
 use Rattle.std.specs.Vec.{vec_len}
-use Rattle.std.proofs.lemmas.List.{take_more}
-use Rattle.d64_undo.specs.Request.{Run}
+use Rattle.std.proofs.lemmas.List.{map-append, take_more}
+use Rattle.d64_undo.specs.Request.{Asked, asked, Run}
 use Rattle.d64_undo.specs.declared.request.Request.{Request}
 use Rattle.d64_undo.specs.declared.request.Answer.{Answer}
 use Rattle.d64_undo.proofs.Runs.{Run-push}
@@ -11,16 +11,19 @@ use Rattle.d64_undo.proofs.request.run_all.Goals as goal
 pub loop-request-preserved : goal.loop-request-preserved
 loop-request-preserved c =
     let answers : c.push.new.self.items ≡ c.loop-request.answers.items ++ c.run_one.result ∷ [] = rw c.unwrap.ensures at c.push.ensures.items in
-    let requests : take (c.loop-request.request-index + 1) c.args.requests.now ≡ take c.loop-request.request-index c.args.requests.now ++ c.request-item.result ∷ [] =
+    let before = take c.loop-request.request-index c.args.requests.now in
+    let taken : take (c.loop-request.request-index + 1) c.args.requests.now ≡ before ++ c.request-item.result ∷ [] =
     take_more c.args.requests.now c.loop-request.request-index c.request-item.result c.loop-request-test.true
-    ∙ ap (λ (r : Request). take c.loop-request.request-index c.args.requests.now ++ r ∷ []) (sym c.request-item.is) in
+    ∙ ap (λ (r : Request). before ++ r ∷ []) (sym c.request-item.is) in
+    let requests : map asked (take (c.loop-request.request-index + 1) c.args.requests.now) ≡ map asked before ++ asked c.request-item.result ∷ [] =
+    ap (map asked) taken ∙ map-append asked before (c.request-item.result ∷ []) in
     let count : vec_len c.push.new.self ≡ vec_len c.loop-request.answers + 1 = rw c.unwrap.ensures at c.push.ensures.len in
     record {
       ran =
-          subst (λ (rs : List Request). Run c.args.session.now rs c.push.new.self.items c.run_one.new.session) (sym requests)
-          (subst (λ (xs : List Answer). Run c.args.session.now (take c.loop-request.request-index c.args.requests.now ++ c.request-item.result ∷ []) xs c.run_one.new.session) (sym answers)
-          (Run-push c.args.session.now c.loop-request.session c.run_one.new.session (take c.loop-request.request-index c.args.requests.now) c.loop-request.answers.items
-          c.request-item.result c.run_one.result c.loop-request.invariant.ran c.run_one.ensures));
+          subst (λ (rs : List Asked). Run c.args.session.now rs c.push.new.self.items c.run_one.new.session) (sym requests)
+          (subst (λ (xs : List Answer). Run c.args.session.now (map asked before ++ asked c.request-item.result ∷ []) xs c.run_one.new.session) (sym answers)
+          (Run-push c.args.session.now c.loop-request.session c.run_one.new.session (map asked before) c.loop-request.answers.items
+          (asked c.request-item.result) c.run_one.result c.loop-request.invariant.ran c.run_one.ensures));
       count = omega arith;
       room = omega (arith, c.push.ensures.capacity);
     }
