@@ -5,8 +5,6 @@ use Rattle.d64_undo.specs.History.{History, present, added, undone, redone}
 use Rattle.d64_dos.specs.Command.{after, reply_to, refusal_of}
 use Rattle.d64_dos.specs.Listing.{listing_of}
 use Rattle.d64_dos.specs.Reading.{directory_refusal, read_refusal}
-use Rattle.d64_dos.specs.WriteRefusal.{write_refusal}
-use Rattle.d64_effects.specs.Write.{written}
 use Rattle.d64_files.specs.Directory.{number_of}
 use Rattle.d64_files.specs.Pattern.{is_pattern}
 use Rattle.d64_script.specs.Words.{words_of}
@@ -19,9 +17,8 @@ use Rattle.d64_script.specs.Dump.{dump}
 use Rattle.d64_script.specs.RawLines.{text_of, is_too_long, is_skipped}
 use Rattle.d64_shell.specs.CommandWord.{command_word_of, fewest, most}
 use Rattle.d64_shell.specs.Act.{Act, Settle, Try, FetchThen, StoreOf, ReadText, plain, World, LineAnswer, Does}
-use Rattle.d64_files.specs.declared.kind.Kind.{Kind}
-use Rattle.d64_dos.specs.declared.command.Command.{Command}
-use Rattle.d64_dos.specs.declared.command.Command.TheVariants as commands
+use Rattle.d64_dos.specs.Change.{Change}
+use Rattle.d64_dos.specs.Change as changes
 use Rattle.d64_dos.specs.declared.command.Reply.{Reply}
 use Rattle.d64_dos.specs.declared.command.Reply.TheVariants as replies
 use Rattle.d64_dos.specs.declared.refusal.Refusal.{Refusal}
@@ -63,14 +60,11 @@ abbrev pub refused_or : History → Option Refusal → Act → Act
 refused_or history (Some refusal) act = refuse history (status_of_refusal refusal)
 refused_or history None act = act
 
--- a command whose first refusal is known: that refusal, or the command's reply and one image more
-abbrev pub refused_or_added : History → Option Refusal → Reply → List (List ℕ) → Act
-refused_or_added history refusal reply image = refused_or history refusal (Try (plain (status_of_reply reply)) (added history image))
-
 -- a command given to the session
-abbrev pub command_act : History → Command → Act
-command_act history command =
-    refused_or_added history (refusal_of (present history) command) (reply_to (present history) command) (after (present history) command)
+abbrev pub command_act : History → Change → Act
+command_act history change =
+    refused_or history (refusal_of (present history) change)
+    (Try (plain (status_of_reply (reply_to (present history) change))) (added history (after (present history) change)))
 
 -- `block`: a block is shown
 abbrev pub block_act : History → List ℕ → List ℕ → Act
@@ -91,7 +85,7 @@ host_file_limit = 1048576
 -- a host file of one block replaces a block
 abbrev pub write_one_block : History → ℕ → List ℕ → Act
 write_one_block history block bytes =
-    if length bytes == BLOCK_BYTES then command_act history (commands.BlockWrite block bytes) else refuse history NotOneBlock
+    if length bytes == BLOCK_BYTES then command_act history (changes.BlockWrite block bytes) else refuse history NotOneBlock
 
 -- `bwrite`: a block is replaced by a host file
 abbrev pub block_write_act : History → List ℕ → List ℕ → List ℕ → Act
@@ -103,7 +97,7 @@ block_write_act history host track sector =
 abbrev pub format_parts : History → Option (List ℕ × List ℕ) → Act
 format_parts history None = refuse history SyntaxError
 format_parts history (Some parts) =
-    ReadText is_name parts.0 (λ name. ReadText can_be_id parts.1 (λ id. command_act history (commands.Format name id)))
+    ReadText is_name parts.0 (λ name. ReadText can_be_id parts.1 (λ id. command_act history (changes.Format name id)))
 
 -- `format`: the disk is made an empty one, with the name and the id in one word
 abbrev pub format_act : History → List ℕ → Act
@@ -150,17 +144,12 @@ save_act home history (host ∷ more) = reading history (host_in host) (λ name.
 abbrev pub undo_act : History → Act
 undo_act history = if nat_lt 0 history.cursor then Settle (plain Done) (undone history) else refuse history NothingToUndo
 
--- the bytes of a host file become a file of the disk
-abbrev pub write_file : History → List ℕ → Kind → List ℕ → Act
-write_file history name kind bytes =
-    refused_or_added history (write_refusal (present history) name kind (length bytes)) replies.Done (written (present history) name kind bytes)
-
 -- `write`: a host file is written to the disk, under the name and with the kind of a word, or by default under its own name and as PRG
 abbrev pub write_act : History → List ℕ → List (List ℕ) → Act
 write_act history host words =
     reading history (host_in host) (λ source.
     reading history (name_and_kind_of host words) (λ file.
-    ReadText is_name file.0 (λ name. FetchThen source host_file_limit (write_file history name file.1))))
+    ReadText is_name file.0 (λ name. FetchThen source host_file_limit (λ bytes. command_act history (changes.Write name file.1 bytes)))))
 
 -- what a command word and the words after it ask for, where they are as many as it takes
 abbrev pub act_of : List ℕ → History → CommandWord → List (List ℕ) → Act

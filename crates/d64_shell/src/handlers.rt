@@ -2,6 +2,7 @@
 #![tactic(auto, unfolding(crate::specs::Act::Does))]
 
 ghost use Rattle.std.specs.Prelude.{◌≡◌, ◌<◌, [], ◌∷◌, All, map};
+ghost use Rattle.d64_dos.specs.Change.{said};
 ghost use Rattle.d64_script.specs.Words.{IsPrintable};
 ghost use Rattle.d64_shell.specs.Act.{Settle, StoreOf, Does, World, DoesInSession};
 ghost use Rattle.d64_shell.specs.Answer.{answer_of};
@@ -97,7 +98,7 @@ fn write_one_block(session: &mut Session, at: BlockNo, bytes: &[u8]) -> Result<A
 
 /// A command given to the session.
 fn run_command(session: &mut Session, command: &Command) -> Result<Answer, Status>
-    ensures { DoesInSession (command_act session.old command.now) session.old (answer_of result) session.new }
+    ensures { DoesInSession (command_act session.old (said command.now)) session.old (answer_of result) session.new }
 {
     match session.run(command) {
         Ok(reply) => Ok(Answer::plain(of_reply(reply))),

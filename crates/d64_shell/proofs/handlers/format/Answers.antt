@@ -2,7 +2,7 @@ use Rattle.d64_shell.specs.Act.{World, ReadText}
 use Rattle.d64_shell.specs.Arguments.{can_be_id}
 use Rattle.d64_shell.specs.Line.{command_act}
 use Rattle.d64_files.specs.Name.{is_name}
-use Rattle.d64_dos.specs.declared.command.Command.TheVariants.{Format}
+use Rattle.d64_dos.specs.Change.{Format}
 use Rattle.d64_shell.proofs.TextArguments.{Does-read, Does-unread}
 use Rattle.d64_shell.proofs.handlers.format.Goals as goal
 

@@ -1,7 +1,7 @@
 use Rattle.std.proofs.Common.{rules, ◌≡◌, ℕ, List, length, refl}
 use Rattle.d64_undo.specs.History.{History}
 use Rattle.d64_shell.specs.Line.{command_act, write_one_block}
-use Rattle.d64_dos.specs.declared.command.Command.TheVariants.{BlockWrite}
+use Rattle.d64_dos.specs.Change.{BlockWrite}
 use Rattle.d64_shell.proofs.handlers.write_one_block.Goals as goal
 
 -- a host file of one block is given to the session
