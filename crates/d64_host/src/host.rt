@@ -14,7 +14,7 @@ pub enum HostFault {
     #[error("no such file; check the name, and the folder that the shell was started in")]
     Missing,
     /// The system beneath the host failed, as a disk that is full or a folder that may not be read.
-    #[error("the file cannot be read or written; check that it is a file and that you may use it")]
+    #[error("the file cannot be read or written; check that it is a file, and that you may use it and its folder")]
     Device,
     /// The file has more bytes than the caller takes.
     #[error("the file is too long for this; choose a shorter one")]
@@ -81,7 +81,7 @@ mod tests {
             ),
             (
                 HostFault::Device,
-                "the file cannot be read or written; check that it is a file and that you may use it",
+                "the file cannot be read or written; check that it is a file, and that you may use it and its folder",
             ),
             (
                 HostFault::TooLong,

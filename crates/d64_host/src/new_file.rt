@@ -29,11 +29,7 @@ pub struct NewFile<'a, R: Files> {
 impl<'a, R: Files> NewFile<'a, R> {
     /// Makes a new file beside this one, under a name that no file has and that only its owner can
     /// open. `Device` where the old one may not be written, though its folder may be.
-    pub fn beside(
-        rt: &'a R,
-        alloc: Global,
-        old_path: Path<'a>,
-    ) -> Result<NewFile<'a, R>, HostFault>
+    pub fn beside(rt: &'a R, alloc: Global, old_path: Path<'a>) -> Result<NewFile<'a, R>, HostFault>
         ensures { IfErr result IsOfDeviceOrMemory }
     {
         let old = match OpenOptions::new().write(true).open(rt, old_path) {

@@ -9,7 +9,7 @@ ghost use Rattle.d64_host.specs.Host.{IsOfDeviceOrMemory};
 use crate::draft::replace_by;
 use crate::host::HostFault;
 use crate::new_file::{NewFile, write_to_end};
-use std::alloc::Global;
+use std::alloc::{AllocError, Global};
 use std::fs::{self, File};
 use std::io::ErrorKind;
 use std::path::{AsPath, Path, PathBuf};
@@ -66,12 +66,7 @@ fn make<R: Files>(rt: &R, path: Path<'_>, bytes: &[u8]) -> Result<(), HostFault>
 }
 
 // Replaces a file by a new one beside it.
-fn replace<R: Files>(
-    rt: &R,
-    alloc: Global,
-    path: Path<'_>,
-    bytes: &[u8],
-) -> Result<(), HostFault>
+fn replace<R: Files>(rt: &R, alloc: Global, path: Path<'_>, bytes: &[u8]) -> Result<(), HostFault>
     ensures { IfErr result IsOfDeviceOrMemory }
 {
     match NewFile::beside(rt, alloc, path) {
@@ -127,6 +122,9 @@ fn linked<R: Files>(rt: &R, alloc: Global, mut path: PathBuf) -> Result<PathBuf,
 {
     let link = match rt.read_link(alloc, path.as_path().path_text()) {
         Ok(link) => link,
+        Err(error) if error.kind() == ErrorKind::OutOfMemory => {
+            return Err(HostFault::Memory(AllocError));
+        }
         Err(_) => return Err(HostFault::Device),
     };
     path.pop();
