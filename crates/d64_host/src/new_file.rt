@@ -32,15 +32,11 @@ impl<'a, R: Files> NewFile<'a, R> {
     pub fn beside(rt: &'a R, alloc: Global, old_path: Path<'a>) -> Result<NewFile<'a, R>, HostFault>
         ensures { IfErr result IsOfDeviceOrMemory }
     {
-        let old = match OpenOptions::new().write(true).open(rt, old_path) {
-            Ok(old) => old,
-            Err(_) => return Err(HostFault::Device),
+        let Ok(old) = OpenOptions::new().write(true).open(rt, old_path) else {
+            return Err(HostFault::Device);
         };
         for number in 0..MOST_NAMES {
-            let new_path = match draft_path(alloc, old_path, number) {
-                Ok(path) => path,
-                Err(fault) => return Err(fault),
-            };
+            let new_path = draft_path(alloc, old_path, number)?;
             match open_new(rt, new_path.as_path()) {
                 Ok(new) => {
                     return Ok(NewFile {
@@ -63,10 +59,8 @@ impl<'a, R: Files> Draft for NewFile<'a, R> {
     ghost place = { λ _. None };
 
     fn fill(&mut self, bytes: &[u8]) -> Result<(), HostFault> {
-        match copy_permissions(&self.old, &self.new) {
-            Ok(()) => write_to_end(&mut self.new, bytes),
-            Err(_) => Err(HostFault::Device),
-        }
+        copy_permissions(&self.old, &self.new).map_err(|_| HostFault::Device)?;
+        write_to_end(&mut self.new, bytes)
     }
 
     fn sync(&mut self) -> Result<(), HostFault> {
@@ -74,13 +68,9 @@ impl<'a, R: Files> Draft for NewFile<'a, R> {
     }
 
     fn publish(&mut self) -> Result<(), HostFault> {
-        match fs::rename(self.rt, self.new_path.as_path(), self.old_path) {
-            Ok(()) => {
-                sync_folder_of(self.rt, self.old_path);
-                Ok(())
-            }
-            Err(_) => Err(HostFault::Device),
-        }
+        fs::rename(self.rt, self.new_path.as_path(), self.old_path).map_err(|_| HostFault::Device)?;
+        sync_folder_of(self.rt, self.old_path);
+        Ok(())
     }
 
     fn discard(&mut self) {
@@ -104,10 +94,7 @@ pub fn write_to_end<F: Write>(file: &mut F, bytes: &[u8]) -> Result<(), HostFaul
 fn draft_path(alloc: Global, path: Path<'_>, number: u32) -> Result<PathBuf, HostFault>
     ensures { IfErr result IsOfDeviceOrMemory }
 {
-    let name = match format!(in alloc; ".d64sh-{number}") {
-        Ok(name) => name,
-        Err(error) => return Err(HostFault::Memory(error)),
-    };
+    let name = format!(in alloc; ".d64sh-{number}").map_err(HostFault::Memory)?;
     path.with_file_name(alloc, name.as_str())
         .map_err(HostFault::Memory)
 }

@@ -41,11 +41,10 @@ pub fn store_file<R: Files>(
 ) -> Result<(), HostFault>
     ensures { IfErr result IsOfDeviceOrMemory }
 {
-    match goal_of(rt, alloc, name) {
-        Ok(Goal::Nothing(path)) => make(rt, path.as_path(), bytes),
-        Ok(Goal::File(path)) => replace(rt, alloc, path.as_path(), bytes),
-        Ok(Goal::Other) => write_in_place(rt, name, bytes),
-        Err(fault) => Err(fault),
+    match goal_of(rt, alloc, name)? {
+        Goal::Nothing(path) => make(rt, path.as_path(), bytes),
+        Goal::File(path) => replace(rt, alloc, path.as_path(), bytes),
+        Goal::Other => write_in_place(rt, name, bytes),
     }
 }
 
@@ -53,9 +52,8 @@ pub fn store_file<R: Files>(
 fn make<R: Files>(rt: &R, path: Path<'_>, bytes: &[u8]) -> Result<(), HostFault>
     ensures { IfErr result (λ fault. fault ≡ HostFault.Device) }
 {
-    let mut file = match File::create_new(rt, path) {
-        Ok(file) => file,
-        Err(_) => return Err(HostFault::Device),
+    let Ok(mut file) = File::create_new(rt, path) else {
+        return Err(HostFault::Device);
     };
     let outcome = write_to_end(&mut file, bytes);
     if outcome.is_err() {
@@ -69,10 +67,8 @@ fn make<R: Files>(rt: &R, path: Path<'_>, bytes: &[u8]) -> Result<(), HostFault>
 fn replace<R: Files>(rt: &R, alloc: Global, path: Path<'_>, bytes: &[u8]) -> Result<(), HostFault>
     ensures { IfErr result IsOfDeviceOrMemory }
 {
-    match NewFile::beside(rt, alloc, path) {
-        Ok(mut file) => replace_by(&mut file, bytes),
-        Err(fault) => Err(fault),
-    }
+    let mut file = NewFile::beside(rt, alloc, path)?;
+    replace_by(&mut file, bytes)
 }
 
 // Writes to what isn't a file, as a pipe or a device.
@@ -89,10 +85,7 @@ fn write_in_place<R: Files>(rt: &R, name: &str, bytes: &[u8]) -> Result<(), Host
 fn goal_of<R: Files>(rt: &R, alloc: Global, name: &str) -> Result<Goal, HostFault>
     ensures { IfErr result IsOfDeviceOrMemory }
 {
-    let mut path = match PathBuf::from_str(alloc, name) {
-        Ok(path) => path,
-        Err(error) => return Err(HostFault::Memory(error)),
-    };
+    let mut path = PathBuf::from_str(alloc, name).map_err(HostFault::Memory)?;
     for _ in 0..MOST_LINKS {
         match fs::symlink_metadata(rt, path.as_path()) {
             Ok(metadata) if metadata.is_file() => return Ok(Goal::File(path)),
@@ -102,10 +95,7 @@ fn goal_of<R: Files>(rt: &R, alloc: Global, name: &str) -> Result<Goal, HostFaul
             Err(error) if error.kind() == ErrorKind::NotFound => return Ok(Goal::Nothing(path)),
             Err(_) => return Err(HostFault::Device),
         }
-        path = match linked(rt, alloc, path) {
-            Ok(path) => path,
-            Err(fault) => return Err(fault),
-        };
+        path = linked(rt, alloc, path)?;
     }
     Err(HostFault::Device)
 }
@@ -128,8 +118,6 @@ fn linked<R: Files>(rt: &R, alloc: Global, mut path: PathBuf) -> Result<PathBuf,
         Err(_) => return Err(HostFault::Device),
     };
     path.pop();
-    match path.push(link) {
-        Ok(()) => Ok(path),
-        Err(error) => Err(HostFault::Memory(error)),
-    }
+    path.push(link).map_err(HostFault::Memory)?;
+    Ok(path)
 }
