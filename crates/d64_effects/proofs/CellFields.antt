@@ -75,7 +75,7 @@ pub size_of-beyond_link : (cell other : List ℕ) → SameBeyondLink cell other 
 size_of-beyond_link cell other same =
     ap₂ (λ (low high : ℕ). low + 256 * high) (byte-beyond_link cell other 0x1E 0x1C refl same) (byte-beyond_link cell other 0x1F 0x1D refl same)
 
-roots_of-same : (kind : Kind) (cell other : List ℕ) → first_pair cell ≡ first_pair other → side_pair cell ≡ side_pair other
+pub roots_of-same : (kind : Kind) (cell other : List ℕ) → first_pair cell ≡ first_pair other → side_pair cell ≡ side_pair other
     → roots_of kind cell ≡ roots_of kind other
 roots_of-same Del cell other first side = refl
 roots_of-same Seq cell other first side = ap (λ (pair : ℕ × ℕ). pair ∷ []) first

@@ -239,7 +239,7 @@ shown-formatted name id =
     ∙ ap none (ap length (slots-formatted name id) ∙ length-cells empty_directory)
 
 -- a view by its parts
-abbrev view_of : List ℕ → List ℕ → List ℕ → List (Option FileView) → set.FinSet nat_cmp → View
+abbrev pub view_of : List ℕ → List ℕ → List ℕ → List (Option FileView) → set.FinSet nat_cmp → View
 view_of name id directory slots free = record { name = name; id = id; directory = directory; slots = slots; free = free }
 
 pub view-formatted : (name id : List ℕ) → IsName name → AreTwoBytes id → view (formatted name id) ≡ formatted_view name id

@@ -149,6 +149,11 @@ owned_by-beyond_link image cell other same = ap (flat_map (chain_at image)) (roo
 pub HasItsChains-beyond_link : (image : List (List ℕ)) (cell other : List ℕ) → SameBeyondLink cell other → HasItsChains image cell → HasItsChains image other
 HasItsChains-beyond_link image cell other same has = subst (All (λ (root : ℕ × ℕ). chain_at image root ≢ [])) (roots-beyond_link cell other same) has
 
+-- what a slot shows, by whether it is used
+pub slot_view-is : (image : List (List ℕ)) (cell : List ℕ) → slot_view image cell ≡ cond (is_used cell) (Some (file_view image cell)) None
+unfolding slot_view
+slot_view-is image cell = refl
+
 -- an unused slot shows nothing
 pub slot_view-unused : (image : List (List ℕ)) (cell : List ℕ) → is_used cell ≡ false → slot_view image cell ≡ None
 unfolding slot_view

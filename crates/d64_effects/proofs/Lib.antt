@@ -14,4 +14,11 @@ pub mod NewDirectory
 pub mod WrittenImages
 pub mod NewOwners
 pub mod WrittenDisks
+pub mod SlotChanges
+pub mod AlteredDisks
+pub mod RenamedDisks
+pub mod ClearedDisks
+pub mod ValidatedDisks
+pub mod ScratchedDisks
+pub mod KeptFiles
 pub mod ContentSteps

@@ -36,7 +36,7 @@ pub has_directory : (image : List (List ℕ)) → IsSound image → directory im
 has_directory image sound = sound NoDirectory (omega arith) (omega arith)
 
 -- a slot has 32 bytes
-length-slot : (image : List (List ℕ)) (slot : ℕ) → IsImage image → directory image ≢ [] → slot < length (slots image)
+pub length-slot : (image : List (List ℕ)) (slot : ℕ) → IsImage image → directory image ≢ [] → slot < length (slots image)
     → length (get_or (slots image) slot []) ≡ 32
 length-slot image slot is some within =
     let here : slot / 8 < length (directory image) = omega (arith, length-slots_in image (directory image)) in
@@ -46,7 +46,7 @@ length-slot image slot is some within =
     ∙ length-cell (sector_at image block) (slot % 8) (is.1 block [] inside).0 (omega arith)
 
 -- a block that isn't among others is none of them
-other_block : (block one : ℕ) (others : List ℕ) → occurs block others ≡ 0 → list_any (nat_eq one) others ≡ true → block ≢ one
+pub other_block : (block one : ℕ) (others : List ℕ) → occurs block others ≡ 0 → list_any (nat_eq one) others ≡ true → block ≢ one
 other_block block one others absent present e =
     let f = occurs-present one others present in
     let g = ap (λ (q : ℕ). occurs q others) e in

@@ -96,7 +96,7 @@ append_some [] ys some e = some refl
 append_some (x ∷ xs) ys some e = cc
 
 -- the same link in the same bytes
-link_same : (image other : List (List ℕ)) (block : ℕ) → sector_at other block ≡ sector_at image block → link_at other block ≡ link_at image block
+pub link_same : (image other : List (List ℕ)) (block : ℕ) → sector_at other block ≡ sector_at image block → link_at other block ≡ link_at image block
 link_same image other block e = ap (λ (bytes : List ℕ). (get_or bytes 0 0, get_or bytes 1 0)) e
 
 module _ (image listed : List (List ℕ)) (place : Option ℕ) (taken grown entry bytes : List ℕ) (free : set.FinSet nat_cmp) (some : directory image ≢ [])

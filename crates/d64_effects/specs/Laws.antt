@@ -1,14 +1,18 @@
 -- What follows from the definitions of the effects.
-use Rattle.std.specs.Prelude.{◌≡◌, ◌≢◌, ℕ, ◌<◌, ◌≤◌, List, All, length, None}
+use Rattle.std.specs.Prelude.{◌≡◌, ◌≢◌, ℕ, ◌<◌, ◌≤◌, List, All, length, filter, None}
 use Rattle.d64_files.specs.Name.{IsName}
-use Rattle.d64_files.specs.Directory.{slots}
+use Rattle.d64_files.specs.Directory.{slots, AllHold}
 use Rattle.d64_files.specs.Writing.{blocks_for, first_unused, dir_last}
 use Rattle.d64_image.specs.Image.{IsImage}
 use Rattle.d64_map.specs.Map.{free_blocks, blocks_free, CountsFit}
 use Rattle.d64_map.specs.Plan.{room}
+use Rattle.d64_effects.specs.Contents.{names_and_contents}
+use Rattle.d64_effects.specs.Delete.{is_scratched, scratched_count, scratched}
 use Rattle.d64_effects.specs.Format.{formatted, free_when_formatted}
+use Rattle.d64_effects.specs.Rename.{renamed}
+use Rattle.d64_effects.specs.Validate.{validated}
 use Rattle.d64_effects.specs.View.{IsSound, view}
-use Rattle.d64_effects.specs.ViewAfter.{formatted_view, written_view}
+use Rattle.d64_effects.specs.ViewAfter.{formatted_view, written_view, scratched_view, renamed_view, validated_view}
 use Rattle.d64_effects.specs.Write.{written, next_of_directory}
 use Rattle.d64_files.specs.declared.kind.Kind.{Kind}
 use Rattle.d64_files.specs.declared.kind.Kind.TheVariants.{Del, Rel}
@@ -73,3 +77,49 @@ WrittenShows =
     (image : List (List ℕ)) (name : List ℕ) (kind : Kind) (bytes : List ℕ)
     → IsImage image → IsName name → IsWritable kind → AreBytes bytes → IsSound image → HasRoom image (length bytes)
     → view (written image name kind bytes) ≡ written_view (view image) name kind bytes
+
+-- the renaming of a file leaves an image
+abbrev pub RenamedIsImage : Type 0
+RenamedIsImage = (image : List (List ℕ)) (old new : List ℕ) → IsImage image → IsName new → IsSound image → IsImage (renamed image old new)
+
+-- a sound image stays sound under the renaming of a file
+abbrev pub RenamedIsSound : Type 0
+RenamedIsSound = (image : List (List ℕ)) (old new : List ℕ) → IsImage image → IsName new → IsSound image → IsSound (renamed image old new)
+
+-- and its view changes as the definition says
+abbrev pub RenamedShows : Type 0
+RenamedShows =
+    (image : List (List ℕ)) (old new : List ℕ)
+    → IsImage image → IsName new → IsSound image → view (renamed image old new) ≡ renamed_view (view image) old new
+
+-- the deleting of files leaves an image
+abbrev pub ScratchedIsImage : Type 0
+ScratchedIsImage = (image patterns : List (List ℕ)) → IsImage image → IsSound image → IsImage (scratched image patterns)
+
+-- a sound image stays sound under the deleting of files
+abbrev pub ScratchedIsSound : Type 0
+ScratchedIsSound = (image patterns : List (List ℕ)) → IsImage image → IsSound image → IsSound (scratched image patterns)
+
+-- its view changes as the definition says
+abbrev pub ScratchedShows : Type 0
+ScratchedShows =
+    (image patterns : List (List ℕ)) → IsImage image → IsSound image → view (scratched image patterns) ≡ scratched_view (view image) patterns
+
+-- and as many slots are scratched as files of the directory's list are closed, not locked, and matched by a pattern or more
+abbrev pub ScratchedAreCounted : Type 0
+ScratchedAreCounted =
+    (image patterns : List (List ℕ))
+    → scratched_count image patterns
+    ≡ length (filter (λ row. is_scratched patterns row.closed row.locked row.name) (names_and_contents (view image)))
+
+-- a validation leaves an image
+abbrev pub ValidatedIsImage : Type 0
+ValidatedIsImage = (image : List (List ℕ)) → IsImage image → AllHold image 2 5 → IsImage (validated image)
+
+-- a validation gives a sound image from any whose directory, files and chains are in order, whatever its map says
+abbrev pub ValidatedIsSound : Type 0
+ValidatedIsSound = (image : List (List ℕ)) → IsImage image → AllHold image 2 5 → IsSound (validated image)
+
+-- and its view changes as the definition says
+abbrev pub ValidatedShows : Type 0
+ValidatedShows = (image : List (List ℕ)) → IsImage image → AllHold image 2 5 → view (validated image) ≡ validated_view (view image)

@@ -9,3 +9,4 @@ pub mod Contents
 pub mod ViewAfter
 pub mod Laws
 pub mod ContentsLaws
+pub mod KeepingLaws

@@ -4,6 +4,10 @@
 ghost use Rattle.d64_effects.specs.Laws.{FormattedIsImage, FormattedIsFree, FormattedCountsFit, FormattedHas664Free};
 ghost use Rattle.d64_effects.specs.Laws.{FormattedIsSound, FormattedShows};
 ghost use Rattle.d64_effects.specs.Laws.{WrittenIsImage, WrittenIsSound, WrittenShows};
+ghost use Rattle.d64_effects.specs.Laws.{RenamedIsImage, RenamedIsSound, RenamedShows};
+ghost use Rattle.d64_effects.specs.Laws.{ScratchedIsImage, ScratchedIsSound, ScratchedShows, ScratchedAreCounted};
+ghost use Rattle.d64_effects.specs.Laws.{ValidatedIsImage, ValidatedIsSound, ValidatedShows};
+ghost use Rattle.d64_effects.specs.KeepingLaws.{WritingKeepsFiles, DeletingKeepsOtherFiles, RenamingKeepsOtherFiles, ValidatingKeepsClosedFiles};
 ghost use Rattle.d64_effects.specs.ContentsLaws.{FormattedListsNothing, WrittenListsTheFile, ScratchedListsTheOthers};
 ghost use Rattle.d64_effects.specs.ContentsLaws.{RenamedListsTheName, ValidatedListsTheClosed};
 
@@ -22,6 +26,41 @@ pub fn written_disk_is_sound()
     ensures image { WrittenIsImage }
     ensures sound { WrittenIsSound }
     ensures view { WrittenShows }
+{}
+
+/// A sound image stays sound under the renaming of a file, and shows the other name and nothing else that is new. Where no file has
+/// the old name, all stays as it was.
+pub fn renamed_disk_is_sound()
+    ensures image { RenamedIsImage }
+    ensures sound { RenamedIsSound }
+    ensures view { RenamedShows }
+{}
+
+/// A sound image stays sound under the deleting of files, and shows empty slots in their places, and their blocks, those of their side
+/// chains too, among the free ones. As many are scratched as files of the directory's list are closed, not locked, and matched.
+pub fn scratched_disk_is_sound()
+    ensures image { ScratchedIsImage }
+    ensures sound { ScratchedIsSound }
+    ensures view { ScratchedShows }
+    ensures count { ScratchedAreCounted }
+{}
+
+/// A validation gives a sound image from any that meets conditions 2 to 5 of a sound one, whatever its map says. It drops the unclosed
+/// files, and free is exactly what nobody owns.
+pub fn validated_disk_is_sound()
+    ensures image { ValidatedIsImage }
+    ensures sound { ValidatedIsSound }
+    ensures view { ValidatedShows }
+{}
+
+/// A file that a command doesn't name keeps its slot, its blocks and its content, and all else that a disk shows of it: under the
+/// writing of a file every file, under the deleting of files those that are locked, not closed or matched by no pattern, under the
+/// renaming of a file those of other names, and under a validation those that are closed.
+pub fn files_that_are_not_named_stay()
+    ensures writing { WritingKeepsFiles }
+    ensures deleting { DeletingKeepsOtherFiles }
+    ensures renaming { RenamingKeepsOtherFiles }
+    ensures validating { ValidatingKeepsClosedFiles }
 {}
 
 /// Each file command changes the directory's list of names and contents as it says: a formatted disk lists nothing; a written file

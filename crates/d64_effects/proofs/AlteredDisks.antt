@@ -1,0 +1,188 @@
+-- disks whose slots and map are changed, and whose files lie where they lay
+use Rattle.std.proofs.Common.{◌≡◌, ◌≢◌, ℕ, ◌+◌, ◌*◌, ◌<◌, ◌≤◌, ◌==◌, Bool, true, false, eqb, eq-eqb, nat_eq, List, [], length, map, drop, take, get_or, refl, sym, ap, ◌∙◌, subst, arith}
+use Rattle.std.specs.Prelude.{All, filter}
+use Rattle.std.specs.List.{list_any, flat_map, IsDistinct}
+use Rattle.std.specs.Ordering.{nat_cmp}
+use Rattle.std.specs.FinSet as set
+use Rattle.std.proofs.lemmas.List.Elements.{All-weaker}
+use Rattle.d64_image.specs.declared.block.TheConstants.{BLOCKS}
+use Rattle.d64_image.specs.Block.{pair_at}
+use Rattle.d64_image.specs.BlockSet.{MembersAreBlocks}
+use Rattle.d64_image.specs.Image.{IsImage, sector_at}
+use Rattle.d64_map.specs.Map.{map_block, bit_in, is_free, blocks, free_blocks, map_for, with_map, CountsFit}
+use Rattle.d64_map.specs.Track.{members_on}
+use Rattle.d64_map.proofs.Maps.{sector_at-with_map, sector_at-with_map-other, length-with_map, free_blocks-with_map, counts-with_map, IsImage-with_map}
+use Rattle.d64_files.specs.Directory.{directory, slots, slots_in, owned_blocks, AllHold}
+use Rattle.d64_files.specs.Ownership.{owned_by, HasItsChains}
+use Rattle.d64_files.specs.Slot.{HasKind}
+use Rattle.d64_files.specs.declared.dir_fault.DirFault.TheVariants.{WrongCounts, NoDirectory, UnknownKind, NoChain, CrossLinked, MarkedFree}
+use Rattle.d64_effects.specs.View.{View, FileView, IsSound, disk_field, disk_id, slot_view, view}
+use Rattle.d64_effects.proofs.DirectoryEntries.{directory-same, slots-same}
+use Rattle.d64_effects.proofs.FormattedDisks.{drop-map_for}
+use Rattle.d64_effects.proofs.Frames.{Agree, Framed, framed, owned_by-same, slot_view-same, HasItsChains-same}
+use Rattle.d64_effects.proofs.NewDirectory.{other_block}
+use Rattle.d64_effects.proofs.Occurrences.{tally, occurs, occurs-distinct, distinct-from_occurs, All-from_occurs, joined}
+use Rattle.d64_effects.proofs.Rows.{map-same, joined-map}
+use Rattle.d64_effects.proofs.SlotChanges.{SlotsChanged}
+use Rattle.d64_effects.proofs.TakenBlocks.{occurs-owned}
+use Rattle.d64_effects.proofs.WrittenImages.{link_same}
+
+-- an image with other slots and another map, whose directory and files lie where they lay
+pub record Altered (image other cells : List (List ℕ)) (free : set.FinSet nat_cmp) : Type 0 where
+  pub is_image : IsImage other
+  pub counts : CountsFit other
+  pub marked : free_blocks other ≡ free
+  pub blocks : directory other ≡ directory image
+  pub entries : slots other ≡ cells
+  pub kept : (block : ℕ) → block ≢ map_block → occurs block (directory image) ≡ 0 → sector_at other block ≡ sector_at image block
+  pub name : disk_field other ≡ disk_field image
+  pub id : disk_id other ≡ disk_id image
+
+-- the map's block decides which blocks are free
+free_blocks-same : (image other : List (List ℕ)) → sector_at other map_block ≡ sector_at image map_block → free_blocks other ≡ free_blocks image
+unfolding free_blocks is_free
+free_blocks-same image other e =
+    ap (λ (bytes : List ℕ). set.from_list {R = nat_cmp} (filter (λ block. bit_in bytes (pair_at block).0 (pair_at block).1 == 1) blocks)) e
+
+-- the image with changed slots, where its map stays
+pub same_map : (image one cells : List (List ℕ)) → SlotsChanged image one cells → occurs map_block (directory image) ≡ 0 → CountsFit image
+    → Altered image one cells (free_blocks image)
+same_map image one cells changed apart fit =
+    let e : sector_at one map_block ≡ sector_at image map_block = changed.kept map_block apart in
+    let free = free_blocks-same image one e in
+    record {
+      is_image = changed.is_image;
+      counts = record {
+        each = λ track from to.
+            ap (λ (bytes : List ℕ). get_or bytes (4 * track) 0) e ∙ fit.each track from to
+            ∙ ap (λ (members : set.FinSet nat_cmp). members_on members track) (sym free);
+      };
+      marked = free;
+      blocks = changed.blocks;
+      entries = changed.entries;
+      kept = λ block other absent. changed.kept block absent;
+      name = ap (λ (bytes : List ℕ). take 16 (drop 0x90 bytes)) e;
+      id = ap (λ (bytes : List ℕ). take 2 (drop 0xA2 bytes)) e;
+    }
+
+-- the image with changed slots and the map of a set
+module _ (image one cells : List (List ℕ)) (free : set.FinSet nat_cmp) (is : IsImage image) (some : directory image ≢ [])
+    (changed : SlotsChanged image one cells) (apart : occurs map_block (directory image) ≡ 0) (members : MembersAreBlocks free) where
+  has_map_block : map_block < length one
+  has_map_block = let e = changed.is_image.0 in omega arith
+
+  listed_sector : (block : ℕ) → list_any (nat_eq block) (directory one) ≡ true → sector_at (with_map one free) block ≡ sector_at one block
+  listed_sector block found =
+      sector_at-with_map-other one free block
+      (λ e. other_block map_block block (directory one) (ap (occurs map_block) changed.blocks ∙ apart) found (sym e))
+
+  same_directory : directory (with_map one free) ≡ directory one
+  same_directory =
+      directory-same one (with_map one free) (λ e. some (sym changed.blocks ∙ e)) (length-with_map one free)
+      (λ block found. link_same one (with_map one free) block (listed_sector block found))
+
+  same_slots : slots (with_map one free) ≡ slots one
+  same_slots = ap (slots_in (with_map one free)) same_directory ∙ slots-same one (with_map one free) (directory one) listed_sector
+
+  same_tail : (n : ℕ) → 144 ≤ n → drop n (sector_at (with_map one free) map_block) ≡ drop n (sector_at image map_block)
+  same_tail n past =
+      let inside : map_block < length image = let l = is.0 in omega arith in
+      ap (drop n) (sector_at-with_map one free has_map_block ∙ ap (λ (old : List ℕ). map_for old free) (changed.kept map_block apart))
+      ∙ drop-map_for (sector_at image map_block) free n (is.1 map_block [] inside).0 past
+
+  pub remapped : Altered image (with_map one free) cells free
+  remapped = record {
+    is_image = IsImage-with_map one free changed.is_image;
+    counts = counts-with_map one free has_map_block members;
+    marked = free_blocks-with_map one free has_map_block members;
+    blocks = same_directory ∙ changed.blocks;
+    entries = same_slots ∙ changed.entries;
+    kept = λ block other absent. sector_at-with_map-other one free block other ∙ changed.kept block absent;
+    name = ap (take 16) (same_tail 0x90 (omega arith));
+    id = ap (take 2) (same_tail 0xA2 (omega arith));
+  }
+
+-- the directory of an image that has no cross-linked blocks doesn't hold the map's
+pub map_not_listed : (image : List (List ℕ)) → IsDistinct nat_eq (owned_blocks image) → occurs map_block (directory image) ≡ 0
+map_not_listed image distinct =
+    let own = occurs-owned image map_block in
+    let once = occurs-distinct (owned_blocks image) distinct map_block in
+    let f : tally (eqb map_block map_block) ≡ 1 = ap tally (eq-eqb map_block map_block refl) in
+    omega arith
+
+-- how often a block is the map's, or among those of the directory and of these slots
+abbrev pub held_by : List (List ℕ) → List (List ℕ) → ℕ → ℕ
+held_by image cells q = tally (eqb q map_block) + (occurs q (directory image) + occurs q (flat_map (owned_by image) cells))
+
+-- the slots own no more than before, and lack no chain
+module _ (image other cells : List (List ℕ)) (free : set.FinSet nat_cmp) (is : IsImage image) (some : directory image ≢ [])
+    (distinct : IsDistinct nat_eq (owned_blocks image)) (left : Altered image other cells free) (chains : All (HasItsChains image) cells)
+    (fewer : (q : ℕ) → occurs q (flat_map (owned_by image) cells) ≤ occurs q (flat_map (owned_by image) (slots image))) where
+  agree : Agree image other (flat_map (owned_by image) cells)
+  agree q there =
+      let owned = occurs-owned image q in
+      let once = occurs-distinct (owned_blocks image) distinct q in
+      let less = fewer q in
+      left.kept q (λ e. let f : tally (eqb q map_block) ≡ 1 = ap tally (eq-eqb q map_block e) in omega arith) (omega arith)
+
+  slots_framed : All (Framed image other) cells
+  slots_framed = framed image other cells chains agree
+
+  same_length : length other ≡ length image
+  same_length = left.is_image.0 ∙ sym is.0
+
+  owned_as_before : map (owned_by other) cells ≡ map (owned_by image) cells
+  owned_as_before =
+      map-same (owned_by other) (owned_by image) cells
+      (All-weaker (Framed image other) (λ cell. owned_by other cell ≡ owned_by image cell)
+      (λ cell f. owned_by-same image other cell f.0 same_length f.1) cells slots_framed)
+
+  shown_as_before : map (slot_view other) cells ≡ map (slot_view image) cells
+  shown_as_before =
+      map-same (slot_view other) (slot_view image) cells
+      (All-weaker (Framed image other) (λ cell. slot_view other cell ≡ slot_view image cell)
+      (λ cell f. slot_view-same image other cell f.0 same_length f.1) cells slots_framed)
+
+  -- a block is owned as often as by these slots before
+  occurs-owned_after : (q : ℕ) → occurs q (owned_blocks other) ≡ held_by image cells q
+  occurs-owned_after q =
+      let after = occurs-owned other q in
+      let listed = ap (occurs q) left.blocks in
+      let files : occurs q (flat_map (owned_by other) (slots other)) ≡ occurs q (flat_map (owned_by image) cells) =
+      ap (λ (rows : List (List ℕ)). occurs q (flat_map (owned_by other) rows)) left.entries
+      ∙ ap (occurs q) (sym (joined-map (owned_by other) cells) ∙ ap joined owned_as_before ∙ joined-map (owned_by image) cells) in
+      omega arith
+
+  distinct_after : IsDistinct nat_eq (owned_blocks other)
+  distinct_after = distinct-from_occurs (owned_blocks other) (λ q.
+      let after = occurs-owned_after q in
+      let before = occurs-owned image q in
+      let once = occurs-distinct (owned_blocks image) distinct q in
+      let less = fewer q in
+      omega arith)
+
+  -- so the image is sound, where none of these blocks is marked free
+  pub sound_after : All HasKind cells → ((q : ℕ) → 1 ≤ held_by image cells q → set.contains free q ≡ false) → IsSound other
+  sound_after kinds unfree WrongCounts from to = left.counts
+  sound_after kinds unfree NoDirectory from to = λ e. some (sym left.blocks ∙ e)
+  sound_after kinds unfree UnknownKind from to = subst (All HasKind) (sym left.entries) kinds
+  sound_after kinds unfree NoChain from to =
+      subst (All (HasItsChains other)) (sym left.entries)
+      (All-weaker (Framed image other) (HasItsChains other) (λ cell f. HasItsChains-same image other cell f.0 same_length f.1) cells slots_framed)
+  sound_after kinds unfree CrossLinked from to = distinct_after
+  sound_after kinds unfree MarkedFree from to = All-from_occurs (λ block. set.contains (free_blocks other) block ≡ false) (owned_blocks other) (λ q there.
+      let after = occurs-owned_after q in
+      ap (λ (members : set.FinSet nat_cmp). set.contains members q) left.marked ∙ unfree q (omega arith))
+
+  -- and shows what these slots show
+  pub view_after : view other ≡ record {
+    name = disk_field image;
+    id = disk_id image;
+    directory = directory image;
+    slots = map (slot_view image) cells;
+    free = free;
+  }
+  unfolding view
+  view_after =
+      let shown = ap (map (slot_view other)) left.entries ∙ shown_as_before in
+      λ i. record { name = left.name i; id = left.id i; directory = left.blocks i; slots = shown i; free = left.marked i }

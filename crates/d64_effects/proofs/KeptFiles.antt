@@ -1,0 +1,94 @@
+-- files that a command doesn't name stay where they are
+use Rattle.std.proofs.Common.{◌≡◌, ◌≢◌, ℕ, zero, suc, Bool, true, false, not, cond, List, [], ◌∷◌, ◌++◌, length, map, get_or, set, Option, Some, None, refl, sym, ap, ◌∙◌}
+use Rattle.std.specs.Prelude.{position, slice_get, replicate, bytes_eq}
+use Rattle.std.proofs.lemmas.List.Quantifiers.{position-Some}
+use Rattle.std.proofs.lemmas.Slice.Eq.{bytes_eq-Decides}
+use Rattle.d64_effects.specs.Contents.{name_in}
+use Rattle.d64_effects.specs.KeepingLaws.{WritingKeepsFiles, DeletingKeepsOtherFiles, RenamingKeepsOtherFiles, ValidatingKeepsClosedFiles}
+use Rattle.d64_effects.specs.View.{View, FileView, view}
+use Rattle.d64_effects.specs.ViewAfter.{written_view, new_file, is_vacant, slots_with, first_vacant, emptied_if, is_scratched_file, scratched_view, with_field, renamed_slots, renamed_view, validated_view}
+use Rattle.d64_effects.specs.Write.{taken_by}
+use Rattle.d64_effects.proofs.RenamedDisks.{renamed-shows}
+use Rattle.d64_effects.proofs.ScratchedDisks.{scratched-shows}
+use Rattle.d64_effects.proofs.ValidatedDisks.{validated-shows}
+use Rattle.d64_effects.proofs.WrittenDisks.{written-shows}
+use Rattle.d64_files.specs.declared.kind.Kind.{Kind}
+
+-- slots have a file at that place
+abbrev Has : List (Option FileView) → ℕ → FileView → Type 0
+Has rows slot file = slice_get rows slot ≡ Some (Some file)
+
+-- a file that doesn't go
+kept-emptied : (goes : FileView → Bool) (rows : List (Option FileView)) (slot : ℕ) (file : FileView) → goes file ≡ false → Has rows slot file
+    → Has (map (emptied_if goes) rows) slot file
+kept-emptied goes [] slot file stays h = h
+kept-emptied goes (row ∷ rows) zero file stays h =
+    let e : row ≡ Some file = cc in
+    ap Some (ap (emptied_if goes) e ∙ ap (λ (b : Bool). cond b None (Some file)) stays)
+kept-emptied goes (row ∷ rows) (suc slot) file stays h = kept-emptied goes rows slot file stays h
+
+-- a file of another name
+kept-behind : (first : FileView) (rows others : List (Option FileView)) (new : List ℕ) (file : FileView) (slot : ℕ) (same : Bool)
+    → (same ≡ true → first ≢ file) → ((k : ℕ) → Has rows k file → Has others k file) → Has (Some first ∷ rows) slot file
+    → Has (cond same (Some (with_field first new) ∷ rows) (Some first ∷ others)) slot file
+kept-behind first rows others new file zero true differ later h = absurd (differ refl (cc))
+kept-behind first rows others new file zero false differ later h = h
+kept-behind first rows others new file (suc slot) true differ later h = h
+kept-behind first rows others new file (suc slot) false differ later h = later slot h
+
+kept-renamed : (rows : List (Option FileView)) (old new : List ℕ) (file : FileView) → name_in file.field ≢ old → (slot : ℕ) → Has rows slot file
+    → Has (renamed_slots rows old new) slot file
+kept-renamed [] old new file other slot h = h
+kept-renamed (None ∷ rows) old new file other zero h = h
+kept-renamed (None ∷ rows) old new file other (suc slot) h = kept-renamed rows old new file other slot h
+kept-renamed (Some first ∷ rows) old new file other slot h =
+    kept-behind first rows (renamed_slots rows old new) new file slot (bytes_eq (name_in first.field) old)
+    (λ same e. other (ap (λ (f : FileView). name_in f.field) (sym e) ∙ (bytes_eq-Decides (name_in first.field) old).0 same))
+    (kept-renamed rows old new file other) h
+
+-- a file beside a new one
+kept-set : (rows : List (Option FileView)) (place slot : ℕ) (new file : FileView) → is_vacant (get_or rows place None) ≡ true → Has rows slot file
+    → Has (set rows place (Some new)) slot file
+kept-set [] place slot new file vacant h = h
+kept-set (row ∷ rows) zero zero new file vacant h =
+    let e : row ≡ Some file = cc in
+    let f : true ≡ false = sym vacant ∙ ap is_vacant e in
+    absurd (cc)
+kept-set (row ∷ rows) zero (suc slot) new file vacant h = h
+kept-set (row ∷ rows) (suc place) zero new file vacant h = h
+kept-set (row ∷ rows) (suc place) (suc slot) new file vacant h = kept-set rows place slot new file vacant h
+
+kept-append : (rows more : List (Option FileView)) (slot : ℕ) (file : FileView) → Has rows slot file → Has (rows ++ more) slot file
+kept-append [] more slot file h = absurd (cc)
+kept-append (row ∷ rows) more zero file h = h
+kept-append (row ∷ rows) more (suc slot) file h = kept-append rows more slot file h
+
+kept-with : (rows : List (Option FileView)) (place : Option ℕ) (slot : ℕ) (new file : FileView) → position is_vacant rows ≡ place → Has rows slot file
+    → Has (slots_with rows place new) slot file
+kept-with rows None slot new file e h = kept-append rows (Some new ∷ replicate 7 None) slot file h
+kept-with rows (Some place) slot new file e h = kept-set rows place slot new file (position-Some is_vacant rows place None e).1 h
+
+-- so on disks
+pub writing-keeps : WritingKeepsFiles
+unfolding written_view
+writing-keeps image name kind bytes is named writable small sound fits slot file h =
+    ap (λ (shown : View). slice_get shown.slots slot) (written-shows image name kind bytes is named writable small sound fits)
+    ∙ kept-with (view image).slots (first_vacant (view image)) slot (new_file name kind bytes (taken_by (view image).free (length bytes))) file refl h
+
+pub deleting-keeps : DeletingKeepsOtherFiles
+unfolding scratched_view
+deleting-keeps image patterns is sound slot file stays h =
+    ap (λ (shown : View). slice_get shown.slots slot) (scratched-shows image patterns is sound)
+    ∙ kept-emptied (is_scratched_file patterns) (view image).slots slot file stays h
+
+pub renaming-keeps : RenamingKeepsOtherFiles
+unfolding renamed_view
+renaming-keeps image old new is named sound slot file other h =
+    ap (λ (shown : View). slice_get shown.slots slot) (renamed-shows image old new is named sound)
+    ∙ kept-renamed (view image).slots old new file other slot h
+
+pub validating-keeps : ValidatingKeepsClosedFiles
+unfolding validated_view
+validating-keeps image is accepted slot file closed h =
+    ap (λ (shown : View). slice_get shown.slots slot) (validated-shows image is accepted)
+    ∙ kept-emptied (λ f. not f.closed) (view image).slots slot file (ap not closed) h
