@@ -1,22 +1,21 @@
 -- disks whose slots and map are changed, and whose files lie where they lay
-use Rattle.std.proofs.Common.{◌≡◌, ◌≢◌, ℕ, ◌+◌, ◌*◌, ◌<◌, ◌≤◌, ◌==◌, Bool, true, false, eqb, eq-eqb, nat_eq, List, [], length, map, drop, take, get_or, refl, sym, ap, ◌∙◌, subst, arith}
+use Rattle.std.proofs.Common.{◌≡◌, ◌≢◌, ℕ, ◌+◌, ◌*◌, ◌<◌, ◌≤◌, ◌==◌, true, false, eqb, eq-eqb, nat_eq, List, [], length, map, drop, take, get_or, refl, sym, ap, ◌∙◌, subst, arith}
 use Rattle.std.specs.Prelude.{All, filter}
 use Rattle.std.specs.List.{list_any, flat_map, IsDistinct}
 use Rattle.std.specs.Ordering.{nat_cmp}
 use Rattle.std.specs.FinSet as set
 use Rattle.std.proofs.lemmas.List.Elements.{All-weaker}
-use Rattle.d64_image.specs.declared.block.TheConstants.{BLOCKS}
 use Rattle.d64_image.specs.Block.{pair_at}
 use Rattle.d64_image.specs.BlockSet.{MembersAreBlocks}
 use Rattle.d64_image.specs.Image.{IsImage, sector_at}
 use Rattle.d64_map.specs.Map.{map_block, bit_in, is_free, blocks, free_blocks, map_for, with_map, CountsFit}
 use Rattle.d64_map.specs.Track.{members_on}
 use Rattle.d64_map.proofs.Maps.{sector_at-with_map, sector_at-with_map-other, length-with_map, free_blocks-with_map, counts-with_map, IsImage-with_map}
-use Rattle.d64_files.specs.Directory.{directory, slots, slots_in, owned_blocks, AllHold}
+use Rattle.d64_files.specs.Directory.{directory, slots, slots_in, owned_blocks}
 use Rattle.d64_files.specs.Ownership.{owned_by, HasItsChains}
 use Rattle.d64_files.specs.Slot.{HasKind}
 use Rattle.d64_files.specs.declared.dir_fault.DirFault.TheVariants.{WrongCounts, NoDirectory, UnknownKind, NoChain, CrossLinked, MarkedFree}
-use Rattle.d64_effects.specs.View.{View, FileView, IsSound, disk_field, disk_id, slot_view, view}
+use Rattle.d64_effects.specs.View.{IsSound, disk_field, disk_id, slot_view, view}
 use Rattle.d64_effects.proofs.DirectoryEntries.{directory-same, slots-same}
 use Rattle.d64_effects.proofs.FormattedDisks.{drop-map_for}
 use Rattle.d64_effects.proofs.Frames.{Agree, Framed, framed, owned_by-same, slot_view-same, HasItsChains-same}

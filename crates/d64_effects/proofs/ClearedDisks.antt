@@ -1,5 +1,5 @@
 -- slots that become unused: what they own, lack and show afterwards, and which blocks they give back
-use Rattle.std.proofs.Common.{◌≡◌, ◌≢◌, ℕ, zero, suc, ◌+◌, ◌<◌, ◌≤◌, ◌&&◌, ◌||◌, ◌==◌, Bool, true, false, not, cond, eqb, nat_eq, List, [], ◌∷◌, ◌++◌, length, map, get_or, Option, Some, None, refl, sym, ap, ap₂, ◌∙◌, subst, inl, inr, arith, append_assoc}
+use Rattle.std.proofs.Common.{◌≡◌, ℕ, zero, suc, ◌+◌, ◌<◌, ◌≤◌, ◌&&◌, ◌||◌, ◌==◌, Bool, true, false, not, cond, nat_eq, List, [], ◌∷◌, ◌++◌, length, map, get_or, Option, Some, None, refl, sym, ap, ap₂, ◌∙◌, inl, inr, arith, append_assoc}
 use Rattle.std.specs.Prelude.{All, filter, slice_get}
 use Rattle.std.specs.List.{list_any, flat_map, enumerate_from}
 use Rattle.std.specs.Option.{option_map_or, option_to_list}
@@ -11,7 +11,6 @@ use Rattle.std.proofs.lemmas.Bool.{cases_lt, cond_both}
 use Rattle.std.proofs.lemmas.List.{append-nil, length-append}
 use Rattle.std.proofs.lemmas.List.Elements.{All-map, All-head, All-tail}
 use Rattle.d64_files.specs.Chain.{chain, block_in}
-use Rattle.d64_files.specs.Directory.{directory, slots}
 use Rattle.d64_files.specs.Ownership.{roots, roots_of, chain_at, owned_by}
 use Rattle.d64_files.specs.Slot.{is_used, is_closed, kind_of, first_pair, side_pair}
 use Rattle.d64_files.specs.declared.kind.Kind.{Kind}
@@ -106,6 +105,7 @@ module _ (image : List (List ℕ)) (test : List ℕ → Bool) (goes : FileView �
       by_test : (b : Bool) → slot_view image (cond b (cleared cell) cell) ≡ cond b None (slot_view image cell)
       by_test true = slot_view-unused image (cleared cell) (is_used-cleared cell long)
       by_test false = refl
+
       by_use : (used : Bool) (file : FileView) → cond (used && goes file) None (cond used (Some file) None) ≡ emptied_if goes (cond used (Some file) None)
       by_use true file = refl
       by_use false file = refl
@@ -130,6 +130,7 @@ module _ (image : List (List ℕ)) (test : List ℕ → Bool) (goes : FileView �
       by_use : (used : Bool) → blocks_if goes (cond used (Some (file_view image cell)) None) ≡ cond (used && goes (file_view image cell)) (owned_by image cell) []
       by_use true = ap (λ (blocks : List ℕ). cond (goes (file_view image cell)) blocks []) (file_owns image cell)
       by_use false = refl
+
       by_test : (b : Bool) → cond b (owned_by image cell) [] ++ flat_map (owned_by image) kept ≡ flat_map (owned_by image) (cond b (cell ∷ kept) kept)
       by_test true = refl
       by_test false = refl

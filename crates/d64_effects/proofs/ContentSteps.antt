@@ -1,18 +1,17 @@
 -- what the commands make of the directory's list of names and contents
-use Rattle.std.proofs.Common.{◌≡◌, ◌≢◌, ℕ, zero, suc, ◌-◌, ◌==◌, Bool, true, false, not, cond, List, [], ◌∷◌, ◌++◌, length, map, take, drop, get_or, Option, Some, None, refl, sym, ap, ap₂, ◌∙◌, subst, inl, inr, arith}
-use Rattle.std.specs.Prelude.{All, Contains, position, take_while, replicate, filter, option_map, bytes_eq}
+use Rattle.std.proofs.Common.{◌≡◌, ℕ, zero, suc, ◌-◌, ◌==◌, Bool, true, false, not, cond, List, [], ◌∷◌, ◌++◌, length, map, Option, Some, None, refl, sym, ap, ◌∙◌, subst, inl, inr, arith}
+use Rattle.std.specs.Prelude.{All, Contains, position, replicate, filter, option_map, bytes_eq}
 use Rattle.std.specs.List.{filter_map, cons_option}
 use Rattle.std.proofs.lemmas.Bool.Decides.{eqb_tells}
 use Rattle.std.proofs.lemmas.List.Elements.{All-head, All-tail, filter_agree}
 use Rattle.std.proofs.lemmas.List.Sums.{take_while-cons}
 use Rattle.d64_files.specs.Name.{IsName, forbidden_in_names, filled}
 use Rattle.d64_effects.specs.Contents.{ListedFile, name_in, listed, names_and_contents}
-use Rattle.d64_effects.specs.ContentsLaws.{FormattedListsNothing, WrittenListsTheFile, ScratchedListsTheOthers, RenamedListsTheName, ValidatedListsTheClosed, list_with, new_row, is_scratched_row, row_named, renamed_rows}
-use Rattle.d64_effects.specs.View.{View, FileView}
+use Rattle.d64_effects.specs.ContentsLaws.{FormattedListsNothing, WrittenListsTheFile, ScratchedListsTheOthers, RenamedListsTheName, ValidatedListsTheClosed, list_with, is_scratched_row, row_named, renamed_rows}
+use Rattle.d64_effects.specs.View.{FileView}
 use Rattle.d64_effects.specs.ViewAfter.{formatted_view, written_view, new_file, is_vacant, slots_with, first_vacant, emptied_if, scratched_view, with_field, renamed_slots, renamed_view, validated_view}
 use Rattle.d64_effects.specs.Write.{taken_by}
 use Rattle.d64_effects.proofs.Rows.{position-cons}
-use Rattle.d64_files.specs.declared.kind.Kind.{Kind}
 
 -- a byte that a name may hold is no shifted space
 no_filler : (byte : ℕ) → ¬ (Contains forbidden_in_names byte) → not (byte == 0xA0) ≡ true

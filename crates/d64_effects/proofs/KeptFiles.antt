@@ -12,7 +12,6 @@ use Rattle.d64_effects.proofs.RenamedDisks.{renamed-shows}
 use Rattle.d64_effects.proofs.ScratchedDisks.{scratched-shows}
 use Rattle.d64_effects.proofs.ValidatedDisks.{validated-shows}
 use Rattle.d64_effects.proofs.WrittenDisks.{written-shows}
-use Rattle.d64_files.specs.declared.kind.Kind.{Kind}
 
 -- slots have a file at that place
 abbrev Has : List (Option FileView) → ℕ → FileView → Type 0

@@ -3,19 +3,18 @@ use Rattle.std.proofs.Common.{◌≡◌, ◌≢◌, ℕ, suc, ◌+◌, ◌-◌, 
 use Rattle.std.specs.Prelude.{All, IfSome, position, option_map, bytes_eq, replicate, slice_get}
 use Rattle.std.specs.List.{flat_map, IsDistinct}
 use Rattle.std.specs.Option.{option_map_or}
-use Rattle.std.specs.Ordering.{nat_cmp}
 use Rattle.std.specs.FinSet as set
-use Rattle.std.proofs.lemmas.List.{map-set, set-get_or, get_or-map, take_at, drop_at, length-take-le, length-set}
+use Rattle.std.proofs.lemmas.List.{map-set, set-get_or, get_or-map, take_at, drop_at, length-take-le}
 use Rattle.std.proofs.lemmas.List.Elements.{All-head, All-tail, All-set, All-get_or, All-append, All-replicate, All-from_get_or}
 use Rattle.std.proofs.lemmas.List.Quantifiers.{position-Some}
 use Rattle.d64_image.specs.Image.{IsImage}
-use Rattle.d64_map.specs.Map.{map_block, free_blocks}
+use Rattle.d64_map.specs.Map.{free_blocks}
 use Rattle.d64_files.specs.Clearing.{with_name}
 use Rattle.d64_files.specs.Directory.{directory, slots, owned_blocks}
 use Rattle.d64_files.specs.FileData.{data_along}
 use Rattle.d64_files.specs.Name.{IsName, filled}
 use Rattle.d64_files.specs.Ownership.{roots, roots_of, chain_at, owned_by, HasItsChains}
-use Rattle.d64_files.specs.Slot.{type_byte, has_bit, is_used, kind_number, HasKind, kinds, kind_of, is_closed, is_locked, first_pair, field_of, name_of, side_pair, size_of}
+use Rattle.d64_files.specs.Slot.{type_byte, has_bit, is_used, HasKind, kinds, kind_of, is_closed, is_locked, first_pair, field_of, name_of, side_pair, size_of}
 use Rattle.d64_files.specs.Writing.{written_at}
 use Rattle.d64_files.specs.declared.dir_fault.DirFault.TheVariants.{WrongCounts, UnknownKind, NoChain, CrossLinked}
 use Rattle.d64_files.specs.declared.kind.Kind.{Kind}

@@ -1,6 +1,6 @@
 -- what a validated disk is, and what it shows
-use Rattle.std.proofs.Common.{◌≡◌, ◌≢◌, ℕ, ◌+◌, ◌<◌, ◌≤◌, ◌&&◌, Bool, true, false, not, leb, ltb, nat_eq, List, [], ◌∷◌, ◌++◌, length, map, Option, refl, sym, ap, ap₂, ◌∙◌, subst, arith}
-use Rattle.std.specs.Prelude.{All, filter}
+use Rattle.std.proofs.Common.{◌≡◌, ◌≢◌, ℕ, ◌<◌, ◌≤◌, ◌&&◌, true, false, not, leb, ltb, nat_eq, List, [], ◌∷◌, ◌++◌, length, map, Option, refl, sym, ap, ap₂, ◌∙◌, arith}
+use Rattle.std.specs.Prelude.{All}
 use Rattle.std.specs.List.{list_any, flat_map, range_with_len, IsDistinct}
 use Rattle.std.specs.Ordering.{nat_cmp}
 use Rattle.std.specs.FinSet as set
@@ -19,7 +19,7 @@ use Rattle.d64_files.specs.declared.dir_fault.DirFault.TheVariants.{NoDirectory,
 use Rattle.d64_effects.specs.Clear.{with_cleared}
 use Rattle.d64_effects.specs.Laws.{ValidatedIsImage, ValidatedIsSound, ValidatedShows}
 use Rattle.d64_effects.specs.Validate.{is_unclosed, unclosed_slots, all_but, validated}
-use Rattle.d64_effects.specs.View.{FileView, IsSound, disk_field, disk_id, slot_view, view}
+use Rattle.d64_effects.specs.View.{FileView, IsSound, disk_field, disk_id, view}
 use Rattle.d64_effects.specs.ViewAfter.{validated_view, blocks_owned}
 use Rattle.d64_effects.proofs.AlteredDisks.{Altered, remapped, map_not_listed, held_by, sound_after, view_after}
 use Rattle.d64_effects.proofs.CellFields.{HasKind-unused, HasItsChains-unused}
