@@ -5,6 +5,7 @@
 #![tactic(auto)]
 
 mod block;
+mod block_bytes;
 mod block_set;
 mod image;
 pub mod laws;

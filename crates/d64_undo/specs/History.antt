@@ -1,4 +1,5 @@
-use Rattle.std.specs.Prelude.{ℕ, ◌+◌, ◌-◌, ◌<◌, List, [], ◌∷◌, ◌++◌, length, take, slice_index_or}
+use Rattle.std.specs.Prelude.{ℕ, ◌+◌, ◌-◌, ◌<◌, nat_lt, if◌then◌else◌, Option, Some, None, List, [], ◌∷◌, ◌++◌, length, take, slice_index_or}
+use Rattle.d64_image.specs.Image.{differences}
 
 -- a history is a list of whole images with a cursor
 pub record History : Type 0 where
@@ -9,9 +10,13 @@ pub record History : Type 0 where
 abbrev pub IsHistory : History → Type 0
 IsHistory history = history.cursor < length history.images
 
+-- the image at a place of the history, from 0
+abbrev pub image_at : History → ℕ → List (List ℕ)
+image_at history place = slice_index_or history.images place []
+
 -- the image at the cursor
 abbrev pub present : History → List (List ℕ)
-present history = slice_index_or history.images history.cursor []
+present history = image_at history history.cursor
 
 -- the history that begins with an image
 abbrev pub begun : List (List ℕ) → History
@@ -31,3 +36,11 @@ undone history = record { images = history.images; cursor = history.cursor - 1 }
 -- the cursor one image on
 abbrev pub redone : History → History
 redone history = record { images = history.images; cursor = history.cursor + 1 }
+
+-- in how many blocks the images before and after a record differ, where the history has that record: each is numbered from 0, as the
+-- image before it
+abbrev pub record_len : History → ℕ → Option ℕ
+record_len history number =
+    if nat_lt (number + 1) (length history.images)
+    then Some (length (differences (image_at history number) (image_at history (number + 1))))
+    else None

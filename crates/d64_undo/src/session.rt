@@ -4,7 +4,7 @@ ghost use Rattle.d64_dos.specs.Change.{said};
 ghost use Rattle.d64_dos.specs.Command.{after, reply_to, refusal_of};
 ghost use Rattle.d64_dos.specs.Refusal.{refused_by};
 ghost use Rattle.d64_effects.specs.View.{IsSound};
-ghost use Rattle.d64_undo.specs.History.{IsHistory, present, begun, added, undone, redone};
+ghost use Rattle.d64_undo.specs.History.{IsHistory, image_at, present, begun, added, undone, redone, record_len};
 ghost use Rattle.d64_undo.specs.SoundHistory.{IsSoundHistory, KeepsSound};
 
 use d64_dos::{Command, Refusal, Reply, apply};
@@ -88,6 +88,32 @@ impl Session {
         self.others.len() - self.done
     }
 
+    // The image at a place of the history, from 0.
+    fn image_at(&self, place: usize) -> &Image
+        requires { place < length self.now.images }
+        ensures { result.now ≡ image_at self.now place }
+    {
+        if place < self.done {
+            &self.others[place]
+        } else if place == self.done {
+            self.image()
+        } else {
+            &self.others[place - 1]
+        }
+    }
+
+    /// In how many blocks the images before and after a record differ. Records are numbered from 0, first those that are
+    /// done and then those that are undone, and from `done + undone` on there is none. Takes no memory.
+    pub fn record_len(&self, number: usize) -> Option<usize>
+        ensures { result ≡ record_len self.now number }
+    {
+        if number >= self.others.len() {
+            return None;
+        }
+        let before = self.image_at(number);
+        Some(before.difference_count(self.image_at(number + 1)))
+    }
+
     /// Runs a command on the present image. Where it is accepted, the records after the cursor are dropped
     /// and one is added, also where nothing changed. It is refused by the first refusal that applies, and
     /// for want of memory only where none does; then image, records and cursor are as before.
@@ -159,6 +185,7 @@ impl Session {
 #[cfg(test)]
 mod tests {
     use super::*;
+    use d64_files::{Kind, Name};
     use d64_image::{BlockNo, Image};
     use std::test::Fail;
 
@@ -220,6 +247,64 @@ mod tests {
         }
         assert_eq!(rt; session.redo(), Err(NothingToRedo));
         assert_eq!(rt; session.done(), 100);
+        Ok(())
+    }
+
+    /// How many pieces of 256 bytes differ.
+    fn plain_count(bytes: &[u8], others: &[u8]) -> usize {
+        let pieces = bytes.chunks(256).zip(others.chunks(256));
+        pieces.filter(|(piece, other)| *piece != *other).count()
+    }
+
+    #[test]
+    fn records_of_a_hundred_random_block_writes(rt: HostRuntime) -> Result<(), Fail> {
+        let alloc = rt.alloc();
+        let mut session = Session::new(alloc, Image::zeroed(alloc)?);
+        let mut counts = Vec::new(alloc);
+        let mut random = 1u32;
+        for _ in 0..100 {
+            random = random.wrapping_mul(1_103_515_245).wrapping_add(12_345);
+            let at = BlockNo::at((random >> 16) as usize % 4).ok_or("no block")?;
+            let mut block = [0; 256];
+            block[255] = (random >> 24) as u8 % 2;
+            let before = session.image().try_clone(alloc)?;
+            session.run(&Command::BlockWrite { at, block })?;
+            counts.push(plain_count(before.bytes(), session.image().bytes()))?;
+        }
+        assert!(rt; counts.iter().any(|count| *count == 0));
+        assert!(rt; counts.iter().any(|count| *count == 1));
+        for _ in 0..50 {
+            session.undo()?;
+        }
+        for (number, count) in counts.iter().enumerate() {
+            assert_eq!(rt; session.record_len(number), Some(*count), "at {number}");
+        }
+        assert_eq!(rt; session.record_len(100), None);
+        assert_eq!(rt; session.record_len(usize::MAX), None);
+        Ok(())
+    }
+
+    #[test]
+    fn records_of_a_format_and_a_write(rt: HostRuntime) -> Result<(), Fail> {
+        let alloc = rt.alloc();
+        let mut session = Session::new(alloc, Image::zeroed(alloc)?);
+        assert_eq!(rt; session.record_len(0), None);
+        let format = Command::Format {
+            name: Name::new(b"d")?,
+            id: *b"01",
+        };
+        session.run(&format)?;
+        session.run(&format)?;
+        session.run(&Command::Write {
+            name: Name::new(b"x")?,
+            kind: Kind::Prg,
+            bytes: vec![in alloc; 1u8; 1]?,
+        })?;
+        session.undo()?;
+        assert_eq!(rt; session.record_len(0), Some(2));
+        assert_eq!(rt; session.record_len(1), Some(0));
+        assert_eq!(rt; session.record_len(2), Some(3));
+        assert_eq!(rt; session.record_len(3), None);
         Ok(())
     }
 
