@@ -1,0 +1,122 @@
+//! Cases: what is done, step by step, and what must come of it.
+
+use crate::script::Script;
+use crate::streams::WhenFull;
+use std::alloc::Global;
+
+/// Where a stream fails.
+#[derive(Clone, Copy, Debug, PartialEq, Eq)]
+pub enum Place {
+    Nowhere,
+    /// After so many bytes.
+    After(usize),
+    /// After any number of bytes below those that there are, one number after another.
+    Anywhere,
+}
+
+/// How a script is run, and how the run must end.
+#[derive(Drop)]
+pub struct Manner {
+    /// The words after the program's name; none where the script is run without the program.
+    pub words: Option<Vec<String>>,
+    /// The most bytes that a read gives; 1, 7 and 4,096 in turn where none is said.
+    pub at_most: Option<usize>,
+    pub reader_fails: Place,
+    pub writer_stops: Place,
+    pub when_full: WhenFull,
+    pub fails_at_flush: bool,
+    /// How many bytes the standard error takes.
+    pub faults_room: Option<usize>,
+    /// Whether the script must end with a read fault although its reader does not fail.
+    pub is_past_limits: bool,
+    /// The program's exit status.
+    pub status: u8,
+    /// What the program writes to the standard error.
+    pub faults: String,
+}
+
+impl Manner {
+    /// On streams that do not fail, and to its end.
+    pub fn plain(alloc: Global) -> Manner {
+        Manner {
+            words: None,
+            at_most: None,
+            reader_fails: Place::Nowhere,
+            writer_stops: Place::Nowhere,
+            when_full: WhenFull::Fails,
+            fails_at_flush: false,
+            faults_room: None,
+            is_past_limits: false,
+            status: 0,
+            faults: String::new(alloc),
+        }
+    }
+}
+
+/// A run of a script.
+#[derive(Drop)]
+pub struct Run {
+    pub manner: Manner,
+    pub script: Script,
+}
+
+/// What a step of a case does or looks at.
+#[derive(Drop)]
+pub enum Deed {
+    /// From here on, files are those of the current folder.
+    OnTheFolder,
+    /// A session on this image begins.
+    Image {
+        bytes: Vec<u8>,
+    },
+    /// A host file has these bytes.
+    Put {
+        name: String,
+        bytes: Vec<u8>,
+    },
+    /// A host file has these bytes from a place on.
+    Change {
+        name: String,
+        place: usize,
+        bytes: Vec<u8>,
+    },
+    /// The so-many-th call of the host from here on fails.
+    FailAt {
+        call: usize,
+    },
+    Run {
+        run: Run,
+    },
+    /// Looks whether a host file has these bytes.
+    File {
+        name: String,
+        bytes: Vec<u8>,
+    },
+    /// Looks whether a host file has the bytes of the session's image.
+    FileIsImage {
+        name: String,
+    },
+    /// Looks whether there is no host file of this name.
+    NoFile {
+        name: String,
+    },
+    /// Looks whether a block has these bytes from a place on.
+    Block {
+        track: u8,
+        sector: u8,
+        place: usize,
+        bytes: Vec<u8>,
+    },
+    /// Looks at how many records are before and after the cursor.
+    Records {
+        done: usize,
+        undone: usize,
+    },
+}
+
+/// A step of a case, and the number of its first line.
+#[derive(Drop)]
+pub struct Step {
+    pub line: usize,
+    pub deed: Deed,
+}

@@ -1,0 +1,139 @@
+//! The lines of a case that do something or look at something.
+
+use crate::case::Deed;
+use crate::fault::CaseFault;
+use crate::notation::{bytes_of, number_of, offset_of};
+use std::alloc::{AllocError, Global};
+use std::rt::Files;
+
+/// What a line does, by its first word and what comes after it.
+pub fn deed_of<R: Files + AllocGlobal>(rt: &R, word: &str, rest: &str) -> Result<Deed, CaseFault> {
+    match word {
+        "on" => on(rt.alloc(), rest),
+        "image" => image(rt, rest),
+        "host" => host(rt, rest),
+        "call" => fail_at(rt.alloc(), rest),
+        "file" => file(rt, rest),
+        "no" => no_file(rt.alloc(), rest),
+        "block" => block(rt, rest),
+        "records" => records(rt.alloc(), rest),
+        _ => Err(CaseFault::UnknownWord(String::from_str(rt.alloc(), word)?)),
+    }
+}
+
+fn unreadable(alloc: Global, text: &str) -> Result<CaseFault, AllocError> {
+    Ok(CaseFault::Unreadable(String::from_str(alloc, text)?))
+}
+
+/// `the folder`
+fn on(alloc: Global, text: &str) -> Result<Deed, CaseFault> {
+    match text {
+        "the folder" => Ok(Deed::OnTheFolder),
+        _ => Err(unreadable(alloc, text)?),
+    }
+}
+
+/// `= BYTES`
+fn image<R: Files + AllocGlobal>(rt: &R, text: &str) -> Result<Deed, CaseFault> {
+    match text.strip_prefix("= ") {
+        Some(bytes) => Ok(Deed::Image {
+            bytes: bytes_of(rt, bytes)?,
+        }),
+        None => Err(unreadable(rt.alloc(), text)?),
+    }
+}
+
+/// `NAME = BYTES` or `NAME at $22 = BYTES`
+fn host<R: Files + AllocGlobal>(rt: &R, text: &str) -> Result<Deed, CaseFault> {
+    let Some((what, bytes)) = text.split_once(" = ") else {
+        return Err(unreadable(rt.alloc(), text)?);
+    };
+    let bytes = bytes_of(rt, bytes)?;
+    match what.split_once(" at ") {
+        Some((name, place)) => Ok(Deed::Change {
+            name: String::from_str(rt.alloc(), name)?,
+            place: offset_of(rt.alloc(), place)?,
+            bytes,
+        }),
+        None => Ok(Deed::Put {
+            name: String::from_str(rt.alloc(), what)?,
+            bytes,
+        }),
+    }
+}
+
+/// `3 of the host fails`
+fn fail_at(alloc: Global, text: &str) -> Result<Deed, CaseFault> {
+    match text.strip_suffix(" of the host fails") {
+        Some(call) => Ok(Deed::FailAt {
+            call: number_of(alloc, call)?,
+        }),
+        None => Err(unreadable(alloc, text)?),
+    }
+}
+
+/// `NAME = BYTES` or `NAME is the image`
+fn file<R: Files + AllocGlobal>(rt: &R, text: &str) -> Result<Deed, CaseFault> {
+    if let Some(name) = text.strip_suffix(" is the image") {
+        return Ok(Deed::FileIsImage {
+            name: String::from_str(rt.alloc(), name)?,
+        });
+    }
+    match text.split_once(" = ") {
+        Some((name, bytes)) => Ok(Deed::File {
+            name: String::from_str(rt.alloc(), name)?,
+            bytes: bytes_of(rt, bytes)?,
+        }),
+        None => Err(unreadable(rt.alloc(), text)?),
+    }
+}
+
+/// `file NAME`
+fn no_file(alloc: Global, text: &str) -> Result<Deed, CaseFault> {
+    match text.strip_prefix("file ") {
+        Some(name) => Ok(Deed::NoFile {
+            name: String::from_str(alloc, name)?,
+        }),
+        None => Err(unreadable(alloc, text)?),
+    }
+}
+
+/// `17/0 = BYTES` or `17/0 at $22 = BYTES`
+fn block<R: Files + AllocGlobal>(rt: &R, text: &str) -> Result<Deed, CaseFault> {
+    let Some((what, bytes)) = text.split_once(" = ") else {
+        return Err(unreadable(rt.alloc(), text)?);
+    };
+    let (pair, place) = match what.split_once(" at ") {
+        Some((pair, place)) => (pair, offset_of(rt.alloc(), place)?),
+        None => (what, 0),
+    };
+    let Some((track, sector)) = pair_of(pair) else {
+        return Err(unreadable(rt.alloc(), text)?);
+    };
+    Ok(Deed::Block {
+        track,
+        sector,
+        place,
+        bytes: bytes_of(rt, bytes)?,
+    })
+}
+
+/// The track and the sector of `17/0`.
+fn pair_of(text: &str) -> Option<(u8, u8)> {
+    let (track, sector) = text.split_once('/')?;
+    Some((track.parse().ok()?, sector.parse().ok()?))
+}
+
+/// `1 done, 2 undone`
+fn records(alloc: Global, text: &str) -> Result<Deed, CaseFault> {
+    match text
+        .strip_suffix(" undone")
+        .and_then(|text| text.split_once(" done, "))
+    {
+        Some((done, undone)) => Ok(Deed::Records {
+            done: number_of(alloc, done)?,
+            undone: number_of(alloc, undone)?,
+        }),
+        None => Err(unreadable(alloc, text)?),
+    }
+}

@@ -1,0 +1,39 @@
+//! Why a case cannot be read or played.
+
+use std::alloc::{AllocError, AllocFailed};
+use std::io;
+use thiserror::Error;
+
+/// Why a case cannot be read or played. Each says what is wrong with the line that it is told of.
+#[derive(Debug, Drop, Error)]
+pub enum CaseFault {
+    #[error("unknown word: {0}")]
+    UnknownWord(String),
+    /// What comes after the first word of the line is not what that word takes.
+    #[error("cannot be read: {0}")]
+    Unreadable(String),
+    #[error("no bytes: {0}")]
+    NotBytes(String),
+    #[error("no number: {0}")]
+    NotNumber(String),
+    #[error("no such file: {0}")]
+    MissingFile(String),
+    #[error("no such block")]
+    NoBlock,
+    #[error("no image: {0} bytes")]
+    NoImage(usize),
+    #[error("out of memory")]
+    Memory,
+}
+
+impl From<AllocError> for CaseFault {
+    fn from(_error: AllocError) -> CaseFault {
+        CaseFault::Memory
+    }
+}
+
+impl<T: Drop> From<AllocFailed<T>> for CaseFault {
+    fn from(_error: AllocFailed<T>) -> CaseFault {
+        CaseFault::Memory
+    }
+}

@@ -1,0 +1,97 @@
+//! The lines of a case that say how its next script is run.
+
+use crate::case::{Manner, Place};
+use crate::fault::CaseFault;
+use crate::notation::number_of;
+use crate::streams::WhenFull;
+use std::alloc::Global;
+
+/// Takes a line that says how the next script is run; false where its first word is of none.
+pub fn take_manner(
+    alloc: Global,
+    manner: &mut Manner,
+    word: &str,
+    rest: &str,
+) -> Result<bool, CaseFault> {
+    match word {
+        "program" => manner.words = Some(words_of(alloc, rest)?),
+        "status" => manner.status = status_of(alloc, rest)?,
+        "faults" => manner.faults = faults_of(alloc, rest)?,
+        "reads" => manner.at_most = Some(number_after(alloc, "of ", rest)?),
+        "reader" => manner.reader_fails = place_after(alloc, "fails ", rest)?,
+        "writer" => take_writer(alloc, manner, rest)?,
+        "errors" => manner.faults_room = Some(number_after(alloc, "take ", rest)?),
+        "past" => manner.is_past_limits = past_of(alloc, rest)?,
+        _ => return Ok(false),
+    }
+    Ok(true)
+}
+
+/// The fault of a line of which this cannot be read.
+fn unreadable(alloc: Global, text: &str) -> CaseFault {
+    match String::from_str(alloc, text) {
+        Ok(text) => CaseFault::Unreadable(text),
+        Err(_) => CaseFault::Memory,
+    }
+}
+
+/// Words with single spaces between; `""` is one without bytes.
+fn words_of(alloc: Global, text: &str) -> Result<Vec<String>, CaseFault> {
+    let mut words = Vec::new(alloc);
+    for word in text.split_whitespace() {
+        let word = if word == "\"\"" { "" } else { word };
+        words.push(String::from_str(alloc, word)?)?;
+    }
+    Ok(words)
+}
+
+fn status_of(alloc: Global, text: &str) -> Result<u8, CaseFault> {
+    match text.parse() {
+        Ok(status) => Ok(status),
+        Err(_) => Err(unreadable(alloc, text)),
+    }
+}
+
+/// The line of a text.
+fn faults_of(alloc: Global, text: &str) -> Result<String, CaseFault> {
+    Ok(format!(in alloc; "{text}\n")?)
+}
+
+/// The number after these words.
+fn number_after(alloc: Global, before: &str, text: &str) -> Result<usize, CaseFault> {
+    match text.strip_prefix(before) {
+        Some(number) => number_of(alloc, number),
+        None => Err(unreadable(alloc, text)),
+    }
+}
+
+/// The place after these words: `after 30` or `anywhere`.
+fn place_after(alloc: Global, before: &str, text: &str) -> Result<Place, CaseFault> {
+    match text.strip_prefix(before) {
+        Some("anywhere") => Ok(Place::Anywhere),
+        Some(place) => Ok(Place::After(number_after(alloc, "after ", place)?)),
+        None => Err(unreadable(alloc, text)),
+    }
+}
+
+fn take_writer(alloc: Global, manner: &mut Manner, text: &str) -> Result<(), CaseFault> {
+    if text == "fails at its flush" {
+        manner.fails_at_flush = true;
+        return Ok(());
+    }
+    if text.starts_with("takes") {
+        manner.when_full = WhenFull::TakesNothing;
+        manner.writer_stops = place_after(alloc, "takes nothing ", text)?;
+    } else {
+        manner.writer_stops = place_after(alloc, "fails ", text)?;
+    }
+    Ok(())
+}
+
+/// `the limits`
+fn past_of(alloc: Global, text: &str) -> Result<bool, CaseFault> {
+    match text {
+        "the limits" => Ok(true),
+        _ => Err(unreadable(alloc, text)),
+    }
+}

@@ -1,0 +1,164 @@
+//! Reading a case.
+
+use crate::case::{Deed, Manner, Run, Step};
+use crate::deeds::deed_of;
+use crate::fault::CaseFault;
+use crate::manners::take_manner;
+use crate::notation::{bytes_of, number_of};
+use crate::script::{Exchange, Said, Script};
+use std::alloc::AllocError;
+use std::mem;
+use std::rt::Files;
+
+/// A line of a case that cannot be read.
+#[derive(Drop)]
+pub struct Unread {
+    pub line: usize,
+    pub fault: CaseFault,
+}
+
+impl From<AllocError> for Unread {
+    fn from(_error: AllocError) -> Unread {
+        Unread {
+            line: 0,
+            fault: CaseFault::Memory,
+        }
+    }
+}
+
+/// The steps of a case.
+pub fn steps_of<R: Files + AllocGlobal>(rt: &R, text: &str) -> Result<Vec<Step>, Unread> {
+    let mut reading = Reading::new(rt);
+    for line in text.lines() {
+        match reading.take(line) {
+            Ok(()) => {}
+            Err(fault) => return Err(reading.unread(fault)),
+        }
+    }
+    match reading.end_script() {
+        Ok(()) => Ok(reading.steps),
+        Err(fault) => Err(reading.unread(fault)),
+    }
+}
+
+/// A case, read up to some line.
+#[derive(Drop)]
+struct Reading<'r, R> {
+    rt: &'r R,
+    line: usize,
+    steps: Vec<Step>,
+    /// How the next script is run.
+    manner: Manner,
+    /// The lines of the script that is read, and where it begins.
+    exchanges: Vec<Exchange>,
+    begins: usize,
+}
+
+impl<'r, R: Files + AllocGlobal> Reading<'r, R> {
+    fn new(rt: &'r R) -> Reading<'r, R> {
+        Reading {
+            rt,
+            line: 0,
+            steps: Vec::new(rt.alloc()),
+            manner: Manner::plain(rt.alloc()),
+            exchanges: Vec::new(rt.alloc()),
+            begins: 0,
+        }
+    }
+
+    /// The fault of the line that was taken last.
+    fn unread(self, fault: CaseFault) -> Unread {
+        Unread {
+            line: self.line,
+            fault,
+        }
+    }
+
+    /// Takes a line: of a script where one begins with `>`, an answer where a script was begun, and else a step.
+    fn take(&mut self, line: &str) -> Result<(), CaseFault> {
+        self.line = self.line.saturating_add(1);
+        if line.is_empty() {
+            return self.end_script();
+        }
+        if let Some(said) = line.strip_prefix('>') {
+            return self.take_said(said);
+        }
+        match self.exchanges.last_mut() {
+            Some(exchange) => {
+                exchange.answer.push_str(line)?;
+                exchange.answer.push_str("\n")?;
+                Ok(())
+            }
+            None => self.take_step(line),
+        }
+    }
+
+    fn take_said(&mut self, text: &str) -> Result<(), CaseFault> {
+        if self.exchanges.is_empty() {
+            self.begins = self.line;
+        }
+        let exchange = Exchange {
+            said: said_of(self.rt, text)?,
+            answer: String::new(self.rt.alloc()),
+        };
+        self.exchanges.push(exchange)?;
+        Ok(())
+    }
+
+    /// Takes a line outside a script: a remark, how the next script is run, or what a step does.
+    fn take_step(&mut self, line: &str) -> Result<(), CaseFault> {
+        if line.starts_with('#') {
+            return Ok(());
+        }
+        let (word, rest) = line.split_once(' ').unwrap_or((line, ""));
+        if take_manner(self.rt.alloc(), &mut self.manner, word, rest)? {
+            return Ok(());
+        }
+        let deed = deed_of(self.rt, word, rest)?;
+        self.steps.push(Step {
+            line: self.line,
+            deed,
+        })?;
+        Ok(())
+    }
+
+    /// Ends the script, if one was begun, with the run of it.
+    fn end_script(&mut self) -> Result<(), CaseFault> {
+        if self.exchanges.is_empty() {
+            return Ok(());
+        }
+        let mut script = Script::new(self.rt.alloc());
+        for exchange in self.exchanges.iter() {
+            script.add(exchange)?;
+        }
+        self.exchanges.clear();
+        let manner = mem::replace(&mut self.manner, Manner::plain(self.rt.alloc()));
+        self.steps.push(Step {
+            line: self.begins,
+            deed: Deed::Run {
+                run: Run { manner, script },
+            },
+        })?;
+        Ok(())
+    }
+}
+
+/// What a line that begins with `>` says, from the text after it: ` LINE`, `> BYTES` or `144 LINE`.
+fn said_of<R: Files + AllocGlobal>(rt: &R, text: &str) -> Result<Said, CaseFault> {
+    if text.is_empty() {
+        return Ok(Said::Line(String::new(rt.alloc())));
+    }
+    if let Some(line) = text.strip_prefix(' ') {
+        return Ok(Said::Line(String::from_str(rt.alloc(), line)?));
+    }
+    if let Some(bytes) = text.strip_prefix('>') {
+        return Ok(Said::Bytes(bytes_of(rt, bytes)?));
+    }
+    match text.split_once(' ') {
+        Some((times, line)) => Ok(Said::Numbered(
+            number_of(rt.alloc(), times)?,
+            String::from_str(rt.alloc(), line)?,
+        )),
+        None => Err(CaseFault::Unreadable(String::from_str(rt.alloc(), text)?)),
+    }
+}

@@ -1,0 +1,149 @@
+//! Scripts with the answers that they must get.
+
+use d64_shell::Outcome;
+use std::alloc::{AllocError, Global};
+
+/// What a line of a case says of a script.
+#[derive(Drop)]
+pub enum Said {
+    /// A line, without its line feed.
+    Line(String),
+    /// A line that comes so many times; in the first `#` stands for 1, in the next for 2, and so on.
+    Numbered(usize, String),
+    /// Bytes, which need be no whole line.
+    Bytes(Vec<u8>),
+}
+
+/// A part of a script, and the answer to it.
+#[derive(Drop)]
+pub struct Exchange {
+    pub said: Said,
+    pub answer: String,
+}
+
+/// Where a line of a script ends, and where its answer does.
+#[derive(Clone, Copy, Debug, PartialEq, Eq)]
+pub struct Mark {
+    pub script: usize,
+    pub answers: usize,
+    /// Whether the line is a `quit` that was accepted.
+    pub closes: bool,
+}
+
+impl Mark {
+    /// Before the first line.
+    pub const START: Mark = Mark {
+        script: 0,
+        answers: 0,
+        closes: false,
+    };
+}
+
+/// A script, and the answers to all of it.
+#[derive(Drop)]
+pub struct Script {
+    alloc: Global,
+    pub bytes: Vec<u8>,
+    pub answers: String,
+    pub marks: Vec<Mark>,
+}
+
+impl Script {
+    pub fn new(alloc: Global) -> Script {
+        Script {
+            alloc,
+            bytes: Vec::new(alloc),
+            answers: String::new(alloc),
+            marks: Vec::new(alloc),
+        }
+    }
+
+    /// Adds a part with its answer.
+    pub fn add(&mut self, exchange: &Exchange) -> Result<(), AllocError> {
+        let answer = exchange.answer.as_str();
+        match &exchange.said {
+            Said::Line(line) => self.add_line(line.as_str(), answer),
+            Said::Numbered(times, line) => self.add_numbered(*times, line.as_str(), answer),
+            Said::Bytes(bytes) => {
+                self.bytes.extend_from_slice(bytes.as_slice())?;
+                self.add_answer("", answer)
+            }
+        }
+    }
+
+    /// The last line that is ended where so many bytes of the script came.
+    pub fn ended_by(&self, came: usize) -> Mark {
+        let ended = self.marks.iter().filter(|mark| mark.script <= came);
+        ended.last().copied().unwrap_or(Mark::START)
+    }
+
+    /// The line to whose answer the byte belongs that comes after so many.
+    pub fn answered_at(&self, room: usize) -> Mark {
+        let mut answered = self.marks.iter().filter(|mark| mark.answers > room);
+        answered.next().copied().unwrap_or(Mark::START)
+    }
+
+    /// Whether a `quit` was accepted up to the end of this line.
+    pub fn is_closed(&self, mark: Mark) -> bool {
+        self.marks
+            .iter()
+            .any(|line| line.closes && line.script <= mark.script)
+    }
+
+    fn add_line(&mut self, line: &str, answer: &str) -> Result<(), AllocError> {
+        self.bytes.extend_from_slice(line.as_bytes())?;
+        self.bytes.push(b'\n')?;
+        self.add_answer(line, answer)
+    }
+
+    fn add_numbered(&mut self, times: usize, line: &str, answer: &str) -> Result<(), AllocError> {
+        for number in 1..=times {
+            let numbered = with_number(self.alloc, line, number)?;
+            self.add_line(numbered.as_str(), answer)?;
+        }
+        Ok(())
+    }
+
+    fn add_answer(&mut self, line: &str, answer: &str) -> Result<(), AllocError> {
+        self.answers.push_str(answer)?;
+        self.marks.push(Mark {
+            script: self.bytes.len(),
+            answers: self.answers.len(),
+            closes: line == "quit" && answer.starts_with("00,"),
+        })?;
+        Ok(())
+    }
+}
+
+/// The line in which a number stands for each `#`.
+fn with_number(alloc: Global, line: &str, number: usize) -> Result<String, AllocError> {
+    let mut numbered = String::new(alloc);
+    for part in line.split_inclusive('#') {
+        match part.strip_suffix('#') {
+            Some(before) => write!(numbered, "{before}{number}")?,
+            None => numbered.push_str(part)?,
+        }
+    }
+    Ok(numbered)
+}
+
+/// How many lines these answers accept and refuse: a status line begins with two digits and a comma, and accepts where
+/// they are 00 or 01.
+pub fn counts_of(answers: &[u8]) -> Outcome {
+    let mut outcome = Outcome {
+        accepted: 0,
+        refused: 0,
+    };
+    for line in answers.split(|byte| *byte == b'\n') {
+        match line {
+            [b'0', b'0' | b'1', b',', ..] => {
+                outcome.accepted = outcome.accepted.saturating_add(1);
+            }
+            [b'0'..=b'9', b'0'..=b'9', b',', ..] => {
+                outcome.refused = outcome.refused.saturating_add(1);
+            }
+            _ => {}
+        }
+    }
+    outcome
+}
