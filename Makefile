@@ -1,5 +1,5 @@
-# d64sh: `make` builds it, `make run` runs the main job, `make check` is the gate, `make bench` measures; `make install` and `make uninstall` put it
-# below PREFIX and take it away again.
+# d64sh: `make` builds it, `make run` runs the main job, `make check` is the gate, `make wrong-bodies` tries the wrong bodies that the gate leaves out,
+# `make bench` measures; `make install` and `make uninstall` put it below PREFIX and take it away again.
 PREFIX ?= /usr/local
 # a ~ that the shell left as it is
 override PREFIX := $(patsubst ~/%,$(HOME)/%,$(PREFIX))
@@ -10,7 +10,7 @@ PROGRAM = crates/d64sh/out/d64sh
 # the program is there, and no source is newer
 IS_BUILT = [ -x $(PROGRAM) ] && [ -z "$$(find crates -name '*.rt' -newer $(PROGRAM))" ]
 
-.PHONY: all run check bench install uninstall
+.PHONY: all run check wrong-bodies bench install uninstall
 
 all:
 	@$(NEEDS_RT)
@@ -24,6 +24,10 @@ run: all
 check:
 	@$(NEEDS_RT)
 	@scripts/gate
+
+wrong-bodies:
+	@$(NEEDS_RT)
+	@scripts/wrong-bodies $(CRATES)
 
 bench: all
 	@bench/measure $(PROGRAM)
