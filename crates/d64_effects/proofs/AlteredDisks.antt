@@ -16,7 +16,7 @@ use Rattle.d64_files.specs.Ownership.{owned_by, HasItsChains}
 use Rattle.d64_files.specs.Slot.{HasKind}
 use Rattle.d64_files.specs.declared.dir_fault.DirFault.TheVariants.{WrongCounts, NoDirectory, UnknownKind, NoChain, CrossLinked, MarkedFree}
 use Rattle.d64_effects.specs.View.{IsSound, disk_field, disk_id, slot_view, view}
-use Rattle.d64_effects.proofs.DirectoryEntries.{directory-same, slots-same}
+use Rattle.d64_effects.proofs.DirectoryEntries.{link_same, directory-same, slots-same}
 use Rattle.d64_effects.proofs.FormattedDisks.{drop-map_for}
 use Rattle.d64_effects.proofs.Frames.{Agree, Framed, framed, owned_by-same, slot_view-same, HasItsChains-same}
 use Rattle.d64_effects.proofs.NewDirectory.{other_block}
@@ -24,7 +24,6 @@ use Rattle.d64_effects.proofs.Occurrences.{tally, occurs, occurs-distinct, disti
 use Rattle.d64_effects.proofs.Rows.{map-same, joined-map}
 use Rattle.d64_effects.proofs.SlotChanges.{SlotsChanged}
 use Rattle.d64_effects.proofs.TakenBlocks.{occurs-owned}
-use Rattle.d64_effects.proofs.WrittenImages.{link_same}
 
 -- an image with other slots and another map, whose directory and files lie where they lay
 pub record Altered (image other cells : List (List ℕ)) (free : set.FinSet nat_cmp) : Type 0 where

@@ -141,8 +141,8 @@ module _ (image : List (List ℕ)) (test : List ℕ → Bool) (goes : FileView �
 
 -- the blocks of all files
 module _ (image : List (List ℕ)) where
-  owned_once : (cell : List ℕ) → blocks_if (λ file. true) (slot_view image cell) ≡ owned_by image cell
-  owned_once cell = ap (blocks_if (λ file. true)) (slot_view-is image cell) ∙ by_use (is_used cell) refl
+  owned_shown : (cell : List ℕ) → blocks_if (λ file. true) (slot_view image cell) ≡ owned_by image cell
+  owned_shown cell = ap (blocks_if (λ file. true)) (slot_view-is image cell) ∙ by_use (is_used cell) refl
     where
       by_use : (used : Bool) → is_used cell ≡ used → blocks_if (λ file. true) (cond used (Some (file_view image cell)) None) ≡ owned_by image cell
       by_use true e = file_owns image cell
@@ -150,7 +150,7 @@ module _ (image : List (List ℕ)) where
 
   pub blocks-owned : (cells : List (List ℕ)) → flat_map (blocks_if (λ file. true)) (map (slot_view image) cells) ≡ flat_map (owned_by image) cells
   blocks-owned [] = refl
-  blocks-owned (cell ∷ cells) = ap₂ (λ (blocks rest : List ℕ). blocks ++ rest) (owned_once cell) (blocks-owned cells)
+  blocks-owned (cell ∷ cells) = ap₂ (λ (blocks rest : List ℕ). blocks ++ rest) (owned_shown cell) (blocks-owned cells)
 
   -- they are blocks of the image
   chain_within : (start q : ℕ) (blocks : List ℕ) → chain image start ≡ blocks → 1 ≤ occurs q blocks → q < length image

@@ -7,7 +7,8 @@ use Rattle.std.proofs.lemmas.List.Elements.{All-head, All-tail, filter_agree}
 use Rattle.std.proofs.lemmas.List.Sums.{take_while-cons}
 use Rattle.d64_files.specs.Name.{IsName, forbidden_in_names, filled}
 use Rattle.d64_effects.specs.Contents.{ListedFile, name_in, listed, names_and_contents}
-use Rattle.d64_effects.specs.ContentsLaws.{FormattedListsNothing, WrittenListsTheFile, ScratchedListsTheOthers, RenamedListsTheName, ValidatedListsTheClosed, list_with, is_scratched_row, row_named, renamed_rows}
+use Rattle.d64_effects.specs.ContentsAfter.{list_with, is_scratched_row, row_named, renamed_rows}
+use Rattle.d64_effects.specs.ContentsLaws.{FormattedListsNothing, WrittenListsTheFile, ScratchedListsTheOthers, RenamedListsTheName, ValidatedListsTheClosed}
 use Rattle.d64_effects.specs.View.{FileView}
 use Rattle.d64_effects.specs.ViewAfter.{formatted_view, written_view, new_file, is_vacant, slots_with, first_vacant, emptied_if, scratched_view, with_field, renamed_slots, renamed_view, validated_view}
 use Rattle.d64_effects.specs.Write.{taken_by}

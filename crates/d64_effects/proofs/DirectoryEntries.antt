@@ -133,6 +133,10 @@ Chain-directory image some = is_chain image directory_start (directory image) (s
 pub directory-from_Chain : (image : List (List ℕ)) (blocks : List ℕ) → Chain image directory_start blocks → directory image ≡ blocks
 directory-from_Chain image blocks h = directory-is_chain image ∙ chain-is image directory_start blocks h
 
+-- the same link in the same bytes
+pub link_same : (image other : List (List ℕ)) (block : ℕ) → sector_at other block ≡ sector_at image block → link_at other block ≡ link_at image block
+link_same image other block e = ap (λ (bytes : List ℕ). (get_or bytes 0 0, get_or bytes 1 0)) e
+
 -- the directory needs the links of its blocks alone
 pub directory-same : (image other : List (List ℕ)) → directory image ≢ [] → length other ≡ length image
     → ((block : ℕ) → list_any (eqb block) (directory image) ≡ true → link_at other block ≡ link_at image block) → directory other ≡ directory image

@@ -15,6 +15,7 @@ pub mod WrittenImages
 pub mod NewOwners
 pub mod WrittenDisks
 pub mod SlotChanges
+pub mod Clearing
 pub mod AlteredDisks
 pub mod RenamedDisks
 pub mod ClearedDisks
@@ -22,3 +23,4 @@ pub mod ValidatedDisks
 pub mod ScratchedDisks
 pub mod KeptFiles
 pub mod ContentSteps
+pub mod ListedDisks

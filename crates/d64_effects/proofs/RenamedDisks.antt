@@ -5,7 +5,7 @@ use Rattle.std.specs.List.{flat_map, IsDistinct}
 use Rattle.std.specs.Option.{option_map_or}
 use Rattle.std.specs.FinSet as set
 use Rattle.std.proofs.lemmas.List.{map-set, set-get_or, get_or-map, take_at, drop_at, length-take-le}
-use Rattle.std.proofs.lemmas.List.Elements.{All-head, All-tail, All-set, All-get_or, All-append, All-replicate, All-from_get_or}
+use Rattle.std.proofs.lemmas.List.Elements.{All-head, All-tail, All-set, All-get_or, All-append, All-replicate}
 use Rattle.std.proofs.lemmas.List.Quantifiers.{position-Some}
 use Rattle.d64_image.specs.Image.{IsImage}
 use Rattle.d64_map.specs.Map.{free_blocks}
@@ -30,10 +30,10 @@ use Rattle.d64_effects.proofs.CellFields.{roots_of-same}
 use Rattle.d64_effects.proofs.DirectoryEntries.{get_or-written_before, get_or-written_past}
 use Rattle.d64_effects.proofs.FormattedDisks.{view_of}
 use Rattle.d64_effects.proofs.Frames.{shown, slot_view-is}
-use Rattle.d64_effects.proofs.NewDirectory.{has_directory, length-slot}
+use Rattle.d64_effects.proofs.NewDirectory.{has_directory}
 use Rattle.d64_effects.proofs.Occurrences.{occurs, joined}
 use Rattle.d64_effects.proofs.Rows.{joined-map, position-cons}
-use Rattle.d64_effects.proofs.SlotChanges.{SlotsChanged, slot_changed}
+use Rattle.d64_effects.proofs.SlotChanges.{SlotsChanged, slots_sized, slot_changed}
 use Rattle.d64_effects.proofs.TakenBlocks.{occurs-owned, owned_not_free}
 
 -- the chain from one of some roots
@@ -167,10 +167,6 @@ renamed-shown image (cell ∷ cells) old new short sized =
     (renamed-shown image cells old new short (All-tail P cell cells sized)) (is_used cell) (bytes_eq (name_of cell) old) refl refl
     ∙ sym (ap (λ (first : Option FileView). renamed_slots (first ∷ rows) old new) (slot_view-is image cell)
     ∙ renamed_slots-cons (file_view image cell) (is_used cell) rows old new)
-
--- the slots of an image have 32 bytes each
-pub slots_sized : (image : List (List ℕ)) → IsImage image → directory image ≢ [] → All (λ cell. length cell ≡ 32) (slots image)
-slots_sized image is some = All-from_get_or (λ cell. length cell ≡ 32) (slots image) [] (λ slot there. length-slot image slot is some there)
 
 -- a name in its field is made of bytes
 field_bytes : (name : List ℕ) → IsName name → All (λ byte. byte < 256) (filled name)

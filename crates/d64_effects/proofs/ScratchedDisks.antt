@@ -1,14 +1,13 @@
 -- what a disk without the deleted files is, and what it shows
-use Rattle.std.proofs.Common.{◌≡◌, ◌≢◌, ℕ, suc, ◌+◌, ◌<◌, ◌≤◌, ◌&&◌, Bool, true, false, cond, ltb, nat_eq, List, [], ◌∷◌, length, map, Option, Some, None, refl, sym, ap, ap₂, ◌∙◌, inl, inr, arith}
+use Rattle.std.proofs.Common.{◌≡◌, ◌≢◌, ℕ, suc, ◌+◌, ◌<◌, ◌≤◌, ◌&&◌, Bool, true, false, cond, nat_eq, List, [], ◌∷◌, length, map, Option, Some, None, refl, sym, ap, ap₂, ◌∙◌, inl, inr, arith}
 use Rattle.std.specs.Prelude.{All, filter, fold, option_map}
 use Rattle.std.specs.List.{list_any, flat_map, filter_map, cons_option, enumerate_from, IsDistinct}
 use Rattle.std.specs.FinSet as set
-use Rattle.std.proofs.lemmas.Bool.{and_parts, or_cases, or_from, ltb-true}
+use Rattle.std.proofs.lemmas.Bool.{or_cases, or_from}
 use Rattle.d64_image.specs.declared.block.TheConstants.{BLOCKS}
 use Rattle.d64_image.specs.BlockSet.{MembersAreBlocks}
 use Rattle.d64_image.specs.Image.{IsImage}
-use Rattle.d64_map.specs.Map.{free_blocks, is_free, CountsFit}
-use Rattle.d64_map.proofs.FreeBlocks.{contains-free_blocks-both}
+use Rattle.d64_map.specs.Map.{free_blocks, CountsFit}
 use Rattle.d64_files.specs.Clearing.{with_cleared_slot}
 use Rattle.d64_files.specs.Directory.{directory, slots, slot_owns, owned_blocks}
 use Rattle.d64_files.specs.Ownership.{owned_by, HasItsChains}
@@ -16,7 +15,7 @@ use Rattle.d64_files.specs.Slot.{HasKind, is_used}
 use Rattle.d64_files.specs.declared.dir_fault.DirFault.TheVariants.{WrongCounts, UnknownKind, NoChain, CrossLinked}
 use Rattle.d64_effects.specs.Clear.{with_cleared, with_freed}
 use Rattle.d64_effects.specs.Contents.{ListedFile, listed}
-use Rattle.d64_effects.specs.ContentsLaws.{is_scratched_row}
+use Rattle.d64_effects.specs.ContentsAfter.{is_scratched_row}
 use Rattle.d64_effects.specs.Delete.{is_scratched_slot, scratched_slots, without_files, scratched}
 use Rattle.d64_effects.specs.Laws.{ScratchedIsImage, ScratchedIsSound, ScratchedShows, ScratchedAreCounted}
 use Rattle.d64_effects.specs.View.{FileView, IsSound, disk_field, disk_id, slot_view, file_view, view}
@@ -28,14 +27,8 @@ use Rattle.d64_effects.proofs.FormattedDisks.{view_of}
 use Rattle.d64_effects.proofs.Frames.{slot_view-is}
 use Rattle.d64_effects.proofs.NewDirectory.{has_directory}
 use Rattle.d64_effects.proofs.Occurrences.{occurs, occurs-present, absent-from_occurs}
-use Rattle.d64_effects.proofs.RenamedDisks.{slots_sized}
-use Rattle.d64_effects.proofs.SlotChanges.{SlotsChanged, cleared, cleared_if, numbers_from, slots_cleared}
-use Rattle.d64_effects.proofs.TakenBlocks.{occurs-owned, owned_once, owned_not_free}
-
--- a free block is one of the disk
-free_below : (image : List (List ℕ)) (q : ℕ) → set.contains (free_blocks image) q ≡ true → q < BLOCKS
-free_below image q member =
-    ltb-true q BLOCKS (and_parts (ltb q BLOCKS) (is_free image q) (sym (contains-free_blocks-both image q) ∙ member)).0
+use Rattle.d64_effects.proofs.SlotChanges.{SlotsChanged, cleared, cleared_if, numbers_from, slots_sized, slots_cleared}
+use Rattle.d64_effects.proofs.TakenBlocks.{free_is_block, occurs-owned, owned_once, owned_not_free}
 
 -- the blocks that slots give back
 abbrev given_by : List (List ℕ) → List ℕ → List ℕ
@@ -93,7 +86,7 @@ module _ (image patterns : List (List ℕ)) (is : IsImage image) (sound : IsSoun
       let given : List ℕ = given_back image patterns in
       elim (or_cases (list_any (nat_eq q) given) (set.contains (free_blocks image) q) (sym (contains-with_freed (free_blocks image) given q) ∙ member)) [
         | inl back ↦ given_within q (occurs-present q given back)
-        | inr free ↦ free_below image q free
+        | inr free ↦ free_is_block image q free
       ]
 
   left : Altered image (scratched image patterns) (cells_left image patterns)
@@ -156,8 +149,8 @@ pub scratched-shows : ScratchedShows
 scratched-shows image patterns is sound = scratched-views image patterns is sound
 
 -- what slots list
-abbrev rows_of : List (List ℕ) → List (List ℕ) → List ListedFile
-rows_of image cells = filter_map (option_map listed) (map (slot_view image) cells)
+abbrev listed_slots : List (List ℕ) → List (List ℕ) → List ListedFile
+listed_slots image cells = filter_map (option_map listed) (map (slot_view image) cells)
 
 -- one slot more
 counted_once : (image patterns : List (List ℕ)) (cell : List ℕ) (n : ℕ) (passed : List (ℕ × List ℕ)) (rows : List ListedFile)
@@ -174,12 +167,12 @@ counted_once image patterns cell n passed rows later true = by_test (is_scratche
     by_test false = later
 
 counted : (image patterns cells : List (List ℕ)) (n : ℕ)
-    → length (numbers_from (is_scratched_slot patterns) n cells) ≡ length (filter (is_scratched_row patterns) (rows_of image cells))
+    → length (numbers_from (is_scratched_slot patterns) n cells) ≡ length (filter (is_scratched_row patterns) (listed_slots image cells))
 counted image patterns [] n = refl
 counted image patterns (cell ∷ cells) n =
     counted_once image patterns cell n (filter (λ (slot : ℕ × List ℕ). is_scratched_slot patterns slot.1) (enumerate_from (n + 1) cells))
-    (rows_of image cells) (counted image patterns cells (n + 1)) (is_used cell)
-    ∙ ap (λ (shown : Option FileView). length (filter (is_scratched_row patterns) (cons_option (option_map listed shown) (rows_of image cells))))
+    (listed_slots image cells) (counted image patterns cells (n + 1)) (is_used cell)
+    ∙ ap (λ (shown : Option FileView). length (filter (is_scratched_row patterns) (cons_option (option_map listed shown) (listed_slots image cells))))
     (sym (slot_view-is image cell))
 
 pub scratched-are_counted : ScratchedAreCounted

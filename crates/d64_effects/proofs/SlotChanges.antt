@@ -1,10 +1,10 @@
 -- slots of the directory that are changed in place
-use Rattle.std.proofs.Common.{◌≡◌, ℕ, ◌+◌, ◌-◌, ◌*◌, ◌%◌, ◌<◌, ◌≤◌, Bool, true, false, cond, List, [], ◌∷◌, ◌++◌, length, map, get_or, take, drop, set, refl, sym, ap, ◌∙◌, subst, inl, inr, arith, append_assoc}
+use Rattle.std.proofs.Common.{◌≡◌, ◌≢◌, ℕ, ◌+◌, ◌-◌, ◌*◌, ◌%◌, ◌<◌, ◌≤◌, Bool, true, false, cond, List, [], ◌∷◌, ◌++◌, length, map, get_or, take, drop, set, refl, sym, ap, ◌∙◌, subst, inl, inr, arith, append_assoc}
 use Rattle.std.specs.Prelude.{All, filter, fold}
 use Rattle.std.specs.List.{enumerate_from}
 use Rattle.std.proofs.lemmas.Bool.{cases_lt}
 use Rattle.std.proofs.lemmas.List.{ext_get_or, get_or-drop, get_or_at, set_at, length-append, length-drop, take-append-drop, take-append-le, take-take, length-take-le}
-use Rattle.std.proofs.lemmas.List.Elements.{All-nil, All-cons, All-take, All-drop}
+use Rattle.std.proofs.lemmas.List.Elements.{All-nil, All-cons, All-take, All-drop, All-from_get_or}
 use Rattle.d64_image.specs.declared.image.TheConstants.{BLOCK_BYTES}
 use Rattle.d64_image.specs.Image.{IsImage, sector_at, with_sector}
 use Rattle.d64_files.specs.Clearing.{with_cleared_slot}
@@ -14,8 +14,12 @@ use Rattle.d64_files.specs.Writing.{written_at, with_bytes, slot_block, with_ent
 use Rattle.d64_files.proofs.SlotLists.{slot_at_place}
 use Rattle.d64_files.proofs.WrittenBytes.{length-written_at}
 use Rattle.d64_effects.proofs.DirectoryEntries.{get_or-written_before, get_or-written_within, get_or-written_past, All-written_at, length-cell, get_or-cell, directory-of_slot, slot_place, slot_block-is_held, slot_block-within, block_at, sector_at-with_entry, IsImage-with_entry, directory-with_entry, slots-with_entry}
-use Rattle.d64_effects.proofs.NewDirectory.{other_block}
+use Rattle.d64_effects.proofs.NewDirectory.{length-slot, other_block}
 use Rattle.d64_effects.proofs.Occurrences.{occurs}
+
+-- the slots of an image have 32 bytes each
+pub slots_sized : (image : List (List ℕ)) → IsImage image → directory image ≢ [] → All (λ cell. length cell ≡ 32) (slots image)
+slots_sized image is some = All-from_get_or (λ cell. length cell ≡ 32) (slots image) [] (λ slot there. length-slot image slot is some there)
 
 -- an image with other bytes in slots of its directory, whose blocks and links stay
 pub record SlotsChanged (image other cells : List (List ℕ)) : Type 0 where
@@ -34,9 +38,9 @@ length-entry_with old part place long fits =
     length-drop 2 (written_at old place part) ∙ omega arith
 
 -- a part that is written over a slot's bytes, byte by byte
-in_slot : (bytes part : List ℕ) (i place m : ℕ) → length bytes ≡ BLOCK_BYTES → i < 8 → place + length part ≤ 32 → m < 32
+byte_in_slot : (bytes part : List ℕ) (i place m : ℕ) → length bytes ≡ BLOCK_BYTES → i < 8 → place + length part ≤ 32 → m < 32
     → get_or (written_at bytes (32 * i + place) part) (32 * i + m) 0 ≡ get_or (written_at (cell bytes i) place part) m 0
-in_slot bytes part i place m long small fits within =
+byte_in_slot bytes part i place m long small fits within =
     let l = length-cell bytes i long small in
     elim (cases_lt m place) [
       | inl below ↦
@@ -76,7 +80,7 @@ part_is_entry bytes part i place long small past fits =
             let f : k ≡ 32 * i + 2 + (k - 32 * i - 2) = omega arith in
             let g : 2 + (k - 32 * i - 2) ≡ k - 32 * i = omega arith in
             ap (λ (j : ℕ). get_or (written_at bytes (32 * i + place) part) j 0) e
-            ∙ in_slot bytes part i place (k - 32 * i) long small fits (omega arith)
+            ∙ byte_in_slot bytes part i place (k - 32 * i) long small fits (omega arith)
             ∙ sym (ap (λ (j : ℕ). get_or (written_at bytes (32 * i + 2) entry) j 0) f
             ∙ get_or-written_within bytes entry (32 * i + 2) (k - 32 * i - 2) (omega arith) (omega arith)
             ∙ get_or-drop 2 (written_at (cell bytes i) place part) (k - 32 * i - 2) 0
@@ -150,7 +154,7 @@ abbrev pub cleared_if : (List ℕ → Bool) → List ℕ → List ℕ
 cleared_if test old = cond (test old) (cleared old) old
 
 -- a slot becomes unused
-one_cleared : (image : List (List ℕ)) (slot : ℕ) → IsImage image → slot < length (slots image)
+pub one_cleared : (image : List (List ℕ)) (slot : ℕ) → IsImage image → slot < length (slots image)
     → SlotsChanged image (with_cleared_slot image slot) (set (slots image) slot (cleared (get_or (slots image) slot [])))
 unfolding with_cleared_slot
 one_cleared image slot is there =

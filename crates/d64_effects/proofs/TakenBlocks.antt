@@ -1,5 +1,5 @@
 -- the blocks that a file and its entry take: free ones, none of which is owned
-use Rattle.std.proofs.Common.{◌≡◌, ℕ, ◌+◌, ◌≤◌, Bool, true, false, not, ◌&&◌, ◌||◌, eqb, nat_eq, List, [], ◌∷◌, length, Option, Some, None, refl, sym, ap, ◌∙◌, inl, inr, arith}
+use Rattle.std.proofs.Common.{◌≡◌, ℕ, ◌+◌, ◌<◌, ◌≤◌, ltb, Bool, true, false, not, ◌&&◌, ◌||◌, eqb, nat_eq, List, [], ◌∷◌, length, Option, Some, None, refl, sym, ap, ◌∙◌, inl, inr, arith}
 use Rattle.std.specs.Prelude.{All, is_some}
 use Rattle.std.specs.List.{list_any, IsDistinct, flat_map}
 use Rattle.std.specs.Option.{option_map_or, option_to_list}
@@ -7,12 +7,14 @@ use Rattle.std.specs.Ordering.{nat_cmp}
 use Rattle.std.specs.Cmp.{nat_cmp_total, unsigned_tied}
 use Rattle.std.specs.FinSet as set
 use Rattle.std.specs.FinSet.{contains-remove}
-use Rattle.std.proofs.lemmas.Bool.{le-leb, cases_lt}
+use Rattle.std.proofs.lemmas.Bool.{le-leb, cases_lt, and_parts, ltb-true}
 use Rattle.std.proofs.lemmas.Bool.Decides.{eqb_tells}
 use Rattle.std.proofs.lemmas.List.Elements.{All-nil, All-cons}
+use Rattle.d64_image.specs.declared.block.TheConstants.{BLOCKS}
 use Rattle.d64_map.specs.Laws.{IsFreeForFiles, IsFreeForDirectory}
-use Rattle.d64_map.specs.Map.{map_block, free_blocks}
+use Rattle.d64_map.specs.Map.{map_block, free_blocks, is_free}
 use Rattle.d64_map.specs.Plan.{plan, room}
+use Rattle.d64_map.proofs.FreeBlocks.{contains-free_blocks-both}
 use Rattle.d64_map.proofs.Plans.{plan-choice, plan-there, dir_pick}
 use Rattle.d64_files.specs.Directory.{directory, slots, owned_blocks}
 use Rattle.d64_files.specs.Ownership.{owned_by}
@@ -121,6 +123,11 @@ pub grown_not_taken : (image : List (List ℕ)) (taken grown : List ℕ) (bytes 
     → 1 ≤ occurs q grown → occurs q taken ≡ 0
 grown_not_taken image taken grown bytes file dir q h =
     occurs_not q taken (λ g. (taken_free image taken bytes file q g).2 (grown_free image grown dir q h).2)
+
+-- a free block is one of the disk
+pub free_is_block : (image : List (List ℕ)) (q : ℕ) → set.contains (free_blocks image) q ≡ true → q < BLOCKS
+free_is_block image q member =
+    ltb-true q BLOCKS (and_parts (ltb q BLOCKS) (is_free image q) (sym (contains-free_blocks-both image q) ∙ member)).0
 
 -- the free blocks without those that were taken
 pub contains-without : (free : set.FinSet nat_cmp) (taken : List ℕ) (q : ℕ)

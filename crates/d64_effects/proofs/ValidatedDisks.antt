@@ -26,8 +26,7 @@ use Rattle.d64_effects.proofs.CellFields.{HasKind-unused, HasItsChains-unused}
 use Rattle.d64_effects.proofs.ClearedDisks.{is_used-cleared, All-cleared, occurs-cleared, shown-cleared, blocks-owned}
 use Rattle.d64_effects.proofs.FormattedDisks.{view_of}
 use Rattle.d64_effects.proofs.Occurrences.{occurs, present-from_occurs}
-use Rattle.d64_effects.proofs.RenamedDisks.{slots_sized}
-use Rattle.d64_effects.proofs.SlotChanges.{cleared, cleared_if, slots_cleared}
+use Rattle.d64_effects.proofs.SlotChanges.{cleared, cleared_if, slots_sized, slots_cleared}
 use Rattle.d64_effects.proofs.TakenBlocks.{occurs-owned, contains-without}
 
 -- a member of all blocks is a block

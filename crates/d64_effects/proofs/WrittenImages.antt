@@ -1,21 +1,19 @@
 -- the image after the writing of a file: its blocks, its directory, its map
-use Rattle.std.proofs.Common.{◌≡◌, ◌≢◌, ℕ, ◌<◌, ◌≤◌, ◌&&◌, Bool, true, false, not, ltb, nat_eq, List, [], ◌∷◌, ◌++◌, length, map, take, drop, get_or, Option, refl, sym, ap, ◌∙◌, inl, inr, arith}
+use Rattle.std.proofs.Common.{◌≡◌, ◌≢◌, ℕ, ◌<◌, ◌≤◌, true, not, nat_eq, List, [], ◌∷◌, ◌++◌, length, map, take, drop, get_or, Option, refl, sym, ap, ◌∙◌, inl, inr, arith}
 use Rattle.std.specs.Prelude.{replicate}
 use Rattle.std.specs.List.{list_any}
 use Rattle.std.specs.Ordering.{nat_cmp}
 use Rattle.std.specs.FinSet as set
-use Rattle.std.proofs.lemmas.Bool.{cases_lt}
-use Rattle.std.proofs.lemmas.Bool.Decides.{nat_tests}
+use Rattle.std.proofs.lemmas.Bool.{cases_lt, and_parts}
 use Rattle.std.proofs.lemmas.List.Elements.{All-weaker, All-get_or}
 use Rattle.std.proofs.lemmas.Map.Steps.{length-le_from_distinct_below}
 use Rattle.d64_image.specs.declared.block.TheConstants.{BLOCKS}
 use Rattle.d64_image.specs.BlockSet.{MembersAreBlocks}
 use Rattle.d64_image.specs.Image.{IsImage, sector_at}
 use Rattle.d64_map.specs.Laws.{IsFreeForFiles}
-use Rattle.d64_map.specs.Map.{map_block, free_blocks, is_free, map_for, with_map, CountsFit}
-use Rattle.d64_map.proofs.FreeBlocks.{contains-free_blocks-both}
+use Rattle.d64_map.specs.Map.{map_block, free_blocks, map_for, with_map, CountsFit}
 use Rattle.d64_map.proofs.Maps.{sector_at-with_map, sector_at-with_map-other, length-with_map, free_blocks-with_map, counts-with_map, IsImage-with_map}
-use Rattle.d64_files.specs.Chain.{Chain, link_at}
+use Rattle.d64_files.specs.Chain.{Chain}
 use Rattle.d64_files.specs.Directory.{directory, slots, slots_in, owned_blocks}
 use Rattle.d64_files.specs.FileData.{data_along}
 use Rattle.d64_files.specs.Name.{IsName}
@@ -27,13 +25,13 @@ use Rattle.d64_effects.specs.Laws.{AreBytes, HasRoom}
 use Rattle.d64_effects.specs.View.{IsSound, disk_field, disk_id}
 use Rattle.d64_effects.specs.Write.{taken_by, directory_grown, without, with_new_entry, with_file, written}
 use Rattle.d64_effects.proofs.CellFields.{length-entry_bytes, are_bytes-entry_bytes}
-use Rattle.d64_effects.proofs.DirectoryEntries.{directory-same, slots-same}
+use Rattle.d64_effects.proofs.DirectoryEntries.{link_same, directory-same, slots-same}
 use Rattle.d64_effects.proofs.FileChains.{Fits, length-with_chain, sector_at-with_chain, IsImage-with_chain, Chain-with_chain, data_along-same, data_along-with_chain}
 use Rattle.d64_effects.proofs.FormattedDisks.{drop-map_for}
 use Rattle.d64_effects.proofs.NewDirectory.{NewEntry, has_directory, new_entry}
 use Rattle.d64_effects.proofs.Occurrences.{occurs, occurs-append, occurs-present, occurs-from_All, All-from_occurs, absent-from_occurs}
 use Rattle.d64_effects.proofs.Rows.{with_row}
-use Rattle.d64_effects.proofs.TakenBlocks.{Takes, takes, Grows, grows, occurs-owned, owned_once, owned_not_taken, owned_not_grown, grown_not_taken, contains-without}
+use Rattle.d64_effects.proofs.TakenBlocks.{free_is_block, Takes, takes, Grows, grows, occurs-owned, owned_once, owned_not_taken, owned_not_grown, grown_not_taken, contains-without}
 
 -- what the writing of a file leaves
 pub record LeftByWriting (image other : List (List ℕ)) (place : Option ℕ) (taken grown entry bytes : List ℕ) : Type 0 where
@@ -77,14 +75,8 @@ apart image taken grown bytes sound file dir =
 -- the members that are left are blocks of the disk
 left_are_blocks : (image : List (List ℕ)) (taken : List ℕ) → MembersAreBlocks (without (free_blocks image) taken)
 left_are_blocks image taken q member =
-    let e = sym (contains-without (free_blocks image) taken q) ∙ member in
-    let f = contains-free_blocks-both image q in
-    below (list_any (nat_eq q) taken) (ltb q BLOCKS) (is_free image q) (ap (λ (b : Bool). not (list_any (nat_eq q) taken) && b) (sym f) ∙ e) refl
-  where
-    below : {q : ℕ} (a b c : Bool) → (not a && (b && c)) ≡ true → ltb q BLOCKS ≡ b → q < BLOCKS
-    below true b c h e = cc
-    below false true c h e = grind (arith, nat_tests)
-    below false false c h e = cc
+    free_is_block image q
+    (and_parts (not (list_any (nat_eq q) taken)) (set.contains (free_blocks image) q) (sym (contains-without (free_blocks image) taken q) ∙ member)).1
 
 -- the image with a file's data and a new map
 abbrev filed : List (List ℕ) → List ℕ → List ℕ → set.FinSet nat_cmp → List (List ℕ)
@@ -94,10 +86,6 @@ filed listed taken bytes free = with_map (with_chain listed taken bytes) free
 pub append_some : (xs ys : List ℕ) → xs ≢ [] → xs ++ ys ≢ []
 append_some [] ys some e = some refl
 append_some (x ∷ xs) ys some e = cc
-
--- the same link in the same bytes
-pub link_same : (image other : List (List ℕ)) (block : ℕ) → sector_at other block ≡ sector_at image block → link_at other block ≡ link_at image block
-link_same image other block e = ap (λ (bytes : List ℕ). (get_or bytes 0 0, get_or bytes 1 0)) e
 
 module _ (image listed : List (List ℕ)) (place : Option ℕ) (taken grown entry bytes : List ℕ) (free : set.FinSet nat_cmp) (some : directory image ≢ [])
     (is : IsImage image) (new : NewEntry image listed place grown entry) (small : AreBytes bytes) (fits : Fits taken bytes) (separate : Apart image taken grown)

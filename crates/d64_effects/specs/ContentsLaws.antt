@@ -1,35 +1,20 @@
--- What the commands make of the directory's list of names and contents: their steps on views are these steps on that list.
-use Rattle.std.specs.Prelude.{◌≡◌, ℕ, true, false, not, if◌then◌else◌, List, [], ◌∷◌, ◌++◌, length, take, drop, filter, bytes_eq, Bool, Option, Some, None}
+-- What the commands make of the directory's list of names and contents: on disks, and on views, whose steps are these steps on that list.
+use Rattle.std.specs.Prelude.{◌≡◌, ℕ, not, List, [], length, filter}
+use Rattle.d64_image.specs.Image.{IsImage}
+use Rattle.d64_files.specs.Directory.{AllHold}
 use Rattle.d64_files.specs.Name.{IsName}
+use Rattle.d64_files.specs.Writing.{blocks_for}
 use Rattle.d64_effects.specs.Contents.{ListedFile, names_and_contents}
-use Rattle.d64_effects.specs.Delete.{is_scratched}
-use Rattle.d64_effects.specs.View.{View}
+use Rattle.d64_effects.specs.ContentsAfter.{list_with, new_row, is_scratched_row, renamed_rows}
+use Rattle.d64_effects.specs.Delete.{scratched}
+use Rattle.d64_effects.specs.Format.{formatted}
+use Rattle.d64_effects.specs.Laws.{AreTwoBytes, AreBytes, HasRoom, IsWritable}
+use Rattle.d64_effects.specs.Rename.{renamed}
+use Rattle.d64_effects.specs.Validate.{validated}
+use Rattle.d64_effects.specs.View.{View, IsSound, view}
 use Rattle.d64_effects.specs.ViewAfter.{formatted_view, written_view, first_vacant, scratched_view, renamed_view, validated_view}
-use Rattle.d64_effects.specs.Write.{taken_by}
+use Rattle.d64_effects.specs.Write.{taken_by, written}
 use Rattle.d64_files.specs.declared.kind.Kind.{Kind}
-
--- a list with a new file: at the place of the first empty slot, before which all are used, or else at its end
-abbrev pub list_with : List ListedFile → Option ℕ → ListedFile → List ListedFile
-list_with rows (Some place) row = take place rows ++ (row ∷ drop place rows)
-list_with rows None row = rows ++ (row ∷ [])
-
--- a new file of so many blocks: closed, not locked, with these bytes
-abbrev pub new_row : List ℕ → Kind → List ℕ → ℕ → ListedFile
-new_row name kind bytes blocks = record { name = name; kind = kind; closed = true; locked = false; size = blocks; content = bytes }
-
--- whether patterns scratch a file of the list
-abbrev pub is_scratched_row : List (List ℕ) → ListedFile → Bool
-is_scratched_row patterns row = is_scratched patterns row.closed row.locked row.name
-
--- a file of the list with another name
-abbrev pub row_named : ListedFile → List ℕ → ListedFile
-row_named row name =
-    record { name = name; kind = row.kind; closed = row.closed; locked = row.locked; size = row.size; content = row.content }
-
--- a list in which the first file of a name has another
-abbrev pub renamed_rows : List ListedFile → List ℕ → List ℕ → List ListedFile
-renamed_rows [] old new = []
-renamed_rows (row ∷ rows) old new = if bytes_eq row.name old then row_named row new ∷ rows else row ∷ renamed_rows rows old new
 
 -- a formatted disk lists nothing
 abbrev pub FormattedListsNothing : Type 0
@@ -59,3 +44,36 @@ RenamedListsTheName =
 abbrev pub ValidatedListsTheClosed : Type 0
 ValidatedListsTheClosed =
     (shown : View) → names_and_contents (validated_view shown) ≡ filter (λ row. row.closed) (names_and_contents shown)
+
+-- the list of a disk
+abbrev pub files_of : List (List ℕ) → List ListedFile
+files_of image = names_and_contents (view image)
+
+-- so a formatted disk lists nothing
+abbrev pub FormattedDiskLists : Type 0
+FormattedDiskLists = (name id : List ℕ) → IsName name → AreTwoBytes id → files_of (formatted name id) ≡ []
+
+-- a sound disk with a new file lists that file, of as many blocks as its bytes need, beside the others
+abbrev pub WrittenDiskLists : Type 0
+WrittenDiskLists =
+    (image : List (List ℕ)) (name : List ℕ) (kind : Kind) (bytes : List ℕ)
+    → IsImage image → IsName name → IsWritable kind → AreBytes bytes → IsSound image → HasRoom image (length bytes)
+    → files_of (written image name kind bytes)
+    ≡ list_with (files_of image) (first_vacant (view image)) (new_row name kind bytes (blocks_for (length bytes)))
+
+-- a sound disk without deleted files lists the others
+abbrev pub ScratchedDiskLists : Type 0
+ScratchedDiskLists =
+    (image patterns : List (List ℕ))
+    → IsImage image → IsSound image → files_of (scratched image patterns) ≡ filter (λ row. not (is_scratched_row patterns row)) (files_of image)
+
+-- a sound disk with a renamed file lists its other name
+abbrev pub RenamedDiskLists : Type 0
+RenamedDiskLists =
+    (image : List (List ℕ)) (old new : List ℕ)
+    → IsImage image → IsName new → IsSound image → files_of (renamed image old new) ≡ renamed_rows (files_of image) old new
+
+-- and a validated disk lists the closed files
+abbrev pub ValidatedDiskLists : Type 0
+ValidatedDiskLists =
+    (image : List (List ℕ)) → IsImage image → AllHold image 2 5 → files_of (validated image) ≡ filter (λ row. row.closed) (files_of image)

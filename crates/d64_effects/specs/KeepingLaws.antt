@@ -4,11 +4,12 @@ use Rattle.d64_files.specs.Name.{IsName}
 use Rattle.d64_files.specs.Directory.{AllHold}
 use Rattle.d64_image.specs.Image.{IsImage}
 use Rattle.d64_effects.specs.Contents.{name_in}
-use Rattle.d64_effects.specs.Delete.{is_scratched, scratched}
+use Rattle.d64_effects.specs.Delete.{scratched}
 use Rattle.d64_effects.specs.Laws.{HasRoom, AreBytes, IsWritable}
 use Rattle.d64_effects.specs.Rename.{renamed}
 use Rattle.d64_effects.specs.Validate.{validated}
 use Rattle.d64_effects.specs.View.{FileView, IsSound, view}
+use Rattle.d64_effects.specs.ViewAfter.{is_scratched_file}
 use Rattle.d64_effects.specs.Write.{written}
 use Rattle.d64_files.specs.declared.kind.Kind.{Kind}
 
@@ -29,7 +30,7 @@ DeletingKeepsOtherFiles =
     (image patterns : List (List ℕ))
     → IsImage image → IsSound image
     → (slot : ℕ) (file : FileView)
-    → is_scratched patterns file.closed file.locked (name_in file.field) ≡ false → HasFile image slot file → HasFile (scratched image patterns) slot file
+    → is_scratched_file patterns file ≡ false → HasFile image slot file → HasFile (scratched image patterns) slot file
 
 -- the renaming of a file keeps those of other names
 abbrev pub RenamingKeepsOtherFiles : Type 0

@@ -7,7 +7,8 @@ use Rattle.d64_image.specs.Image.{IsImage}
 use Rattle.d64_map.specs.Map.{free_blocks, blocks_free, CountsFit}
 use Rattle.d64_map.specs.Plan.{room}
 use Rattle.d64_effects.specs.Contents.{names_and_contents}
-use Rattle.d64_effects.specs.Delete.{is_scratched, scratched_count, scratched}
+use Rattle.d64_effects.specs.ContentsAfter.{is_scratched_row}
+use Rattle.d64_effects.specs.Delete.{scratched_count, scratched}
 use Rattle.d64_effects.specs.Format.{formatted, free_when_formatted}
 use Rattle.d64_effects.specs.Rename.{renamed}
 use Rattle.d64_effects.specs.Validate.{validated}
@@ -110,7 +111,7 @@ abbrev pub ScratchedAreCounted : Type 0
 ScratchedAreCounted =
     (image patterns : List (List ℕ))
     → scratched_count image patterns
-    ≡ length (filter (λ row. is_scratched patterns row.closed row.locked row.name) (names_and_contents (view image)))
+    ≡ length (filter (is_scratched_row patterns) (names_and_contents (view image)))
 
 -- a validation leaves an image
 abbrev pub ValidatedIsImage : Type 0

@@ -8,5 +8,7 @@ pub mod View
 pub mod Contents
 pub mod ViewAfter
 pub mod Laws
+pub mod ContentsAfter
 pub mod ContentsLaws
 pub mod KeepingLaws
+pub mod ClearLaws

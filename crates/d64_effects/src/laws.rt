@@ -7,9 +7,12 @@ ghost use Rattle.d64_effects.specs.Laws.{WrittenIsImage, WrittenIsSound, Written
 ghost use Rattle.d64_effects.specs.Laws.{RenamedIsImage, RenamedIsSound, RenamedShows};
 ghost use Rattle.d64_effects.specs.Laws.{ScratchedIsImage, ScratchedIsSound, ScratchedShows, ScratchedAreCounted};
 ghost use Rattle.d64_effects.specs.Laws.{ValidatedIsImage, ValidatedIsSound, ValidatedShows};
+ghost use Rattle.d64_effects.specs.ClearLaws.{ClearingKeepsTheImage, ClearingKeepsTheDirectory, ClearingKeepsTheNumberOfSlots};
+ghost use Rattle.d64_effects.specs.ClearLaws.{OneMoreSlotCounts, SlotsWhereAreSlots};
 ghost use Rattle.d64_effects.specs.KeepingLaws.{WritingKeepsFiles, DeletingKeepsOtherFiles, RenamingKeepsOtherFiles, ValidatingKeepsClosedFiles};
 ghost use Rattle.d64_effects.specs.ContentsLaws.{FormattedListsNothing, WrittenListsTheFile, ScratchedListsTheOthers};
 ghost use Rattle.d64_effects.specs.ContentsLaws.{RenamedListsTheName, ValidatedListsTheClosed};
+ghost use Rattle.d64_effects.specs.ContentsLaws.{FormattedDiskLists, WrittenDiskLists, ScratchedDiskLists, RenamedDiskLists, ValidatedDiskLists};
 
 /// A formatted disk is a sound image with 664 blocks free, which shows its name and id and no file.
 pub fn formatted_disk_is_sound_and_empty()
@@ -34,6 +37,16 @@ pub fn renamed_disk_is_sound()
     ensures image { RenamedIsImage }
     ensures sound { RenamedIsSound }
     ensures view { RenamedShows }
+{}
+
+/// While slots of an image are cleared one after another, it stays an image, and its directory keeps its blocks and the number of its
+/// slots; and which slots pass a test is known slot by slot.
+pub fn clearing_keeps_the_directory()
+    ensures image { ClearingKeepsTheImage }
+    ensures directory { ClearingKeepsTheDirectory }
+    ensures slots { ClearingKeepsTheNumberOfSlots }
+    ensures one_more { OneMoreSlotCounts }
+    ensures below { SlotsWhereAreSlots }
 {}
 
 /// A sound image stays sound under the deleting of files, and shows empty slots in their places, and their blocks, those of their side
@@ -63,13 +76,22 @@ pub fn files_that_are_not_named_stay()
     ensures validating { ValidatingKeepsClosedFiles }
 {}
 
-/// Each file command changes the directory's list of names and contents as it says: a formatted disk lists nothing; a written file
-/// stands at the place of the first empty slot, or at the end; deleted files are gone, a renamed one has its new name, and after a
-/// validation the closed files are left. The other files of the list stay as they were, in their order.
-pub fn commands_change_the_list_of_files()
+/// The step of each file command on what a disk shows is its step on the directory's list of names and contents.
+pub fn steps_change_the_list_of_files()
     ensures formatted { FormattedListsNothing }
     ensures written { WrittenListsTheFile }
     ensures scratched { ScratchedListsTheOthers }
     ensures renamed { RenamedListsTheName }
     ensures validated { ValidatedListsTheClosed }
+{}
+
+/// Each file command changes the directory's list of names and contents as it says, on a sound disk: a formatted disk lists nothing;
+/// a written file stands at the place of the first empty slot, or at the end; deleted files are gone, a renamed one has its new name,
+/// and after a validation the closed files are left. The other files of the list stay as they were, in their order.
+pub fn commands_change_the_list_of_files()
+    ensures formatted { FormattedDiskLists }
+    ensures written { WrittenDiskLists }
+    ensures scratched { ScratchedDiskLists }
+    ensures renamed { RenamedDiskLists }
+    ensures validated { ValidatedDiskLists }
 {}

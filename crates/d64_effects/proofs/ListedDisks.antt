@@ -1,0 +1,38 @@
+-- what disks list of their files after each command
+use Rattle.std.proofs.Common.{ℕ, length, ap, ◌∙◌}
+use Rattle.d64_effects.specs.Contents.{names_and_contents}
+use Rattle.d64_effects.specs.ContentsAfter.{list_with, new_row}
+use Rattle.d64_effects.specs.ContentsLaws.{FormattedDiskLists, WrittenDiskLists, ScratchedDiskLists, RenamedDiskLists, ValidatedDiskLists}
+use Rattle.d64_effects.specs.View.{view}
+use Rattle.d64_effects.specs.ViewAfter.{first_vacant}
+use Rattle.d64_effects.proofs.ContentSteps.{formatted-lists_nothing, written-lists_the_file, scratched-lists_the_others, renamed-lists_the_name, validated-lists_the_closed}
+use Rattle.d64_effects.proofs.FormattedDisks.{view-formatted}
+use Rattle.d64_effects.proofs.RenamedDisks.{renamed-shows}
+use Rattle.d64_effects.proofs.ScratchedDisks.{scratched-shows}
+use Rattle.d64_effects.proofs.TakenBlocks.{takes}
+use Rattle.d64_effects.proofs.ValidatedDisks.{validated-shows}
+use Rattle.d64_effects.proofs.WrittenDisks.{written-shows}
+
+pub formatted-disk_lists : FormattedDiskLists
+formatted-disk_lists name id named two = ap names_and_contents (view-formatted name id named two) ∙ formatted-lists_nothing name id
+
+-- a file takes as many blocks as its bytes need
+pub written-disk_lists : WrittenDiskLists
+unfolding view
+written-disk_lists image name kind bytes is named writable small sound fits =
+    ap names_and_contents (written-shows image name kind bytes is named writable small sound fits)
+    ∙ written-lists_the_file (view image) name kind bytes named
+    ∙ ap (λ (blocks : ℕ). list_with (names_and_contents (view image)) (first_vacant (view image)) (new_row name kind bytes blocks))
+    (takes image (length bytes) fits).count
+
+pub scratched-disk_lists : ScratchedDiskLists
+scratched-disk_lists image patterns is sound =
+    ap names_and_contents (scratched-shows image patterns is sound) ∙ scratched-lists_the_others (view image) patterns
+
+pub renamed-disk_lists : RenamedDiskLists
+renamed-disk_lists image old new is named sound =
+    ap names_and_contents (renamed-shows image old new is named sound) ∙ renamed-lists_the_name (view image) old new named
+
+pub validated-disk_lists : ValidatedDiskLists
+validated-disk_lists image is accepted =
+    ap names_and_contents (validated-shows image is accepted) ∙ validated-lists_the_closed (view image)
