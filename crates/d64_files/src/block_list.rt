@@ -46,6 +46,16 @@ impl BlockList {
         self.len += 1;
     }
 
+    /// Another list of the same blocks.
+    pub(crate) fn copy(&self) -> BlockList
+        ensures { result ≡ self.now }
+    {
+        BlockList {
+            places: self.places,
+            len: self.len,
+        }
+    }
+
     /// The blocks of the list, in order.
     pub(crate) fn as_slice(&self) -> &[BlockNo]
         ensures value { result.now ≡ self.now }

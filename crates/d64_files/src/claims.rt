@@ -48,6 +48,15 @@ impl Claims {
         self.blocks.add(block);
     }
 
+    /// Claims blocks.
+    pub(crate) fn claim_all(&mut self, blocks: &[BlockNo])
+        ensures { (before : List ℕ) → self.old ≡ claims_of before → self.new ≡ claims_of (before ++ blocks.now) }
+    {
+        for block in blocks {
+            self.claim(*block);
+        }
+    }
+
     /// Claims the chain from the block of a track (from 1) and a sector (from 0), or answers `NoChain` where there is
     /// none.
     pub(crate) fn claim_chain(&mut self, image: &Image, root: (u8, u8)) -> Result<(), DirFault>

@@ -20,7 +20,7 @@ pub enum DirFault {
     #[error("the blocks of a closed file are no whole chain: repair their links, or mark the file unclosed")]
     NoChain,
     /// A block belongs to two files, or to a file and the directory or the map.
-    #[error("a block belongs to two files or to a file and the directory: read what can be saved of both, and delete one")]
+    #[error("a block belongs to two files or to a file and the directory: read what can be saved of both, and write it to a new disk")]
     CrossLinked,
     /// The map marks a block free that the directory or a file owns.
     #[error("the block map marks a block free that is in use: validate the disk")]

@@ -23,15 +23,19 @@ mod soundness;
 mod vacancy;
 mod writing;
 
+pub use block_bytes::write_at;
 pub use dir_fault::DirFault;
+pub use directory_blocks::{DIRECTORY_SECTOR, Directory};
 pub use entry::{Entry, SlotNo};
 pub use kind::Kind;
 pub use label::BadName;
 pub use lookup::find;
 pub use name::Name;
 pub use pattern::{Pattern, matches};
-pub use reading::{ReadFault, content};
+pub use reading::{ReadFault, content, entry_content};
 pub use slots::Slots;
-pub use soundness::{check, owned, slot_blocks};
+pub use soundness::{check, checked, owned, slot_blocks};
 pub use vacancy::{dir_last, first_empty, is_taken};
-pub use writing::{blocks_for, empty_directory, grow, put_chain, put_entry};
+pub use writing::{
+    blocks_for, empty_directory, grow, grow_after, put_chain, put_entry, put_entry_at,
+};

@@ -1,12 +1,26 @@
 //! The slots of the directory that commands ask for.
-ghost use Rattle.std.specs.Prelude.{◌≡◌, IfOk, MatchResult};
-ghost use Rattle.d64_files.specs.Directory.{slots, first_named, AllHold, IsFirstFault};
+ghost use Rattle.std.specs.Prelude.{◌≡◌, ℕ, List, find, IfOk, MatchResult};
+ghost use Rattle.d64_files.specs.Directory.{slots, numbered, is_named, first_named, AllHold, IsFirstFault};
 
 use crate::dir_fault::DirFault;
-use crate::entry::SlotNo;
+use crate::directory_blocks::Directory;
+use crate::entry::{Entry, SlotNo};
 use crate::pattern::{Pattern, matches};
-use crate::slots::Slots;
 use d64_image::Image;
+
+impl<'a> Directory<'a> {
+    /// The entry of the first used slot whose name the pattern matches, or None where there is none.
+    pub fn named(&self, pattern: &Pattern) -> Option<Entry<'a>>
+        ensures { result ≡ find (λ (entry : ℕ × List ℕ). is_named pattern.now entry.1) (numbered (slots self.now)) }
+    {
+        for entry in self.slots() {
+            if entry.used() && matches(pattern, entry.name()) {
+                return Some(entry);
+            }
+        }
+        None
+    }
+}
 
 /// The first used slot whose name the pattern matches, or None where there is none. It takes no memory.
 ///
@@ -16,14 +30,12 @@ pub fn find(image: &Image, pattern: &Pattern) -> Result<Option<SlotNo>, DirFault
     ensures slot { IfOk result (λ slot. slot ≡ first_named pattern.now (slots image.now)) }
     ensures conditions { MatchResult result (λ _. AllHold image.now 2 3) (IsFirstFault image.now 2 3) }
 {
-    let walk = match Slots::of(image) {
-        Ok(walk) => walk,
+    let directory = match Directory::of(image) {
+        Ok(directory) => directory,
         Err(fault) => return Err(fault),
     };
-    for entry in walk {
-        if entry.used() && matches(pattern, entry.name()) {
-            return Ok(Some(entry.slot()));
-        }
+    match directory.named(pattern) {
+        Some(entry) => Ok(Some(entry.slot())),
+        None => Ok(None),
     }
-    Ok(None)
 }

@@ -2,11 +2,12 @@
 ghost use Rattle.std.specs.Prelude.{◌≡◌, ◌==◌, ℕ, List, find, IfOk};
 ghost use Rattle.d64_files.specs.Slot.{first_pair};
 ghost use Rattle.d64_files.specs.Ownership.{chain_at};
-ghost use Rattle.d64_files.specs.Reading.{is_del, refused_by, file_refusal, content_refusal, content_at};
+ghost use Rattle.d64_files.specs.Reading.{is_del, refused_by, file_refusal, file_content, content_refusal, content_at};
 
 use crate::block_list::BlockList;
 use crate::chain::chain_from;
 use crate::dir_fault::DirFault;
+use crate::directory_blocks::Directory;
 use crate::entry::{Entry, SlotNo};
 use crate::file_data::data_along;
 use crate::kind::Kind;
@@ -25,7 +26,7 @@ pub enum ReadFault {
     #[error("there is no such file: list the directory to see which there are")]
     NotFound,
     /// The file was never closed, so its end isn't known.
-    #[error("the file was not closed after it was written: validate the disk to remove it")]
+    #[error("the file was not closed after it was written")]
     NotClosed,
     /// A DEL entry has no content.
     #[error("a DEL entry has no content to read")]
@@ -78,6 +79,25 @@ fn readable_chain(image: &Image, entry: &Entry) -> Result<BlockList, ReadFault>
     }
 }
 
+/// The content of the file of an entry: the data of its chain of blocks, without a REL file's side blocks.
+///
+/// Refused, in this order: with `NotFound` where the slot isn't used; with `NotClosed`; with `WrongType` for a DEL
+/// entry; with `Directory` where there is no chain from the file's first block (`NoChain`); with `Memory` where the
+/// content has no room.
+pub fn entry_content(alloc: Global, image: &Image, entry: &Entry) -> Result<Vec<u8>, ReadFault>
+    ensures refused { refused_by result ≡ file_refusal image.now entry.now.1 }
+    ensures bytes { IfOk result (λ bytes. bytes.items ≡ file_content image.now entry.now.1) }
+{
+    let blocks = match readable_chain(image, entry) {
+        Ok(blocks) => blocks,
+        Err(fault) => return Err(fault),
+    };
+    match data_along(alloc, image, blocks.as_slice()) {
+        Ok(bytes) => Ok(bytes),
+        Err(fault) => Err(ReadFault::Memory(fault)),
+    }
+}
+
 /// The content of the file of a slot: the data of its chain of blocks, without a REL file's side blocks.
 ///
 /// Refused, in this order: with `Directory` where there is no chain of blocks from track 18, sector 1
@@ -88,20 +108,12 @@ pub fn content(alloc: Global, image: &Image, slot: SlotNo) -> Result<Vec<u8>, Re
     ensures refused { refused_by result ≡ content_refusal image.now slot }
     ensures bytes { IfOk result (λ bytes. bytes.items ≡ content_at image.now slot) }
 {
-    let walk = match Slots::of(image) {
-        Ok(walk) => walk,
+    let directory = match Directory::of(image) {
+        Ok(directory) => directory,
         Err(fault) => return Err(ReadFault::Directory(fault)),
     };
-    let entry = match entry_at(walk, slot) {
-        Some(entry) => entry,
-        None => return Err(ReadFault::NotFound),
-    };
-    let blocks = match readable_chain(image, &entry) {
-        Ok(blocks) => blocks,
-        Err(fault) => return Err(fault),
-    };
-    match data_along(alloc, image, blocks.as_slice()) {
-        Ok(bytes) => Ok(bytes),
-        Err(fault) => Err(ReadFault::Memory(fault)),
+    match entry_at(directory.slots(), slot) {
+        Some(entry) => entry_content(alloc, image, &entry),
+        None => Err(ReadFault::NotFound),
     }
 }

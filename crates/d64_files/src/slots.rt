@@ -3,11 +3,11 @@ ghost use Rattle.std.specs.Prelude.{◌≡◌, ◌*◌, ◌<◌, ◌≤◌, ◌�
 ghost use Rattle.std.specs.Iterator.{YieldsFirst, item_count};
 ghost use Rattle.d64_image.specs.declared.block.TheConstants.{BLOCKS};
 ghost use Rattle.d64_files.specs.Slot.{HasKind, cell as slot_bytes, cells};
-ghost use Rattle.d64_files.specs.Directory.{slots, numbered, AllHold, IsFirstFault};
+ghost use Rattle.d64_files.specs.Directory.{slots, slots_in, numbered, AllHold, IsFirstFault};
 
 use crate::block_list::BlockList;
 use crate::dir_fault::DirFault;
-use crate::directory_blocks::directory_blocks;
+use crate::directory_blocks::Directory;
 use crate::entry::{Entry, SLOT_BYTES, SlotNo};
 use d64_image::{BLOCK_BYTES, Image};
 use std::marker::Model;
@@ -50,7 +50,7 @@ fn slot_of(block: &[u8; BLOCK_BYTES], index: usize) -> &[u8]
 }
 
 /// Whether the type byte of each slot of a block names a kind.
-fn kinds_are_known(block: &[u8; BLOCK_BYTES]) -> bool
+pub(crate) fn kinds_are_known(block: &[u8; BLOCK_BYTES]) -> bool
     ensures { IsTrue result ↔ All HasKind (cells block.now) }
 {
     for index in 0..SLOTS_PER_BLOCK {
@@ -71,19 +71,26 @@ impl<'a> Slots<'a> {
         ensures len { IfOk result (λ walk. length walk ≤ 8 * BLOCKS) }
         ensures conditions { MatchResult result (λ _. AllHold image.now 2 3) (IsFirstFault image.now 2 3) }
     {
-        let Some(directory) = directory_blocks(image) else {
-            return Err(DirFault::NoDirectory);
-        };
-        for block in directory.as_slice() {
-            if !kinds_are_known(image.sector(*block)) {
-                return Err(DirFault::UnknownKind);
-            }
+        match Directory::of(image) {
+            Ok(directory) => Ok(directory.slots()),
+            Err(fault) => Err(fault),
         }
-        Ok(Slots {
+    }
+
+    /// The slots of blocks of the image, eight a block.
+    ///
+    /// The caller knows that each slot has a kind.
+    pub(crate) fn along(image: &'a Image, blocks: BlockList) -> Slots<'a>
+        requires { All HasKind (slots_in image.now blocks) }
+        ensures slots { result ≡ numbered (slots_in image.now blocks) }
+        ensures len { length result ≤ 8 * BLOCKS }
+    {
+        let _ = blocks.as_slice();
+        Slots {
             image,
-            directory,
+            directory: blocks,
             place: 0,
-        })
+        }
     }
 }
 

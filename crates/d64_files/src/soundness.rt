@@ -1,28 +1,34 @@
 //! The conditions of a sound image.
-ghost use Rattle.std.specs.Prelude.{◌≡◌, MatchResult};
+ghost use Rattle.std.specs.Prelude.{◌≡◌, IfOk, MatchResult};
 ghost use Rattle.std.specs.FinSet as set;
-ghost use Rattle.d64_map.specs.Map.{map_block};
 ghost use Rattle.d64_files.specs.Ownership.{owned_by, HasItsChains};
 ghost use Rattle.d64_files.specs.Directory.{owned_blocks, slot_owns, AllHold, IsFirstFault};
 ghost use Rattle.d64_files.specs.FirstFault.{err_of, first_fault, owning_conditions, sound_conditions};
 
 use crate::claims::Claims;
 use crate::dir_fault::DirFault;
-use crate::directory_blocks::{DIRECTORY_SECTOR, DIRECTORY_TRACK};
+use crate::directory_blocks::Directory;
 use crate::entry::{Entry, SlotNo};
 use crate::reading::entry_at;
-use crate::slots::Slots;
-use d64_image::{BlockNo, BlockSet, Image};
-use d64_map::{counts_fit, none_is_free};
+use d64_image::{BlockSet, Image};
+use d64_map::{counts_fit, map_block, none_is_free};
 
-/// The sector of the map, from 0.
-const MAP_SECTOR: u8 = 0;
-
-/// The block in which the map stands.
-fn map_block() -> BlockNo
-    ensures { result ≡ map_block }
-{
-    BlockNo::of(DIRECTORY_TRACK, MAP_SECTOR).unwrap()
+impl Directory<'_> {
+    /// The blocks that are owned: the map's block, the directory's, and the chains of the closed files other than DEL.
+    ///
+    /// Refused with `NoChain`, where a closed file's chain or side chain is missing, or else with `CrossLinked`, where a
+    /// block would be owned twice.
+    fn owned(&self) -> Result<BlockSet, DirFault>
+        ensures { MatchResult result (λ blocks. AllHold self.now 2 5 × (blocks ≡ set.from_list (owned_blocks self.now))) (IsFirstFault self.now 2 5) }
+    {
+        let mut claims = Claims::none();
+        claims.claim(map_block());
+        claims.claim_all(self.blocks());
+        match claims.claim_files(self.image(), self.slots()) {
+            Ok(()) => claims.finish(),
+            Err(fault) => Err(fault),
+        }
+    }
 }
 
 /// The blocks that are owned: the map's block, the directory's chain, and the chains of the closed files other than DEL.
@@ -35,21 +41,36 @@ pub fn owned(image: &Image) -> Result<BlockSet, DirFault>
     ensures verdict { MatchResult result (λ blocks. AllHold image.now 2 5 × (blocks ≡ set.from_list (owned_blocks image.now))) (IsFirstFault image.now 2 5) }
     ensures first { err_of result ≡ first_fault image.now owning_conditions }
 {
-    let slots = match Slots::of(image) {
-        Ok(slots) => slots,
+    match Directory::of(image) {
+        Ok(directory) => directory.owned(),
+        Err(fault) => Err(fault),
+    }
+}
+
+/// The directory of a sound image, and the blocks that are owned. It takes no memory.
+///
+/// Refused as `check` is.
+pub fn checked(image: &Image) -> Result<(Directory<'_>, BlockSet), DirFault>
+    ensures image { IfOk result (λ found. found.0 ≡ image.now) }
+    ensures verdict { MatchResult result (λ found. AllHold image.now 1 6 × (found.1 ≡ set.from_list (owned_blocks image.now))) (IsFirstFault image.now 1 6) }
+    ensures first { err_of result ≡ first_fault image.now sound_conditions }
+{
+    if !counts_fit(image) {
+        return Err(DirFault::WrongCounts);
+    }
+    let directory = match Directory::of(image) {
+        Ok(directory) => directory,
         Err(fault) => return Err(fault),
     };
-    let mut claims = Claims::none();
-    claims.claim(map_block());
-    match claims.claim_chain(image, (DIRECTORY_TRACK, DIRECTORY_SECTOR)) {
-        Ok(()) => {}
+    let blocks = match directory.owned() {
+        Ok(blocks) => blocks,
         Err(fault) => return Err(fault),
+    };
+    if none_is_free(image, &blocks) {
+        Ok((directory, blocks))
+    } else {
+        Err(DirFault::MarkedFree)
     }
-    match claims.claim_files(image, slots) {
-        Ok(()) => {}
-        Err(fault) => return Err(fault),
-    }
-    claims.finish()
 }
 
 /// The blocks that are owned, of a sound image. It takes no memory.
@@ -60,17 +81,9 @@ pub fn check(image: &Image) -> Result<BlockSet, DirFault>
     ensures verdict { MatchResult result (λ blocks. AllHold image.now 1 6 × (blocks ≡ set.from_list (owned_blocks image.now))) (IsFirstFault image.now 1 6) }
     ensures first { err_of result ≡ first_fault image.now sound_conditions }
 {
-    if !counts_fit(image) {
-        return Err(DirFault::WrongCounts);
-    }
-    let blocks = match owned(image) {
-        Ok(blocks) => blocks,
-        Err(fault) => return Err(fault),
-    };
-    if none_is_free(image, &blocks) {
-        Ok(blocks)
-    } else {
-        Err(DirFault::MarkedFree)
+    match checked(image) {
+        Ok((_directory, blocks)) => Ok(blocks),
+        Err(fault) => Err(fault),
     }
 }
 
@@ -94,11 +107,11 @@ pub fn slot_blocks(image: &Image, slot: SlotNo) -> BlockSet
     requires { AllHold image.now 1 6 }
     ensures { result ≡ set.from_list (slot_owns image.now slot) }
 {
-    let walk = match Slots::of(image) {
-        Ok(walk) => walk,
+    let directory = match Directory::of(image) {
+        Ok(directory) => directory,
         Err(_) => return BlockSet::empty(),
     };
-    match entry_at(walk, slot) {
+    match entry_at(directory.slots(), slot) {
         Some(entry) => blocks_of(image, &entry),
         None => BlockSet::empty(),
     }
@@ -108,7 +121,7 @@ pub fn slot_blocks(image: &Image, slot: SlotNo) -> BlockSet
 mod tests {
     use super::*;
     use crate::reading::content;
-    use d64_image::BLOCKS;
+    use d64_image::{BLOCKS, BlockNo};
     use d64_map::put_map;
     use std::test::Fail;
 

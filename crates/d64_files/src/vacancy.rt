@@ -1,14 +1,40 @@
 //! What a new entry in the directory needs: a slot that isn't used, or else the last block; and a name that isn't taken.
-ghost use Rattle.std.specs.Prelude.{◌≡◌, IfOk, MatchResult};
+ghost use Rattle.std.specs.Prelude.{◌≡◌, ◌<◌, length, IfOk, IfSome, MatchResult};
 ghost use Rattle.d64_files.specs.Directory.{slots, is_name_taken, AllHold, IsFirstFault};
 ghost use Rattle.d64_files.specs.Writing.{first_unused, dir_last};
 
 use crate::dir_fault::DirFault;
-use crate::directory_blocks::last_directory_block;
+use crate::directory_blocks::Directory;
 use crate::entry::SlotNo;
 use crate::name::Name;
-use crate::slots::Slots;
 use d64_image::{BlockNo, Image};
+
+impl Directory<'_> {
+    /// The first slot that isn't used, or None where all are.
+    pub fn first_empty(&self) -> Option<SlotNo>
+        ensures slot { result ≡ first_unused (slots self.now) }
+        ensures within { IfSome result (λ slot. slot < length (slots self.now)) }
+    {
+        for entry in self.slots() {
+            if !entry.used() {
+                return Some(entry.slot());
+            }
+        }
+        None
+    }
+
+    /// Whether a used slot has exactly this name.
+    pub fn is_taken(&self, name: &Name) -> bool
+        ensures { result ≡ is_name_taken name.now (slots self.now) }
+    {
+        for entry in self.slots() {
+            if entry.used() && entry.name() == name.bytes() {
+                return true;
+            }
+        }
+        false
+    }
+}
 
 /// The first slot that isn't used, or None where all are. It takes no memory.
 ///
@@ -18,16 +44,10 @@ pub fn first_empty(image: &Image) -> Result<Option<SlotNo>, DirFault>
     ensures slot { IfOk result (λ slot. slot ≡ first_unused (slots image.now)) }
     ensures conditions { MatchResult result (λ _. AllHold image.now 2 3) (IsFirstFault image.now 2 3) }
 {
-    let walk = match Slots::of(image) {
-        Ok(walk) => walk,
-        Err(fault) => return Err(fault),
-    };
-    for entry in walk {
-        if !entry.used() {
-            return Ok(Some(entry.slot()));
-        }
+    match Directory::of(image) {
+        Ok(directory) => Ok(directory.first_empty()),
+        Err(fault) => Err(fault),
     }
-    Ok(None)
 }
 
 /// Whether a used slot has exactly this name. It takes no memory.
@@ -38,16 +58,10 @@ pub fn is_taken(image: &Image, name: &Name) -> Result<bool, DirFault>
     ensures taken { IfOk result (λ taken. taken ≡ is_name_taken name.now (slots image.now)) }
     ensures conditions { MatchResult result (λ _. AllHold image.now 2 3) (IsFirstFault image.now 2 3) }
 {
-    let walk = match Slots::of(image) {
-        Ok(walk) => walk,
-        Err(fault) => return Err(fault),
-    };
-    for entry in walk {
-        if entry.used() && entry.name() == name.bytes() {
-            return Ok(true);
-        }
+    match Directory::of(image) {
+        Ok(directory) => Ok(directory.is_taken(name)),
+        Err(fault) => Err(fault),
     }
-    Ok(false)
 }
 
 /// The directory's last block. It takes no memory.
@@ -58,8 +72,8 @@ pub fn dir_last(image: &Image) -> Result<BlockNo, DirFault>
     ensures block { IfOk result (λ block. block ≡ dir_last image.now) }
     ensures conditions { MatchResult result (λ _. AllHold image.now 2 3) (IsFirstFault image.now 2 3) }
 {
-    match Slots::of(image) {
-        Ok(_) => Ok(last_directory_block(image)),
+    match Directory::of(image) {
+        Ok(directory) => Ok(directory.last()),
         Err(fault) => Err(fault),
     }
 }

@@ -2,9 +2,9 @@
 //! format").
 //!
 //! They take no memory and answer Ok. Their results are those of writers which keep what they replace.
-ghost use Rattle.std.specs.Prelude.{◌≡◌, ◌≢◌, ◌+◌, ◌<◌, ◌≤◌, [], length, IsOk};
+ghost use Rattle.std.specs.Prelude.{◌≡◌, ◌≢◌, ◌+◌, ◌*◌, ◌<◌, ◌≤◌, [], length, IsOk};
 ghost use Rattle.d64_files.specs.Directory.{directory, slots};
-ghost use Rattle.d64_files.specs.Writing.{written_at, blocks_for, linked_block, last_block, with_chain, entry_bytes, with_entry, empty_directory, with_growth};
+ghost use Rattle.d64_files.specs.Writing.{written_at, with_bytes, blocks_for, linked_block, last_block, with_chain, entry_bytes, with_entry, dir_last, empty_directory, with_growth};
 
 use crate::block_bytes::write_at;
 use crate::directory_blocks::{block_of_slot, last_directory_block};
@@ -56,6 +56,29 @@ fn write_entry(
     write_at(block, start + 28, &blocks.to_le_bytes());
 }
 
+/// Writes the entry of a closed file into one of the eight slots of a block of the directory, which are counted from 0:
+/// its kind, its first block, its name, no side blocks, and the size in blocks that the directory shows. Every other
+/// byte of the image stays.
+///
+/// It takes no memory and answers Ok.
+pub fn put_entry_at(
+    image: &mut Image,
+    block: BlockNo,
+    index: usize,
+    name: &Name,
+    kind: Kind,
+    first: BlockNo,
+    blocks: u16,
+) -> Result<(), AllocError>
+    requires { index < 8 }
+    ensures ok { IsOk result }
+    ensures written { image.new ≡ with_bytes image.old block (32 * index + 2) (entry_bytes name.now kind first blocks) }
+{
+    let start = SLOT_BYTES * index + 2;
+    write_entry(image.sector_mut(block), start, name, kind, first, blocks);
+    Ok(())
+}
+
 /// Writes the entry of a closed file into a slot of the directory: its kind, its first block, its name, no side blocks,
 /// and the size in blocks that the directory shows. The first two bytes of the slot stay, and so does every other byte
 /// of the image.
@@ -75,9 +98,8 @@ pub fn put_entry(
     ensures written { image.new ≡ with_entry image.old slot (entry_bytes name.now kind first blocks) }
 {
     let block = block_of_slot(image, slot);
-    let start = SLOT_BYTES * (slot.place() % SLOTS_PER_BLOCK) + 2;
-    write_entry(image.sector_mut(block), start, name, kind, first, blocks);
-    Ok(())
+    let index = slot.place() % SLOTS_PER_BLOCK;
+    put_entry_at(image, block, index, name, kind, first, blocks)
 }
 
 /// A block of a file that another one follows: the link to that one, and the first 254 of the bytes.
@@ -132,6 +154,19 @@ pub fn empty_directory() -> [u8; BLOCK_BYTES]
 /// Appends a block to the directory: the last one's link names it, and its eight slots are empty. No other byte of the
 /// image changes.
 ///
+/// It takes no memory and answers Ok. The caller knows which block is the last one.
+pub fn grow_after(image: &mut Image, last: BlockNo, new: BlockNo) -> Result<(), AllocError>
+    requires { last ≡ dir_last image.old }
+    ensures ok { IsOk result }
+    ensures written { image.new ≡ with_growth image.old new }
+{
+    write_at(image.sector_mut(last), 0, &[new.track(), new.sector()]);
+    *image.sector_mut(new) = empty_directory();
+    Ok(())
+}
+
+/// Appends a block to the directory, as `grow_after` does after its last block.
+///
 /// It takes no memory and answers Ok. The caller knows that there is a directory.
 pub fn grow(image: &mut Image, new: BlockNo) -> Result<(), AllocError>
     requires directory { directory image.old ≢ [] }
@@ -139,9 +174,7 @@ pub fn grow(image: &mut Image, new: BlockNo) -> Result<(), AllocError>
     ensures written { image.new ≡ with_growth image.old new }
 {
     let last = last_directory_block(image);
-    write_at(image.sector_mut(last), 0, &[new.track(), new.sector()]);
-    *image.sector_mut(new) = empty_directory();
-    Ok(())
+    grow_after(image, last, new)
 }
 
 #[cfg(test)]

@@ -18,8 +18,8 @@ const ENTRIES_START: usize = 0x04;
 /// Where the last track's entry ends.
 const ENTRIES_END: usize = 0x90;
 
-/// The block in which the map stands.
-fn map_block() -> BlockNo
+/// The block in which the map stands: track 18, sector 0.
+pub fn map_block() -> BlockNo
     ensures { result ≡ map_block }
 {
     BlockNo::of(DIRECTORY_TRACK, 0).unwrap()

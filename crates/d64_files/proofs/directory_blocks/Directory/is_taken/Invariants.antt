@@ -3,8 +3,8 @@ use Rattle.std.specs.Prelude.{◌&&◌, bytes_eq}
 use Rattle.std.specs.List.{list_any}
 use Rattle.d64_files.specs.Slot.{is_used, name_of}
 use Rattle.d64_files.specs.Directory.{slots, is_name_taken}
-use Rattle.d64_files.proofs.vacancy.is_taken.Given as goal
+use Rattle.d64_files.proofs.directory_blocks.Directory.is_taken.Given as goal
 
 abbrev pub invariant-loop-entry : goal.invariant-loop-entry
 invariant-loop-entry l =
-    list_any (λ (e : ℕ × List ℕ). is_used e.1 && bytes_eq (name_of e.1) l.name) l.entry-iterator ≡ is_name_taken l.name (slots l.image)
+    list_any (λ (e : ℕ × List ℕ). is_used e.1 && bytes_eq (name_of e.1) l.name) l.entry-iterator ≡ is_name_taken l.name (slots l.self)

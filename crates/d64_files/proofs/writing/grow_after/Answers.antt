@@ -1,16 +1,16 @@
 use Rattle.std.proofs.Common.{◌≡◌, ℕ, ◌∷◌, List, [], ap, ap₂, ◌∙◌}
 use Rattle.d64_image.specs.Image.{sector_at, with_sector}
 use Rattle.d64_files.specs.Writing.{written_at, with_bytes, pair_bytes, empty_directory, with_growth}
-use Rattle.d64_files.proofs.writing.grow.Goals as goal
+use Rattle.d64_files.proofs.writing.grow_after.Goals as goal
 
 pub returns-clause-written : goal.returns-clause-written
 unfolding with_growth
 returns-clause-written c =
     let image = c.args.image.now in
-    let last = c.last_directory_block-last.result in
+    let last = c.args.last in
     let linked : c.write_at.new.block ≡ written_at (sector_at image last) 0 (pair_bytes c.args.new) =
     c.write_at.ensures
     ∙ ap (λ (bytes : List ℕ). written_at bytes 0 (c.track.result ∷ c.sector.result ∷ [])) c.sector_mut.ensures.value
     ∙ ap₂ (λ (track sector : ℕ). written_at (sector_at image last) 0 (track ∷ sector ∷ [])) c.track.ensures.pair c.sector.ensures.pair in
     ap₂ (λ (bytes new : List ℕ). with_sector (with_sector image last bytes) c.args.new new) linked c.empty_directory.ensures
-    ∙ ap (λ (block : ℕ). with_sector (with_bytes image block 0 (pair_bytes c.args.new)) c.args.new empty_directory) c.last_directory_block-last.ensures
+    ∙ ap (λ (block : ℕ). with_sector (with_bytes image block 0 (pair_bytes c.args.new)) c.args.new empty_directory) c.requires

@@ -7,7 +7,7 @@ use Rattle.d64_files.specs.Slot.{cells, HasKind}
 use Rattle.d64_files.specs.Directory.{directory, slots_in}
 use Rattle.d64_files.proofs.Conditions.{both_hold, unknown_kind}
 use Rattle.d64_files.proofs.SlotLists.{all_kinds, kinds_of_block, length-slots_in}
-use Rattle.d64_files.proofs.slots.Slots.of.Goals as goal
+use Rattle.d64_files.proofs.directory_blocks.Directory.of.Goals as goal
 
 pub returns-then-not-kinds_are_known-clause-conditions : goal.returns-then-not-kinds_are_known-clause-conditions
 returns-then-not-kinds_are_known-clause-conditions c =
@@ -24,20 +24,14 @@ returns-then-not-kinds_are_known-clause-conditions c =
     let unknown = c.if-not-kinds_are_known.true in
     absurd (cc))
 
-pub invariant_of-result : goal.invariant_of-result
-invariant_of-result c =
-    subst (λ (bs : List ℕ). All HasKind (slots_in c.args.image.now bs)) c.as_slice-block-items.ensures.value
+-- all slots of the directory have kinds
+kinds : (c : goal.After-loop-block) → All HasKind (slots_in c.args.image.now (directory c.args.image.now))
+kinds c =
+    subst (λ (bs : List ℕ). All HasKind (slots_in c.args.image.now bs)) (c.as_slice-block-items.ensures.value ∙ c.in-Some.ensures.value)
     (all_kinds c.args.image.now c.as_slice-block-items.result.now (λ k within. c.loop-block.invariant k (omega arith)))
 
-pub returns-clause-conditions : goal.returns-clause-conditions
-returns-clause-conditions c =
-    both_hold c.args.image.now (c.in-Some.ensures.exists.0 refl)
-    (subst (λ (bs : List ℕ). All HasKind (slots_in c.args.image.now bs)) (c.as_slice-block-items.ensures.value ∙ c.in-Some.ensures.value)
-    (all_kinds c.args.image.now c.as_slice-block-items.result.now (λ k within. c.loop-block.invariant k (omega arith))))
+pub invariant_of-result : goal.invariant_of-result
+invariant_of-result c = (c.in-Some.ensures.value, c.in-Some.ensures.exists.0 refl, kinds c)
 
-pub returns-clause-len : goal.returns-clause-len
-returns-clause-len c =
-    let slots = slots_in c.args.image.now c.in-Some.directory in
-    let same : length c.as_slice-block-items.result.now ≡ length c.in-Some.directory = ap length c.as_slice-block-items.ensures.value in
-    let few = c.as_slice-block-items.ensures.len in
-    omega (arith, length-enumerate_from 0 slots, length-slots_in c.args.image.now c.in-Some.directory)
+pub returns-clause-conditions : goal.returns-clause-conditions
+returns-clause-conditions c = both_hold c.args.image.now (c.in-Some.ensures.exists.0 refl) (kinds c)

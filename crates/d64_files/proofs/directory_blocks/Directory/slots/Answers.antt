@@ -1,0 +1,15 @@
+use Rattle.std.proofs.Common.{ℕ, List, sym, ap, ◌∙◌, subst}
+use Rattle.std.specs.Prelude.{All}
+use Rattle.d64_files.specs.Slot.{HasKind}
+use Rattle.d64_files.specs.Directory.{slots, slots_in, numbered}
+use Rattle.d64_files.proofs.directory_blocks.Directory.slots.Goals as goal
+
+pub along-requires : goal.along-requires
+along-requires c =
+    subst (λ (bs : List ℕ). All HasKind (slots_in c.self.inside.image.now bs)) (sym (c.copy.ensures ∙ c.self.invariant.0)) c.self.invariant.2
+
+pub returns-clause-slots : goal.returns-clause-slots
+returns-clause-slots c =
+    c.along.ensures.slots
+    ∙ ap (λ (bs : List ℕ). numbered (slots_in c.self.inside.image.now bs)) (c.copy.ensures ∙ c.self.invariant.0)
+    ∙ ap (λ (image : List (List ℕ)). numbered (slots image)) c.self.view_is

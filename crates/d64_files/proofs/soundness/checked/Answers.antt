@@ -1,0 +1,64 @@
+use Rattle.std.proofs.Common.{◌≡◌, ℕ, true, false, List, None, sym, ◌∙◌, subst}
+use Rattle.std.specs.Ordering.{nat_cmp}
+use Rattle.std.specs.FinSet as set
+use Rattle.d64_map.specs.Map.{CountsFit}
+use Rattle.d64_files.specs.Directory.{owned_blocks, AllHold, IsFirstFault}
+use Rattle.d64_files.specs.FirstFault.{first_fault, sound_conditions}
+use Rattle.d64_files.specs.declared.dir_fault.DirFault.TheVariants.{WrongCounts, MarkedFree}
+use Rattle.d64_files.proofs.FirstFaults.{one_verdict, sound_verdict, sound_first}
+use Rattle.d64_files.proofs.Verdicts.{wrong_counts, dir_fault_first, file_fault_first, all_hold, marked_free, members_too, blocks_too}
+use Rattle.d64_files.proofs.soundness.checked.Goals as goal
+
+-- what is owned of a directory is owned of its image
+owned_of : (image directory : List (List ℕ)) (blocks : set.FinSet nat_cmp) → directory ≡ image
+    → AllHold directory 2 5 × (blocks ≡ set.from_list (owned_blocks directory)) → AllHold image 2 5 × (blocks ≡ set.from_list (owned_blocks image))
+owned_of image directory blocks same owned =
+    subst (λ (i : List (List ℕ)). AllHold i 2 5 × (blocks ≡ set.from_list (owned_blocks i))) same owned
+
+pub returns-then-not-counts_fit-clause-first : goal.returns-then-not-counts_fit-clause-first
+returns-then-not-counts_fit-clause-first c =
+    sound_first c.args.image.now WrongCounts (wrong_counts c.args.image.now (λ counts.
+    let told = c.counts_fit.ensures.1 counts in
+    let f : true ≡ false = sym told ∙ c.if-not-counts_fit.true in
+    cc))
+
+pub returns-in-Err-clause-verdict : goal.returns-in-Err-clause-verdict
+returns-in-Err-clause-verdict c =
+    let counts : CountsFit c.args.image.now = c.counts_fit.ensures.0 c.if-not-counts_fit.false in
+    file_fault_first c.args.image.now c.in-Err.fault counts (dir_fault_first c.args.image.now c.in-Err.fault c.in-Err.ensures.conditions)
+
+pub returns-in-Err-clause-first : goal.returns-in-Err-clause-first
+returns-in-Err-clause-first c = sound_first c.args.image.now c.in-Err.fault (returns-in-Err-clause-verdict c)
+
+pub returns-in-Err-owned-clause-verdict : goal.returns-in-Err-owned-clause-verdict
+returns-in-Err-owned-clause-verdict c =
+    let counts : CountsFit c.args.image.now = c.counts_fit.ensures.0 c.if-not-counts_fit.false in
+    file_fault_first c.args.image.now c.in-Err-owned.fault counts
+    (subst (λ (image : List (List ℕ)). IsFirstFault image 2 5 c.in-Err-owned.fault) c.in-Ok.ensures.image c.in-Err-owned.ensures)
+
+pub returns-in-Err-owned-clause-first : goal.returns-in-Err-owned-clause-first
+returns-in-Err-owned-clause-first c = sound_first c.args.image.now c.in-Err-owned.fault (returns-in-Err-owned-clause-verdict c)
+
+pub returns-then-none_is_free-clause-verdict : goal.returns-then-none_is_free-clause-verdict
+returns-then-none_is_free-clause-verdict c =
+    let none = c.none_is_free.ensures.0 c.if-none_is_free.true in
+    let counts : CountsFit c.args.image.now = c.counts_fit.ensures.0 c.if-not-counts_fit.false in
+    let owned = owned_of c.args.image.now c.in-Ok.directory c.in-Ok-owned.blocks c.in-Ok.ensures.image c.in-Ok-owned.ensures in
+    (all_hold c.args.image.now counts owned.0 (blocks_too c.args.image.now (owned_blocks c.args.image.now) c.in-Ok-owned.blocks owned.1 none), owned.1)
+
+pub returns-then-none_is_free-clause-first : goal.returns-then-none_is_free-clause-first
+returns-then-none_is_free-clause-first c =
+    let image = c.args.image.now in
+    one_verdict image 1 6 None (first_fault image sound_conditions) (returns-then-none_is_free-clause-verdict c).0 (sound_verdict image)
+
+pub returns-else-none_is_free-clause-verdict : goal.returns-else-none_is_free-clause-verdict
+returns-else-none_is_free-clause-verdict c =
+    let counts : CountsFit c.args.image.now = c.counts_fit.ensures.0 c.if-not-counts_fit.false in
+    let owned = owned_of c.args.image.now c.in-Ok.directory c.in-Ok-owned.blocks c.in-Ok.ensures.image c.in-Ok-owned.ensures in
+    marked_free c.args.image.now counts owned.0 (λ all.
+    let told = c.none_is_free.ensures.1 (members_too c.args.image.now (owned_blocks c.args.image.now) c.in-Ok-owned.blocks owned.1 all) in
+    let f : true ≡ false = sym told ∙ c.if-none_is_free.false in
+    cc)
+
+pub returns-else-none_is_free-clause-first : goal.returns-else-none_is_free-clause-first
+returns-else-none_is_free-clause-first c = sound_first c.args.image.now MarkedFree (returns-else-none_is_free-clause-verdict c)
