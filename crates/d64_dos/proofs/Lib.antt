@@ -4,3 +4,4 @@ pub mod Spaces
 pub mod Refusals
 pub mod ListedRows
 pub mod Steps
+pub mod FormattedListings

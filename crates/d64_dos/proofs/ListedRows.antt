@@ -1,14 +1,14 @@
 -- The rows of the slots along a walk, the name of the slot of a number, and what a listing has beside its rows.
 use Rattle.std.proofs.Common.{◌≡◌, ℕ, zero, suc, ◌+◌, ◌≤◌, ◌==◌, not, Bool, true, false, cond, List, [], ◌∷◌, length, take, drop, get_or, Option, Some, None, refl, sym, ap, ◌∙◌, arith}
-use Rattle.std.specs.Prelude.{map, filter, take_while, slice_get, slice_range, option_map}
+use Rattle.std.specs.Prelude.{map, filter, find, take_while, slice_get, slice_range, option_map}
 use Rattle.std.specs.List.{enumerate_from}
 use Rattle.std.specs.Option.{option_map_or}
 use Rattle.std.proofs.lemmas.List.{drop_more}
 use Rattle.d64_image.specs.Image.{sector_at}
 use Rattle.d64_map.specs.Map.{map_block, blocks_free}
 use Rattle.d64_files.specs.Slot.{is_used, name_of}
-use Rattle.d64_files.specs.Directory.{slots, numbered}
-use Rattle.d64_files.proofs.Contents.{bytes_of_found, none_of_found}
+use Rattle.d64_files.specs.Directory.{slots, numbered, is_named, first_named}
+use Rattle.d64_files.proofs.SlotLists.{found-numbered}
 use Rattle.d64_effects.specs.View.{disk_field, disk_id}
 use Rattle.d64_dos.specs.Listing.{RowView, row_of, rows_of, listing_of}
 use Rattle.d64_dos.specs.Reading.{name_at}
@@ -35,37 +35,61 @@ rows_from n (cell ∷ cells) = by_test (is_used cell) (rows_from (n + 1) cells)
 pub rows-numbered : (image : List (List ℕ)) → rows_of (numbered (slots image)) ≡ map row_of (filter is_used (slots image))
 rows-numbered image = rows_from 0 (slots image)
 
--- the entry of a number among those that are numbered from another one on
-entry_from : (k i : ℕ) (cells : List (List ℕ))
-    → slice_get (enumerate_from k cells) i ≡ option_map (λ (cell : List ℕ). (k + i, cell)) (slice_get cells i)
-entry_from k i [] = refl
-entry_from k zero (cell ∷ cells) = let e : k ≡ k + 0 = omega arith in ap (λ (n : ℕ). Some (n, cell)) e
-entry_from k (suc i) (cell ∷ cells) =
-    let e : k + 1 + i ≡ k + suc i = omega arith in
-    entry_from (k + 1) i cells
-    ∙ ap (λ (n : ℕ). option_map (λ (c : List ℕ). (n, c)) (slice_get cells i)) e
+-- an entry among those that are numbered from another one on: its number, and its bytes
+record StandsAt (k : ℕ) (cells : List (List ℕ)) (entry : ℕ × List ℕ) : Type 0 where
+  index : ℕ
+  number : entry.0 ≡ k + index
+  bytes : slice_get cells index ≡ Some entry.1
 
--- the entry at a place along the directory is that of the slot of this number
-entry_at_place : (image : List (List ℕ)) (slot : ℕ)
-    → slice_get (numbered (slots image)) slot ≡ option_map (λ (cell : List ℕ). (slot, cell)) (slice_get (slots image) slot)
-entry_at_place image slot =
-    let same : 0 + slot ≡ slot = omega arith in
-    entry_from 0 slot (slots image) ∙ ap (λ (n : ℕ). option_map (λ (cell : List ℕ). (n, cell)) (slice_get (slots image) slot)) same
+-- an entry that was found by a test of its bytes
+found_from : (test : List ℕ → Bool) (k : ℕ) (cells : List (List ℕ)) (entry : ℕ × List ℕ)
+    → Some entry ≡ find (λ (e : ℕ × List ℕ). test e.1) (enumerate_from k cells) → StandsAt k cells entry
+found_from test k [] entry e = absurd (cc)
+found_from test k (cell ∷ cells) entry e = by_test (test cell) (found_from test (k + 1) cells entry) e
+  where
+    rest : Option (ℕ × List ℕ)
+    rest = find (λ (e : ℕ × List ℕ). test e.1) (enumerate_from (k + 1) cells)
 
--- the name of the slot at a place along the directory
-pub name_at_place : (image : List (List ℕ)) (slot : ℕ) (entry : ℕ × List ℕ) → Some entry ≡ slice_get (numbered (slots image)) slot
-    → name_of entry.1 ≡ name_at image slot
-name_at_place image slot entry e =
-    ap (λ (cell : Option (List ℕ)). option_map_or name_of cell [])
-    (sym (bytes_of_found slot (slice_get (slots image) slot) entry (e ∙ entry_at_place image slot)))
+    by_test : (passes : Bool) → (Some entry ≡ rest → StandsAt (k + 1) cells entry) → Some entry ≡ cond passes (Some (k, cell)) rest
+        → StandsAt k (cell ∷ cells) entry
+    by_test true later same =
+        let is : entry ≡ (k, cell) = cc in
+        record { index = 0; number = let n = ap (λ (e : ℕ × List ℕ). e.0) is in omega arith; bytes = ap (λ (e : ℕ × List ℕ). Some e.1) (sym is) }
+    by_test false later same =
+        let there = later same in
+        record { index = suc there.index; number = let n = there.number in omega arith; bytes = there.bytes }
 
--- no name past the directory's end
-pub no_name_at_place : (image : List (List ℕ)) (slot : ℕ)
-    → ◌≡◌ {A = Option (ℕ × List ℕ)} None (slice_get (numbered (slots image)) slot)
-    → [] ≡ name_at image slot
-no_name_at_place image slot e =
-    ap (λ (cell : Option (List ℕ)). option_map_or name_of cell [])
-    (sym (none_of_found slot (slice_get (slots image) slot) (e ∙ entry_at_place image slot)))
+-- the bytes of the entry that a pattern finds are those of the slot of its number
+bytes_of_named : (image : List (List ℕ)) (pattern : List ℕ) (entry : ℕ × List ℕ)
+    → Some entry ≡ find (λ (e : ℕ × List ℕ). is_named pattern e.1) (numbered (slots image)) → slice_get (slots image) entry.0 ≡ Some entry.1
+bytes_of_named image pattern entry e =
+    let found = found_from (is_named pattern) 0 (slots image) entry e in
+    let n = found.number in
+    let same : entry.0 ≡ found.index = omega arith in
+    ap (slice_get (slots image)) same ∙ found.bytes
+
+-- and its number is that of the first slot that the pattern matches
+pub number_of_named : (image : List (List ℕ)) (pattern : List ℕ) (found : Option (ℕ × List ℕ))
+    → found ≡ find (λ (e : ℕ × List ℕ). is_named pattern e.1) (numbered (slots image))
+    → option_map (λ (e : ℕ × List ℕ). e.0) found ≡ first_named pattern (slots image)
+number_of_named image pattern found e =
+    ap (option_map (λ (e : ℕ × List ℕ). e.0)) e ∙ found-numbered (is_named pattern) (slots image)
+
+-- the slot that a pattern finds: its number, and its bytes
+pub record NamedSlot (image : List (List ℕ)) (pattern : List ℕ) (entry : ℕ × List ℕ) : Type 0 where
+  pub number : Some entry.0 ≡ first_named pattern (slots image)
+  pub bytes : slice_get (slots image) entry.0 ≡ Some entry.1
+
+pub named_slot : (image directory : List (List ℕ)) (pattern : List ℕ) (entry : ℕ × List ℕ) → directory ≡ image
+    → Some entry ≡ find (λ (e : ℕ × List ℕ). is_named pattern e.1) (numbered (slots directory)) → NamedSlot image pattern entry
+named_slot image directory pattern entry same e =
+    let found : Some entry ≡ find (λ (e : ℕ × List ℕ). is_named pattern e.1) (numbered (slots image)) =
+    e ∙ ap (λ (i : List (List ℕ)). find (λ (e : ℕ × List ℕ). is_named pattern e.1) (numbered (slots i))) same in
+    record { number = number_of_named image pattern (Some entry) found; bytes = bytes_of_named image pattern entry found }
+
+-- the name in the slot of that number
+pub name_of_named : (image : List (List ℕ)) (entry : ℕ × List ℕ) → slice_get (slots image) entry.0 ≡ Some entry.1 → name_of entry.1 ≡ name_at image entry.0
+name_of_named image entry e = ap (λ (cell : Option (List ℕ)). option_map_or name_of cell []) (sym e)
 
 -- two bytes next to each other
 pub two_bytes : (bytes : List ℕ) (place : ℕ) → place + 2 ≤ length bytes

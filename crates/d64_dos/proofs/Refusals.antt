@@ -1,14 +1,14 @@
 -- What keeps a directory, or the file that a pattern selects, from being read.
-use Rattle.std.proofs.Common.{◌≡◌, ℕ, List, Option, Some, None, Err, refl, sym, ap, ◌∙◌}
+use Rattle.std.proofs.Common.{◌≡◌, ℕ, List, Option, Some, None, Err, sym, ap, ◌∙◌}
 use Rattle.std.specs.Prelude.{slice_get, option_map}
 use Rattle.std.specs.Option.{option_or}
 use Rattle.d64_files.specs.Directory.{slots, first_named, AllHold, IsFirstFault}
-use Rattle.d64_files.specs.Reading.{slot_refusal, content_refusal}
+use Rattle.d64_files.specs.Reading.{file_refusal, slot_refusal}
 use Rattle.d64_files.specs.Reading as files
 use Rattle.d64_files.specs.declared.dir_fault.DirFault.{DirFault}
 use Rattle.d64_files.specs.declared.reading.ReadFault.{ReadFault}
 use Rattle.d64_files.specs.declared.reading.ReadFault.TheVariants as faults
-use Rattle.d64_files.proofs.Contents.{first_reason, refused_slot}
+use Rattle.d64_files.proofs.Contents.{first_reason}
 use Rattle.d64_files.proofs.Contents as contents
 use Rattle.d64_dos.specs.Refusal.{cause_of, of_read_fault}
 use Rattle.d64_dos.specs.Reading.{directory_refusal, found_refusal, read_refusal}
@@ -47,18 +47,20 @@ cause_of_fault faults.NotClosed refusal e = ap (option_map of_read_fault) e
 cause_of_fault faults.WrongType refusal e = ap (option_map of_read_fault) e
 cause_of_fault (faults.Memory error) refusal e = ap (option_map of_read_fault) e
 
--- what keeps the content of the slot that was found from being read keeps its file from it
-pub refused_content : (image : List (List ℕ)) (pattern : List ℕ) (slot : ℕ) (fault : ReadFault) → AllHold image 2 3
-    → Some slot ≡ first_named pattern (slots image) → files.refused_by {A = List ℕ} (Err fault) ≡ content_refusal image slot
-    → cause_of (of_read_fault fault) ≡ read_refusal image pattern
-refused_content image pattern slot fault h found e =
-    cause_of_fault fault (slot_refusal image (slice_get (slots image) slot))
-    (e ∙ refused_slot image slot (slice_get (slots image) slot) h refl)
-    ∙ sym (refused_found image pattern (Some slot) h found)
+-- what keeps the content of the entry that was found from being read keeps its file from it
+pub refused_entry : (image : List (List ℕ)) (pattern : List ℕ) (entry : ℕ × List ℕ) (fault : ReadFault) → AllHold image 2 3
+    → Some entry.0 ≡ first_named pattern (slots image) → slice_get (slots image) entry.0 ≡ Some entry.1
+    → files.refused_by {A = List ℕ} (Err fault) ≡ file_refusal image entry.1 → cause_of (of_read_fault fault) ≡ read_refusal image pattern
+refused_entry image pattern entry fault h found bytes e =
+    cause_of_fault fault (file_refusal image entry.1) e
+    ∙ ap (λ (cell : Option (List ℕ)). option_map of_read_fault (slot_refusal image cell)) (sym bytes)
+    ∙ sym (refused_found image pattern (Some entry.0) h found)
 
 -- and where nothing does, the file is read
-pub not_refused : (image : List (List ℕ)) (pattern : List ℕ) (slot : ℕ) → AllHold image 2 3
-    → Some slot ≡ first_named pattern (slots image) → None ≡ content_refusal image slot → read_refusal image pattern ≡ None
-not_refused image pattern slot h found e =
-    refused_found image pattern (Some slot) h found
-    ∙ ap (option_map of_read_fault) (sym (e ∙ refused_slot image slot (slice_get (slots image) slot) h refl))
+pub not_refused : (image : List (List ℕ)) (pattern : List ℕ) (entry : ℕ × List ℕ) → AllHold image 2 3
+    → Some entry.0 ≡ first_named pattern (slots image) → slice_get (slots image) entry.0 ≡ Some entry.1
+    → None ≡ file_refusal image entry.1 → read_refusal image pattern ≡ None
+not_refused image pattern entry h found bytes e =
+    refused_found image pattern (Some entry.0) h found
+    ∙ ap (λ (cell : Option (List ℕ)). option_map of_read_fault (slot_refusal image cell)) bytes
+    ∙ ap (option_map of_read_fault) (sym e)

@@ -1,21 +1,25 @@
 -- What a new file takes of an image: blocks for its data, and a place for its entry.
-use Rattle.std.specs.Prelude.{◌≡◌, ℕ, List, [], ◌∷◌, ◌++◌, length, Some, None}
+use Rattle.std.specs.Prelude.{◌≡◌, ℕ, ◌%◌, List, [], ◌∷◌, ◌++◌, Some, None, MatchOption}
 use Rattle.std.specs.Ordering.{nat_cmp}
 use Rattle.std.specs.FinSet as set
 use Rattle.d64_map.specs.Map.{free_blocks}
 use Rattle.d64_map.specs.Plan.{plan}
 use Rattle.d64_files.specs.Directory.{slots}
-use Rattle.d64_files.specs.Writing.{blocks_for, first_unused, dir_last}
+use Rattle.d64_files.specs.Writing.{blocks_for, first_unused, dir_last, slot_block}
 use Rattle.d64_effects.specs.Write.{next_of_directory, without}
 use Rattle.d64_dos.specs.declared.write.Place.{Place}
 use Rattle.d64_dos.specs.declared.write.Place.TheVariants.{Vacant, New}
 use Rattle.d64_dos.specs.declared.write.Space.{Space}
 
--- the place of a new entry: the first unused slot, or where there is none the slot after the last one, the first slot of the block that the directory takes
+-- a slot stands in a block of the directory, and is this one of its eight
+abbrev pub StandsIn : List (List ℕ) → ℕ → ℕ → ℕ → Type 0
+StandsIn image block index slot = (block ≡ slot_block image slot) × (index ≡ slot % 8)
+
+-- the place of a new entry: the first unused slot, or where there is none the first slot of the block that the directory takes after its last one
 abbrev pub IsPlace : List (List ℕ) → set.FinSet nat_cmp → Place → Type 0
-IsPlace image free (Vacant slot) = first_unused (slots image) ≡ Some slot
-IsPlace image free (New slot block) =
-    (first_unused (slots image) ≡ None) × (next_of_directory free (dir_last image) ≡ Some block) × (slot ≡ length (slots image))
+IsPlace image free (Vacant block index) = MatchOption (first_unused (slots image)) ⊥ (StandsIn image block index)
+IsPlace image free (New last block) =
+    (first_unused (slots image) ≡ None) × (last ≡ dir_last image) × (next_of_directory free (dir_last image) ≡ Some block)
 
 -- there is no place for one more entry
 abbrev pub NoPlace : List (List ℕ) → set.FinSet nat_cmp → Type 0
@@ -23,8 +27,8 @@ NoPlace image free = (first_unused (slots image) ≡ None) × (next_of_directory
 
 -- the blocks that the directory takes for the place of an entry
 abbrev pub grown_at : Place → List ℕ
-grown_at (Vacant slot) = []
-grown_at (New slot block) = block ∷ []
+grown_at (Vacant block index) = []
+grown_at (New last block) = block ∷ []
 
 -- what a new file of so many bytes takes, and the blocks that stay free
 pub record IsSpace (image : List (List ℕ)) (bytes : ℕ) (space : Space) : Type 0 where

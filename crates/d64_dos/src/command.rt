@@ -5,6 +5,7 @@ ghost use Rattle.d64_dos.specs.Command.{after, reply_to, refusal_of, StartsFrom}
 ghost use Rattle.d64_dos.specs.Refusal.{refused_by};
 ghost use Rattle.d64_dos.specs.Step.{IsMade, Leaves};
 ghost use Rattle.d64_effects.specs.Laws.{AreBytes};
+ghost use Rattle.d64_image.specs.Image.{IsImage};
 
 use crate::format::formatted;
 use crate::refusal::Refusal;
@@ -60,8 +61,6 @@ pub fn apply(alloc: Global, image: &Image, command: &Command) -> Result<(Image, 
     ensures accepted { IfOk result (λ done. done.0 ≡ after image.now (said command.now)) }
     ensures step { IfOk result (λ done. StartsFrom (said command.now) image.now → Leaves image.now (said command.now) done.1 done.0) }
 {
-    known_command(command);
-    let _ = image.bytes();
     carried_out(alloc, image, command)
 }
 
@@ -96,7 +95,10 @@ fn carried_out(alloc: Global, image: &Image, command: &Command) -> Result<(Image
     ensures refused { refused_by result ≡ refusal_of image.now (said command.now) }
     ensures reply { IfOk result (λ done. done.1 ≡ reply_to image.now (said command.now)) }
     ensures accepted { IfOk result (λ done. done.0 ≡ after image.now (said command.now)) }
+    ensures known { IsImage image.now × IsMade (said command.now) }
 {
+    known_command(command);
+    let _ = image.bytes();
     match command {
         Command::Format { name, id } => {
             let next = formatted(alloc, name, id)?;

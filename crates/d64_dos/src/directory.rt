@@ -4,12 +4,12 @@ ghost use Rattle.d64_dos.specs.Listing.{listing_of, shown_listing};
 ghost use Rattle.d64_dos.specs.Reading.{directory_refusal};
 ghost use Rattle.d64_dos.specs.Refusal.{refused_by};
 
-use crate::format::{DOS_VERSION_START, FILLER, ID_START, NAME_START, map_block};
+use crate::format::{DOS_VERSION_START, FILLER, ID_START, NAME_START};
 use crate::refusal::Refusal;
 use crate::row::{Listing, rows_of};
 use d64_files::Slots;
 use d64_image::{BLOCK_BYTES, Image};
-use d64_map::blocks_free;
+use d64_map::{blocks_free, map_block};
 use std::alloc::Global;
 
 /// Where the field of the disk's name ends in the map's block.

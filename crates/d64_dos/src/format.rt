@@ -1,20 +1,14 @@
 //! An empty disk, made block by block.
-ghost use Rattle.std.specs.Prelude.{◌≡◌, ◌+◌, ◌≤◌, length, IfOk};
-ghost use Rattle.d64_image.specs.declared.image.TheConstants.{BLOCK_BYTES};
-ghost use Rattle.d64_map.specs.Map.{map_block};
-ghost use Rattle.d64_files.specs.Writing.{written_at};
+ghost use Rattle.std.specs.Prelude.{◌≡◌, IfOk};
 ghost use Rattle.d64_effects.specs.Format.{directory_start, header, free_when_formatted, formatted};
 
-use d64_files::{Name, empty_directory};
+use d64_files::{DIRECTORY_SECTOR, Name, empty_directory, write_at};
 use d64_image::{BLOCK_BYTES, BLOCKS, BlockNo, BlockSet, Image};
-use d64_map::put_map;
+use d64_map::{DIRECTORY_TRACK, map_block, put_map};
 use std::alloc::{AllocError, Global};
 
-/// The track of the map and of the directory.
-const DIRECTORY_TRACK: u8 = 18;
-
 /// What begins the map's block: the link to the directory's first block, and the mark of the 1541's format.
-const LINK_AND_FORMAT: [u8; 4] = [DIRECTORY_TRACK, 1, 0x41, 0x00];
+const LINK_AND_FORMAT: [u8; 4] = [DIRECTORY_TRACK, DIRECTORY_SECTOR, 0x41, 0x00];
 
 /// The DOS version and the format, as a directory shows them: `2A`.
 const DOS_VERSION: [u8; 2] = [0x32, 0x41];
@@ -34,28 +28,11 @@ pub(crate) const DOS_VERSION_START: usize = 0xA5;
 /// How many bytes the disk's label has, from its name on: the name, the id and the DOS version.
 const LABEL_BYTES: usize = 27;
 
-/// The block in which the map stands.
-pub(crate) fn map_block() -> BlockNo
-    ensures { result ≡ map_block }
-{
-    BlockNo::of(DIRECTORY_TRACK, 0).unwrap()
-}
-
 /// The directory's first block.
 fn directory_start() -> BlockNo
     ensures { result ≡ directory_start }
 {
-    BlockNo::of(DIRECTORY_TRACK, 1).unwrap()
-}
-
-/// Writes bytes into a block, from a place on. The other bytes of the block stay.
-///
-/// The caller knows that the bytes end within the block.
-fn write_at(block: &mut [u8; BLOCK_BYTES], start: usize, bytes: &[u8])
-    requires { start + length bytes.now ≤ BLOCK_BYTES }
-    ensures { block.new ≡ written_at block.old start bytes.now }
-{
-    block[start..start + bytes.len()].copy_from_slice(bytes);
+    BlockNo::of(DIRECTORY_TRACK, DIRECTORY_SECTOR).unwrap()
 }
 
 /// The map's block of a formatted disk, in which the map is still to be written.

@@ -1,10 +1,10 @@
 //! Reading a file by its name.
 ghost use Rattle.std.specs.Prelude.{◌≡◌, IfOk};
-ghost use Rattle.d64_dos.specs.Reading.{directory_refusal, read_refusal, name_at, IsReadBack};
+ghost use Rattle.d64_dos.specs.Reading.{read_refusal, IsReadBack};
 ghost use Rattle.d64_dos.specs.Refusal.{refused_by};
 
 use crate::refusal::{Refusal, of_read_fault};
-use d64_files::{Pattern, SlotNo, Slots, content, find};
+use d64_files::{Directory, Pattern, entry_content};
 use d64_image::Image;
 use std::alloc::Global;
 
@@ -15,21 +15,6 @@ pub struct ReadBack {
     pub name: Vec<u8>,
     /// The data of the file's blocks.
     pub bytes: Vec<u8>,
-}
-
-/// The name in a slot; no bytes where there is no such slot.
-fn name_at(alloc: Global, image: &Image, slot: SlotNo) -> Result<Vec<u8>, Refusal>
-    ensures refused { refused_by result ≡ directory_refusal image.now }
-    ensures name { IfOk result (λ name. name.items ≡ name_at image.now slot) }
-{
-    let mut walk = match Slots::of(image) {
-        Ok(walk) => walk,
-        Err(fault) => return Err(Refusal::Directory(fault)),
-    };
-    match walk.nth(slot.place()) {
-        Some(entry) => Ok(Vec::from_slice(alloc, entry.name())?),
-        None => Ok(Vec::new(alloc)),
-    }
 }
 
 /// Reads the first used slot, in the order of the directory, whose name the pattern matches: its name, and the content
@@ -43,20 +28,18 @@ pub fn read(alloc: Global, image: &Image, pattern: &Pattern) -> Result<ReadBack,
     ensures refused { refused_by result ≡ read_refusal image.now pattern.now }
     ensures back { IfOk result (λ back. IsReadBack image.now pattern.now back.name.items back.bytes.items) }
 {
-    let found = match find(image, pattern) {
-        Ok(found) => found,
+    let directory = match Directory::of(image) {
+        Ok(directory) => directory,
         Err(fault) => return Err(Refusal::Directory(fault)),
     };
-    let slot = match found {
-        Some(slot) => slot,
+    let entry = match directory.named(pattern) {
+        Some(entry) => entry,
         None => return Err(Refusal::NotFound),
     };
-    let bytes = match content(alloc, image, slot) {
+    let bytes = match entry_content(alloc, image, &entry) {
         Ok(bytes) => bytes,
         Err(fault) => return Err(of_read_fault(fault)),
     };
-    match name_at(alloc, image, slot) {
-        Ok(name) => Ok(ReadBack { name, bytes }),
-        Err(refusal) => Err(refusal),
-    }
+    let name = Vec::from_slice(alloc, entry.name())?;
+    Ok(ReadBack { name, bytes })
 }

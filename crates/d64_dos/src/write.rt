@@ -1,7 +1,6 @@
 //! The writing of a file: its blocks, its entry, and the map.
-ghost use Rattle.std.specs.Prelude.{◌≡◌, ◌<◌, length, is_some, IsOk, IfOk, IfSome, MatchOption};
+ghost use Rattle.std.specs.Prelude.{◌≡◌, length, is_some, IsOk, IfOk, IfSome, MatchOption};
 ghost use Rattle.d64_map.specs.Map.{free_blocks};
-ghost use Rattle.d64_files.specs.Directory.{slots, AllHold};
 ghost use Rattle.d64_files.specs.Writing.{entry_bytes};
 ghost use Rattle.d64_effects.specs.Write.{with_new_entry, written};
 ghost use Rattle.d64_dos.specs.Refusal.{refused_by};
@@ -12,21 +11,20 @@ use crate::plan::take_plan;
 use crate::refusal::Refusal;
 use arrayvec::ArrayVec;
 use d64_files::{
-    Kind, Name, SlotNo, Slots, blocks_for, check, dir_last, first_empty, grow, is_taken, put_chain,
-    put_entry,
+    Directory, Kind, Name, blocks_for, checked, grow_after, put_chain, put_entry_at,
 };
 use d64_image::{BLOCKS, BlockNo, BlockSet, Image};
-use d64_map::laws::{dir_pick_is_on_track_18, plan_takes_free_blocks};
+use d64_map::laws::plan_takes_free_blocks;
 use d64_map::{free_set, pick_dir, put_map, room};
 use std::alloc::{AllocError, Global};
 
 /// Where the entry of a new file goes.
 #[derive(Clone, Copy)]
 enum Place {
-    /// Into a slot of the directory that isn't used.
-    Vacant(SlotNo),
-    /// Into the first slot of a block that the directory takes.
-    New { slot: SlotNo, block: BlockNo },
+    /// Into a slot that isn't used: one of the eight of a block of the directory, counted from 0.
+    Vacant { block: BlockNo, index: usize },
+    /// Into the first slot of a block that the directory takes after its last one.
+    New { last: BlockNo, block: BlockNo },
 }
 
 /// What a new file takes.
@@ -50,52 +48,39 @@ fn is_writable(kind: Kind) -> bool
     }
 }
 
-/// How many slots the directory has.
-fn slot_count(image: &Image) -> usize
-    requires { AllHold image.now 1 6 }
-    ensures { result ≡ length (slots image.now) }
-{
-    match Slots::of(image) {
-        Ok(walk) => walk.count(),
-        Err(_) => 0,
-    }
-}
-
 /// The place of one more entry, where the directory can take one of the free blocks. None where there is no such place.
-fn find_place(image: &Image, free: &BlockSet) -> Option<Place>
-    requires { AllHold image.now 1 6 }
-    ensures { MatchOption result (NoPlace image.now free.now) (IsPlace image.now free.now) }
+fn find_place(directory: &Directory, free: &BlockSet) -> Option<Place>
+    ensures { MatchOption result (NoPlace directory.now free.now) (IsPlace directory.now free.now) }
 {
-    match first_empty(image) {
-        Ok(Some(slot)) => return Some(Place::Vacant(slot)),
-        Ok(None) => {}
-        Err(_) => return None,
+    match directory.first_empty() {
+        Some(slot) => {
+            let (block, index) = directory.place_of(slot);
+            Some(Place::Vacant { block, index })
+        }
+        None => {
+            let last = directory.last();
+            let block = pick_dir(free, last)?;
+            Some(Place::New { last, block })
+        }
     }
-    let last = dir_last(image).ok()?;
-    let block = pick_dir(free, last)?;
-    Some(Place::New {
-        slot: SlotNo::at(slot_count(image)),
-        block,
-    })
 }
 
 /// What a file of so many bytes takes. None where there is no room for it.
-fn find_space(image: &Image, bytes: usize) -> Option<Space>
-    requires { AllHold image.now 1 6 }
-    ensures room { is_some result ≡ has_room image.now bytes }
-    ensures space { IfSome result (IsSpace image.now bytes) }
+fn find_space(directory: &Directory, bytes: usize) -> Option<Space>
+    ensures room { is_some result ≡ has_room directory.now bytes }
+    ensures space { IfSome result (IsSpace directory.now bytes) }
 {
     plan_takes_free_blocks();
-    let mut free = free_set(image);
+    let mut free = free_set(directory.image());
     let count = blocks_for(bytes);
     if count > room(&free) as usize {
         return None;
     }
-    let place = find_place(image, &free)?;
+    let place = find_place(directory, &free)?;
     let blocks = take_plan(&mut free, count)?;
     match place {
-        Place::Vacant(_) => {}
-        Place::New { slot: _, block } => free.remove(block),
+        Place::Vacant { block: _, index: _ } => {}
+        Place::New { last: _, block } => free.remove(block),
     }
     Some(Space {
         blocks,
@@ -108,32 +93,22 @@ fn find_space(image: &Image, bytes: usize) -> Option<Space>
 #[tactic(auto, unfolding(crate::specs::WriteRefusal::write_refusal))]
 fn space_for(image: &Image, name: &Name, kind: Kind, bytes: usize) -> Result<Space, Refusal>
     ensures refused { refused_by result ≡ write_refusal image.now name.now kind bytes }
-    ensures sound { IfOk result (λ _. AllHold image.now 1 6) }
     ensures space { IfOk result (IsSpace image.now bytes) }
 {
     if !is_writable(kind) {
         return Err(Refusal::WrongType);
     }
-    match check(image) {
-        Ok(_) => {}
+    let directory = match checked(image) {
+        Ok((directory, _owned)) => directory,
         Err(fault) => return Err(Refusal::Directory(fault)),
+    };
+    if directory.is_taken(name) {
+        return Err(Refusal::Exists);
     }
-    match is_taken(image, name) {
-        Ok(true) => return Err(Refusal::Exists),
-        Ok(false) => {}
-        Err(fault) => return Err(Refusal::Directory(fault)),
-    }
-    match find_space(image, bytes) {
+    match find_space(&directory, bytes) {
         Some(space) => Ok(space),
         None => Err(Refusal::DiskFull),
     }
-}
-
-// The image has each block.
-fn known_block(image: &Image, block: BlockNo)
-    ensures { block < length image.now }
-{
-    let _ = image.sector(block);
 }
 
 /// Writes the entry of a new file into its place. It answers Ok.
@@ -145,18 +120,17 @@ fn put_new_entry(
     first: BlockNo,
     blocks: u16,
 ) -> Result<(), AllocError>
-    requires sound { AllHold image.old 1 6 }
-    requires place { IsPlace image.old (free_blocks image.old) place }
+    requires { IsPlace image.old (free_blocks image.old) place }
     ensures ok { IsOk result }
     ensures written { image.new ≡ with_new_entry image.old (entry_bytes name.now kind first blocks) }
 {
     match place {
-        Place::Vacant(slot) => put_entry(image, slot, name, kind, first, blocks),
-        Place::New { slot, block } => {
-            dir_pick_is_on_track_18();
-            known_block(image, block);
-            grow(image, block)?;
-            put_entry(image, slot, name, kind, first, blocks)
+        Place::Vacant { block, index } => {
+            put_entry_at(image, block, index, name, kind, first, blocks)
+        }
+        Place::New { last, block } => {
+            grow_after(image, last, block)?;
+            put_entry_at(image, block, 0, name, kind, first, blocks)
         }
     }
 }
@@ -169,8 +143,7 @@ fn put_file(
     kind: Kind,
     bytes: &[u8],
 ) -> Result<(), AllocError>
-    requires sound { AllHold image.old 1 6 }
-    requires space { IsSpace image.old (length bytes.now) space.now }
+    requires { IsSpace image.old (length bytes.now) space.now }
     ensures ok { IsOk result }
     ensures written { image.new ≡ written image.old name.now kind bytes.now }
 {

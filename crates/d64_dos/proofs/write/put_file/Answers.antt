@@ -10,7 +10,7 @@ pub returns-clause-written : goal.returns-clause-written
 returns-clause-written c =
     let image = c.args.image.now in
     let space = c.args.space.now in
-    let count = (c.plan_takes_free_blocks.ensures.blocks (free_blocks image) (blocks_for (length c.args.bytes.now)) space.blocks.items c.requires.space.taken).0 in
+    let count = (c.plan_takes_free_blocks.ensures.blocks (free_blocks image) (blocks_for (length c.args.bytes.now)) space.blocks.items c.requires.taken).0 in
     let some : 0 < length space.blocks.items = let h = needs_one (length c.args.bytes.now) in omega (arith, h, count) in
     let blocks = c.as_slice-blocks.ensures.value in
     let first : c.index-blocks-0.result ≡ get_or space.blocks.items 0 0 =
@@ -18,5 +18,5 @@ returns-clause-written c =
     let entered = c.put_new_entry.ensures.written in
     let chained = c.put_chain.ensures.written in
     let mapped = c.put_map.ensures.written in
-    let whole = written-in_space image c.args.name.now c.args.kind c.args.bytes.now space c.requires.space in
+    let whole = written-in_space image c.args.name.now c.args.kind c.args.bytes.now space c.requires in
     let l = ap length blocks in cc

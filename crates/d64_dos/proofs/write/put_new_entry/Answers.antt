@@ -1,32 +1,19 @@
-use Rattle.std.proofs.Common.{◌∙◌, sym}
-use Rattle.d64_effects.proofs.NewDirectory.{has_directory}
-use Rattle.d64_dos.proofs.Entries.{vacant_place, new_place}
+use Rattle.std.proofs.Common.{ℕ, List, ap, ◌∙◌, sym}
+use Rattle.d64_files.specs.Writing.{with_bytes, entry_bytes}
+use Rattle.d64_dos.proofs.Entries.{vacant_place, new_place, last_of_place}
 use Rattle.d64_dos.proofs.write.put_new_entry.Goals as goal
 
-pub put_entry-requires-clause-slot : goal.put_entry-requires-clause-slot
-put_entry-requires-clause-slot c =
-    (vacant_place c.args.image.now c.args.place c.in-Vacant.slot c.in-Vacant.is c.requires.place c.requires.sound).within
-
-pub grow-requires : goal.grow-requires
-grow-requires c = record { directory = has_directory c.args.image.now c.requires.sound }
-
-pub put_entry-requires-in-New-clause-directory : goal.put_entry-requires-in-New-clause-directory
-put_entry-requires-in-New-clause-directory c =
-    (new_place c.args.image.now c.grow.new.image c.args.place c.in-New.slot c.in-New.block c.in-New.is c.requires.place c.requires.sound
-    c.dir_pick_is_on_track_18.ensures c.known_block.ensures c.grow.ensures.written).some
-
-pub put_entry-requires-in-New-clause-slot : goal.put_entry-requires-in-New-clause-slot
-put_entry-requires-in-New-clause-slot c =
-    (new_place c.args.image.now c.grow.new.image c.args.place c.in-New.slot c.in-New.block c.in-New.is c.requires.place c.requires.sound
-    c.dir_pick_is_on_track_18.ensures c.known_block.ensures c.grow.ensures.written).within
+pub grow_after-requires : goal.grow_after-requires
+grow_after-requires c = last_of_place c.args.image.now c.args.place c.in-New.last c.in-New.block c.in-New.is c.requires
 
 pub returns-in-Vacant-clause-written : goal.returns-in-Vacant-clause-written
 returns-in-Vacant-clause-written c =
-    c.put_entry.ensures.written
-    ∙ sym ((vacant_place c.args.image.now c.args.place c.in-Vacant.slot c.in-Vacant.is c.requires.place c.requires.sound).entered _)
+    c.put_entry_at.ensures.written
+    ∙ sym (vacant_place c.args.image.now c.args.place c.in-Vacant.block c.in-Vacant.index _ c.in-Vacant.is c.requires)
 
-pub returns-in_ok-grow-in-New-clause-written : goal.returns-in_ok-grow-in-New-clause-written
-returns-in_ok-grow-in-New-clause-written c =
-    c.put_entry-in-New.ensures.written
-    ∙ sym ((new_place c.args.image.now c.grow.new.image c.args.place c.in-New.slot c.in-New.block c.in-New.is c.requires.place c.requires.sound
-    c.dir_pick_is_on_track_18.ensures c.known_block.ensures c.grow.ensures.written).entered _)
+pub returns-in_ok-grow_after-in-New-clause-written : goal.returns-in_ok-grow_after-in-New-clause-written
+returns-in_ok-grow_after-in-New-clause-written c =
+    let entry : List ℕ = entry_bytes c.args.name.now c.args.kind c.args.first c.args.blocks in
+    c.put_entry_at-in-New.ensures.written
+    ∙ ap (λ (image : List (List ℕ)). with_bytes image c.in-New.block 2 entry) c.grow_after.ensures.written
+    ∙ sym (new_place c.args.image.now c.args.place c.in-New.last c.in-New.block entry c.in-New.is c.requires)

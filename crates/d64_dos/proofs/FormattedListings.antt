@@ -1,0 +1,110 @@
+-- what a formatted disk lists
+use Rattle.std.proofs.Common.{◌≡◌, ◌≢◌, ℕ, zero, suc, ◌+◌, ◌-◌, ◌≤◌, ◌==◌, not, Bool, true, false, cond, List, [], ◌∷◌, ◌++◌, length, take, drop, replicate, refl, sym, ap, ◌∙◌, subst, arith, append_assoc}
+use Rattle.std.specs.Prelude.{All, Contains, map, filter, take_while, slice_range}
+use Rattle.std.proofs.lemmas.Bool.{ne_eqb}
+use Rattle.std.proofs.lemmas.List.{drop_at, length-append, length-set, get_or-set_same, get_or-set_other}
+use Rattle.std.proofs.lemmas.List.Sums.{take_while-cons}
+use Rattle.std.proofs.lemmas.List.Elements.{All-head, All-tail, All-get_or, All-contains_itself}
+use Rattle.d64_image.specs.Image.{sector_at, with_sector}
+use Rattle.d64_map.specs.Map.{map_block, map_for, blocks_free}
+use Rattle.d64_map.proofs.Maps.{sector_at-with_map}
+use Rattle.d64_files.specs.Directory.{slots}
+use Rattle.d64_files.specs.Name.{IsName, filled, forbidden_in_names}
+use Rattle.d64_files.specs.Slot.{is_used}
+use Rattle.d64_files.specs.Writing.{empty_directory}
+use Rattle.d64_files.proofs.WrittenBytes.{length-filled}
+use Rattle.d64_effects.specs.Format.{directory_start, header, free_when_formatted, blank, formatted}
+use Rattle.d64_effects.specs.Laws.{IsId}
+use Rattle.d64_effects.specs.View.{View, disk_field, disk_id, view}
+use Rattle.d64_effects.specs.ViewAfter.{formatted_view}
+use Rattle.d64_effects.proofs.EmptyDisks.{length-parts, blocks_free-formatted, IsBlock-header}
+use Rattle.d64_effects.proofs.FormattedDisks.{drop-map_for, unused-formatted, view-formatted}
+use Rattle.d64_dos.specs.Listing.{FormattedDiskLists, row_of}
+use Rattle.d64_dos.proofs.ListedRows.{listing_by_fields}
+
+-- bytes without a shifted space, and shifted spaces after them
+before_fill : (count : ℕ) → take_while (λ byte. not (byte == 0xA0)) (replicate count 0xA0) ≡ []
+before_fill zero = refl
+before_fill (suc count) = refl
+
+cut_at_fill : (name : List ℕ) (count : ℕ) → All (λ byte. ¬ (Contains forbidden_in_names byte)) name
+    → take_while (λ byte. not (byte == 0xA0)) (name ++ replicate count 0xA0) ≡ name
+cut_at_fill [] count allowed = before_fill count
+cut_at_fill (byte ∷ name) count allowed =
+    let filler : Contains forbidden_in_names 0xA0 =
+    All-get_or (Contains forbidden_in_names) forbidden_in_names 7 0 (omega arith) (All-contains_itself forbidden_in_names) in
+    let other : byte ≢ 0xA0 = λ e.
+    All-head (λ b. ¬ (Contains forbidden_in_names b)) byte name allowed (subst (Contains forbidden_in_names) (sym e) filler) in
+    let rest : List ℕ = take_while (λ b. not (b == 0xA0)) (name ++ replicate count 0xA0) in
+    take_while-cons (λ b. not (b == 0xA0)) byte (name ++ replicate count 0xA0)
+    ∙ ap (λ (same : Bool). cond (not same) (byte ∷ rest) []) (ne_eqb byte 0xA0 other)
+    ∙ ap (λ (bytes : List ℕ). byte ∷ bytes) (cut_at_fill name count (All-tail (λ b. ¬ (Contains forbidden_in_names b)) byte name allowed))
+
+-- what the view of a formatted disk says of its name and its id
+name_field : (name id : List ℕ) → IsName name → IsId id → disk_field (formatted name id) ≡ filled name
+unfolding view formatted_view
+name_field name id named two = ap (λ (shown : View). shown.name) (view-formatted name id named two)
+
+id_field : (name id : List ℕ) → IsName name → IsId id → disk_id (formatted name id) ≡ id
+unfolding view formatted_view
+id_field name id named two = ap (λ (shown : View). shown.id) (view-formatted name id named two)
+
+-- no slot is used
+none_used : (cells : List (List ℕ)) → All (λ cell. is_used cell ≡ false) cells → filter is_used cells ≡ []
+none_used [] unused = refl
+none_used (cell ∷ cells) unused =
+    ap (λ (used : Bool). cond used (cell ∷ filter is_used cells) (filter is_used cells)) (All-head (λ c. is_used c ≡ false) cell cells unused)
+    ∙ none_used cells (All-tail (λ c. is_used c ≡ false) cell cells unused)
+
+-- the map's block is the header with the map
+header_of : (name id : List ℕ) → sector_at (formatted name id) map_block ≡ map_for (header name id) free_when_formatted
+unfolding formatted
+header_of name id =
+    let labelled : List (List ℕ) = with_sector blank map_block (header name id) in
+    let p = length-parts name id in
+    let a = length-set labelled directory_start empty_directory in
+    let b = length-set blank map_block (header name id) in
+    sector_at-with_map (with_sector labelled directory_start empty_directory) free_when_formatted (omega arith)
+    ∙ ap (λ (bytes : List ℕ). map_for bytes free_when_formatted)
+    (get_or-set_other labelled directory_start map_block empty_directory [] (λ e. omega arith)
+    ∙ get_or-set_same blank map_block (header name id) [] (omega arith))
+
+-- the version stands behind the id
+version_at : (before version fill back : List ℕ) → length before ≡ 165 → length version ≡ 2
+    → take 2 (drop 165 (before ++ version ++ fill ++ back)) ≡ take 2 (version ++ (fill ++ back))
+version_at before version fill back begins two =
+    ap (λ (bytes : List ℕ). take 2 (drop 165 bytes)) (append_assoc (before ++ version) fill back ∙ append_assoc before version (fill ++ back))
+    ∙ ap (take 2) (drop_at before (version ++ (fill ++ back)) 165 begins)
+
+version_in : (name id : List ℕ) → IsName name → IsId id → slice_range (header name id) 0xA5 0xA7 ≡ 0x32 ∷ 0x41 ∷ []
+unfolding header
+version_in name id named two =
+    let front : List ℕ = 0x12 ∷ 0x01 ∷ 0x41 ∷ 0x00 ∷ replicate 140 0 in
+    let w1 : List ℕ = front ++ filled name in
+    let w2 : List ℕ = w1 ++ (0xA0 ∷ 0xA0 ∷ []) in
+    let w3 : List ℕ = w2 ++ id in
+    let w4 : List ℕ = w3 ++ (0xA0 ∷ []) in
+    let e1 : length w1 ≡ 144 + length (filled name) = length-append front (filled name) in
+    let e2 : length w2 ≡ length w1 + 2 = length-append w1 (0xA0 ∷ 0xA0 ∷ []) in
+    let e3 : length w3 ≡ length w2 + length id = length-append w2 id in
+    let e4 : length w4 ≡ length w3 + 1 = length-append w3 (0xA0 ∷ []) in
+    let long = length-filled name named.short in
+    let short = two.0 in
+    version_at w4 (0x32 ∷ 0x41 ∷ []) (replicate 4 0xA0) (replicate 85 0) (omega arith) refl
+
+version : (name id : List ℕ) → IsName name → IsId id → slice_range (sector_at (formatted name id) map_block) 0xA5 0xA7 ≡ 0x32 ∷ 0x41 ∷ []
+version name id named two =
+    let block = IsBlock-header name id named two in
+    ap (λ (bytes : List ℕ). slice_range bytes 0xA5 0xA7) (header_of name id)
+    ∙ ap (take 2) (drop-map_for (header name id) free_when_formatted 0xA5 block.0 (omega arith))
+    ∙ version_in name id named two
+
+-- a formatted disk lists its name, its id, the version, no file, and 664 free blocks
+pub listed : FormattedDiskLists
+listed name id named two =
+    sym (listing_by_fields (formatted name id) name id (0x32 ∷ 0x41 ∷ []) [] 664
+    (sym (ap (take_while (λ byte. not (byte == 0xA0))) (name_field name id named two) ∙ cut_at_fill name (16 - length name) named.allowed))
+    (sym (id_field name id named two))
+    (sym (version name id named two))
+    (sym (ap (map row_of) (none_used (slots (formatted name id)) (unused-formatted name id))))
+    (sym (blocks_free-formatted name id)))
