@@ -3,3 +3,4 @@ pub mod Pairs
 pub mod Chunks
 pub mod Sets
 pub mod Differences
+pub mod Patches

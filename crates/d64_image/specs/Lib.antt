@@ -5,4 +5,5 @@ pub mod Marks
 pub mod Image
 pub mod Lending
 pub mod ImageFault
+pub mod Patch
 pub mod Laws

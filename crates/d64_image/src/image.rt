@@ -123,6 +123,13 @@ impl Image {
         &mut self.sectors[block.index()]
     }
 
+    // The image is known to have all blocks of the disk.
+    pub(crate) fn known_length(&self)
+        ensures { length self.now ≡ BLOCKS }
+    {
+        let _ = &self.sectors;
+    }
+
     /// In how many blocks another image differs from this one. Takes no memory.
     pub fn difference_count(&self, other: &Image) -> usize
         ensures { result ≡ length (differences self.now other.now) }

@@ -9,10 +9,12 @@ mod block_bytes;
 mod block_set;
 mod image;
 pub mod laws;
+mod patch;
 
 pub use block::{BLOCKS, BlockNo};
 pub use block_set::BlockSet;
 pub use image::{BLOCK_BYTES, Image, ImageFault};
+pub use patch::Patch;
 
 #[cfg(test)]
 mod tests;

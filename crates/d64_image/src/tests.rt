@@ -97,3 +97,48 @@ fn a_set_of_blocks(rt: HostRuntime) {
     set.add(first);
     assert!(rt; set == copy);
 }
+
+/// Whether a patch keeps one block, with all its bytes alike.
+fn keeps_alone(patch: &Patch, block: BlockNo, byte: u8) -> bool {
+    let mut entries = patch.blocks().iter();
+    patch.len() == 1 && entries.all(|entry| entry.0 == block && entry.1 == [byte; 256])
+}
+
+#[test]
+fn a_patch_keeps_what_stood_there_first(rt: HostRuntime) -> Result<(), AllocError> {
+    let alloc = rt.alloc();
+    let mut image = Image::zeroed(alloc)?;
+    let mut patch = Patch::new(alloc);
+    let first = BlockNo::of(17, 0).expect(&rt, "17/0 is legal");
+    let second = BlockNo::of(17, 1).expect(&rt, "17/1 is legal");
+    patch.write(&mut image, first, &[1; 256])?;
+    patch.write(&mut image, first, &[2; 256])?;
+    assert!(rt; keeps_alone(&patch, first, 0));
+    patch.swap(&mut image);
+    assert!(rt; image.bytes().iter().all(|byte| *byte == 0));
+    assert!(rt; keeps_alone(&patch, first, 2));
+    patch.write(&mut image, second, &[0; 256])?;
+    assert_eq!(rt; patch.len(), 2);
+    patch.trim(&image);
+    assert!(rt; keeps_alone(&patch, first, 2));
+    patch.clear();
+    assert_eq!(rt; patch.len(), 0);
+    Ok(())
+}
+
+#[test]
+fn a_patch_is_ascending_and_keeps_a_last_byte(rt: HostRuntime) -> Result<(), AllocError> {
+    let alloc = rt.alloc();
+    let mut image = Image::zeroed(alloc)?;
+    let mut patch = Patch::new(alloc);
+    let mut last_byte = [0; 256];
+    last_byte[255] = 1;
+    for place in [682, 0, 341] {
+        let block = BlockNo::at(place).expect(&rt, "it is a block");
+        patch.write(&mut image, block, &last_byte)?;
+    }
+    patch.trim(&image);
+    let places = patch.blocks().iter().map(|entry| entry.0.index());
+    assert!(rt; places.eq([0, 341, 682]));
+    Ok(())
+}

@@ -1,0 +1,7 @@
+use Rattle.std.proofs.Common.{sym, subst}
+use Rattle.d64_image.specs.Patch.{IsPatch, RisesBetween}
+use Rattle.d64_image.proofs.patch.Patch.clear.Goals as goal
+
+pub invariant_of-self : goal.invariant_of-self
+unfolding RisesBetween
+invariant_of-self c = subst IsPatch (sym c.clear.ensures.items) tt

@@ -1,0 +1,53 @@
+use Rattle.std.proofs.Common.{◌≡◌, ℕ, ◌<◌, ◌≤◌, List, [], take, length, refl, ap, ap₂, sym, ◌∙◌, subst, arith}
+use Rattle.std.proofs.lemmas.List.{length-set, take_all}
+use Rattle.d64_image.specs.declared.block.TheConstants.{BLOCKS}
+use Rattle.d64_image.specs.Patch.{Kept, IsPatch, back, taken, changed}
+use Rattle.d64_image.proofs.Patches.{next_entry, exchanged-image, exchanged-kept, taken-all, rises-taken, back-taken, taken-changed, length-back}
+use Rattle.d64_image.proofs.patch.Patch.swap.Goals as goal
+
+pub loop-place-init : goal.loop-place-init
+unfolding back taken
+loop-place-init c = record { image = refl; kept = refl; long = let e = c.len-place-end.ensures in omega arith }
+
+-- one block more is exchanged
+pub loop-place-preserved : goal.loop-place-preserved
+loop-place-preserved c =
+    let patch = c.self.inside.kept.items in
+    let entry = c.index_mut-entry.result.now in
+    let held = c.loop-place.invariant in
+    let within : c.loop-place.place < length patch = let h = c.loop-place-test.true in let e = c.len-place-end.ensures in omega arith in
+    let is : entry ≡ _ = next_entry patch c.loop-place.self-inside.kept.items c.args.image.now c.loop-place.place entry held.kept within c.index_mut-entry.ensures.value in
+    record {
+      image = exchanged-image patch c.args.image.now c.loop-place.image c.loop-place.place entry c.swap.new.y within held.image is c.swap.ensures.y_after;
+      kept =
+          exchanged-kept patch c.loop-place.self-inside.kept.items c.args.image.now c.loop-place.image 0 BLOCKS c.loop-place.place entry c.swap.new.x
+          c.self.invariant within held.image held.kept is (c.swap.ensures.x_after ∙ c.sector_mut.ensures.value);
+      long = length-set c.loop-place.self-inside.kept.items c.loop-place.place (entry.0, c.swap.new.x) ∙ held.long;
+    }
+
+-- the same blocks are kept
+pub invariant_of-self : goal.invariant_of-self
+invariant_of-self c =
+    let most : length c.self.inside.kept.items ≤ c.loop-place.place = let h = c.loop-place-test.false in let e = c.len-place-end.ensures in omega arith in
+    subst IsPatch (sym (taken-all c.self.inside.kept.items c.loop-place.self-inside.kept.items c.args.image.now c.loop-place.place most c.loop-place.invariant.kept))
+    (rises-taken c.self.inside.kept.items c.args.image.now 0 BLOCKS c.self.invariant)
+
+-- what was taken puts the image back
+pub returns-clause-back : goal.returns-clause-back
+returns-clause-back c =
+    let patch = c.self.inside.kept.items in
+    let most : length patch ≤ c.loop-place.place = let h = c.loop-place-test.false in let e = c.len-place-end.ensures in omega arith in
+    let image : c.loop-place.image ≡ back c.args.image.now patch = c.loop-place.invariant.image ∙ ap (back c.args.image.now) (take_all c.loop-place.place patch most) in
+    ap₂ back image (taken-all patch c.loop-place.self-inside.kept.items c.args.image.now c.loop-place.place most c.loop-place.invariant.kept)
+    ∙ back-taken patch c.args.image.now 0 BLOCKS c.self.invariant
+
+-- what changed one way changed back the other
+pub returns-clause-changed : goal.returns-clause-changed
+returns-clause-changed c e =
+    let patch = c.self.inside.kept.items in
+    let most : length patch ≤ c.loop-place.place = let h = c.loop-place-test.false in let e = c.len-place-end.ensures in omega arith in
+    let image : c.loop-place.image ≡ back c.args.image.now patch = c.loop-place.invariant.image ∙ ap (back c.args.image.now) (take_all c.loop-place.place patch most) in
+    let long : length c.loop-place.image ≡ length c.args.image.now = ap length image ∙ length-back patch c.args.image.now in
+    taken-all patch c.loop-place.self-inside.kept.items c.args.image.now c.loop-place.place most c.loop-place.invariant.kept
+    ∙ ap (taken c.args.image.now) (c.self.view_is ∙ e)
+    ∙ taken-changed c.loop-place.image c.args.image.now long

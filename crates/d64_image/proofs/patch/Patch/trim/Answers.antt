@@ -1,0 +1,30 @@
+use Rattle.std.proofs.Common.{◌≡◌, ℕ, List, length, nat_eq, not, ap, sym, ◌∙◌, subst, rules}
+use Rattle.std.specs.Cmp.Lexicographic.{pointwise}
+use Rattle.std.proofs.lemmas.Fn.{filter_same}
+use Rattle.d64_image.specs.declared.block.TheConstants.{BLOCKS}
+use Rattle.d64_image.specs.Image.{sector_at}
+use Rattle.d64_image.specs.Patch.{Kept, IsPatch, RisesBetween, back, trimmed}
+use Rattle.d64_image.proofs.Patches.{rises-trimmed, back-trimmed, trimmed-changed}
+use Rattle.d64_image.proofs.patch.Patch.trim.Goals as goal
+
+-- the blocks whose bytes the image doesn't have
+pub returns-clause-kept : goal.returns-clause-kept
+unfolding trimmed
+returns-clause-kept c =
+    filter_same _ (λ (entry : ℕ × List ℕ). not (pointwise nat_eq entry.1 (sector_at c.args.image.now entry.0))) _ (λ x b f' k. search rules) _ _ c.retain.ensures.filtered
+    ∙ ap (trimmed c.args.image.now) c.self.view_is
+
+-- the blocks stay ascending
+pub invariant_of-self : goal.invariant_of-self
+invariant_of-self c =
+    subst IsPatch (sym (returns-clause-kept c)) (rises-trimmed c.args.self.now c.args.image.now 0 BLOCKS (subst IsPatch c.self.view_is c.self.invariant))
+
+pub returns-clause-back : goal.returns-clause-back
+returns-clause-back c =
+    ap (back c.args.image.now) (returns-clause-kept c) ∙ back-trimmed c.args.self.now c.args.image.now 0 BLOCKS (subst IsPatch c.self.view_is c.self.invariant)
+
+pub returns-clause-changed : goal.returns-clause-changed
+returns-clause-changed c =
+    returns-clause-kept c
+    ∙ trimmed-changed c.args.self.now c.args.image.now
+    (subst (λ (n : ℕ). RisesBetween 0 n c.args.self.now) (sym c.known_length.ensures) (subst IsPatch c.self.view_is c.self.invariant))

@@ -1,0 +1,43 @@
+use Rattle.std.specs.Prelude.{ℕ, ◌+◌, ◌<◌, ◌≤◌, ◌==◌, not, nat_lt, nat_eq, if◌then◌else◌, Bool, List, [], ◌∷◌, map, filter, fold, count_by}
+use Rattle.std.specs.Cmp.Lexicographic.{pointwise}
+use Rattle.std.specs.List.{list_any, insert}
+use Rattle.d64_image.specs.declared.block.TheConstants.{BLOCKS}
+use Rattle.d64_image.specs.Image.{sector_at, with_sector, differences}
+
+-- blocks, each with 256 bytes that it had
+abbrev pub Kept : Type 0
+Kept = List (ℕ × List ℕ)
+
+-- the kept blocks lie between these two, ascending and so each once
+unfoldable pub RisesBetween : ℕ → ℕ → Kept → Type 0
+RisesBetween low high [] = Unit {0}
+RisesBetween low high (entry ∷ patch) = (low ≤ entry.0) × (entry.0 < high) × RisesBetween (entry.0 + 1) high patch
+
+-- a patch keeps blocks of an image, ascending
+abbrev pub IsPatch : Kept → Type 0
+IsPatch patch = RisesBetween 0 BLOCKS patch
+
+-- the image with the kept blocks put back
+unfoldable pub back : List (List ℕ) → Kept → List (List ℕ)
+back image patch = fold (λ held entry. with_sector held entry.0 entry.1) image patch
+
+-- a patch keeps the block
+abbrev pub is_kept : Kept → ℕ → Bool
+is_kept patch block = list_any (λ entry. entry.0 == block) patch
+
+-- the patch with a block added in its place, where it isn't kept yet
+unfoldable pub with_kept : Kept → ℕ → List ℕ → Kept
+with_kept patch block bytes =
+    if is_kept patch block then patch else insert patch (count_by (λ entry. nat_lt entry.0 block) patch) (block, bytes)
+
+-- the same blocks, each with the bytes that an image has there
+unfoldable pub taken : List (List ℕ) → Kept → Kept
+taken image patch = map (λ entry. (entry.0, sector_at image entry.0)) patch
+
+-- the kept blocks whose bytes an image doesn't have
+unfoldable pub trimmed : List (List ℕ) → Kept → Kept
+trimmed image patch = filter (λ entry. not (pointwise nat_eq entry.1 (sector_at image entry.0))) patch
+
+-- the blocks in which an image differs from the one before it, with their bytes from before
+unfoldable pub changed : List (List ℕ) → List (List ℕ) → Kept
+changed before after = map (λ block. (block, sector_at before block)) (differences before after)

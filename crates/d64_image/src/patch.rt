@@ -1,0 +1,155 @@
+//! Patches: blocks with the bytes that put an image back.
+ghost use Rattle.std.specs.Prelude.{◌≡◌, ◌<◌, ◌≤◌, false, [], length, nat_lt, count_by, vec_len, vec_capacity, OnOk, OnErr};
+ghost use Rattle.d64_image.specs.declared.block.TheConstants.{BLOCKS};
+ghost use Rattle.d64_image.specs.Image.{sector_at, with_sector};
+ghost use Rattle.d64_image.specs.Patch.{IsPatch, back, changed, is_kept, with_kept, taken, trimmed};
+
+use crate::block::BlockNo;
+use crate::block_bytes::same_bytes;
+use crate::image::{BLOCK_BYTES, Image};
+use std::alloc::{AllocError, Global};
+use std::marker::Model;
+use std::mem;
+
+/// Blocks of an image that were written over, each once and ascending, with their 256 bytes from before.
+///
+/// What writes to an image through a patch can be taken back: the image with the patch put back is the one from
+/// before. A patch that is exchanged with its image keeps the bytes from after, so that a second exchange redoes.
+#[derive(Debug, Drop)]
+pub struct Patch {
+    kept: Vec<(BlockNo, [u8; BLOCK_BYTES])>,
+}
+
+impl Model for Patch {
+    ghost use Rattle.d64_image.specs.Patch.{Kept, IsPatch};
+
+    ghost Value = { Kept };
+
+    ghost view = { λ patch. patch.kept.items };
+
+    ghost invariant = { λ patch. IsPatch patch.kept.items };
+}
+
+// Makes room for one more. Where there is none, room for one is asked for first, and then for as many again as there are.
+fn make_room(kept: &mut Vec<(BlockNo, [u8; BLOCK_BYTES])>) -> Result<(), AllocError>
+    ensures same { kept.new.items ≡ kept.old.items }
+    ensures room { OnOk result (vec_len kept.new < vec_capacity kept.new) }
+{
+    if kept.len() < kept.capacity() {
+        return Ok(());
+    }
+    kept.reserve_exact(kept.len().max(1))
+}
+
+impl Patch {
+    /// The patch that keeps nothing. Takes no memory.
+    pub fn new(alloc: Global) -> Patch
+        ensures { result ≡ [] }
+    {
+        Patch {
+            kept: Vec::new(alloc),
+        }
+    }
+
+    /// How many blocks are kept.
+    pub fn len(&self) -> usize
+        ensures { result ≡ length self.now }
+    {
+        self.kept.len()
+    }
+
+    /// The kept blocks with their bytes, ascending.
+    pub fn blocks(&self) -> &[(BlockNo, [u8; BLOCK_BYTES])]
+        ensures kept { result.now ≡ self.now }
+        ensures ascending { IsPatch self.now }
+    {
+        self.kept.as_slice()
+    }
+
+    /// Forgets all blocks. What was allocated stays.
+    pub fn clear(&mut self)
+        ensures { self.new ≡ [] }
+    {
+        self.kept.clear();
+    }
+
+    // Whether a block is kept.
+    fn keeps(&self, block: BlockNo) -> bool
+        ensures { result ≡ is_kept self.now block }
+    {
+        self.kept.iter().any(|entry| entry.0 == block)
+    }
+
+    // How many of the kept blocks come before a block.
+    fn place_of(&self, block: BlockNo) -> usize
+        ensures place { result ≡ count_by (λ entry. nat_lt entry.0 block) self.now }
+        ensures within { result ≤ length self.now }
+        ensures legal { block < BLOCKS }
+    {
+        let index = block.index();
+        self.kept
+            .iter()
+            .filter(|entry| entry.0.index() < index)
+            .count()
+    }
+
+    // Keeps the bytes of a block that isn't kept yet.
+    fn keep(&mut self, block: BlockNo, bytes: &[u8; BLOCK_BYTES]) -> Result<(), AllocError>
+        requires { is_kept self.old block ≡ false }
+        ensures kept { OnOk result (self.new ≡ with_kept self.old block bytes.now) }
+        ensures unchanged { OnErr result (self.new ≡ self.old) }
+    {
+        make_room(&mut self.kept)?;
+        let place = self.place_of(block);
+        self.kept.insert(place, (block, *bytes)).unwrap();
+        Ok(())
+    }
+
+    /// Writes a block into the image, and keeps the bytes that stood there if the block isn't kept yet. Refused where
+    /// there is no memory to keep them: then the block wasn't kept, and neither image nor patch is changed. A block that
+    /// is kept already takes no memory.
+    pub fn write(
+        &mut self,
+        image: &mut Image,
+        block: BlockNo,
+        bytes: &[u8; BLOCK_BYTES],
+    ) -> Result<(), AllocError>
+        ensures kept { OnOk result (self.new ≡ with_kept self.old block (sector_at image.old block)) }
+        ensures written { OnOk result (image.new ≡ with_sector image.old block bytes.now) }
+        ensures refused { OnErr result (is_kept self.old block ≡ false) }
+        ensures unchanged_patch { OnErr result (self.new ≡ self.old) }
+        ensures unchanged_image { OnErr result (image.new ≡ image.old) }
+        ensures back { back image.new self.new ≡ back image.old self.old }
+    {
+        if !self.keeps(block) {
+            self.keep(block, image.sector(block))?;
+        }
+        *image.sector_mut(block) = *bytes;
+        Ok(())
+    }
+
+    /// Exchanges the bytes of each kept block with those that the image has there. Takes no memory.
+    pub fn swap(&mut self, image: &mut Image)
+        ensures image { image.new ≡ back image.old self.old }
+        ensures patch { self.new ≡ taken image.old self.old }
+        ensures back { back image.new self.new ≡ image.old }
+        ensures changed { self.old ≡ changed image.new image.old → self.new ≡ changed image.old image.new }
+    {
+        for place in 0..self.kept.len() {
+            let entry = &mut self.kept[place];
+            mem::swap(&mut entry.1, image.sector_mut(entry.0));
+        }
+    }
+
+    /// Forgets the blocks whose kept bytes the image has: those in which it doesn't differ from the image with the patch
+    /// put back. Takes no memory.
+    pub fn trim(&mut self, image: &Image)
+        ensures kept { self.new ≡ trimmed image.now self.old }
+        ensures back { back image.now self.new ≡ back image.now self.old }
+        ensures changed { self.new ≡ changed (back image.now self.old) image.now }
+    {
+        image.known_length();
+        self.kept
+            .retain(|entry| !same_bytes(&entry.1, image.sector(entry.0)));
+    }
+}
