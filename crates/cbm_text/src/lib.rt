@@ -1,4 +1,23 @@
 //! BASIC V2 programs as text, and the text form of the bytes that they are made of.
+//!
+//! `crunch` makes a program file of a text, as the tokeniser of a Commodore 64 does, and `list` writes the text of a
+//! program file, as the command `LIST` shows it. Keywords and their tokens are in the Commodore 64 Programmer's
+//! Reference Guide, the lines of a program in memory in its chapter on BASIC; how bytes are written as text is this
+//! project's own (`petscii`).
 #![tactic(auto)]
 
+mod codes;
+mod crunching;
+mod fault;
+mod keyword;
+mod listing;
+mod mode;
+mod program;
+#[cfg(test)]
+mod tests;
+mod text_line;
+
+pub use crunching::crunch;
+pub use fault::{BasicFault, ListFault};
+pub use listing::list;
 pub use petscii::{TextFault, from_text, one_outcome, spelling_reads_back, to_text};

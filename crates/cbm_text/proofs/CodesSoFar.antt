@@ -1,0 +1,153 @@
+-- Crunched bytes, one by one.
+use Rattle.std.proofs.Common.{◌≡◌, ◌≢◌, ℕ, ◌<◌, ◌≤◌, length, arith, true, false, ◌+◌, ◌-◌, get_or, take, drop, List, [], ◌∷◌, ◌++◌, Option, Some, None, refl, sym, ◌∙◌, ap, subst, append_assoc}
+use Rattle.std.proofs.lemmas.List.{append-nil, take_all, drop_all, drop_more}
+use Rattle.std.proofs.lemmas.Bool.{eqb-true}
+use Rattle.std.specs.Prelude.{◌==◌}
+use Rattle.cbm_text.specs.Listing.{expanded_from, shown}
+use Rattle.cbm_text.specs.declared.mode.Mode.{Mode}
+use Rattle.cbm_text.specs.declared.mode.Mode.TheVariants.{Free, Quoted, Remark, Data, QuotedData}
+use Rattle.std.specs.Option.{option_map_or}
+use Rattle.cbm_text.specs.Keywords.{keywords, token_from}
+use Rattle.cbm_text.proofs.Keywords.{token_shrinks}
+use Rattle.cbm_text.specs.Crunching.{single_code, free_code, first_code, CrunchedFrom, Crunched}
+use Rattle.cbm_text.specs.Modes.{after}
+
+-- what has been crunched of a text, and what is left, read in this mode: what the rest crunches to follows, and every
+-- crunched form of the whole comes so
+pub record CrunchedSoFar (text codes : List ℕ) (mode : Mode) (left : List ℕ) : Type 0 where
+  pub completes : (more : List ℕ) → CrunchedFrom mode left more → Crunched text (codes ++ more)
+  pub only : (all : List ℕ) → Crunched text all → (more : List ℕ) × CrunchedFrom mode left more
+
+-- before the first byte
+pub crunched_nothing : (text : List ℕ) → CrunchedSoFar text [] Free text
+crunched_nothing text = record { completes = λ more crunched. crunched; only = λ all crunched. (all, crunched) }
+
+-- a crunched byte, and what follows
+abbrev found : ℕ → List ℕ → Option (ℕ × List ℕ)
+found code rest = Some (code, rest)
+
+abbrev code_of : Option (ℕ × List ℕ) → ℕ
+code_of None = 0
+code_of (Some it) = it.0
+
+abbrev rest_of : Option (ℕ × List ℕ) → List ℕ
+rest_of None = []
+rest_of (Some it) = it.1
+
+-- what is found by a single byte, and by a keyword
+abbrev after_single : List ℕ → Option ℕ → Option (ℕ × List ℕ)
+after_single rest code = option_map_or (λ c. found c rest) code None
+
+abbrev it_is : ℕ × List ℕ → Option (ℕ × List ℕ)
+it_is it = Some it
+
+-- one crunched byte more
+crunched_one : (mode : Mode) (left : List ℕ) (code : ℕ) (rest more : List ℕ) → first_code mode left ≡ Some (code, rest) → CrunchedFrom (after mode code) rest more → CrunchedFrom mode left (code ∷ more)
+unfolding CrunchedFrom
+crunched_one mode left code rest more first crunched = (rest, first, crunched)
+
+-- no text that has bytes crunches to nothing, and what it crunches to begins with its first crunched byte
+crunched_inverted : (mode : Mode) (left : List ℕ) (code : ℕ) (rest all : List ℕ) → left ≢ [] → first_code mode left ≡ Some (code, rest) → CrunchedFrom mode left all → (more : List ℕ) × CrunchedFrom (after mode code) rest more
+unfolding CrunchedFrom
+crunched_inverted mode left code rest [] some first nothing = absurd (some nothing)
+crunched_inverted mode left code rest (other ∷ more) some first (behind, is, crunched) =
+    let same : found other behind ≡ found code rest = sym is ∙ first in
+    let codes : other ≡ code = ap code_of same in
+    let rests : behind ≡ rest = ap rest_of same in
+    (more, subst (λ (c : ℕ). CrunchedFrom (after mode c) rest more) codes (subst (λ (w : List ℕ). CrunchedFrom (after mode other) w more) rests crunched))
+
+pub crunched_more : (text codes : List ℕ) (mode : Mode) (left : List ℕ) (code : ℕ) (rest : List ℕ) → CrunchedSoFar text codes mode left → left ≢ [] → first_code mode left ≡ Some (code, rest) → CrunchedSoFar text (codes ++ code ∷ []) (after mode code) rest
+crunched_more text codes mode left code rest so_far some first = record {
+  completes = λ more crunched. subst (λ (w : List ℕ). Crunched text w) (sym (append_assoc codes (code ∷ []) more)) (so_far.completes (code ∷ more) (crunched_one mode left code rest more first crunched));
+  only = λ all crunched. let before = so_far.only all crunched in crunched_inverted mode left code rest before.0 some first before.1;
+}
+
+-- nothing is left
+pub crunched_whole : (text codes : List ℕ) (mode : Mode) (left : List ℕ) → CrunchedSoFar text codes mode left → left ≡ [] → Crunched text codes
+unfolding CrunchedFrom
+crunched_whole text codes mode left so_far none = subst (λ (w : List ℕ). Crunched text w) (append-nil codes) (so_far.completes [] none)
+
+-- what is left begins with no crunched byte
+not_crunched : (mode : Mode) (left more : List ℕ) → left ≢ [] → first_code mode left ≡ None → ¬ (CrunchedFrom mode left more)
+unfolding CrunchedFrom
+not_crunched mode left [] some first nothing = some nothing
+not_crunched mode left (code ∷ more) some first (rest, is, crunched) = let same : found code rest ≡ None = sym is ∙ first in absurd cc
+
+pub crunched_never : (text codes : List ℕ) (mode : Mode) (left : List ℕ) → CrunchedSoFar text codes mode left → left ≢ [] → first_code mode left ≡ None → (all : List ℕ) → ¬ (Crunched text all)
+crunched_never text codes mode left so_far some first all crunched = let before = so_far.only all crunched in not_crunched mode left before.0 some first before.1
+
+-- where a place is not free the first byte is kept
+pub kept_code : (mode : Mode) (byte : ℕ) (rest : List ℕ) → mode ≢ Free → first_code mode (byte ∷ rest) ≡ Some (byte, rest)
+kept_code Free byte rest kept = absurd (kept refl)
+kept_code Quoted byte rest kept = refl
+kept_code Remark byte rest kept = refl
+kept_code Data byte rest kept = refl
+kept_code QuotedData byte rest kept = refl
+
+-- an empty text crunches to nothing
+pub nothing_first : (mode : Mode) (text : List ℕ) → length text < 1 → first_code mode text ≡ None
+unfolding free_code
+nothing_first Free [] none = refl
+nothing_first Quoted [] none = refl
+nothing_first Remark [] none = refl
+nothing_first Data [] none = refl
+nothing_first QuotedData [] none = refl
+nothing_first mode (byte ∷ rest) none = absurd (omega arith)
+
+-- at a free place, by the first keyword
+pub token_first : (mode : Mode) (text : List ℕ) (code : ℕ) (rest : List ℕ) → mode ≡ Free → 1 ≤ length text → token_from 128 keywords text ≡ Some (code, rest) → first_code mode text ≡ Some (code, rest)
+unfolding free_code
+token_first mode [] code rest free some is = absurd (omega arith)
+token_first mode (byte ∷ others) code rest free some is = subst (λ (m : Mode). first_code m (byte ∷ others) ≡ Some (code, rest)) (sym free) (rw is refl)
+
+-- and by the first byte
+pub single_first : (mode : Mode) (byte : ℕ) (rest : List ℕ) (code : Option ℕ) → mode ≡ Free → token_from 128 keywords (byte ∷ rest) ≡ None → code ≡ single_code byte
+    → first_code mode (byte ∷ rest) ≡ after_single rest code
+unfolding free_code
+single_first mode byte rest code free none is = subst (λ (m : Mode). first_code m (byte ∷ rest) ≡ after_single rest code) (sym free) (rw none (ap (λ (o : Option ℕ). after_single rest o) (sym is)))
+
+-- the first crunched byte takes some bytes of the text
+pub first_shrinks : (mode : Mode) (text : List ℕ) (code : ℕ) (rest : List ℕ) → text ≢ [] → first_code mode text ≡ Some (code, rest) → length rest < length text
+unfolding free_code
+first_shrinks mode [] code rest some is = absurd (some refl)
+first_shrinks Free (byte ∷ others) code rest some is = by_token (token_from 128 keywords (byte ∷ others)) refl is
+  where
+    by_single : (single : Option ℕ) → after_single others single ≡ Some (code, rest) → length rest < length (byte ∷ others)
+    by_single None none = absurd cc
+    by_single (Some c) here = let same : others ≡ rest = ap rest_of here in omega (arith, ap length same)
+
+    by_token : (token : Option (ℕ × List ℕ)) → token_from 128 keywords (byte ∷ others) ≡ token → option_map_or it_is token (after_single others (single_code byte)) ≡ Some (code, rest) → length rest < length (byte ∷ others)
+    by_token None none here = by_single (single_code byte) here
+    by_token (Some it) at here = token_shrinks (byte ∷ others) code rest (at ∙ here) (omega arith)
+first_shrinks Quoted (byte ∷ others) code rest some is = let same : others ≡ rest = ap rest_of is in omega (arith, ap length same)
+first_shrinks Remark (byte ∷ others) code rest some is = let same : others ≡ rest = ap rest_of is in omega (arith, ap length same)
+first_shrinks Data (byte ∷ others) code rest some is = let same : others ≡ rest = ap rest_of is in omega (arith, ap length same)
+first_shrinks QuotedData (byte ∷ others) code rest some is = let same : others ≡ rest = ap rest_of is in omega (arith, ap length same)
+
+-- the same of a text
+pub single_at : (mode : Mode) (text : List ℕ) (code : Option ℕ) → mode ≡ Free → 1 ≤ length text → token_from 128 keywords text ≡ None → code ≡ single_code (get_or text 0 0)
+    → first_code mode text ≡ after_single (take (length text - 1) (drop 1 text)) code
+single_at mode [] code free some none is = absurd (omega arith)
+single_at mode (byte ∷ rest) code free some none is =
+    single_first mode byte rest code free none is ∙ ap (λ (w : List ℕ). after_single w code) (sym (take_all (length (byte ∷ rest) - 1) rest (omega arith)))
+
+-- a text with a byte is not empty
+pub not_empty : (text : List ℕ) → false ≡ (length text == 0) → text ≢ []
+not_empty [] test none = absurd cc
+not_empty (byte ∷ rest) test none = absurd cc
+
+pub empty : (text : List ℕ) → true ≡ (length text == 0) → text ≡ []
+empty [] test = refl
+empty (byte ∷ rest) test = let none : length (byte ∷ rest) ≡ 0 = eqb-true _ _ (sym test) in absurd (omega arith)
+
+-- ---- expanding
+
+-- what one crunched byte stands for, and the rest
+pub expanded_one : (mode : Mode) (codes : List ℕ) (i : ℕ) → i < length codes
+    → expanded_from mode (drop i codes) ≡ shown mode (get_or codes i 0) ++ expanded_from (after mode (get_or codes i 0)) (drop (i + 1) codes)
+unfolding expanded_from
+expanded_one mode codes i within = ap (λ (w : List ℕ). expanded_from mode w) (drop_more codes i 0 within)
+
+pub expanded_none : (mode : Mode) (codes : List ℕ) (i : ℕ) → length codes ≤ i → expanded_from mode (drop i codes) ≡ []
+unfolding expanded_from
+expanded_none mode codes i past = ap (λ (w : List ℕ). expanded_from mode w) (drop_all i codes past)

@@ -1,0 +1,5 @@
+pub mod Keywords
+pub mod CodesSoFar
+pub mod TextLines
+pub mod ProgramFiles
+pub mod TextPrograms

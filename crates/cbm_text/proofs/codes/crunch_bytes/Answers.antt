@@ -1,0 +1,29 @@
+use Rattle.std.proofs.Common.{◌≡◌, ◌≢◌, List, ℕ, [], ◌∷◌, ◌++◌, sym, subst}
+use Rattle.cbm_text.specs.declared.mode.Mode.{Mode}
+use Rattle.cbm_text.proofs.CodesSoFar.{CrunchedSoFar, crunched_nothing, crunched_more, crunched_whole, crunched_never, first_shrinks, not_empty, empty}
+use Rattle.cbm_text.proofs.codes.crunch_bytes.Goals as goal
+
+pub loop-left-init : goal.loop-left-init
+loop-left-init c = rw c.new-codes.ensures.items (crunched_nothing c.args.bytes.now)
+
+pub returns-in_default : goal.returns-in_default
+returns-in_default c =
+    let left = c.loop-left.left.now in
+    crunched_never c.args.bytes.now c.loop-left.codes.items c.loop-left.mode left c.loop-left.invariant (not_empty left c.loop-left-test.ensures) c.in_default.ensures
+
+pub loop-left-smaller : goal.loop-left-smaller
+loop-left-smaller c =
+    let left = c.loop-left.left.now in
+    first_shrinks c.loop-left.mode left c.in-Some.code c.in-Some.rest.now (not_empty left c.loop-left-test.ensures) c.in-Some.ensures
+
+pub loop-left-preserved : goal.loop-left-preserved
+loop-left-preserved c =
+    let left = c.loop-left.left.now in
+    let rest = c.in-Some.rest.now in
+    let text = c.args.bytes.now in
+    rw c.in_ok-push.ensures.items
+    (subst (λ (m : Mode). CrunchedSoFar text (c.loop-left.codes.items ++ c.in-Some.code ∷ []) m rest) (sym c.after-mode.ensures)
+    (crunched_more text c.loop-left.codes.items c.loop-left.mode left c.in-Some.code rest c.loop-left.invariant (not_empty left c.loop-left-test.ensures) c.in-Some.ensures))
+
+pub returns : goal.returns
+returns c = crunched_whole c.args.bytes.now c.loop-left.codes.items c.loop-left.mode c.loop-left.left.now c.loop-left.invariant (empty c.loop-left.left.now c.loop-left-test.ensures)

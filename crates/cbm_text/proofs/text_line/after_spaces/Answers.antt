@@ -1,0 +1,13 @@
+use Rattle.std.proofs.Common.{◌≡◌, ℕ, List, length, drop, Option, ◌∙◌, ap}
+use Rattle.std.specs.Prelude.{unwrap_or}
+use Rattle.std.proofs.lemmas.List.{take_rest}
+use Rattle.cbm_text.specs.TextLine.{is_no_space, unspaced}
+use Rattle.cbm_text.proofs.TextLines.{place_or_length}
+use Rattle.cbm_text.proofs.text_line.after_spaces.Goals as goal
+
+pub returns : goal.returns
+unfolding unspaced
+returns c =
+    let text = c.args.text.now in
+    take_rest text c.unwrap_or-spaces.result
+    ∙ ap (λ (n : ℕ). drop n text) (c.unwrap_or-spaces.ensures ∙ ap (λ (o : Option ℕ). unwrap_or o (length text)) c.first_other_than_space.ensures ∙ place_or_length is_no_space text)

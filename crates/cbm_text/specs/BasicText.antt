@@ -1,0 +1,106 @@
+-- Which program a BASIC text stands for, and what is wrong with a text that stands for none.
+use Rattle.std.specs.Prelude.{◌≡◌, ◌≢◌, ℕ, ◌+◌, ◌^◌, ◌<◌, ◌≤◌, ◌⊎◌, true, false, List, [], ◌∷◌, length, Contains, Option, Some, None}
+use Rattle.petscii.specs.TextForm.{IsTextOf}
+use Rattle.petscii.specs.TextFault as text_faults
+use Rattle.d64_script.specs.RawLines.{lines_of, text_of, is_skipped}
+use Rattle.cbm_text.specs.declared.fault.BasicFault.{BasicFault}
+use Rattle.cbm_text.specs.declared.fault.BasicFault.TheVariants.{NoNumber, NumberTooLarge, Text, TokenByte, ZeroByte, TooLong, Memory}
+use Rattle.cbm_text.specs.Crunching.{Crunched}
+use Rattle.cbm_text.specs.Program.{Line, Program, address_behind, layout}
+use Rattle.cbm_text.specs.TextLine.{number_digits, line_number, rest_of}
+
+-- The most crunched bytes of a line, and the greatest link.
+abbrev pub most_bytes : ℕ
+most_bytes = 250
+
+abbrev pub greatest_link : ℕ
+greatest_link = 65535
+
+-- The text line has a number that fits.
+pub record IsNumbered (text : List ℕ) : Type 0 where
+  pub some : number_digits text ≢ []
+  pub small : line_number text < 2 ^ 16
+
+-- The text line has a number, and what follows stands for bytes.
+pub record IsRead (text bytes : List ℕ) : Type 0 where
+  pub numbered : IsNumbered text
+  pub read : IsTextOf bytes (rest_of text)
+
+-- They crunch, too.
+pub record IsCrunched (text bytes codes : List ℕ) : Type 0 where
+  pub read : IsRead text bytes
+  pub crunched : Crunched bytes codes
+
+-- A line of these crunched bytes is too long, or the link behind it is, where it stands at the address.
+abbrev pub IsTooLong : ℕ → List ℕ → Type 0
+IsTooLong at codes = (most_bytes < length codes) ⊎ (greatest_link < address_behind at codes)
+
+-- The text line is this line of a program, at this address.
+pub record IsLine (at : ℕ) (text : List ℕ) (line : Line) : Type 0 where
+  pub bytes : List ℕ
+  pub crunched : IsCrunched text bytes line.bytes
+  pub number : line.number ≡ line_number text
+  pub no_zero : ¬ (Contains bytes 0)
+  pub short : length line.bytes ≤ most_bytes
+  pub linked : address_behind at line.bytes ≤ greatest_link
+
+-- The least fault of the text line with this number, at this address.
+abbrev pub HasFault : ℕ → ℕ → List ℕ → BasicFault → Type 0
+HasFault at number text (NoNumber line) = (line ≡ number) × (number_digits text ≡ [])
+HasFault at number text (NumberTooLarge line) = (line ≡ number) × (number_digits text ≢ []) × (2 ^ 16 ≤ line_number text)
+HasFault at number text (Text line fault) = (line ≡ number) × IsNumbered text × text_faults.IsFirstFault (rest_of text) fault
+HasFault at number text (TokenByte line) = (line ≡ number) × (bytes : List ℕ) × IsRead text bytes × ((codes : List ℕ) → ¬ (Crunched bytes codes))
+HasFault at number text (ZeroByte line) = (line ≡ number) × (bytes codes : List ℕ) × IsCrunched text bytes codes × Contains bytes 0
+HasFault at number text (TooLong line) = (line ≡ number) × (bytes codes : List ℕ) × IsCrunched text bytes codes × ¬ (Contains bytes 0) × IsTooLong at codes
+HasFault at number text (Memory error) = ⊥
+
+-- The raw lines of a text, where the first line that they give stands at the address, give this program. Empty lines,
+-- lines of spaces and comments give nothing.
+unfoldable pub AreLines : ℕ → List (List ℕ) → Program → Type 0
+AreLines at [] program = program ≡ []
+AreLines at (raw ∷ raws) program = ((is_skipped (text_of raw) ≡ true) × AreLines at raws program)
+    ⊎ ((is_skipped (text_of raw) ≡ false) × (line : Line) × (lines : Program) × (program ≡ line ∷ lines) × IsLine at (text_of raw) line × AreLines (address_behind at line.bytes) raws lines)
+
+-- The fault of the first faulty one of the raw lines, the first of which has this number, where the first line that they
+-- give stands at the address.
+unfoldable pub FaultsFirst : ℕ → ℕ → List (List ℕ) → BasicFault → Type 0
+FaultsFirst at number [] fault = ⊥
+FaultsFirst at number (raw ∷ raws) fault = ((is_skipped (text_of raw) ≡ true) × FaultsFirst at (number + 1) raws fault)
+    ⊎ ((is_skipped (text_of raw) ≡ false) × (HasFault at number (text_of raw) fault
+    ⊎ ((line : Line) × IsLine at (text_of raw) line × FaultsFirst (address_behind at line.bytes) (number + 1) raws fault)))
+
+-- The text stands for this program, where it is loaded at start.
+abbrev pub IsProgramOf : ℕ → List ℕ → Program → Type 0
+IsProgramOf start text program = AreLines start (lines_of text) program
+
+-- The file is that of the text's program.
+unfoldable pub IsFileOf : ℕ → List ℕ → List ℕ → Type 0
+IsFileOf start text file = (program : Program) × IsProgramOf start text program × (file ≡ layout start program)
+
+-- The first faulty line's least fault, lines counted from 1.
+abbrev pub IsFirstFault : ℕ → List ℕ → BasicFault → Type 0
+IsFirstFault start text fault = FaultsFirst start 1 (lines_of text) fault
+
+-- There was no memory.
+abbrev pub IsOfMemory : BasicFault → Type 0
+IsOfMemory (Memory error) = Unit {0}
+IsOfMemory fault = ⊥
+
+-- The numbers of the faults, and the text line that each tells.
+abbrev pub fault_number : BasicFault → ℕ
+fault_number (NoNumber line) = 1
+fault_number (NumberTooLarge line) = 2
+fault_number (Text line fault) = 3
+fault_number (TokenByte line) = 4
+fault_number (ZeroByte line) = 5
+fault_number (TooLong line) = 6
+fault_number (Memory error) = 7
+
+abbrev pub fault_line : BasicFault → Option ℕ
+fault_line (NoNumber line) = Some line
+fault_line (NumberTooLarge line) = Some line
+fault_line (Text line fault) = Some line
+fault_line (TokenByte line) = Some line
+fault_line (ZeroByte line) = Some line
+fault_line (TooLong line) = Some line
+fault_line (Memory error) = None

@@ -1,0 +1,26 @@
+-- The keywords of BASIC V2.
+use Rattle.std.specs.Prelude.{ℕ, ◌+◌, ◌-◌, List, [], ◌∷◌, length, drop, Option, Some, None, slice_get, nat_eq, nat_le, if◌then◌else◌, codes}
+use Rattle.std.specs.List.{starts_with}
+
+-- The keywords in the order of their tokens, the first of which is $80, as bytes of PETSCII.
+unfoldable pub keywords : List (List ℕ)
+keywords =
+    codes "END" ∷ codes "FOR" ∷ codes "NEXT" ∷ codes "DATA" ∷ codes "INPUT#" ∷ codes "INPUT" ∷ codes "DIM" ∷ codes "READ"
+    ∷ codes "LET" ∷ codes "GOTO" ∷ codes "RUN" ∷ codes "IF" ∷ codes "RESTORE" ∷ codes "GOSUB" ∷ codes "RETURN" ∷ codes "REM"
+    ∷ codes "STOP" ∷ codes "ON" ∷ codes "WAIT" ∷ codes "LOAD" ∷ codes "SAVE" ∷ codes "VERIFY" ∷ codes "DEF" ∷ codes "POKE"
+    ∷ codes "PRINT#" ∷ codes "PRINT" ∷ codes "CONT" ∷ codes "LIST" ∷ codes "CLR" ∷ codes "CMD" ∷ codes "SYS" ∷ codes "OPEN"
+    ∷ codes "CLOSE" ∷ codes "GET" ∷ codes "NEW" ∷ codes "TAB(" ∷ codes "TO" ∷ codes "FN" ∷ codes "SPC(" ∷ codes "THEN"
+    ∷ codes "NOT" ∷ codes "STEP" ∷ codes "+" ∷ codes "-" ∷ codes "*" ∷ codes "/" ∷ codes "^" ∷ codes "AND"
+    ∷ codes "OR" ∷ codes ">" ∷ codes "=" ∷ codes "<" ∷ codes "SGN" ∷ codes "INT" ∷ codes "ABS" ∷ codes "USR"
+    ∷ codes "FRE" ∷ codes "POS" ∷ codes "SQR" ∷ codes "RND" ∷ codes "LOG" ∷ codes "EXP" ∷ codes "COS" ∷ codes "SIN"
+    ∷ codes "TAN" ∷ codes "ATN" ∷ codes "PEEK" ∷ codes "LEN" ∷ codes "STR$" ∷ codes "VAL" ∷ codes "ASC" ∷ codes "CHR$"
+    ∷ codes "LEFT$" ∷ codes "RIGHT$" ∷ codes "MID$" ∷ codes "GO" ∷ []
+
+-- The keyword of a token.
+unfoldable pub keyword : ℕ → Option (List ℕ)
+keyword token = if nat_le 128 token then slice_get keywords (token - 128) else None
+
+-- The first of these words that a text begins with: its token, where that of the first word is given, and what follows.
+abbrev pub token_from : ℕ → List (List ℕ) → List ℕ → Option (ℕ × List ℕ)
+token_from token [] text = None
+token_from token (word ∷ words) text = if starts_with nat_eq text word then Some (token, drop (length word) text) else token_from (token + 1) words text

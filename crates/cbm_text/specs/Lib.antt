@@ -1,0 +1,11 @@
+pub use Rattle.petscii.specs.TextForm
+pub use Rattle.petscii.specs.TextFault
+pub use Rattle.petscii.specs.Spelling
+pub mod Keywords
+pub mod Modes
+pub mod Crunching
+pub mod Program
+pub mod Listing
+pub mod ListFault
+pub mod TextLine
+pub mod BasicText

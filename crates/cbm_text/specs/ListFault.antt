@@ -1,0 +1,17 @@
+-- Why bytes list as no program.
+use Rattle.std.specs.Prelude.{ℕ, ◌<◌, ◌≤◌, List, length}
+use Rattle.cbm_text.specs.declared.fault.ListFault.{ListFault}
+use Rattle.cbm_text.specs.declared.fault.ListFault.TheVariants.{NoAddress, Truncated, Memory}
+use Rattle.cbm_text.specs.Program.{Program, Reads}
+
+-- The bytes have this fault: fewer than two have no load address, and others that read as no program are cut short.
+abbrev pub ListsNot : List ℕ → ListFault → Type 0
+ListsNot file NoAddress = length file < 2
+ListsNot file Truncated = (2 ≤ length file) × ((program : Program) → ¬ (Reads file program))
+ListsNot file (Memory error) = 2 ≤ length file
+
+-- The numbers of the faults.
+abbrev pub list_fault_number : ListFault → ℕ
+list_fault_number NoAddress = 1
+list_fault_number Truncated = 2
+list_fault_number (Memory error) = 3

@@ -1,0 +1,41 @@
+-- The lines of a BASIC text: what stands on them.
+use Rattle.std.specs.Prelude.{ℕ, ◌^◌, Bool, not, nat_lt, Option, Some, None, List, [], ◌∷◌, drop, ◌==◌, if◌then◌else◌}
+use Rattle.std.specs.List.{before_first, position_or_len}
+use Rattle.std.specs.Char.{is_ascii_digit}
+use Rattle.std.specs.Str.Parse.{digits_value}
+
+-- ` `
+abbrev pub space : ℕ
+space = 32
+
+-- the bytes that are no spaces, and those that are no digits
+abbrev pub is_no_space : ℕ → Bool
+is_no_space byte = not (byte == space)
+
+abbrev pub is_no_digit : ℕ → Bool
+is_no_digit byte = not (is_ascii_digit byte)
+
+-- A text line without the spaces that it begins with.
+unfoldable pub unspaced : List ℕ → List ℕ
+unspaced line = drop (position_or_len is_no_space line) line
+
+-- The digits of a line's number: the longest run of digits behind its spaces.
+unfoldable pub number_digits : List ℕ → List ℕ
+number_digits line = before_first is_no_digit (unspaced line)
+
+-- The number that they spell.
+abbrev pub line_number : List ℕ → ℕ
+line_number line = digits_value 10 (number_digits line)
+
+-- The number that digits spell, if two bytes hold it.
+unfoldable pub fitting_number : List ℕ → Option ℕ
+fitting_number digits = if nat_lt (digits_value 10 digits) (2 ^ 16) then Some (digits_value 10 digits) else None
+
+-- A text without the one space that it may begin with.
+abbrev pub without_space : List ℕ → List ℕ
+without_space [] = []
+without_space (byte ∷ rest) = if byte == space then rest else byte ∷ rest
+
+-- What follows the number and one space.
+unfoldable pub rest_of : List ℕ → List ℕ
+rest_of line = without_space (drop (position_or_len is_no_digit (unspaced line)) (unspaced line))

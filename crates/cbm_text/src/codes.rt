@@ -1,0 +1,93 @@
+//! The crunched bytes of a line, and what they stand for.
+
+ghost use Rattle.std.specs.Prelude.{◌≡◌, ℕ, List, ◌++◌, MatchOption, IfOk, OnOk};
+ghost use Rattle.cbm_text.specs.Crunching.{Crunched, first_code, free_code, single_code};
+ghost use Rattle.cbm_text.specs.Listing.{expanded, shown};
+
+use crate::keyword::{first_token, keyword_of};
+use crate::mode::Mode;
+use std::alloc::{AllocError, Global};
+
+/// The token of `print`.
+const PRINT: u8 = 0x99;
+
+/// The byte of pi, which is no token.
+const PI: u8 = 0xff;
+
+/// The crunched bytes of a line, or `None` where a byte of $80 or more stands at a free place.
+pub(crate) fn crunch_bytes(alloc: Global, bytes: &[u8]) -> Result<Option<Vec<u8>>, AllocError>
+    ensures { IfOk result (λ crunched. MatchOption crunched
+        ((codes : List ℕ) → ¬ (Crunched bytes.now codes))
+        (λ codes. Crunched bytes.now codes.items)) }
+{
+    let mut codes = Vec::new(alloc);
+    let mut mode = Mode::Free;
+    let mut left = bytes;
+    while !left.is_empty() {
+        let Some((code, rest)) = next_code(mode, left) else {
+            return Ok(None);
+        };
+        codes.push(code)?;
+        mode = mode.after(code);
+        left = rest;
+    }
+    Ok(Some(codes))
+}
+
+/// The first crunched byte of a text that begins at such a place, and what follows.
+fn next_code(mode: Mode, text: &[u8]) -> Option<(u8, &[u8])>
+    ensures { MatchOption result (first_code mode text.now ≡ None)
+        (λ found. first_code mode text.now ≡ Some (found.0, found.1.now)) }
+{
+    let [first, rest @ ..] = text else {
+        return None;
+    };
+    match mode {
+        Mode::Free => match first_token(text) {
+            Some(found) => Some(found),
+            None => match code_of_byte(*first) {
+                Some(code) => Some((code, rest)),
+                None => None,
+            },
+        },
+        Mode::Quoted | Mode::Remark | Mode::Data | Mode::QuotedData => Some((*first, rest)),
+    }
+}
+
+/// What a byte at a free place crunches to, where no keyword begins with it.
+fn code_of_byte(byte: u8) -> Option<u8>
+    ensures { result ≡ single_code byte }
+{
+    match byte {
+        b'?' => Some(PRINT),
+        0..0x80 | PI => Some(byte),
+        _ => None,
+    }
+}
+
+/// What the crunched bytes of a line stand for.
+pub(crate) fn expand(alloc: Global, codes: &[u8]) -> Result<Vec<u8>, AllocError>
+    ensures { IfOk result (λ bytes. bytes.items ≡ expanded codes.now) }
+{
+    let mut bytes = Vec::new(alloc);
+    let mut mode = Mode::Free;
+    for code in codes {
+        push_shown(&mut bytes, mode, *code)?;
+        mode = mode.after(*code);
+    }
+    Ok(bytes)
+}
+
+/// Adds what a crunched byte stands for.
+fn push_shown(bytes: &mut Vec<u8>, mode: Mode, code: u8) -> Result<(), AllocError>
+    ensures { OnOk result (bytes.new.items ≡ bytes.old.items ++ shown mode code) }
+{
+    if mode == Mode::Free
+        && let Some(word) = keyword_of(code)
+    {
+        bytes.extend_from_slice(word)?;
+        return Ok(());
+    }
+    bytes.push(code)?;
+    Ok(())
+}

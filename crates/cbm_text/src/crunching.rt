@@ -1,0 +1,89 @@
+//! BASIC texts as program files.
+
+ghost use Rattle.std.specs.Prelude.{◌≡◌, ◌⊎◌, ◌++◌, ℕ, IfOk, IfErr, MatchResult, ◌<◌};
+ghost use Rattle.cbm_text.specs.BasicText.{IsFileOf, IsFirstFault, IsOfMemory, IsLine, HasFault};
+ghost use Rattle.cbm_text.specs.Program.{Line, line_layout, address_behind};
+
+use crate::codes::crunch_bytes;
+use crate::fault::BasicFault;
+use crate::program::{self, push_line, push_word};
+use crate::text_line::split_number;
+use d64_script::raw_lines::{self, RawLines};
+use petscii::{TextFault, from_text};
+use std::alloc::Global;
+
+/// The most crunched bytes of a line.
+const MOST_BYTES: usize = 250;
+
+/// The greatest link.
+const GREATEST_LINK: usize = 65_535;
+
+/// The bytes of a line's link and number, and of the $00 behind it.
+const AROUND_BYTES: usize = 5;
+
+/// The program file of a BASIC text, loaded at `start`. Each line of the text begins with its number, in any order;
+/// empty lines, lines of spaces and lines that begin with `;` are skipped. What follows the number and one space is in
+/// text form (`from_text`), and keywords are found from left to right, in spaces or not, as the machine finds them:
+/// not between quotes, behind `rem`, or behind `data` up to a colon outside quotes.
+///
+/// An `Err` is the first fault of the first faulty line, in the order of `BasicFault`; or there is no memory.
+pub fn crunch(alloc: Global, start: u16, text: &[u8]) -> Result<Vec<u8>, BasicFault>
+    ensures crunched { IfOk result (λ file. IsFileOf start text.now file.items) }
+    ensures fault { IfErr result (λ fault. IsOfMemory fault ⊎ IsFirstFault start text.now fault) }
+{
+    let mut file = Vec::with_capacity(alloc, text.len())?;
+    push_word(&mut file, start)?;
+    let mut at = start;
+    let mut place = 0;
+    for raw in RawLines(text) {
+        place += 1;
+        let line = raw_lines::text(raw);
+        if raw_lines::is_skipped(line) {
+            continue;
+        }
+        at = push_text_line(alloc, &mut file, at, line, place)?;
+    }
+    push_word(&mut file, 0)?;
+    Ok(file)
+}
+
+/// Adds the line of a program that a text line stands for, at an address: the address of what follows. The line's
+/// place in the text goes into a fault.
+fn push_text_line(
+    alloc: Global,
+    file: &mut Vec<u8>,
+    at: u16,
+    text: &[u8],
+    place: usize,
+) -> Result<u16, BasicFault>
+    ensures line { IfOk result (λ next. (line : Line) × IsLine at text.now line × (next ≡ address_behind at line.bytes)
+        × (file.new.items ≡ file.old.items ++ line_layout at line)) }
+    ensures fault { IfErr result (λ fault. IsOfMemory fault ⊎ HasFault at place text.now fault) }
+{
+    let (number, rest) = split_number(text, place)?;
+    let bytes = match from_text(alloc, rest) {
+        Ok(bytes) => bytes,
+        Err(TextFault::Memory(error)) => return Err(BasicFault::Memory(error)),
+        Err(fault) => return Err(BasicFault::Text { line: place, fault }),
+    };
+    let Some(codes) = crunch_bytes(alloc, &bytes)? else {
+        return Err(BasicFault::TokenByte { line: place });
+    };
+    if bytes.contains(&0) {
+        return Err(BasicFault::ZeroByte { line: place });
+    }
+    let next = usize::from(at) + codes.len() + AROUND_BYTES;
+    if codes.len() > MOST_BYTES || next > GREATEST_LINK {
+        return Err(BasicFault::TooLong { line: place });
+    }
+    let next = next as u16;
+    push_line(
+        file,
+        next,
+        &program::Line {
+            number,
+            bytes: &codes,
+        },
+    )?;
+    Ok(next)
+}

@@ -1,0 +1,187 @@
+//! Programs as the machine keeps them, and their texts.
+
+use crate::{BasicFault, ListFault, TextFault, crunch, list};
+use std::alloc::Global;
+use std::test::Fail;
+
+/// The keywords in the order of their tokens, in text form.
+const KEYWORDS: &str =
+    "end for next data input# input dim read let goto run if restore gosub return rem stop on wait load save verify def poke print# print cont list clr cmd sys open close get new tab( to fn spc( then not step + - * / ^ and or > = < sgn int abs usr fre pos sqr rnd log exp cos sin tan atn peek len str$ val asc chr$ left$ right$ mid$ go";
+
+/// The bytes that a program loaded at $0801 crunches to, and its text again.
+fn crunches_and_lists(alloc: Global, text: &str, file: &[u8], listing: &str) -> Result<bool, Fail> {
+    let crunched = crunch(alloc, 0x0801, text.as_bytes())?;
+    let listed = list(alloc, file)?;
+    Ok(crunched.as_slice() == file && listed.as_slice() == listing.as_bytes())
+}
+
+#[test]
+fn crunches_as_the_machine_does(rt: HostRuntime) -> Result<(), Fail> {
+    let rows: [(&str, &[u8], &str); 10] = [
+        (
+            "10 print\"hello\"",
+            b"\x01\x08\x0e\x08\x0a\x00\x99\"HELLO\"\x00\x00\x00",
+            "10 print\"hello\"\n",
+        ),
+        (
+            "10 data for:for\n",
+            b"\x01\x08\x0d\x08\x0a\x00\x83 FOR:\x81\x00\x00\x00",
+            "10 data for:for\n",
+        ),
+        (
+            "30 ?#1",
+            b"\x01\x08\x09\x08\x1e\x00\x99#1\x00\x00\x00",
+            "30 print#1\n",
+        ),
+        ("", b"\x01\x08\x00\x00", ""),
+        (
+            "; x\n5 a\n",
+            b"\x01\x08\x07\x08\x05\x00A\x00\x00\x00",
+            "5 a\n",
+        ),
+        (
+            "10 goto10",
+            b"\x01\x08\x09\x08\x0a\x00\x8910\x00\x00\x00",
+            "10 goto10\n",
+        ),
+        (
+            "10 print#1",
+            b"\x01\x08\x08\x08\x0a\x00\x981\x00\x00\x00",
+            "10 print#1\n",
+        ),
+        (
+            "10 go to",
+            b"\x01\x08\x09\x08\x0a\x00\xcb \xa4\x00\x00\x00",
+            "10 go to\n",
+        ),
+        (
+            "  0\r\n\r\n   \n 65535  a",
+            b"\x01\x08\x06\x08\x00\x00\x00\x0d\x08\xff\xff A\x00\x00\x00",
+            "0 \n65535  a\n",
+        ),
+        (
+            "1 data\":for\":for\n2 rem\":for\n3 for\":for",
+            b"\x01\x08\x0f\x08\x01\x00\x83\":FOR\":\x81\x00\x1a\x08\x02\x00\x8f\":FOR\x00\x25\x08\x03\x00\x81\":FOR\x00\x00\x00",
+            "1 data\":for\":for\n2 rem\":for\n3 for\":for\n",
+        ),
+    ];
+    for (text, file, listing) in rows {
+        assert!(rt;
+            crunches_and_lists(rt.alloc(), text, file, listing)?,
+            "of {text:?}"
+        );
+    }
+    Ok(())
+}
+
+#[test]
+fn tells_the_first_fault(rt: HostRuntime) {
+    let rows = [
+        ("a", BasicFault::NoNumber { line: 1 }),
+        ("\n; x\n a\nb", BasicFault::NoNumber { line: 3 }),
+        ("65536 a", BasicFault::NumberTooLarge { line: 1 }),
+        ("65536 {foo}{$00}", BasicFault::NumberTooLarge { line: 1 }),
+        (
+            "1 a\n10 a{foo}{clr}",
+            BasicFault::Text {
+                line: 2,
+                fault: TextFault::UnknownName { place: 1 },
+            },
+        ),
+        ("20 {clr}", BasicFault::TokenByte { line: 1 }),
+        ("20 {$00}{clr}", BasicFault::TokenByte { line: 1 }),
+        ("10 {$00}", BasicFault::ZeroByte { line: 1 }),
+        ("1 rem{$00}\na", BasicFault::ZeroByte { line: 1 }),
+    ];
+    for (text, fault) in rows {
+        assert_eq!(rt;
+            crunch(rt.alloc(), 0x0801, text.as_bytes()).err(),
+            Some(fault),
+            "of {text:?}"
+        );
+    }
+}
+
+#[test]
+fn takes_lines_up_to_the_limits(rt: HostRuntime) -> Result<(), Fail> {
+    let hello = b"10 print\"hello\"";
+    let last = crunch(rt.alloc(), 0xfff2, hello)?;
+    assert_eq!(rt;
+        last.as_slice(),
+        b"\xf2\xff\xff\xff\x0a\x00\x99\"HELLO\"\x00\x00\x00".as_slice()
+    );
+    assert_eq!(rt;
+        crunch(rt.alloc(), 0xfff3, hello).err(),
+        Some(BasicFault::TooLong { line: 1 })
+    );
+    let mut long = Vec::from_slice(rt.alloc(), b"10 ")?;
+    for _ in 0..250 {
+        long.push(b'a')?;
+    }
+    let crunched = crunch(rt.alloc(), 0x0801, &long)?;
+    assert_eq!(rt; crunched.len(), 259);
+    long.push(b'a')?;
+    assert_eq!(rt;
+        crunch(rt.alloc(), 0x0801, &long).err(),
+        Some(BasicFault::TooLong { line: 1 })
+    );
+    Ok(())
+}
+
+#[test]
+fn lists_what_reads_as_a_program(rt: HostRuntime) -> Result<(), Fail> {
+    let lying = list(rt.alloc(), b"\x01\x08\xff\xff\x0a\x00A\x00\x00\x00w")?;
+    assert_eq!(rt; lying.as_slice(), b"10 a\n".as_slice());
+    let tokens = list(
+        rt.alloc(),
+        b"\x01\x08\x01\x00\x0a\x00\xcc\x80\"\x80\x00\x00\x00",
+    )?;
+    assert_eq!(rt; tokens.as_slice(), b"10 Lend\"{$80}\n".as_slice());
+    let faults: [(&[u8], ListFault); 6] = [
+        (b"", ListFault::NoAddress),
+        (b"\x01", ListFault::NoAddress),
+        (b"\x01\x08", ListFault::Truncated),
+        (b"\x01\x08\x00", ListFault::Truncated),
+        (b"\x01\x08\x0e\x08\x0a", ListFault::Truncated),
+        (b"\x01\x08\x0e\x08\x0a\x00A", ListFault::Truncated),
+    ];
+    for (file, fault) in faults {
+        assert_eq!(rt; list(rt.alloc(), file).err(), Some(fault));
+    }
+    Ok(())
+}
+
+#[test]
+fn knows_each_keyword_alone_and_in_a_name(rt: HostRuntime) -> Result<(), Fail> {
+    let mut token = 0x80;
+    for keyword in KEYWORDS.split(' ') {
+        let mut text = Vec::from_slice(rt.alloc(), b"7 ")?;
+        text.extend_from_slice(keyword.as_bytes())?;
+        text.push(b'\n')?;
+        let file = crunch(rt.alloc(), 0x0801, &text)?;
+        let kept = [1, 8, 7, 8, 7, 0, token, 0, 0, 0];
+        assert_eq!(rt; file.as_slice(), kept.as_slice(), "of {keyword}");
+        let listed = list(rt.alloc(), &kept)?;
+        assert_eq!(rt; listed.as_slice(), text.as_slice(), "of {keyword}");
+        let mut named = Vec::from_slice(rt.alloc(), b"7 x")?;
+        named.extend_from_slice(keyword.as_bytes())?;
+        named.extend_from_slice(b"x\n")?;
+        let named_file = crunch(rt.alloc(), 0x0801, &named)?;
+        let named_kept = [1, 8, 9, 8, 7, 0, b'X', token, b'X', 0, 0, 0];
+        assert_eq!(rt;
+            named_file.as_slice(),
+            named_kept.as_slice(),
+            "of {keyword}"
+        );
+        let named_list = list(rt.alloc(), &named_kept)?;
+        assert_eq!(rt; named_list.as_slice(), named.as_slice(), "of {keyword}");
+        token += 1;
+    }
+    assert_eq!(rt; token, 0xcc);
+    let names = crunch(rt.alloc(), 0x0801, b"1 forest toto ifa")?;
+    assert_eq!(rt;
+        names.as_slice(),
+        b"\x01\x08\x10\x08\x01\x00\x81EST \xa4\xa4 \x8bA\x00\x00\x00".as_slice()
+    );
+    Ok(())
+}
