@@ -4,3 +4,4 @@ pub mod Chunks
 pub mod Sets
 pub mod Differences
 pub mod Patches
+pub mod SameBytes

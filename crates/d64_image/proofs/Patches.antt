@@ -1,11 +1,11 @@
 -- patches: what a write, an exchange and a trim leave, and that each can be put back
 use Rattle.std.proofs.Common.{◌≡◌, ◌≢◌, ℕ, zero, suc, ◌+◌, ◌<◌, ◌≤◌, ◌==◌, Bool, true, false, cond, not, ◌||◌, List, [], ◌∷◌, ◌++◌, length, take, drop, map, get_or, nat_lt, nat_eq, refl, sym, ap, ap₂, ◌∙◌, subst, inl, inr, arith, append_assoc}
-use Rattle.std.specs.List.{list_any, insert, filter, count_by, range_with_len}
+use Rattle.std.specs.List.{insert, filter, count_by, range_with_len}
 use Rattle.std.specs.Cmp.Lexicographic.{pointwise, bytes_decides}
 use Rattle.std.proofs.Math.ListN.{set}
 use Rattle.std.proofs.lemmas.Bool.{cases_eq, cases_lt, cases_Bool}
 use Rattle.std.proofs.lemmas.Bool.Decides.{nat_tests}
-use Rattle.std.proofs.lemmas.List.{length-set, get_or-set_same, get_or-set_other, set-set, set_comm, set-get_or, set_at, get_or_at, take_all, drop_all, append-nil, length-map, length-take-le, take-append-drop, take_more, drop_more, map-append}
+use Rattle.std.proofs.lemmas.List.{length-set, get_or-set_same, get_or-set_other, set-set, set_comm, set-get_or, set_at, get_or_at, ext_get_or, take_all, drop_all, append-nil, length-map, length-take-le, take-append-drop, take_more, drop_more, map-append}
 use Rattle.std.proofs.lemmas.Simd.{map-map}
 use Rattle.std.proofs.lemmas.List.Sums.{sum_by-cons, fold-append}
 use Rattle.d64_image.specs.Image.{sector_at, with_sector, differences}
@@ -451,3 +451,47 @@ pub taken-all : (patch kept : Kept) (image : List (List ℕ)) (place : ℕ) → 
     → kept ≡ taken image (take place patch) ++ drop place patch → kept ≡ taken image patch
 taken-all patch kept image place h e =
     e ∙ ap₂ (λ (first rest : Kept). taken image first ++ rest) (take_all place patch h) (drop_all place patch h) ∙ append-nil (taken image patch)
+
+-- where the test tells no difference, the blocks are the same
+differ-same : (image other : List (List ℕ)) (block : ℕ) → differ image other block ≡ false → sector_at image block ≡ sector_at other block
+unfolding differ
+differ-same image other block e = elim (cases_Bool (pointwise nat_eq (sector_at image block) (sector_at other block))) [
+  | inl t ↦ (bytes_decides (sector_at image block) (sector_at other block)).0 t
+  | inr f ↦ let g = ap not f in absurd (cc)
+]
+
+-- from one block on, the blocks that differ are put back
+restored : (n low : ℕ) (before after image : List (List ℕ)) → length image ≡ low + n → length before ≡ low + n
+    → ((k : ℕ) → k < low → sector_at image k ≡ sector_at before k)
+    → ((k : ℕ) → low ≤ k → sector_at image k ≡ sector_at after k)
+    → back image (map (with_bytes before) (filter (differ before after) (range_with_len low n))) ≡ before
+unfolding back with_bytes
+restored zero low before after image l m below above = ext_get_or [] image before (omega arith) (λ k h. below k (omega arith))
+restored (suc n) low before after image l m below above =
+    let rest : List ℕ = filter (differ before after) (range_with_len (low + 1) n) in
+    elim (cases_Bool (differ before after low)) [
+      | inl t ↦
+          let bytes : List ℕ = sector_at before low in
+          let long = length-set image low bytes in
+          ap (λ (u : Bool). back image (map (with_bytes before) (cond u (low ∷ rest) rest))) t
+          ∙ restored n (low + 1) before after (set image low bytes) (omega arith) (omega arith)
+          (λ k h. elim (cases_eq k low) [
+            | inl e ↦ ap (sector_at (set image low bytes)) e ∙ get_or-set_same image low bytes [] (omega arith) ∙ ap (sector_at before) (sym e)
+            | inr ne ↦ get_or-set_other image low k bytes [] ne ∙ below k (omega arith)
+          ])
+          (λ k h. get_or-set_other image low k bytes [] (λ e. absurd (omega arith)) ∙ above k (omega arith))
+      | inr f ↦
+          ap (λ (u : Bool). back image (map (with_bytes before) (cond u (low ∷ rest) rest))) f
+          ∙ restored n (low + 1) before after image (omega arith) (omega arith)
+          (λ k h. elim (cases_eq k low) [
+            | inl e ↦ above k (omega arith) ∙ ap (sector_at after) e ∙ sym (differ-same before after low f) ∙ ap (sector_at before) (sym e)
+            | inr ne ↦ below k (omega arith)
+          ])
+          (λ k h. above k (omega arith))
+    ]
+
+-- the patch of all that changed puts back the image from before
+pub back-changed : (before after : List (List ℕ)) → length before ≡ length after → back after (changed before after) ≡ before
+unfolding changed with_bytes differ
+back-changed before after long =
+    restored (length before) 0 before after after (omega arith) (omega arith) (λ k h. absurd (omega arith)) (λ k h. refl)

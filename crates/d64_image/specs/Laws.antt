@@ -6,6 +6,7 @@ use Rattle.d64_image.specs.declared.block.TheConstants.{BLOCKS}
 use Rattle.d64_image.specs.Block.{IsLegal, first_block, pair_at, block_of}
 use Rattle.d64_image.specs.BlockSet.{same_members}
 use Rattle.d64_image.specs.Image.{sector_at, differences}
+use Rattle.d64_image.specs.Patch.{back, changed}
 
 -- each block stands for a legal pair, and is the block of that pair
 abbrev pub EachBlockHasItsPair : Type 0
@@ -39,3 +40,15 @@ AlikeSetsAreEqual = (blocks others : set.FinSet nat_cmp) → ((block : ℕ) → 
 -- the test of two sets tells whether they are equal
 abbrev pub SameMembersTells : Type 0
 SameMembersTells = (blocks others : set.FinSet nat_cmp) → IsTrue (same_members blocks others) ↔ (blocks ≡ others)
+
+-- a patch that keeps nothing puts nothing back
+abbrev pub EmptyPatchPutsNothingBack : Type 0
+EmptyPatchPutsNothingBack = (image : List (List ℕ)) → back image [] ≡ image
+
+-- the patch of all that changed puts back the image from before
+abbrev pub ChangesPutBack : Type 0
+ChangesPutBack = (before after : List (List ℕ)) → length before ≡ length after → back after (changed before after) ≡ before
+
+-- it keeps as many blocks as differ
+abbrev pub ChangesCount : Type 0
+ChangesCount = (before after : List (List ℕ)) → length (changed before after) ≡ length (differences before after)

@@ -1,9 +1,10 @@
-//! Laws of blocks, images and sets of blocks: each function's contract is a law, and its body is empty.
+//! Laws of blocks, images, patches and sets of blocks: each function's contract is a law, and its body is empty.
 //!
 //! A caller whose proof needs a law calls the function.
 ghost use Rattle.std.specs.Prelude.{◌≡◌, length};
 ghost use Rattle.d64_image.specs.Block.{pairs};
 ghost use Rattle.d64_image.specs.Laws.{EachBlockHasItsPair, EachLegalPairHasItsBlock, OnlyLegalPairsHaveBlocks};
+ghost use Rattle.d64_image.specs.Laws.{EmptyPatchPutsNothingBack, ChangesPutBack, ChangesCount};
 ghost use Rattle.d64_image.specs.Laws.{DifferencesTell, AlikeImagesAreEqual, AlikeSetsAreEqual, SameMembersTells};
 ghost use Rattle.d64_image.specs.declared.block.TheConstants.{BLOCKS};
 
@@ -25,4 +26,11 @@ pub fn differences_tell()
 pub fn alike_sets_are_equal()
     ensures members { AlikeSetsAreEqual }
     ensures test { SameMembersTells }
+{}
+
+/// The patch of all blocks that changed puts back the image from before, and an empty patch puts back nothing.
+pub fn changes_put_back()
+    ensures empty { EmptyPatchPutsNothingBack }
+    ensures back { ChangesPutBack }
+    ensures count { ChangesCount }
 {}

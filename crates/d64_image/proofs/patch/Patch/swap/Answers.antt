@@ -1,7 +1,7 @@
-use Rattle.std.proofs.Common.{◌≡◌, ℕ, ◌<◌, ◌≤◌, List, [], take, length, refl, ap, ap₂, sym, ◌∙◌, subst, arith}
+use Rattle.std.proofs.Common.{◌≡◌, ◌<◌, ◌≤◌, length, refl, ap, ap₂, sym, ◌∙◌, subst, arith}
 use Rattle.std.proofs.lemmas.List.{length-set, take_all}
 use Rattle.d64_image.specs.declared.block.TheConstants.{BLOCKS}
-use Rattle.d64_image.specs.Patch.{Kept, IsPatch, back, taken, changed}
+use Rattle.d64_image.specs.Patch.{IsPatch, back, taken}
 use Rattle.d64_image.proofs.Patches.{next_entry, exchanged-image, exchanged-kept, taken-all, rises-taken, back-taken, taken-changed, length-back}
 use Rattle.d64_image.proofs.patch.Patch.swap.Goals as goal
 

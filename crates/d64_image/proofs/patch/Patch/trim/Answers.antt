@@ -1,9 +1,9 @@
-use Rattle.std.proofs.Common.{◌≡◌, ℕ, List, length, nat_eq, not, ap, sym, ◌∙◌, subst, rules}
+use Rattle.std.proofs.Common.{ℕ, List, nat_eq, not, ap, sym, ◌∙◌, subst, rules}
 use Rattle.std.specs.Cmp.Lexicographic.{pointwise}
 use Rattle.std.proofs.lemmas.Fn.{filter_same}
 use Rattle.d64_image.specs.declared.block.TheConstants.{BLOCKS}
 use Rattle.d64_image.specs.Image.{sector_at}
-use Rattle.d64_image.specs.Patch.{Kept, IsPatch, RisesBetween, back, trimmed}
+use Rattle.d64_image.specs.Patch.{IsPatch, RisesBetween, back, trimmed}
 use Rattle.d64_image.proofs.Patches.{rises-trimmed, back-trimmed, trimmed-changed}
 use Rattle.d64_image.proofs.patch.Patch.trim.Goals as goal
 

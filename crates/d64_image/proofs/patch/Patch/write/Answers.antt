@@ -1,4 +1,4 @@
-use Rattle.std.proofs.Common.{◌≡◌, List, ℕ, ap, sym, ◌∙◌}
+use Rattle.std.proofs.Common.{ap, sym, ◌∙◌}
 use Rattle.d64_image.specs.Image.{sector_at, with_sector}
 use Rattle.d64_image.specs.Patch.{back, with_kept}
 use Rattle.d64_image.proofs.Patches.{with_kept-again, back-written}

@@ -1,0 +1,17 @@
+use Rattle.std.proofs.Common.{ℕ, refl}
+use Rattle.std.proofs.lemmas.List.{length-map}
+use Rattle.d64_image.specs.Image.{sector_at, differences}
+use Rattle.d64_image.specs.Patch.{back, changed}
+use Rattle.d64_image.proofs.Patches.{back-changed}
+use Rattle.d64_image.proofs.laws.changes_put_back.Goals as goal
+
+pub returns-clause-empty : goal.returns-clause-empty
+unfolding back
+returns-clause-empty c image = refl
+
+pub returns-clause-back : goal.returns-clause-back
+returns-clause-back c = back-changed
+
+pub returns-clause-count : goal.returns-clause-count
+unfolding changed
+returns-clause-count c before after = length-map (differences before after) (λ (block : ℕ). (block, sector_at before block))
