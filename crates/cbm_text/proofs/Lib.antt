@@ -3,3 +3,4 @@ pub mod CodesSoFar
 pub mod TextLines
 pub mod ProgramFiles
 pub mod TextPrograms
+pub mod CodesBack

@@ -9,3 +9,4 @@ pub mod Listing
 pub mod ListFault
 pub mod TextLine
 pub mod BasicText
+pub mod Laws

@@ -10,6 +10,7 @@ mod codes;
 mod crunching;
 mod fault;
 mod keyword;
+mod laws;
 mod listing;
 mod mode;
 mod program;
@@ -19,5 +20,6 @@ mod text_line;
 
 pub use crunching::crunch;
 pub use fault::{BasicFault, ListFault};
+pub use laws::line_comes_back;
 pub use listing::list;
 pub use petscii::{TextFault, from_text, one_outcome, spelling_reads_back, to_text};
