@@ -3,10 +3,9 @@ use Rattle.std.proofs.Common.{◌≡◌, ◌≢◌, ℕ, suc, ◌+◌, ◌-◌, 
 use Rattle.std.specs.Prelude.{◌==◌, ◌||◌, nat_lt, nat_le, nat_eq, slice_get}
 use Rattle.std.specs.Option.{option_map_or}
 use Rattle.std.specs.List.{starts_with}
-use Rattle.std.proofs.lemmas.Bool.{eqb-true, eqb-false, ltb-true, ltb-false, leb-true, leb-false}
+use Rattle.std.proofs.lemmas.Bool.{eqb-true, ltb-true, leb-false}
 use Rattle.std.proofs.lemmas.Bool.Decides.{Decides-eqb}
 use Rattle.std.proofs.lemmas.Slice.Eq.{starts_is}
-use Rattle.std.proofs.lemmas.Option.{slice_get_within}
 use Rattle.cbm_text.specs.declared.mode.Mode.{Mode}
 use Rattle.cbm_text.specs.declared.mode.Mode.TheVariants.{Free, Quoted, Remark, Data, QuotedData}
 use Rattle.cbm_text.specs.Keywords.{keywords, keyword, token_from}
@@ -14,7 +13,7 @@ use Rattle.cbm_text.specs.Modes.{after}
 use Rattle.cbm_text.specs.Crunching.{question, print_token, pi, single_code, free_code, first_code, CrunchedFrom, Crunched}
 use Rattle.cbm_text.specs.Listing.{shown, expanded_from, expanded}
 use Rattle.cbm_text.specs.Laws.{HasNoQuestionFrom, HasNoFreeQuestion, CrunchesBack}
-use Rattle.cbm_text.proofs.Keywords.{found, keyword_below, keyword_past, rows}
+use Rattle.cbm_text.proofs.Keywords.{found, keyword_below, keyword_past}
 
 -- the code and the rest that were found
 abbrev code_of : Option (ℕ × List ℕ) → ℕ
@@ -93,6 +92,7 @@ kept_shown byte code rest others plain is = by_question (byte == question) refl 
         not_keyword true below test = keyword_below byte (ltb-true _ _ below)
         not_keyword false above test = let is_pi : byte ≡ pi = eqb-true _ _ test in keyword_past byte (omega arith)
     by_kept false at here = absurd cc
+
     by_question : (b : Bool) → (byte == question) ≡ b → option_map_or (λ c. found c others) (cond b (Some print_token) (cond (nat_lt byte 128 || byte == pi) (Some byte) None)) None ≡ Some (code, rest) → shown Free code ++ rest ≡ byte ∷ others
     by_question true at here = absurd (plain (eqb-true _ _ at))
     by_question false at here = by_kept (nat_lt byte 128 || byte == pi) refl here

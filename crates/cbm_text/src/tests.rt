@@ -153,7 +153,7 @@ fn lists_what_reads_as_a_program(rt: HostRuntime) -> Result<(), Fail> {
 
 #[test]
 fn knows_each_keyword_alone_and_in_a_name(rt: HostRuntime) -> Result<(), Fail> {
-    let mut token = 0x80;
+    let mut token: u8 = 0x80;
     for keyword in KEYWORDS.split(' ') {
         let mut text = Vec::from_slice(rt.alloc(), b"7 ")?;
         text.extend_from_slice(keyword.as_bytes())?;
@@ -175,7 +175,7 @@ fn knows_each_keyword_alone_and_in_a_name(rt: HostRuntime) -> Result<(), Fail> {
         );
         let named_list = list(rt.alloc(), &named_kept)?;
         assert_eq!(rt; named_list.as_slice(), named.as_slice(), "of {keyword}");
-        token += 1;
+        token = token.wrapping_add(1);
     }
     assert_eq!(rt; token, 0xcc);
     let names = crunch(rt.alloc(), 0x0801, b"1 forest toto ifa")?;

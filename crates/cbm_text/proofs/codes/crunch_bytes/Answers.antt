@@ -1,4 +1,4 @@
-use Rattle.std.proofs.Common.{◌≡◌, ◌≢◌, List, ℕ, [], ◌∷◌, ◌++◌, sym, subst}
+use Rattle.std.proofs.Common.{[], ◌∷◌, ◌++◌, sym, subst}
 use Rattle.cbm_text.specs.declared.mode.Mode.{Mode}
 use Rattle.cbm_text.proofs.CodesSoFar.{CrunchedSoFar, crunched_nothing, crunched_more, crunched_whole, crunched_never, first_shrinks, not_empty, empty}
 use Rattle.cbm_text.proofs.codes.crunch_bytes.Goals as goal

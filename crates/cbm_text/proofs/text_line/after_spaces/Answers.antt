@@ -1,4 +1,4 @@
-use Rattle.std.proofs.Common.{◌≡◌, ℕ, List, length, drop, Option, ◌∙◌, ap}
+use Rattle.std.proofs.Common.{ℕ, length, drop, Option, ◌∙◌, ap}
 use Rattle.std.specs.Prelude.{unwrap_or}
 use Rattle.std.proofs.lemmas.List.{take_rest}
 use Rattle.cbm_text.specs.TextLine.{is_no_space, unspaced}

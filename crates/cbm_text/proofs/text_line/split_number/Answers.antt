@@ -1,8 +1,7 @@
-use Rattle.std.proofs.Common.{◌≡◌, ℕ, ◌≤◌, ◌<◌, ◌^◌, List, [], true, refl, sym, ◌∙◌, ap, subst}
+use Rattle.std.proofs.Common.{◌≡◌, ℕ, ◌≤◌, ◌<◌, ◌^◌, List, true, refl, sym, ◌∙◌, ap, subst}
 use Rattle.std.specs.List.{list_all}
 use Rattle.std.specs.Char.{is_ascii_digit}
 use Rattle.std.specs.Str.Parse.{digits_value}
-use Rattle.cbm_text.specs.TextLine.{number_digits}
 use Rattle.cbm_text.proofs.CodesSoFar.{empty, not_empty}
 use Rattle.cbm_text.proofs.TextLines.{digits_all, digits_of_line, rest_of_line, number_fits, number_too_large}
 use Rattle.cbm_text.proofs.text_line.split_number.Goals as goal
