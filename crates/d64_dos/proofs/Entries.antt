@@ -1,9 +1,9 @@
 -- the entry of a new file, in the slot that is there for it
-use Rattle.std.proofs.Common.{◌≡◌, ℕ, ◌+◌, ◌*◌, ◌%◌, List, ◌∷◌, [], Option, Some, None, option_to_list, refl, sym, ap, ap₂, ◌∙◌, subst}
+use Rattle.std.proofs.Common.{◌≡◌, ℕ, ◌+◌, ◌*◌, List, [], Option, Some, None, option_to_list, refl, sym, ap, ap₂, ◌∙◌, subst}
 use Rattle.std.specs.Prelude.{MatchOption}
 use Rattle.d64_map.specs.Map.{free_blocks}
 use Rattle.d64_files.specs.Directory.{slots}
-use Rattle.d64_files.specs.Writing.{with_bytes, first_unused, dir_last, slot_block, with_entry, with_growth}
+use Rattle.d64_files.specs.Writing.{with_bytes, first_unused, dir_last, with_entry, with_growth}
 use Rattle.d64_effects.specs.Write.{grown_by, directory_grown, with_entry_in, with_new_entry}
 use Rattle.d64_dos.specs.Space.{IsPlace, StandsIn, grown_at}
 use Rattle.d64_dos.specs.declared.write.Place.{Place}

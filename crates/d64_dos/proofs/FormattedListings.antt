@@ -1,12 +1,12 @@
 -- what a formatted disk lists
-use Rattle.std.proofs.Common.{◌≡◌, ◌≢◌, ℕ, zero, suc, ◌+◌, ◌-◌, ◌≤◌, ◌==◌, not, Bool, true, false, cond, List, [], ◌∷◌, ◌++◌, length, take, drop, replicate, refl, sym, ap, ◌∙◌, subst, arith, append_assoc}
+use Rattle.std.proofs.Common.{◌≡◌, ◌≢◌, ℕ, zero, suc, ◌+◌, ◌-◌, ◌==◌, not, Bool, false, cond, List, [], ◌∷◌, ◌++◌, length, take, drop, replicate, refl, sym, ap, ◌∙◌, subst, arith, append_assoc}
 use Rattle.std.specs.Prelude.{All, Contains, map, filter, take_while, slice_range}
 use Rattle.std.proofs.lemmas.Bool.{ne_eqb}
 use Rattle.std.proofs.lemmas.List.{drop_at, length-append, length-set, get_or-set_same, get_or-set_other}
 use Rattle.std.proofs.lemmas.List.Sums.{take_while-cons}
 use Rattle.std.proofs.lemmas.List.Elements.{All-head, All-tail, All-get_or, All-contains_itself}
 use Rattle.d64_image.specs.Image.{sector_at, with_sector}
-use Rattle.d64_map.specs.Map.{map_block, map_for, blocks_free}
+use Rattle.d64_map.specs.Map.{map_block, map_for}
 use Rattle.d64_map.proofs.Maps.{sector_at-with_map}
 use Rattle.d64_files.specs.Directory.{slots}
 use Rattle.d64_files.specs.Name.{IsName, filled, forbidden_in_names}

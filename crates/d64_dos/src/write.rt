@@ -10,9 +10,7 @@ ghost use Rattle.d64_dos.specs.WriteRefusal.{has_room, is_writable, write_refusa
 use crate::plan::take_plan;
 use crate::refusal::Refusal;
 use arrayvec::ArrayVec;
-use d64_files::{
-    Directory, Kind, Name, blocks_for, checked, grow_after, put_chain, put_entry_at,
-};
+use d64_files::{Directory, Kind, Name, blocks_for, checked, grow_after, put_chain, put_entry_at};
 use d64_image::{BLOCKS, BlockNo, BlockSet, Image};
 use d64_map::laws::plan_takes_free_blocks;
 use d64_map::{free_set, pick_dir, put_map, room};

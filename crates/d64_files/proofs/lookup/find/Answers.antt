@@ -1,4 +1,4 @@
-use Rattle.std.proofs.Common.{◌≡◌, ℕ, List, Option, Some, ap, ◌∙◌}
+use Rattle.std.proofs.Common.{ℕ, List, Option, Some, ap, ◌∙◌}
 use Rattle.std.specs.Prelude.{option_map}
 use Rattle.d64_files.specs.Directory.{slots, is_named, first_named}
 use Rattle.d64_files.proofs.SlotLists.{found-numbered}

@@ -1,12 +1,11 @@
-use Rattle.std.proofs.Common.{◌≡◌, ◌≢◌, ℕ, List, [], length, refl, sym, ap, ◌∙◌, subst, arith}
+use Rattle.std.proofs.Common.{◌≡◌, ◌≢◌, ℕ, List, [], refl, sym, ap, ◌∙◌, subst, arith}
 use Rattle.std.specs.Prelude.{All}
 use Rattle.std.proofs.lemmas.Grind.{get_or_default_zero}
-use Rattle.std.proofs.lemmas.List.FromFn.{length-enumerate_from}
 use Rattle.d64_image.specs.Image.{sector_at}
 use Rattle.d64_files.specs.Slot.{cells, HasKind}
 use Rattle.d64_files.specs.Directory.{directory, slots_in}
 use Rattle.d64_files.proofs.Conditions.{both_hold, unknown_kind}
-use Rattle.d64_files.proofs.SlotLists.{all_kinds, kinds_of_block, length-slots_in}
+use Rattle.d64_files.proofs.SlotLists.{all_kinds, kinds_of_block}
 use Rattle.d64_files.proofs.directory_blocks.Directory.of.Goals as goal
 
 pub returns-then-not-kinds_are_known-clause-conditions : goal.returns-then-not-kinds_are_known-clause-conditions
