@@ -14,7 +14,7 @@ use Rattle.d64_files.specs.Slot.{is_used}
 use Rattle.d64_files.specs.Writing.{empty_directory}
 use Rattle.d64_files.proofs.WrittenBytes.{length-filled}
 use Rattle.d64_effects.specs.Format.{directory_start, header, free_when_formatted, blank, formatted}
-use Rattle.d64_effects.specs.Laws.{IsId}
+use Rattle.d64_effects.specs.Laws.{AreTwoBytes}
 use Rattle.d64_effects.specs.View.{View, disk_field, disk_id, view}
 use Rattle.d64_effects.specs.ViewAfter.{formatted_view}
 use Rattle.d64_effects.proofs.EmptyDisks.{length-parts, blocks_free-formatted, IsBlock-header}
@@ -41,11 +41,11 @@ cut_at_fill (byte ∷ name) count allowed =
     ∙ ap (λ (bytes : List ℕ). byte ∷ bytes) (cut_at_fill name count (All-tail (λ b. ¬ (Contains forbidden_in_names b)) byte name allowed))
 
 -- what the view of a formatted disk says of its name and its id
-name_field : (name id : List ℕ) → IsName name → IsId id → disk_field (formatted name id) ≡ filled name
+name_field : (name id : List ℕ) → IsName name → AreTwoBytes id → disk_field (formatted name id) ≡ filled name
 unfolding view formatted_view
 name_field name id named two = ap (λ (shown : View). shown.name) (view-formatted name id named two)
 
-id_field : (name id : List ℕ) → IsName name → IsId id → disk_id (formatted name id) ≡ id
+id_field : (name id : List ℕ) → IsName name → AreTwoBytes id → disk_id (formatted name id) ≡ id
 unfolding view formatted_view
 id_field name id named two = ap (λ (shown : View). shown.id) (view-formatted name id named two)
 
@@ -76,7 +76,7 @@ version_at before version fill back begins two =
     ap (λ (bytes : List ℕ). take 2 (drop 165 bytes)) (append_assoc (before ++ version) fill back ∙ append_assoc before version (fill ++ back))
     ∙ ap (take 2) (drop_at before (version ++ (fill ++ back)) 165 begins)
 
-version_in : (name id : List ℕ) → IsName name → IsId id → slice_range (header name id) 0xA5 0xA7 ≡ 0x32 ∷ 0x41 ∷ []
+version_in : (name id : List ℕ) → IsName name → AreTwoBytes id → slice_range (header name id) 0xA5 0xA7 ≡ 0x32 ∷ 0x41 ∷ []
 unfolding header
 version_in name id named two =
     let front : List ℕ = 0x12 ∷ 0x01 ∷ 0x41 ∷ 0x00 ∷ replicate 140 0 in
@@ -92,7 +92,7 @@ version_in name id named two =
     let short = two.0 in
     version_at w4 (0x32 ∷ 0x41 ∷ []) (replicate 4 0xA0) (replicate 85 0) (omega arith) refl
 
-version : (name id : List ℕ) → IsName name → IsId id → slice_range (sector_at (formatted name id) map_block) 0xA5 0xA7 ≡ 0x32 ∷ 0x41 ∷ []
+version : (name id : List ℕ) → IsName name → AreTwoBytes id → slice_range (sector_at (formatted name id) map_block) 0xA5 0xA7 ≡ 0x32 ∷ 0x41 ∷ []
 version name id named two =
     let block = IsBlock-header name id named two in
     ap (λ (bytes : List ℕ). slice_range bytes 0xA5 0xA7) (header_of name id)

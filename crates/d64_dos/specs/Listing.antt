@@ -7,7 +7,7 @@ use Rattle.d64_files.specs.Name.{IsName}
 use Rattle.d64_files.specs.Slot.{is_used, name_of, is_closed, is_locked, kind_of, size_of}
 use Rattle.d64_files.specs.declared.kind.Kind.{Kind}
 use Rattle.d64_effects.specs.Format.{formatted}
-use Rattle.d64_effects.specs.Laws.{IsId}
+use Rattle.d64_effects.specs.Laws.{AreTwoBytes}
 use Rattle.d64_effects.specs.View.{disk_field, disk_id}
 use Rattle.d64_dos.specs.declared.row.Row.{Row}
 use Rattle.d64_dos.specs.declared.row.Listing.{Listing}
@@ -63,5 +63,5 @@ shown_listing listing = record {
 -- a formatted disk lists its name, its id, the DOS version `2A`, no file, and 664 free blocks
 abbrev pub FormattedDiskLists : Type 0
 FormattedDiskLists =
-    (name id : List ℕ) → IsName name → IsId id
+    (name id : List ℕ) → IsName name → AreTwoBytes id
     → listing_of (formatted name id) ≡ record { name = name; id = id; dos = 0x32 ∷ 0x41 ∷ []; rows = []; free = 664 }
