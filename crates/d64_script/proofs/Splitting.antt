@@ -172,10 +172,10 @@ All-from_map : {X Y : Type 0} (P : Y → Type 0) (f : X → Y) (xs : List X) →
 All-from_map P f xs all k d inside = subst P (get_or-map f xs k d (f d) inside) (all k (f d) (omega (arith, length-map xs f)))
 
 -- the same of what lends the words
-pub lent_words_printable : (words : Option (ArrayVec (Bor (List ℕ)))) (line : List ℕ) → option_map (λ (w : ArrayVec (Bor (List ℕ))). map (λ (word : Bor (List ℕ)). word.now) w.items) words ≡ words_of line → IfSome words (λ w. All (λ word. All IsPrintable word.now) w.items)
-lent_words_printable None line e = tt
-lent_words_printable (Some w) line e =
-    All-from_map (All IsPrintable) (λ (word : Bor (List ℕ)). word.now) w.items (subst (λ o. IfSome o (All (All IsPrintable))) (sym e) (words_of-all_printable line))
+pub lent_words_printable : (words : List (Bor (List ℕ))) (line : List ℕ) → Some (map (λ (word : Bor (List ℕ)). word.now) words) ≡ words_of line
+    → All (λ word. All IsPrintable word.now) words
+lent_words_printable words line e =
+    All-from_map (All IsPrintable) (λ (word : Bor (List ℕ)). word.now) words (subst (λ o. IfSome o (All (All IsPrintable))) (sym e) (words_of-all_printable line))
 
 -- a word onto words and the words after them
 onto_words : (words : List (List ℕ)) (word : List ℕ) (more : Option (List (List ℕ))) → option_map (λ ws. words ++ ws) (option_map (λ ws. word ∷ ws) more) ≡ option_map (λ ws. (words ++ word ∷ []) ++ ws) more

@@ -1,31 +1,43 @@
 //! The words of a line of a script.
-ghost use Rattle.std.specs.Prelude.{◌≡◌, ◌<◌, ◌≤◌, nat_le, if◌then◌else◌, length, map, position, All, None, option_map, IfSome};
+ghost use Rattle.std.specs.Prelude.{◌≡◌, ◌<◌, ◌≤◌, nat_le, if◌then◌else◌, [], length, map, position, All, Some, None, option_map, IfSome, OnOk, OnErr};
 ghost use Rattle.std.specs.List.{list_all};
 ghost use Rattle.d64_script.specs.RawLines.{line_limit};
 ghost use Rattle.d64_script.specs.Words.{IsPrintable, is_printable, is_quote, ends_run, first_word, quoted_word, bare_word, word_before, split_words, words_of, HasWordsOfRule};
 
 use crate::raw_lines::LINE_BYTES;
 use arrayvec::ArrayVec;
+use thiserror::Error;
 
 /// The most words of a line, since a space stands between two words.
 pub const MAX_WORDS: usize = 512;
 
-/// The words of a line, in order, without the quotes round a quoted word. Spaces separate words. It is `None` where
-/// the line has more than `LINE_BYTES` bytes, where a byte is no printable ASCII character, or where a quote neither
-/// begins a word nor ends it. It takes no memory.
+/// Why a line has no words.
+#[derive(Clone, Copy, Debug, PartialEq, Eq, Error)]
+#[error("a byte or a quote stands where no line holds it")]
+pub struct NoWords;
+
+/// Makes `words` the words of a line, in order, without the quotes round a quoted word. Spaces separate words. It is
+/// refused where the line has more than `LINE_BYTES` bytes, where a byte is no printable ASCII character, or where a
+/// quote neither begins a word nor ends it; what `words` holds then is no matter. It takes no memory, and one list may
+/// serve one line after another.
 #[tactic(auto, unfolding(crate::specs::Words::words_of))]
-pub fn words(line: &[u8]) -> Option<ArrayVec<&[u8], MAX_WORDS>>
-    ensures words { option_map (λ words. map (λ word. word.now) words.items) result
-        ≡ (if nat_le (length line.now) line_limit then words_of line.now else None) }
-    ensures printable { IfSome result (λ words. All (λ word. All IsPrintable word.now) words.items) }
+pub fn words<'a>(
+    line: &'a [u8],
+    words: &mut ArrayVec<&'a [u8], MAX_WORDS>,
+) -> Result<(), NoWords>
+    ensures words { OnOk result (Some (map (λ word. word.now) words.new.items)
+        ≡ (if nat_le (length line.now) line_limit then words_of line.now else None)) }
+    ensures none { OnErr result (None ≡ (if nat_le (length line.now) line_limit then words_of line.now else None)) }
+    ensures printable { OnOk result (All (λ word. All IsPrintable word.now) words.new.items) }
 {
     if line.len() > LINE_BYTES {
-        return None;
+        return Err(NoWords);
     }
     if !is_printable_line(line) {
-        return None;
+        return Err(NoWords);
     }
-    split_words(line)
+    words.clear();
+    split_words(line, words)
 }
 
 /// The words of a line are those of the rule: runs of bytes other than spaces and quotes, and what stands between two
@@ -42,25 +54,29 @@ fn is_printable_line(line: &[u8]) -> bool
     line.iter().all(|byte| (b' '..=b'~').contains(byte))
 }
 
-/// The words of a line of printable bytes.
-fn split_words(line: &[u8]) -> Option<ArrayVec<&[u8], MAX_WORDS>>
-    requires { length line.now ≤ 1024 }
-    ensures { option_map (λ words. map (λ word. word.now) words.items) result ≡ split_words line.now }
+/// Appends the words of a line of printable bytes to none.
+fn split_words<'a>(
+    line: &'a [u8],
+    words: &mut ArrayVec<&'a [u8], MAX_WORDS>,
+) -> Result<(), NoWords>
+    requires short { length line.now ≤ 1024 }
+    requires empty { words.old.items ≡ [] }
+    ensures words { OnOk result (Some (map (λ word. word.now) words.new.items) ≡ split_words line.now) }
+    ensures none { OnErr result (None ≡ split_words line.now) }
 {
-    let mut words = ArrayVec::new();
     let mut rest = line;
     while let Some((first, after)) = rest.split_first() {
         if *first == b' ' {
             rest = after;
         } else {
             let Some((word, left)) = first_word(rest) else {
-                return None;
+                return Err(NoWords);
             };
             words.push(word);
             rest = left;
         }
     }
-    Some(words)
+    Ok(())
 }
 
 /// The word with which a text begins, and what follows it; `None` where a quote is misplaced.
@@ -126,14 +142,16 @@ mod tests {
     use std::process::Abort;
 
     fn expect_words(rt: &impl Abort, line: &[u8], expected: &[&[u8]]) {
-        match words(line) {
-            Some(words) => {
-                assert_eq!(rt; words.len(), expected.len());
-                for (word, wanted) in words.as_slice().iter().zip(expected) {
+        let mut found = ArrayVec::new();
+        found.push(&b"left"[..]);
+        match words(line, &mut found) {
+            Ok(()) => {
+                assert_eq!(rt; found.len(), expected.len());
+                for (word, wanted) in found.as_slice().iter().zip(expected) {
                     assert_eq!(rt; *word, *wanted);
                 }
             }
-            None => assert!(rt; false, "no words"),
+            Err(NoWords) => assert!(rt; false, "no words"),
         }
     }
 
@@ -161,13 +179,13 @@ mod tests {
             &b"a\x7f"[..],
             &b"a\tb"[..],
         ] {
-            assert!(rt; words(line).is_none());
+            assert_eq!(rt; words(line, &mut ArrayVec::new()), Err(NoWords));
         }
     }
 
     #[test]
     fn refuses_lines_of_more_than_1024_bytes(rt: HostRuntime) {
         expect_words(&rt, &[b' '; 1024], &[]);
-        assert!(rt; words(&[b' '; 1025]).is_none());
+        assert_eq!(rt; words(&[b' '; 1025], &mut ArrayVec::new()), Err(NoWords));
     }
 }

@@ -1,3 +1,4 @@
+pub mod Acts
 pub mod ScriptRuns
 pub mod Transcripts
 pub mod TextArguments

@@ -89,8 +89,8 @@ pub RanShell-flushed : (words : List (List ℕ)) (reader left : Option (List ℕ
     (name : Option (List ℕ)) (image : List (List ℕ)) (home : List ℕ) (host : HostState) (first history : History) (writer : Option (List ℕ))
     → image_name_of words ≡ Some name → IsFirstImage old.host name image host → home ≡ home_of name → first ≡ begun image
     → Ran home reader left
-    (record { writer = old.writer; world = record { files = host.files; failures = host.failures; history = first } })
-    (record { writer = writer; world = record { files = new.host.files; failures = new.host.failures; history = history } }) ended
+    (record { writer = old.writer; world = record { host = host; history = first } })
+    (record { writer = writer; world = record { host = new.host; history = history } }) ended
     → Keeps writer new.writer → RanShell words reader left old new ended
 RanShell-flushed words reader left old new ended name image home host first history writer asked is_first at_home begins ran flushed = record {
   name = name;
@@ -100,8 +100,8 @@ RanShell-flushed words reader left old new ended name image home host first hist
   first = is_first;
   history = history;
   ran = Ran-flushed (home_of name) reader left
-      (record { writer = old.writer; world = record { files = host.files; failures = host.failures; history = begun image } })
-      (record { writer = writer; world = record { files = new.host.files; failures = new.host.failures; history = history } }) new.writer ended
+      (record { writer = old.writer; world = record { host = host; history = begun image } })
+      (record { writer = writer; world = record { host = new.host; history = history } }) new.writer ended
       (rw (at_home, begins) at ran) flushed;
 }
 

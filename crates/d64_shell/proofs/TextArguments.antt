@@ -5,7 +5,9 @@ use Rattle.petscii.specs.TextFault.{IsOfMemory, IsFirstFault, HasNoFaultIfRead}
 use Rattle.petscii.specs.declared.fault.TextFault.{TextFault}
 use Rattle.petscii.specs.declared.fault.TextFault.TheVariants.{UnknownName, OpenBrace, BadByte, Memory}
 use Rattle.d64_script.specs.declared.status.Status.{Status}
-use Rattle.d64_shell.specs.Act.{Act, Does, ReadText, IsSpelled, LineAnswer, World, plain}
+use Rattle.d64_shell.specs.Act.{Act, Then, Text, Does, Ending, HostState, IsSpelled, LineAnswer, World, plain}
+use Rattle.d64_undo.specs.History.{History}
+use Rattle.d64_shell.proofs.Acts.{Does-given}
 use Rattle.d64_shell.specs.Arguments.{status_of_text}
 use Rattle.d64_shell.specs.ArgumentTexts.{Reads}
 
@@ -34,14 +36,16 @@ not_spelled test word bytes one read fails others spelled =
     cc
 
 -- a word was read, and what its bytes ask for was done
-pub Does-read : (test : List ℕ → Bool) (word : List ℕ) (next : List ℕ → Act) (bytes : List ℕ) (world : World) (answer : LineAnswer) (after : World)
-    → Reads test word (Ok bytes) → Does (next bytes) world answer after → Does (ReadText test word next) world answer after
-unfolding Does
-Does-read test word next bytes world answer after read done = inl (bytes, read, done)
+pub Does-read : (test : List ℕ → Bool) (word : List ℕ) (next : List ℕ → Act Ending) (bytes : List ℕ) (host : HostState) (history : History)
+    (answer : LineAnswer) (after : World)
+    → Reads test word (Ok bytes) → Does (next bytes) (record { host = host; history = history }) answer after
+    → Does (Then (Text test word) next) (record { host = host; history = history }) answer after
+Does-read test word next bytes host history answer after read done = Does-given (Text test word) next bytes host host history answer after (read, refl) done
 
 -- a word was not read
-pub Does-unread : (test : List ℕ → Bool) (word : List ℕ) (next : List ℕ → Act) (status : Status) (world : World)
-    → Reads test word (Err status) → Does (ReadText test word next) world (plain status) world
+pub Does-unread : (test : List ℕ → Bool) (word : List ℕ) (next : List ℕ → Act Ending) (status : Status) (host : HostState) (history : History)
+    → Reads test word (Err status)
+    → Does (Then (Text test word) next) (record { host = host; history = history }) (plain status) (record { host = host; history = history })
 unfolding Does
-Does-unread test word next status world (inl bad) = inr (inl (bad.1, ap plain bad.0, refl))
-Does-unread test word next status world (inr memory) = inr (inr (ap plain memory, refl))
+Does-unread test word next status host history (inl bad) = inl (Err status, host, (bad.0, bad.1, refl), (refl, refl))
+Does-unread test word next status host history (inr memory) = inr (ap plain memory, refl)

@@ -1,12 +1,12 @@
 -- Transcripts that go on line by line.
 use Rattle.std.proofs.Common.{◌≡◌, ℕ, ◌+◌, List, [], ◌∷◌, ◌++◌, Bool, true, false, Option, None, Some, refl, sym, ap, ◌∙◌, subst, append_assoc, append-nil, if◌then◌else◌}
 use Rattle.std.specs.Prelude.{MatchBool, MatchOption}
-use Rattle.d64_shell.specs.Act.{Act, Does, LineAnswer, World}
+use Rattle.d64_shell.specs.Act.{Act, Ending, Does, LineAnswer, World}
 use Rattle.d64_shell.specs.Line.{act_of_line, IsSkipped, IsAnswered}
 use Rattle.d64_shell.specs.Transcript.{Progress, Line, Transcript, IsSilent, printed, counted, is_accepted}
 
 -- a line that is answered is one of the open run
-answered_by : (asked : Option Act) (progress : Progress) (answer : LineAnswer) (world : World)
+answered_by : (asked : Option (Act Ending)) (progress : Progress) (answer : LineAnswer) (world : World)
     → MatchOption asked ⊥ (λ act. Does act progress.world answer world)
     → MatchOption asked (IsSilent progress (printed answer) (counted progress answer world))
     (λ act. (said : LineAnswer) × (left : World)
@@ -21,7 +21,7 @@ unfolding Line
 Line-answered home line progress answer world done = answered_by (act_of_line home progress.world.history line) progress answer world done
 
 -- a line that is skipped is silent
-skipped_by : (asked : Option Act) (progress : Progress) → asked ≡ None
+skipped_by : (asked : Option (Act Ending)) (progress : Progress) → asked ≡ None
     → MatchOption asked (IsSilent progress [] progress)
     (λ act. (said : LineAnswer) × (left : World)
     × Does act progress.world said left × ([] ≡ printed said) × (progress ≡ counted progress said left))
@@ -99,8 +99,8 @@ pub Transcript-answered : (home : List ℕ) (lines : List (List ℕ)) (line : Li
     → Transcript home lines start out (record { world = world; closed = false; accepted = accepted; refused = refused })
     → IsAnswered home world.history line world answer after
     → closed' ≡ answer.closes
-    → accepted' ≡ accepted + (if is_accepted answer then 1 else 0)
-    → refused' ≡ refused + (if is_accepted answer then 0 else 1)
+    → accepted' ≡ accepted + (if is_accepted answer.status then 1 else 0)
+    → refused' ≡ refused + (if is_accepted answer.status then 0 else 1)
     → Transcript home (lines ++ line ∷ []) start (out ++ printed answer)
     (record { world = after; closed = closed'; accepted = accepted'; refused = refused' })
 Transcript-answered home lines line start out world after accepted refused accepted' refused' closed' answer told done closes more_accepted more_refused =

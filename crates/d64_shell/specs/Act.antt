@@ -1,4 +1,5 @@
-use Rattle.std.specs.Prelude.{◌≡◌, ℕ, List, [], Bool, true, false, Option, Result, MatchResult, Ok, Err, ◌⊎◌}
+-- What a line asks for, as an act of one step after another, and how an act is done.
+use Rattle.std.specs.Prelude.{◌≡◌, ℕ, List, [], Bool, true, false, if◌then◌else◌, Option, Some, None, Result, MatchResult, Ok, Err, ◌⊎◌}
 use Rattle.petscii.specs.TextForm.{IsTextOf}
 use Rattle.d64_host.specs.Files.{Files}
 use Rattle.d64_host.specs.Host.{fault_number, Fetches, Stores, CountsDevice}
@@ -23,34 +24,84 @@ pub record HostState : Type 0 where
   pub files : Option Files
   pub failures : ℕ
 
--- what the script works on: the host's files, where it tells them, the count of its failures, and the history
+-- what the script works on: the host and the history
 pub record World : Type 0 where
-  pub files : Option Files
-  pub failures : ℕ
+  pub host : HostState
   pub history : History
 
-abbrev pub with_history : World → History → World
-with_history world history = record { files = world.files; failures = world.failures; history = history }
+-- the world of a host, by its files and the count of its failures, and of a history
+abbrev pub world_of : Option Files → ℕ → History → World
+world_of files failures history = record { host = record { files = files; failures = failures }; history = history }
 
-abbrev pub with_failures : World → ℕ → World
-with_failures world failures = record { files = world.files; failures = failures; history = world.history }
+-- a call of what may refuse, whatever the session is; it gives bytes
+pub data Call : Type 0 where
+  -- the bytes that a word stands for in text form, where they pass a test
+  Text : (List ℕ → Bool) → List ℕ → Call
+  -- a host file of at most so many bytes
+  Fetch : List ℕ → ℕ → Call
+  -- bytes stored under a name of the host; what it gives is no matter
+  Store : List ℕ → List ℕ → Call
+  -- room for what comes next; it gives no bytes
+  Room : Call
 
--- what a line asks for
-pub data Act : Type 0 where
-  -- this answer and this history, and nothing else may come
-  Settle : LineAnswer → History → Act
-  -- the same, or memory is wanting
-  Try : LineAnswer → History → Act
-  -- a host file of at most so many bytes, and then what its bytes ask for
-  FetchThen : List ℕ → ℕ → (List ℕ → Act) → Act
-  -- bytes stored under a name of the host
-  StoreOf : List ℕ → List ℕ → Act
-  -- the bytes that a word stands for in text form, where they pass a test, and then what they ask for; else the word is bad, or memory is wanting
-  ReadText : (List ℕ → Bool) → List ℕ → (List ℕ → Act) → Act
+-- an act: it gives a value, it is refused with a status, or a call comes first and the rest goes by what that gives
+pub data Act (A : Type 0) : Type 0 where
+  Give : A → Act A
+  Refuse : Status → Act A
+  Then : Call → (List ℕ → Act A) → Act A
+
+-- one act, and then what its value asks for
+infixl 10 ◌>>=◌
+abbrev pub ◌>>=◌ : {A B : Type 0} → Act A → (A → Act B) → Act B
+Give value >>= next = next value
+Refuse status >>= next = Refuse status
+Then call more >>= next = Then call (λ bytes. more bytes >>= next)
+
+-- one act, and then another
+infixl 10 ◌>>◌
+abbrev pub ◌>>◌ : {A B : Type 0} → Act A → Act B → Act B
+act >> next = act >>= (λ _. next)
+
+-- what was read, or the first fault in it
+abbrev pub valid : {A : Type 0} → Result A Status → Act A
+valid (Ok value) = Give value
+valid (Err status) = Refuse status
+
+-- refused with a status unless a test passes
+abbrev pub need : Bool → Status → Act (Unit {0})
+need test status = if test then Give tt else Refuse status
+
+abbrev pub text : (List ℕ → Bool) → List ℕ → Act (List ℕ)
+text test word = Then (Text test word) Give
+
+abbrev pub fetch : List ℕ → ℕ → Act (List ℕ)
+fetch name limit = Then (Fetch name limit) Give
+
+abbrev pub store : List ℕ → List ℕ → Act (List ℕ)
+store name bytes = Then (Store name bytes) Give
+
+abbrev pub room : Act (List ℕ)
+room = Then Room Give
+
+-- what an accepted line comes to: its answer, and the history after it
+pub record Ending : Type 0 where
+  pub answer : LineAnswer
+  pub history : History
 
 -- a word stands for bytes in text form, and they pass a test
 abbrev pub IsSpelled : (List ℕ → Bool) → List ℕ → List ℕ → Type 0
 IsSpelled test word bytes = IsTextOf bytes word × (test bytes ≡ true)
+
+-- what a host may answer to a fetch, and what it shows then
+pub record FetchesFile (old : HostState) (name : List ℕ) (limit : ℕ) (fetched : Result (List ℕ) HostFault) (new : HostState) : Type 0 where
+  pub answer : Fetches old.files name limit fetched
+  pub counted : CountsDevice old.failures new.failures fetched
+  pub kept : new.files ≡ old.files
+
+-- what a host may answer to a store, and what it shows then
+pub record StoresFile (old : HostState) (name bytes : List ℕ) (stored : Result (Unit {0}) HostFault) (new : HostState) : Type 0 where
+  pub answer : Stores old.files name bytes stored new.files
+  pub counted : CountsDevice old.failures new.failures stored
 
 -- how a fault of the host is answered
 abbrev pub status_of_fault : HostFault → Status
@@ -59,34 +110,28 @@ status_of_fault Device = HostFile (fault_number Device)
 status_of_fault TooLong = HostFile (fault_number TooLong)
 status_of_fault (Memory error) = OutOfMemory
 
--- how a store is answered
-abbrev pub status_of_store : Result (Unit {0}) HostFault → Status
-status_of_store (Ok stored) = Done
-status_of_store (Err fault) = status_of_fault fault
+-- what the host gave, or how its fault is answered
+abbrev pub given_by : {A : Type 0} → (A → List ℕ) → Result A HostFault → Result (List ℕ) Status
+given_by bytes (Ok value) = Ok (bytes value)
+given_by bytes (Err fault) = Err (status_of_fault fault)
 
--- the act is done: from a world, with an answer, to a world
-unfoldable pub Does : Act → World → LineAnswer → World → Type 0
-Does (Settle said history) world answer after = (answer ≡ said) × (after ≡ with_history world history)
-Does (Try said history) world answer after =
-    ((answer ≡ said) × (after ≡ with_history world history)) ⊎ ((answer ≡ plain OutOfMemory) × (after ≡ world))
-Does (FetchThen name limit next) world answer after =
-    (fetched : Result (List ℕ) HostFault) × (failures : ℕ)
-    × Fetches world.files name limit fetched × CountsDevice world.failures failures fetched
-    × MatchResult fetched
-    (λ bytes. Does (next bytes) (with_failures world failures) answer after)
-    (λ fault. (answer ≡ plain (status_of_fault fault)) × (after ≡ with_failures world failures))
-Does (StoreOf name bytes) world answer after =
-    (stored : Result (Unit {0}) HostFault)
-    × Stores world.files name bytes stored after.files × CountsDevice world.failures after.failures stored
-    × (answer ≡ plain (status_of_store stored)) × (after.history ≡ world.history)
-Does (ReadText test word next) world answer after =
-    ((bytes : List ℕ) × IsSpelled test word bytes × Does (next bytes) world answer after)
-    ⊎ ((((bytes : List ℕ) → IsSpelled test word bytes → ⊥) × (answer ≡ plain BadName) × (after ≡ world))
-    ⊎ ((answer ≡ plain OutOfMemory) × (after ≡ world)))
+-- what a call may give, and what the host shows then
+abbrev pub Gives : Call → HostState → Result (List ℕ) Status → HostState → Type 0
+Gives (Text test word) old (Ok bytes) new = IsSpelled test word bytes × (new ≡ old)
+Gives (Text test word) old (Err status) new = (status ≡ BadName) × ((bytes : List ℕ) → IsSpelled test word bytes → ⊥) × (new ≡ old)
+Gives (Fetch name limit) old given new =
+    (fetched : Result (List ℕ) HostFault) × FetchesFile old name limit fetched new × (given ≡ given_by (λ bytes. bytes) fetched)
+Gives (Store name bytes) old given new =
+    (stored : Result (Unit {0}) HostFault) × StoresFile old name bytes stored new × (given ≡ given_by (λ _. []) stored)
+Gives Room old given new = (given ≡ Ok []) × (new ≡ old)
 
--- the act is done by the session alone, whatever the host is
-abbrev pub DoesInSession : Act → History → LineAnswer → History → Type 0
-DoesInSession act history answer after =
-    (files : Option Files) (failures : ℕ)
-    → Does act (record { files = files; failures = failures; history = history }) answer
-    (record { files = files; failures = failures; history = after })
+-- an act of a line is done: from a world, with an answer, to a world. Before each call memory may be wanting
+unfoldable pub Does : Act Ending → World → LineAnswer → World → Type 0
+Does (Give ending) world answer after = (answer ≡ ending.answer) × (after ≡ record { host = world.host; history = ending.history })
+Does (Refuse status) world answer after = (answer ≡ plain status) × (after ≡ world)
+Does (Then call next) world answer after =
+    ((given : Result (List ℕ) Status) × (host : HostState) × Gives call world.host given host
+    × MatchResult given
+    (λ bytes. Does (next bytes) (record { host = host; history = world.history }) answer after)
+    (λ status. (answer ≡ plain status) × (after ≡ record { host = host; history = world.history })))
+    ⊎ ((answer ≡ plain OutOfMemory) × (after ≡ world))

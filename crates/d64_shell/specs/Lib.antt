@@ -20,7 +20,7 @@ pub mod ArgumentTexts
 pub mod ListingText
 pub mod FoundFile
 pub mod Act
-pub mod Answer
+pub mod Response
 pub mod Line
 pub mod Transcript
 pub mod Runner

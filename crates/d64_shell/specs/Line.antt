@@ -1,4 +1,5 @@
-use Rattle.std.specs.Prelude.{◌≡◌, ℕ, nat_lt, List, [], ◌∷◌, length, false, true, ◌+◌, ◌==◌, if◌then◌else◌, Option, None, Some, MatchOption, Result, Ok, Err, slice_index_or, drop}
+-- What each line of a script asks for.
+use Rattle.std.specs.Prelude.{◌≡◌, ℕ, nat_lt, nat_le, List, [], ◌∷◌, length, false, true, ◌+◌, ◌==◌, if◌then◌else◌, Option, None, Some, MatchOption, Ok, Err, ok_or, slice_index_or, drop}
 use Rattle.d64_files.specs.Name.{is_name}
 use Rattle.d64_image.specs.Image.{sector_at, bytes_of}
 use Rattle.d64_undo.specs.History.{History, present, added, undone, redone}
@@ -8,15 +9,14 @@ use Rattle.d64_dos.specs.Reading.{directory_refusal, read_refusal}
 use Rattle.d64_files.specs.Directory.{number_of}
 use Rattle.d64_files.specs.Pattern.{is_pattern}
 use Rattle.d64_script.specs.Words.{words_of}
-use Rattle.d64_image.specs.declared.image.TheConstants.{BLOCK_BYTES}
 use Rattle.petscii.specs.Spelling.{spelling}
 use Rattle.d64_shell.specs.Arguments.{host_in, block_in, at_comma, can_be_id, name_and_kind_of}
 use Rattle.d64_shell.specs.FoundFile.{found_name, found_content, is_file_name}
 use Rattle.d64_shell.specs.ListingText.{listing_text}
-use Rattle.d64_script.specs.Dump.{dump}
 use Rattle.d64_script.specs.RawLines.{text_of, is_too_long, is_skipped}
+use Rattle.d64_script.specs.Dump.{dump}
 use Rattle.d64_shell.specs.CommandWord.{command_word_of, fewest, most}
-use Rattle.d64_shell.specs.Act.{Act, Settle, Try, FetchThen, StoreOf, ReadText, plain, World, LineAnswer, Does}
+use Rattle.d64_shell.specs.Act.{Act, Give, Refuse, ◌>>=◌, ◌>>◌, valid, need, text, fetch, store, room, Ending, plain, World, LineAnswer, Does}
 use Rattle.d64_dos.specs.Change.{Change}
 use Rattle.d64_dos.specs.Change as changes
 use Rattle.d64_dos.specs.declared.command.Reply.{Reply}
@@ -28,18 +28,9 @@ use Rattle.d64_script.specs.declared.status.Status.TheVariants.{Done, SyntaxErro
 use Rattle.d64_shell.specs.declared.command_word.CommandWord.{CommandWord}
 use Rattle.d64_shell.specs.declared.command_word.CommandWord.TheVariants.{Block, BlockRead, BlockWrite, Format, ListDirectory, Quit, Read, Redo, Save, Undo, Write}
 
--- the line is refused with a status, and changes nothing
-abbrev pub refuse : History → Status → Act
-refuse history status = Settle (plain status) history
-
 -- one of the words that follow the first
 abbrev pub word_at : List (List ℕ) → ℕ → List ℕ
 word_at words place = slice_index_or words place []
-
--- with what was read from the words, or refused for the first fault in them
-abbrev pub reading : {A : Type 0} → History → Result A Status → (A → Act) → Act
-reading history (Ok value) next = next value
-reading history (Err status) next = refuse history status
 
 -- how a refusal of a command is answered
 abbrev pub status_of_refusal : Refusal → Status
@@ -55,104 +46,130 @@ status_of_refusal refusals.Memory = OutOfMemory
 abbrev pub status_of_reply : Reply → Status
 status_of_reply replies.Done = Done
 
--- the first refusal where there is one, and else an act
-abbrev pub refused_or : History → Option Refusal → Act → Act
-refused_or history (Some refusal) act = refuse history (status_of_refusal refusal)
-refused_or history None act = act
+-- refused by a refusal, where there is one
+abbrev pub allowed : Option Refusal → Act (Unit {0})
+allowed None = Give tt
+allowed (Some refusal) = Refuse (status_of_refusal refusal)
 
--- a command given to the session
-abbrev pub command_act : History → Change → Act
-command_act history change =
-    refused_or history (refusal_of (present history) change)
-    (Try (plain (status_of_reply (reply_to (present history) change))) (added history (after (present history) change)))
+-- the line is accepted: it shows an output, and the history stays
+abbrev pub show : List ℕ → History → Act Ending
+show output history = Give (record { answer = record { output = output; status = Done; closes = false }; history = history })
+
+-- the line is accepted: it shows nothing, and leaves a history
+abbrev pub leave : History → Act Ending
+leave history = Give (record { answer = plain Done; history = history })
+
+-- the line is accepted once bytes are stored under a name of the host, and the history stays
+abbrev pub put : History → List ℕ → List ℕ → Act Ending
+put history name bytes = do
+  store name bytes
+  leave history
+
+-- a command given to the session: its first refusal, or its reply and one image more
+abbrev pub run : History → Change → Act Ending
+run history change = do
+  allowed (refusal_of (present history) change)
+  room
+  Give (record { answer = plain (status_of_reply (reply_to (present history) change)); history = added history (after (present history) change) })
 
 -- `block`: a block is shown
-abbrev pub block_act : History → List ℕ → List ℕ → Act
-block_act history track sector =
-    reading history (block_in track sector) (λ block.
-    Settle (record { output = dump (sector_at (present history) block); status = Done; closes = false }) history)
+abbrev pub block_act : History → List ℕ → List ℕ → Act Ending
+block_act history track sector = do
+  block ← valid (block_in track sector)
+  show (dump (sector_at (present history) block)) history
 
 -- `bread`: a block is stored in a host file
-abbrev pub block_read_act : History → List ℕ → List ℕ → List ℕ → Act
-block_read_act history host track sector =
-    reading history (host_in host) (λ name.
-    reading history (block_in track sector) (λ block. StoreOf name (sector_at (present history) block)))
+abbrev pub block_read_act : History → List ℕ → List ℕ → List ℕ → Act Ending
+block_read_act history host track sector = do
+  name ← valid (host_in host)
+  block ← valid (block_in track sector)
+  put history name (sector_at (present history) block)
 
 -- the most bytes that a command takes of a host file
 abbrev pub host_file_limit : ℕ
 host_file_limit = 1048576
 
 -- a host file of one block replaces a block
-abbrev pub write_one_block : History → ℕ → List ℕ → Act
-write_one_block history block bytes =
-    if length bytes == BLOCK_BYTES then command_act history (changes.BlockWrite block bytes) else refuse history NotOneBlock
+abbrev pub write_one_block : History → ℕ → List ℕ → Act Ending
+write_one_block history block bytes = do
+  need (length bytes == 256) NotOneBlock
+  run history (changes.BlockWrite block bytes)
 
 -- `bwrite`: a block is replaced by a host file
-abbrev pub block_write_act : History → List ℕ → List ℕ → List ℕ → Act
-block_write_act history host track sector =
-    reading history (host_in host) (λ name.
-    reading history (block_in track sector) (λ block. FetchThen name host_file_limit (write_one_block history block)))
-
--- with the two parts of a word
-abbrev pub format_parts : History → Option (List ℕ × List ℕ) → Act
-format_parts history None = refuse history SyntaxError
-format_parts history (Some parts) =
-    ReadText is_name parts.0 (λ name. ReadText can_be_id parts.1 (λ id. command_act history (changes.Format name id)))
+abbrev pub block_write_act : History → List ℕ → List ℕ → List ℕ → Act Ending
+block_write_act history host track sector = do
+  name ← valid (host_in host)
+  block ← valid (block_in track sector)
+  bytes ← fetch name host_file_limit
+  write_one_block history block bytes
 
 -- `format`: the disk is made an empty one, with the name and the id in one word
-abbrev pub format_act : History → List ℕ → Act
-format_act history word = format_parts history (at_comma word)
+abbrev pub format_act : History → List ℕ → Act Ending
+format_act history word = do
+  parts ← valid (ok_or (at_comma word) SyntaxError)
+  name ← text is_name parts.0
+  id ← text can_be_id parts.1
+  run history (changes.Format name id)
 
 -- `list`: the directory is shown
-abbrev pub list_act : History → Act
-list_act history =
-    refused_or history (directory_refusal (present history))
-    (Try (record { output = listing_text (listing_of (present history)); status = Done; closes = false }) history)
+abbrev pub list_act : History → Act Ending
+list_act history = do
+  allowed (directory_refusal (present history))
+  room
+  show (listing_text (listing_of (present history))) history
 
 -- `quit`: the run ends
-abbrev pub quit_act : History → Act
-quit_act history = Settle (record { output = []; status = Done; closes = true }) history
+abbrev pub quit_act : History → Act Ending
+quit_act history = Give (record { answer = record { output = []; status = Done; closes = true }; history = history })
 
--- the file that a pattern finds is stored in the host file of its own name, in text form, where that may name one
-abbrev pub store_as_found : List ℕ → List ℕ → History → Act
-store_as_found name bytes history = if is_file_name name then StoreOf name bytes else Try (plain BadName) history
-
--- the file that a pattern finds is stored in the host file of a word, or by default in that of its own name
-abbrev pub read_to : History → List ℕ → List (List ℕ) → Act
-read_to history pattern [] =
-    refused_or history (read_refusal (present history) pattern)
-    (store_as_found (spelling (found_name (present history) pattern)) (found_content (present history) pattern) history)
-read_to history pattern (host ∷ more) =
-    reading history (host_in host) (λ name.
-    refused_or history (read_refusal (present history) pattern) (StoreOf name (found_content (present history) pattern)))
+-- the file that a pattern finds is stored in the host file of a word, or by default, in text form, in that of its own name
+abbrev pub read_to : History → List ℕ → List (List ℕ) → Act Ending
+read_to history pattern [] = do
+  allowed (read_refusal (present history) pattern)
+  room
+  need (is_file_name (spelling (found_name (present history) pattern))) BadName
+  put history (spelling (found_name (present history) pattern)) (found_content (present history) pattern)
+read_to history pattern (host ∷ more) = do
+  name ← valid (host_in host)
+  allowed (read_refusal (present history) pattern)
+  put history name (found_content (present history) pattern)
 
 -- `read`: a file of the disk is stored in a host file
-abbrev pub read_act : History → List ℕ → List (List ℕ) → Act
-read_act history name words = ReadText is_pattern name (λ pattern. read_to history pattern words)
+abbrev pub read_act : History → List ℕ → List (List ℕ) → Act Ending
+read_act history name words = do
+  pattern ← text is_pattern name
+  read_to history pattern words
 
 -- `redo`
-abbrev pub redo_act : History → Act
-redo_act history =
-    if nat_lt (history.cursor + 1) (length history.images) then Settle (plain Done) (redone history) else refuse history NothingToRedo
+abbrev pub redo_act : History → Act Ending
+redo_act history = do
+  need (nat_lt (history.cursor + 1) (length history.images)) NothingToRedo
+  leave (redone history)
 
 -- `save`: the image is stored in a host file, by default in the one that it has
-abbrev pub save_act : List ℕ → History → List (List ℕ) → Act
-save_act home history [] = StoreOf home (bytes_of (present history))
-save_act home history (host ∷ more) = reading history (host_in host) (λ name. StoreOf name (bytes_of (present history)))
+abbrev pub save_act : List ℕ → History → List (List ℕ) → Act Ending
+save_act home history [] = put history home (bytes_of (present history))
+save_act home history (host ∷ more) = do
+  name ← valid (host_in host)
+  put history name (bytes_of (present history))
 
 -- `undo`
-abbrev pub undo_act : History → Act
-undo_act history = if nat_lt 0 history.cursor then Settle (plain Done) (undone history) else refuse history NothingToUndo
+abbrev pub undo_act : History → Act Ending
+undo_act history = do
+  need (nat_lt 0 history.cursor) NothingToUndo
+  leave (undone history)
 
 -- `write`: a host file is written to the disk, under the name and with the kind of a word, or by default under its own name and as PRG
-abbrev pub write_act : History → List ℕ → List (List ℕ) → Act
-write_act history host words =
-    reading history (host_in host) (λ source.
-    reading history (name_and_kind_of host words) (λ file.
-    ReadText is_name file.0 (λ name. FetchThen source host_file_limit (λ bytes. command_act history (changes.Write name file.1 bytes)))))
+abbrev pub write_act : History → List ℕ → List (List ℕ) → Act Ending
+write_act history host words = do
+  source ← valid (host_in host)
+  file ← valid (name_and_kind_of host words)
+  name ← text is_name file.0
+  bytes ← fetch source host_file_limit
+  run history (changes.Write name file.1 bytes)
 
 -- what a command word and the words after it ask for, where they are as many as it takes
-abbrev pub act_of : List ℕ → History → CommandWord → List (List ℕ) → Act
+abbrev pub act_of : List ℕ → History → CommandWord → List (List ℕ) → Act Ending
 act_of home history Block words = block_act history (word_at words 0) (word_at words 1)
 act_of home history BlockRead words = block_read_act history (word_at words 0) (word_at words 1) (word_at words 2)
 act_of home history BlockWrite words = block_write_act history (word_at words 0) (word_at words 1) (word_at words 2)
@@ -166,27 +183,30 @@ act_of home history Undo words = undo_act history
 act_of home history Write words = write_act history (word_at words 0) (drop 1 words)
 
 -- what a command word and the words after it ask for: too few words first, then too many
-abbrev pub act_of_command : List ℕ → History → CommandWord → List (List ℕ) → Act
-act_of_command home history command words =
-    if nat_lt (length words) (fewest home command) then refuse history MissingWord
-    else (if nat_lt (most command) (length words) then refuse history SyntaxError else act_of home history command words)
-
--- what the words after the first ask for, where the first is a command word
-abbrev pub act_of_known : List ℕ → History → Option CommandWord → List (List ℕ) → Act
-act_of_known home history None words = refuse history UnknownCommand
-act_of_known home history (Some command) words = act_of_command home history command words
+abbrev pub act_of_command : List ℕ → History → CommandWord → List (List ℕ) → Act Ending
+act_of_command home history command words = do
+  need (nat_le (fewest home command) (length words)) MissingWord
+  need (nat_le (length words) (most command)) SyntaxError
+  act_of home history command words
 
 -- what a line's words ask for
-abbrev pub act_of_words : List ℕ → History → Option (List (List ℕ)) → Act
-act_of_words home history None = refuse history SyntaxError
-act_of_words home history (Some []) = refuse history UnknownCommand
-act_of_words home history (Some (first ∷ words)) = act_of_known home history (command_word_of first) words
+abbrev pub act_of_words : List ℕ → History → List (List ℕ) → Act Ending
+act_of_words home history [] = Refuse UnknownCommand
+act_of_words home history (first ∷ words) = do
+  command ← valid (ok_or (command_word_of first) UnknownCommand)
+  act_of_command home history command words
+
+-- what the text of a line asks for
+abbrev pub act_of_text : List ℕ → History → List ℕ → Act Ending
+act_of_text home history line = do
+  words ← valid (ok_or (words_of line) SyntaxError)
+  act_of_words home history words
 
 -- what a line of the script asks for; None where it is skipped
-unfoldable pub act_of_line : List ℕ → History → List ℕ → Option Act
+unfoldable pub act_of_line : List ℕ → History → List ℕ → Option (Act Ending)
 act_of_line home history line =
-    if is_too_long line then Some (refuse history LongLine)
-    else (if is_skipped (text_of line) then None else Some (act_of_words home history (words_of (text_of line))))
+    if is_too_long line then Some (Refuse LongLine)
+    else (if is_skipped (text_of line) then None else Some (act_of_text home history (text_of line)))
 
 -- a line is skipped: it asks for nothing, and nothing changes
 abbrev pub IsSkipped : List ℕ → History → List ℕ → World → World → Type 0

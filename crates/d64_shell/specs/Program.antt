@@ -4,7 +4,6 @@ use Rattle.std.specs.declared.alloc.AllocError.{AllocError}
 use Rattle.std.specs.Fmt.{decimal}
 use Rattle.std.specs.Io.KnownBytes.{Keeps}
 use Rattle.d64_script.specs.Output.{AppendsPart}
-use Rattle.d64_host.specs.Host.{Fetches, CountsDevice}
 use Rattle.d64_host.specs.declared.host.HostFault.{HostFault}
 use Rattle.d64_host.specs.declared.host.HostFault.TheVariants.{Missing, Device, TooLong}
 use Rattle.d64_host.specs.declared.host.HostFault.TheVariants as files
@@ -13,7 +12,7 @@ use Rattle.d64_image.specs.declared.image.ImageFault.TheVariants as images
 use Rattle.d64_image.specs.Image.{IsImage, bytes_of}
 use Rattle.d64_image.specs.declared.block.TheConstants.{BLOCKS}
 use Rattle.d64_image.specs.declared.image.TheConstants.{BLOCK_BYTES}
-use Rattle.d64_shell.specs.Act.{HostState}
+use Rattle.d64_shell.specs.Act.{HostState, FetchesFile}
 use Rattle.d64_undo.specs.History.{History, begun}
 use Rattle.d64_shell.specs.Runner.{Ran}
 use Rattle.d64_shell.specs.declared.runner.Outcome.{Outcome}
@@ -43,16 +42,10 @@ pub record Outside : Type 0 where
   pub writer : Option (List ℕ)
   pub host : HostState
 
--- what the host may answer to the fetch of an image file, and what it shows then
-pub record FetchesImage (old : HostState) (name : List ℕ) (fetched : Result (List ℕ) HostFault) (new : HostState) : Type 0 where
-  pub answer : Fetches old.files name image_file_limit fetched
-  pub counted : CountsDevice old.failures new.failures fetched
-  pub kept : new.files ≡ old.files
-
 -- the image that a session begins with, and what the host shows then: a blank image, or that of a host file
 abbrev pub IsFirstImage : HostState → Option (List ℕ) → List (List ℕ) → HostState → Type 0
 IsFirstImage old None image new = (image ≡ replicate BLOCKS (replicate BLOCK_BYTES 0)) × (new ≡ old)
-IsFirstImage old (Some name) image new = IsImage image × FetchesImage old name (Ok (bytes_of image)) new
+IsFirstImage old (Some name) image new = IsImage image × FetchesFile old name image_file_limit (Ok (bytes_of image)) new
 
 -- the script has run on the image that the words ask for, and ended so
 pub record RanShell (words : List (List ℕ)) (reader left : Option (List ℕ)) (old new : Outside) (ended : Result Outcome ShellFault) : Type 0 where
@@ -63,8 +56,8 @@ pub record RanShell (words : List (List ℕ)) (reader left : Option (List ℕ)) 
   pub first : IsFirstImage old.host name image host
   pub history : History
   pub ran : Ran (home_of name) reader left
-      (record { writer = old.writer; world = record { files = host.files; failures = host.failures; history = begun image } })
-      (record { writer = new.writer; world = record { files = new.host.files; failures = new.host.failures; history = history } }) ended
+      (record { writer = old.writer; world = record { host = host; history = begun image } })
+      (record { writer = new.writer; world = record { host = new.host; history = history } }) ended
 
 -- nothing of the script was read, and no line has run
 abbrev pub HasNotBegun : Option (List ℕ) → Option (List ℕ) → Outside → Outside → Type 0
@@ -112,11 +105,11 @@ fault_line fault = codes "d64sh: " ++ fault_text fault ++ codes "\n"
 -- why the session has no image to begin with, and what the host shows then: it refused to fetch the image file, or the
 -- bytes are no image's, or there is no memory
 abbrev pub HasNoFirstImage : ProgramFault → HostState → Option (List ℕ) → HostState → Type 0
-HasNoFirstImage UnreadableImage old (Some name) new = (fault : HostFault) × FetchesImage old name (Err fault) new × (fault_of_file fault ≡ UnreadableImage)
+HasNoFirstImage UnreadableImage old (Some name) new = (fault : HostFault) × FetchesFile old name image_file_limit (Err fault) new × (fault_of_file fault ≡ UnreadableImage)
 HasNoFirstImage UnreadableImage old None new = ⊥
-HasNoFirstImage (WrongLength n) old (Some name) new = (bytes : List ℕ) × FetchesImage old name (Ok bytes) new × (length bytes ≡ n) × (n ≢ BLOCKS * BLOCK_BYTES)
+HasNoFirstImage (WrongLength n) old (Some name) new = (bytes : List ℕ) × FetchesFile old name image_file_limit (Ok bytes) new × (length bytes ≡ n) × (n ≢ BLOCKS * BLOCK_BYTES)
 HasNoFirstImage (WrongLength n) old None new = ⊥
-HasNoFirstImage Memory old name new = new.files ≡ old.files
+HasNoFirstImage Memory old name new = new ≡ old
 HasNoFirstImage Usage old name new = ⊥
 HasNoFirstImage Read old name new = ⊥
 HasNoFirstImage Write old name new = ⊥

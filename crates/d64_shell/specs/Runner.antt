@@ -15,6 +15,9 @@ pub record Stand : Type 0 where
   pub writer : Option (List ℕ)
   pub world : World
 
+abbrev pub stand_of : Option (List ℕ) → World → Stand
+stand_of writer world = record { writer = writer; world = world }
+
 -- a run that begins
 abbrev pub begin : World → Progress
 begin world = record { world = world; closed = false; accepted = 0; refused = 0 }

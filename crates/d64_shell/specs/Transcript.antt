@@ -2,6 +2,7 @@ use Rattle.std.specs.Prelude.{◌≡◌, ℕ, ◌+◌, nat_lt, List, [], ◌∷�
 use Rattle.d64_shell.specs.Act.{Does, LineAnswer, World}
 use Rattle.d64_shell.specs.Line.{act_of_line}
 use Rattle.d64_script.specs.Status.{status_number, status_line}
+use Rattle.d64_script.specs.declared.status.Status.{Status}
 
 -- how far a run has come: the world, whether a `quit` was accepted, and how many lines were accepted and refused
 pub record Progress : Type 0 where
@@ -15,16 +16,16 @@ abbrev pub printed : LineAnswer → List ℕ
 printed answer = answer.output ++ status_line answer.status
 
 -- a status is that of an accepted line
-abbrev pub is_accepted : LineAnswer → Bool
-is_accepted answer = nat_lt (status_number answer.status) 30
+abbrev pub is_accepted : Status → Bool
+is_accepted status = nat_lt (status_number status) 30
 
 -- the run after an answer
 abbrev pub counted : Progress → LineAnswer → World → Progress
 counted progress answer world = record {
   world = world;
   closed = answer.closes;
-  accepted = progress.accepted + (if is_accepted answer then 1 else 0);
-  refused = progress.refused + (if is_accepted answer then 0 else 1);
+  accepted = progress.accepted + (if is_accepted answer.status then 1 else 0);
+  refused = progress.refused + (if is_accepted answer.status then 0 else 1);
 }
 
 -- nothing is printed and nothing changes

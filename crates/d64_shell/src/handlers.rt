@@ -2,27 +2,26 @@
 #![tactic(auto, unfolding(crate::specs::Act::Does))]
 
 ghost use Rattle.std.specs.Prelude.{◌≡◌, ◌<◌, [], ◌∷◌, All, map};
-ghost use Rattle.d64_dos.specs.Change.{said};
 ghost use Rattle.d64_script.specs.Words.{IsPrintable};
-ghost use Rattle.d64_shell.specs.Act.{Settle, StoreOf, Does, World, DoesInSession};
-ghost use Rattle.d64_shell.specs.Answer.{answer_of};
+ghost use Rattle.d64_dos.specs.Change.{said};
+ghost use Rattle.d64_shell.specs.Act.{world_of};
+ghost use Rattle.d64_shell.specs.Response.{Responds, RespondsAlone};
 ghost use Rattle.petscii.specs.Spelling.{spelling};
 ghost use Rattle.d64_shell.specs.FoundFile.{is_file_name};
 ghost use Rattle.d64_undo.specs.History.{History};
-ghost use Rattle.d64_shell.specs.Line.{block_act, block_read_act, block_write_act, format_act, list_act, quit_act, read_act, read_to, redo_act, save_act, undo_act, write_act, command_act, write_one_block};
+ghost use Rattle.d64_shell.specs.Line.{put, block_act, block_read_act, block_write_act, format_act, list_act, quit_act, read_act, read_to, redo_act, save_act, undo_act, write_act, run, write_one_block};
 
-use crate::answer::{Answer, Output};
+use crate::response::{Response, Output};
 use crate::arguments::{at_comma, block_in, host_in, id_in, name_and_kind_of, name_in, pattern_in};
 use crate::listing_text::listing_text;
+use d64_undo::Session;
 use crate::status_from::{of_fault, of_nothing_to_redo, of_nothing_to_undo, of_refusal, of_reply};
 use cbm_text::to_text;
 use d64_dos::Command;
 use d64_files::Pattern;
 use d64_host::Host;
 use d64_image::BlockNo;
-use d64_script::dump::dump;
 use d64_script::status::Status;
-use d64_undo::Session;
 use std::alloc::Global;
 use std::str;
 
@@ -30,12 +29,12 @@ use std::str;
 pub const HOST_FILE_BYTES: usize = 1_048_576;
 
 /// `block`: the sixteen lines that show a block.
-pub(crate) fn block(session: &Session, track: &[u8], sector: &[u8]) -> Result<Answer, Status>
-    ensures { block_act session.now track.now sector.now ≡ Settle (answer_of result) session.now }
+pub(crate) fn block(session: &Session, track: &[u8], sector: &[u8]) -> Result<Response, Status>
+    ensures { RespondsAlone (block_act session.now track.now sector.now) session.now result session.now }
 {
     let block = block_in(track, sector)?;
-    Ok(Answer {
-        output: Output::Dump(dump(session.image().sector(block))),
+    Ok(Response {
+        output: Output::Block(block),
         status: Status::Done,
         closes: false,
     })
@@ -49,18 +48,16 @@ pub(crate) fn block_read<H: Host>(
     name: &[u8],
     track: &[u8],
     sector: &[u8],
-) -> Result<Answer, Status>
+) -> Result<Response, Status>
     requires { All IsPrintable name.now }
-    ensures { Does (block_read_act session.now name.now track.now sector.now)
-        (record { files = H.files host.old; failures = H.failure_count host.old; history = session.now })
-        (answer_of result)
-        (record { files = H.files host.new; failures = H.failure_count host.new; history = session.now }) }
+    ensures { Responds (block_read_act session.now name.now track.now sector.now)
+        (world_of (H.files host.old) (H.failure_count host.old) session.now)
+        result
+        (world_of (H.files host.new) (H.failure_count host.new) session.now) }
 {
     let name = host_in(name)?;
     let block = block_in(track, sector)?;
-    host.store(alloc, name, session.image().sector(block))
-        .map_err(of_fault)?;
-    Ok(Answer::plain(Status::Done))
+    store(alloc, host, name, session.image().sector(block))
 }
 
 /// `bwrite`: a block replaced by a host file of one block.
@@ -71,12 +68,12 @@ pub(crate) fn block_write<H: Host>(
     name: &[u8],
     track: &[u8],
     sector: &[u8],
-) -> Result<Answer, Status>
+) -> Result<Response, Status>
     requires { All IsPrintable name.now }
-    ensures { Does (block_write_act session.old name.now track.now sector.now)
-        (record { files = H.files host.old; failures = H.failure_count host.old; history = session.old })
-        (answer_of result)
-        (record { files = H.files host.new; failures = H.failure_count host.new; history = session.new }) }
+    ensures { Responds (block_write_act session.old name.now track.now sector.now)
+        (world_of (H.files host.old) (H.failure_count host.old) session.old)
+        result
+        (world_of (H.files host.new) (H.failure_count host.new) session.new) }
 {
     let name = host_in(name)?;
     let at = block_in(track, sector)?;
@@ -87,8 +84,8 @@ pub(crate) fn block_write<H: Host>(
 }
 
 /// A block replaced by the bytes of a host file.
-fn write_one_block(session: &mut Session, at: BlockNo, bytes: &[u8]) -> Result<Answer, Status>
-    ensures { DoesInSession (write_one_block session.old at bytes.now) session.old (answer_of result) session.new }
+fn write_one_block(session: &mut Session, at: BlockNo, bytes: &[u8]) -> Result<Response, Status>
+    ensures { RespondsAlone (write_one_block session.old at bytes.now) session.old result session.new }
 {
     match bytes.as_array() {
         Some(block) => run_command(session, &Command::BlockWrite { at, block: *block }),
@@ -97,18 +94,18 @@ fn write_one_block(session: &mut Session, at: BlockNo, bytes: &[u8]) -> Result<A
 }
 
 /// A command given to the session.
-fn run_command(session: &mut Session, command: &Command) -> Result<Answer, Status>
-    ensures { DoesInSession (command_act session.old (said command.now)) session.old (answer_of result) session.new }
+fn run_command(session: &mut Session, command: &Command) -> Result<Response, Status>
+    ensures { RespondsAlone (run session.old (said command.now)) session.old result session.new }
 {
     match session.run(command) {
-        Ok(reply) => Ok(Answer::plain(of_reply(reply))),
+        Ok(reply) => Ok(Response::plain(of_reply(reply))),
         Err(refusal) => Err(of_refusal(refusal)),
     }
 }
 
 /// `format`: the disk made an empty one. The word is cut at its first comma, into the name and the id.
-pub(crate) fn format(alloc: Global, session: &mut Session, word: &[u8]) -> Result<Answer, Status>
-    ensures { DoesInSession (format_act session.old word.now) session.old (answer_of result) session.new }
+pub(crate) fn format(alloc: Global, session: &mut Session, word: &[u8]) -> Result<Response, Status>
+    ensures { RespondsAlone (format_act session.old word.now) session.old result session.new }
 {
     let Some((name, id)) = at_comma(word) else {
         return Err(Status::SyntaxError);
@@ -121,15 +118,15 @@ pub(crate) fn format(alloc: Global, session: &mut Session, word: &[u8]) -> Resul
 }
 
 /// `list`: the lines that show the directory.
-pub(crate) fn list(alloc: Global, session: &Session) -> Result<Answer, Status>
-    ensures { DoesInSession (list_act session.now) session.now (answer_of result) session.now }
+pub(crate) fn list(alloc: Global, session: &Session) -> Result<Response, Status>
+    ensures { RespondsAlone (list_act session.now) session.now result session.now }
 {
     let listing = match d64_dos::listing(alloc, session.image()) {
         Ok(listing) => listing,
         Err(refusal) => return Err(of_refusal(refusal)),
     };
     match listing_text(alloc, &listing) {
-        Ok(text) => Ok(Answer {
+        Ok(text) => Ok(Response {
             output: Output::Text(text),
             status: Status::Done,
             closes: false,
@@ -139,11 +136,11 @@ pub(crate) fn list(alloc: Global, session: &Session) -> Result<Answer, Status>
 }
 
 /// `quit`: the end of the run.
-pub(crate) fn quit(session: &Session) -> Result<Answer, Status>
-    ensures { quit_act session.now ≡ Settle (answer_of result) session.now }
+pub(crate) fn quit(session: &Session) -> Result<Response, Status>
+    ensures { RespondsAlone (quit_act session.now) session.now result session.now }
 {
     let _ = session;
-    Ok(Answer {
+    Ok(Response {
         output: Output::Nothing,
         status: Status::Done,
         closes: true,
@@ -157,12 +154,12 @@ pub(crate) fn read<H: Host>(
     session: &Session,
     name: &[u8],
     words: &[&[u8]],
-) -> Result<Answer, Status>
+) -> Result<Response, Status>
     requires { All (λ word. All IsPrintable word.now) words.now }
-    ensures { Does (read_act session.now name.now (map (λ word. word.now) words.now))
-        (record { files = H.files host.old; failures = H.failure_count host.old; history = session.now })
-        (answer_of result)
-        (record { files = H.files host.new; failures = H.failure_count host.new; history = session.now }) }
+    ensures { Responds (read_act session.now name.now (map (λ word. word.now) words.now))
+        (world_of (H.files host.old) (H.failure_count host.old) session.now)
+        result
+        (world_of (H.files host.new) (H.failure_count host.new) session.now) }
 {
     let pattern = pattern_in(alloc, name)?;
     match words.first() {
@@ -178,12 +175,12 @@ fn read_to<H: Host>(
     session: &Session,
     pattern: &Pattern,
     word: &[u8],
-) -> Result<Answer, Status>
+) -> Result<Response, Status>
     requires { All IsPrintable word.now }
-    ensures { Does (read_to session.now pattern.now (word.now ∷ []))
-        (record { files = H.files host.old; failures = H.failure_count host.old; history = session.now })
-        (answer_of result)
-        (record { files = H.files host.new; failures = H.failure_count host.new; history = session.now }) }
+    ensures { Responds (read_to session.now pattern.now (word.now ∷ []))
+        (world_of (H.files host.old) (H.failure_count host.old) session.now)
+        result
+        (world_of (H.files host.new) (H.failure_count host.new) session.now) }
 {
     let name = host_in(word)?;
     match d64_dos::read(alloc, session.image(), pattern) {
@@ -198,11 +195,11 @@ fn read_as_found<H: Host>(
     host: &mut H,
     session: &Session,
     pattern: &Pattern,
-) -> Result<Answer, Status>
-    ensures { Does (read_to session.now pattern.now [])
-        (record { files = H.files host.old; failures = H.failure_count host.old; history = session.now })
-        (answer_of result)
-        (record { files = H.files host.new; failures = H.failure_count host.new; history = session.now }) }
+) -> Result<Response, Status>
+    ensures { Responds (read_to session.now pattern.now [])
+        (world_of (H.files host.old) (H.failure_count host.old) session.now)
+        result
+        (world_of (H.files host.new) (H.failure_count host.new) session.now) }
 {
     let file = match d64_dos::read(alloc, session.image(), pattern) {
         Ok(file) => file,
@@ -221,11 +218,11 @@ fn read_as_found<H: Host>(
 }
 
 /// `redo`: the next image of the history.
-pub(crate) fn redo(session: &mut Session) -> Result<Answer, Status>
-    ensures { redo_act session.old ≡ Settle (answer_of result) session.new }
+pub(crate) fn redo(session: &mut Session) -> Result<Response, Status>
+    ensures { RespondsAlone (redo_act session.old) session.old result session.new }
 {
     session.redo().map_err(of_nothing_to_redo)?;
-    Ok(Answer::plain(Status::Done))
+    Ok(Response::plain(Status::Done))
 }
 
 /// `save`: the image stored in a host file, by default its own.
@@ -235,28 +232,26 @@ pub(crate) fn save<H: Host>(
     home: &str,
     session: &Session,
     words: &[&[u8]],
-) -> Result<Answer, Status>
+) -> Result<Response, Status>
     requires { All (λ word. All IsPrintable word.now) words.now }
-    ensures { Does (save_act home.now session.now (map (λ word. word.now) words.now))
-        (record { files = H.files host.old; failures = H.failure_count host.old; history = session.now })
-        (answer_of result)
-        (record { files = H.files host.new; failures = H.failure_count host.new; history = session.now }) }
+    ensures { Responds (save_act home.now session.now (map (λ word. word.now) words.now))
+        (world_of (H.files host.old) (H.failure_count host.old) session.now)
+        result
+        (world_of (H.files host.new) (H.failure_count host.new) session.now) }
 {
     let name = match words.first() {
         Some(word) => host_in(word)?,
         None => home,
     };
-    host.store(alloc, name, session.image().bytes())
-        .map_err(of_fault)?;
-    Ok(Answer::plain(Status::Done))
+    store(alloc, host, name, session.image().bytes())
 }
 
 /// `undo`: the image before.
-pub(crate) fn undo(session: &mut Session) -> Result<Answer, Status>
-    ensures { undo_act session.old ≡ Settle (answer_of result) session.new }
+pub(crate) fn undo(session: &mut Session) -> Result<Response, Status>
+    ensures { RespondsAlone (undo_act session.old) session.old result session.new }
 {
     session.undo().map_err(of_nothing_to_undo)?;
-    Ok(Answer::plain(Status::Done))
+    Ok(Response::plain(Status::Done))
 }
 
 /// `write`: a host file written to the disk, by default under its own name and as PRG.
@@ -266,12 +261,12 @@ pub(crate) fn write<H: Host>(
     session: &mut Session,
     name: &[u8],
     words: &[&[u8]],
-) -> Result<Answer, Status>
+) -> Result<Response, Status>
     requires { All IsPrintable name.now }
-    ensures { Does (write_act session.old name.now (map (λ word. word.now) words.now))
-        (record { files = H.files host.old; failures = H.failure_count host.old; history = session.old })
-        (answer_of result)
-        (record { files = H.files host.new; failures = H.failure_count host.new; history = session.new }) }
+    ensures { Responds (write_act session.old name.now (map (λ word. word.now) words.now))
+        (world_of (H.files host.old) (H.failure_count host.old) session.old)
+        result
+        (world_of (H.files host.new) (H.failure_count host.new) session.new) }
 {
     let source = host_in(name)?;
     let (name, kind) = name_and_kind_of(name, words)?;
@@ -283,14 +278,14 @@ pub(crate) fn write<H: Host>(
 }
 
 /// Bytes stored in a host file.
-fn store<H: Host>(alloc: Global, host: &mut H, name: &str, bytes: &[u8]) -> Result<Answer, Status>
-    ensures { (history : History) → Does (StoreOf name.now bytes.now)
-        (record { files = H.files host.old; failures = H.failure_count host.old; history = history })
-        (answer_of result)
-        (record { files = H.files host.new; failures = H.failure_count host.new; history = history }) }
+fn store<H: Host>(alloc: Global, host: &mut H, name: &str, bytes: &[u8]) -> Result<Response, Status>
+    ensures { (history : History) → Responds (put history name.now bytes.now)
+        (world_of (H.files host.old) (H.failure_count host.old) history)
+        result
+        (world_of (H.files host.new) (H.failure_count host.new) history) }
 {
     match host.store(alloc, name, bytes) {
-        Ok(()) => Ok(Answer::plain(Status::Done)),
+        Ok(()) => Ok(Response::plain(Status::Done)),
         Err(fault) => Err(of_fault(fault)),
     }
 }

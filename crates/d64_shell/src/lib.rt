@@ -1,13 +1,13 @@
 //! The shell over disk images: the scripts that drive sessions with undo and redo.
 #![tactic(auto)]
 
-mod answer;
 mod arguments;
 mod command_word;
 mod entry;
 mod handlers;
 mod line;
 mod listing_text;
+mod response;
 mod runner;
 mod status_from;
 

@@ -3,69 +3,72 @@
 
 ghost use Rattle.std.specs.Prelude.{◌≡◌, ◌≤◌, All, map, length, Option, MatchOption};
 ghost use Rattle.d64_script.specs.Words.{IsPrintable};
-ghost use Rattle.d64_shell.specs.Act.{Does, World};
-ghost use Rattle.d64_shell.specs.Answer.{shown, answer_of};
-ghost use Rattle.d64_shell.specs.Line.{act_of, act_of_command, act_of_words, act_of_line, IsSkipped, IsAnswered};
-ghost use Rattle.d64_script.specs.Words.{words_of};
+ghost use Rattle.d64_shell.specs.Act.{world_of};
+ghost use Rattle.d64_undo.specs.History.{present};
+ghost use Rattle.d64_shell.specs.Response.{shown, Responds};
+ghost use Rattle.d64_shell.specs.Line.{act_of_command, act_of_text, act_of_line, IsSkipped, IsAnswered};
 
-use crate::answer::Answer;
+use crate::response::Response;
 use crate::command_word::CommandWord;
 use crate::handlers;
+use d64_undo::Session;
+use arrayvec::ArrayVec;
 use d64_host::Host;
 use d64_script::raw_lines;
 use d64_script::status::Status;
-use d64_script::words::words;
-use d64_undo::Session;
+use d64_script::words::{MAX_WORDS, words};
 use std::alloc::Global;
 
-/// The answer to a raw line, or None where it is skipped.
-pub(crate) fn answer_line<H: Host>(
+/// The response to a raw line, or None where it is skipped. `found` is room for its words.
+pub(crate) fn answer_line<'a, H: Host>(
     alloc: Global,
     host: &mut H,
     home: &str,
     session: &mut Session,
-    line: &[u8],
-) -> Option<Answer>
+    found: &mut ArrayVec<&'a [u8], MAX_WORDS>,
+    line: &'a [u8],
+) -> Option<Response>
     ensures { MatchOption result
         (IsSkipped home.now session.old line.now
-        (record { files = H.files host.old; failures = H.failure_count host.old; history = session.old })
-        (record { files = H.files host.new; failures = H.failure_count host.new; history = session.new }))
-        (λ answer. IsAnswered home.now session.old line.now
-        (record { files = H.files host.old; failures = H.failure_count host.old; history = session.old })
-        (shown answer)
-        (record { files = H.files host.new; failures = H.failure_count host.new; history = session.new })) }
+        (world_of (H.files host.old) (H.failure_count host.old) session.old)
+        (world_of (H.files host.new) (H.failure_count host.new) session.new))
+        (λ response. IsAnswered home.now session.old line.now
+        (world_of (H.files host.old) (H.failure_count host.old) session.old)
+        (shown (present session.new) response)
+        (world_of (H.files host.new) (H.failure_count host.new) session.new)) }
 {
     if raw_lines::is_too_long(line) {
-        return Some(Answer::plain(Status::LongLine));
+        return Some(Response::plain(Status::LongLine));
     }
     let text = raw_lines::text(line);
     if raw_lines::is_skipped(text) {
         return None;
     }
-    Some(match answer_text(alloc, host, home, session, text) {
-        Ok(answer) => answer,
-        Err(status) => Answer::plain(status),
+    Some(match answer_text(alloc, host, home, session, found, text) {
+        Ok(response) => response,
+        Err(status) => Response::plain(status),
     })
 }
 
-/// The answer to the text of a line that is not skipped.
-fn answer_text<H: Host>(
+/// The response to the text of a line that is not skipped.
+fn answer_text<'a, H: Host>(
     alloc: Global,
     host: &mut H,
     home: &str,
     session: &mut Session,
-    text: &[u8],
-) -> Result<Answer, Status>
+    found: &mut ArrayVec<&'a [u8], MAX_WORDS>,
+    text: &'a [u8],
+) -> Result<Response, Status>
     requires { length text.now ≤ 1024 }
-    ensures { Does (act_of_words home.now session.old (words_of text.now))
-        (record { files = H.files host.old; failures = H.failure_count host.old; history = session.old })
-        (answer_of result)
-        (record { files = H.files host.new; failures = H.failure_count host.new; history = session.new }) }
+    ensures { Responds (act_of_text home.now session.old text.now)
+        (world_of (H.files host.old) (H.failure_count host.old) session.old)
+        result
+        (world_of (H.files host.new) (H.failure_count host.new) session.new) }
 {
-    let Some(words) = words(text) else {
+    let Ok(()) = words(text, found) else {
         return Err(Status::SyntaxError);
     };
-    let Some((first, arguments)) = words.as_slice().split_first() else {
+    let Some((first, arguments)) = found.as_slice().split_first() else {
         return Err(Status::UnknownCommand);
     };
     let Some(command) = CommandWord::of(first) else {
@@ -74,7 +77,7 @@ fn answer_text<H: Host>(
     answer_command(alloc, host, home, session, command, arguments)
 }
 
-/// The answer to a command word and the words after it.
+/// The response to a command and the words after it.
 fn answer_command<H: Host>(
     alloc: Global,
     host: &mut H,
@@ -82,12 +85,12 @@ fn answer_command<H: Host>(
     session: &mut Session,
     command: CommandWord,
     words: &[&[u8]],
-) -> Result<Answer, Status>
+) -> Result<Response, Status>
     requires { All (λ word. All IsPrintable word.now) words.now }
-    ensures { Does (act_of_command home.now session.old command (map (λ word. word.now) words.now))
-        (record { files = H.files host.old; failures = H.failure_count host.old; history = session.old })
-        (answer_of result)
-        (record { files = H.files host.new; failures = H.failure_count host.new; history = session.new }) }
+    ensures { Responds (act_of_command home.now session.old command (map (λ word. word.now) words.now))
+        (world_of (H.files host.old) (H.failure_count host.old) session.old)
+        result
+        (world_of (H.files host.new) (H.failure_count host.new) session.new) }
 {
     if words.len() < command.fewest(home) {
         return Err(Status::MissingWord);

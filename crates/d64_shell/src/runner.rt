@@ -1,17 +1,19 @@
 //! A script, from its bytes to the bytes of its answers.
 ghost use Rattle.std.specs.Prelude.{◌≡◌, ◌≤◌, length, IfOk, OnErr};
 ghost use Rattle.d64_script.specs.RawLines.{lines_of, ended_lines};
+ghost use Rattle.d64_shell.specs.Act.{world_of};
 ghost use Rattle.d64_shell.specs.Transcript.{Progress};
-ghost use Rattle.d64_shell.specs.Runner.{Stand, Ran, RanLines, Counts, StoppedAt};
+ghost use Rattle.d64_shell.specs.Runner.{stand_of, Ran, RanLines, Counts, StoppedAt};
 ghost use Rattle.d64_script.specs.Script.{script_limit};
 
-use crate::answer::Answer;
 use crate::line::answer_line;
+use d64_undo::Session;
+use arrayvec::ArrayVec;
 use d64_host::Host;
 use d64_script::output::WriteFault;
 use d64_script::raw_lines::RawLines;
 use d64_script::script::read_script;
-use d64_undo::Session;
+use d64_script::status::Status;
 use std::alloc::{AllocError, Global};
 use std::io::{Read, Write};
 use thiserror::Error;
@@ -25,15 +27,14 @@ pub struct Outcome {
 
 impl Outcome {
     ghost use Rattle.std.specs.Prelude.{◌+◌, ◌<◌, ◌^◌, if◌then◌else◌};
-    ghost use Rattle.d64_shell.specs.Answer.{shown};
     ghost use Rattle.d64_shell.specs.Transcript.{is_accepted};
 
-    fn count(&mut self, answer: &Answer)
+    fn count(&mut self, status: Status)
         requires { self.old.accepted + self.old.refused < 2 ^ 63 }
-        ensures accepted { self.new.accepted ≡ self.old.accepted + (if is_accepted (shown answer.now) then 1 else 0) }
-        ensures refused { self.new.refused ≡ self.old.refused + (if is_accepted (shown answer.now) then 0 else 1) }
+        ensures accepted { self.new.accepted ≡ self.old.accepted + (if is_accepted status then 1 else 0) }
+        ensures refused { self.new.refused ≡ self.old.refused + (if is_accepted status then 0 else 1) }
     {
-        if answer.status.is_accepted() {
+        if status.is_accepted() {
             self.accepted += 1;
         } else {
             self.refused += 1;
@@ -75,14 +76,8 @@ pub fn run<R: Read, W: Write, H: Host>(
     session: &mut Session,
 ) -> Result<Outcome, ShellFault>
     ensures { Ran home.now (R.remaining reader.old) (R.remaining reader.new)
-        (record {
-          writer = W.contents writer.old;
-          world = record { files = H.files host.old; failures = H.failure_count host.old; history = session.old };
-        })
-        (record {
-          writer = W.contents writer.new;
-          world = record { files = H.files host.new; failures = H.failure_count host.new; history = session.new };
-        })
+        (stand_of (W.contents writer.old) (world_of (H.files host.old) (H.failure_count host.old) session.old))
+        (stand_of (W.contents writer.new) (world_of (H.files host.new) (H.failure_count host.new) session.new))
         result }
 {
     let script = match read_script(alloc, reader) {
@@ -114,40 +109,29 @@ fn run_lines<W: Write, H: Host>(
 ) -> Result<Tally, WriteFault>
     requires { length lines.now ≤ script_limit }
     ensures ran { IfOk result (λ tally. (after : Progress) × Counts tally after × RanLines home.now
-        (record {
-          writer = W.contents writer.old;
-          world = record { files = H.files host.old; failures = H.failure_count host.old; history = session.old };
-        })
-        (record {
-          writer = W.contents writer.new;
-          world = record { files = H.files host.new; failures = H.failure_count host.new; history = session.new };
-        })
+        (stand_of (W.contents writer.old) (world_of (H.files host.old) (H.failure_count host.old) session.old))
+        (stand_of (W.contents writer.new) (world_of (H.files host.new) (H.failure_count host.new) session.new))
         (lines_of lines.now) after) }
     ensures stopped { OnErr result (StoppedAt home.now
-        (record {
-          writer = W.contents writer.old;
-          world = record { files = H.files host.old; failures = H.failure_count host.old; history = session.old };
-        })
-        (record {
-          writer = W.contents writer.new;
-          world = record { files = H.files host.new; failures = H.failure_count host.new; history = session.new };
-        })
+        (stand_of (W.contents writer.old) (world_of (H.files host.old) (H.failure_count host.old) session.old))
+        (stand_of (W.contents writer.new) (world_of (H.files host.new) (H.failure_count host.new) session.new))
         (lines_of lines.now)) }
 {
     let mut outcome = Outcome {
         accepted: 0,
         refused: 0,
     };
+    let mut words = ArrayVec::new();
     for line in RawLines(lines) {
-        let Some(answer) = answer_line(alloc, host, home, session, line) else {
+        let Some(response) = answer_line(alloc, host, home, session, &mut words, line) else {
             continue;
         };
-        outcome.count(&answer);
-        match answer.write(writer) {
+        outcome.count(response.status);
+        match response.write(writer, session.image()) {
             Ok(()) => {}
             Err(fault) => return Err(fault),
         }
-        if answer.closes {
+        if response.closes {
             return Ok(Tally {
                 outcome,
                 closed: true,

@@ -45,14 +45,14 @@ loop-first-preserved c =
       inside = λ unended. absurd (false≢true (sym unended ∙ known.ended));
     }
 
-pub returns-in_default-first_word : goal.returns-in_default-first_word
-returns-in_default-first_word c =
+pub returns-in_default-first_word-clause-none : goal.returns-in_default-first_word-clause-none
+returns-in_default-first_word-clause-none c =
     let begins : c.loop-first.rest.now ≡ c.in-Some.first.now ∷ c.in-Some.after.now = search rules in
     let not_space : c.in-Some.first.now ≢ space = search rules in
     let misplaced : first_word c.loop-first.rest.now ≡ None = cc in
     words_so_far-none (contents c.loop-first.words.items) (split_words c.args.line.now) c.in-Some.first.now c.loop-first.rest.now c.in-Some.after.now begins not_space misplaced c.loop-first.invariant.words
 
-pub returns : goal.returns
-returns c =
+pub returns-clause-words : goal.returns-clause-words
+returns-clause-words c =
     let none : length c.loop-first.rest.now ≡ 0 = omega (arith, c.in_default.ensures.cases) in
     words_so_far-nil (contents c.loop-first.words.items) (split_words c.args.line.now) c.loop-first.rest.now (nil_from_length c.loop-first.rest.now none) c.loop-first.invariant.words

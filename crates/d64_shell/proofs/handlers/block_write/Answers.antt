@@ -1,14 +1,26 @@
-use Rattle.std.proofs.Common.{Ok}
-use Rattle.d64_shell.specs.Act.{Does}
+use Rattle.std.proofs.Common.{Ok, Err, refl}
+use Rattle.d64_shell.specs.Act.{HostState}
+use Rattle.d64_shell.proofs.Acts.{Does-given, Does-refused}
 use Rattle.d64_shell.proofs.handlers.block_write.Goals as goal
 
 pub returns-in-Ok : goal.returns-in-Ok
-unfolding Does
 returns-in-Ok g c =
-    rw (← c.in_ok-name.ensures, ← c.in_ok-at.ensures, c.fetch.ensures.files_kept) (
+    let new : HostState = record { files = g.H.Host.files c.fetch.new.self; failures = g.H.Host.failure_count c.fetch.new.self } in
+    rw (← c.in_ok-name.ensures, ← c.in_ok-at.ensures)
+    (Does-given _ _ c.in-Ok.bytes.items _ new _ _ _
+    (
       Ok c.in-Ok.bytes.items,
-      g.H.Host.failure_count c.fetch.new.self,
-      c.in-Ok.ensures.answer,
-      c.in-Ok.ensures.counted,
-      rw c.as_slice.ensures.value at (c.write_one_block.ensures (g.H.Host.files c.args.host.now) (g.H.Host.failure_count c.fetch.new.self)),
+      record { answer = c.in-Ok.ensures.answer; counted = c.in-Ok.ensures.counted; kept = c.fetch.ensures.files_kept },
+      refl,
     )
+    (rw c.as_slice.ensures.value at (c.write_one_block.ensures new)))
+
+pub returns-in-Err : goal.returns-in-Err
+returns-in-Err g c =
+    rw (← c.in_ok-name.ensures, ← c.in_ok-at.ensures, c.of_fault.ensures)
+    (Does-refused _ _ _ _ _ _
+    (
+      Err c.in-Err.fault,
+      record { answer = c.in-Err.ensures.answer; counted = c.in-Err.ensures.counted; kept = c.fetch.ensures.files_kept },
+      refl,
+    ))

@@ -1,35 +1,36 @@
-use Rattle.std.proofs.Common.{◌≡◌, ◌∙◌, ℕ, ◌<◌, sym, ap, subst, true, List, None, All, arith, rules}
+use Rattle.std.proofs.Common.{◌≡◌, ◌∙◌, ℕ, ◌<◌, sym, ap, subst, true, false, List, [], None, All, refl, arith, rules}
 use Rattle.std.proofs.lemmas.Str.{IsUtf8-from_ascii}
 use Rattle.std.proofs.lemmas.Str.Ascii.{IsAscii-from_all}
 use Rattle.petscii.specs.Spelling.{spelling}
 use Rattle.d64_dos.specs.Reading.{read_refusal}
+use Rattle.d64_shell.specs.Act.{HostState}
 use Rattle.d64_shell.specs.FoundFile.{found_name, found_content, is_file_name}
 use Rattle.d64_undo.specs.History.{present}
-use Rattle.d64_shell.specs.Line.{store_as_found}
-use Rattle.d64_shell.proofs.FoundFiles.{found_name-read, found_content-read, Does-accepted, Does-refused, store_as_found-memory, Does-store_as_found}
+use Rattle.d64_script.specs.declared.status.Status.TheVariants.{BadName}
+use Rattle.d64_shell.proofs.Acts.{Does-given, Does-refuse, Does-no_memory, Does-allowed, Does-not_allowed}
+use Rattle.d64_shell.proofs.FoundFiles.{found_name-read, found_content-read}
 use Rattle.d64_shell.proofs.handlers.read_as_found.Goals as goal
 
 pub returns-in-Err : goal.returns-in-Err
-returns-in-Err g c =
-    let history = c.args.session.now in
-    let pattern = c.args.pattern.now in
-    let name = spelling (found_name (present history) pattern) in
-    let bytes = found_content (present history) pattern in
-    rw c.of_refusal.ensures
-    (Does-refused history c.in-Err.refusal (read_refusal (present history) pattern) (store_as_found name bytes history)
-    (g.H.Host.files c.args.host.now) (g.H.Host.failure_count c.args.host.now)
-    (rw c.image.ensures.present at c.in-Err.ensures.refused)
-    (store_as_found-memory name bytes (g.H.Host.files c.args.host.now) (g.H.Host.failure_count c.args.host.now) history))
+returns-in-Err g c = rw c.of_refusal.ensures (Does-not_allowed c.in-Err.refusal _ _ _ _ (rw c.image.ensures.present at c.in-Err.ensures.refused))
 
 pub returns-in-Err-to_text : goal.returns-in-Err-to_text
 returns-in-Err-to_text g c =
+    let refused : None ≡ read_refusal (present c.args.session.now) c.args.pattern.now = rw c.image.ensures.present at c.in-Ok.ensures.refused in
+    Does-allowed _ _ _ _ _ refused (Does-no_memory _ _ _)
+
+pub returns-then-not-is_file_name : goal.returns-then-not-is_file_name
+returns-then-not-is_file_name g c =
     let history = c.args.session.now in
     let pattern = c.args.pattern.now in
-    let name = spelling (found_name (present history) pattern) in
-    let bytes = found_content (present history) pattern in
+    let old : HostState = record { files = g.H.Host.files c.args.host.now; failures = g.H.Host.failure_count c.args.host.now } in
+    let back = rw c.image.ensures.present at c.in-Ok.ensures.back in
     let refused : None ≡ read_refusal (present history) pattern = rw c.image.ensures.present at c.in-Ok.ensures.refused in
-    Does-accepted history (read_refusal (present history) pattern) (store_as_found name bytes history) _ _ _ refused
-    (store_as_found-memory name bytes (g.H.Host.files c.args.host.now) (g.H.Host.failure_count c.args.host.now) history)
+    let text : c.in-Ok-to_text.name.items ≡ spelling (found_name (present history) pattern) =
+    c.in-Ok-to_text.ensures.spelled ∙ ap spelling (c.as_slice.ensures.value ∙ found_name-read (present history) pattern c.in-Ok.file.name.items c.in-Ok.file.bytes.items back) in
+    let fails : c.is_file_name.result ≡ false = search rules in
+    let no_name : false ≡ is_file_name (spelling (found_name (present history) pattern)) = sym fails ∙ c.is_file_name.ensures ∙ ap is_file_name (c.as_slice-3.ensures.value ∙ text) in
+    Does-allowed _ _ _ _ _ refused (Does-given _ _ [] old old history _ _ (refl, refl) (rw (← no_name) (Does-refuse BadName _)))
 
 pub unwrap-name-requires : goal.unwrap-name-requires
 unwrap-name-requires g c =
@@ -43,6 +44,7 @@ pub returns : goal.returns
 returns g c =
     let history = c.args.session.now in
     let pattern = c.args.pattern.now in
+    let old : HostState = record { files = g.H.Host.files c.args.host.now; failures = g.H.Host.failure_count c.args.host.now } in
     let back = rw c.image.ensures.present at c.in-Ok.ensures.back in
     let refused : None ≡ read_refusal (present history) pattern = rw c.image.ensures.present at c.in-Ok.ensures.refused in
     let text : c.in-Ok-to_text.name.items ≡ spelling (found_name (present history) pattern) =
@@ -53,6 +55,6 @@ returns g c =
     c.as_slice-5.ensures.value ∙ found_content-read (present history) pattern c.in-Ok.file.name.items c.in-Ok.file.bytes.items back in
     let passes : c.is_file_name.result ≡ true = search rules in
     let names : true ≡ is_file_name (spelling (found_name (present history) pattern)) = sym passes ∙ c.is_file_name.ensures ∙ ap is_file_name (c.as_slice-3.ensures.value ∙ text) in
-    Does-accepted history (read_refusal (present history) pattern) (store_as_found (spelling (found_name (present history) pattern)) (found_content (present history) pattern) history)
-    _ _ _ refused
-    (Does-store_as_found (spelling (found_name (present history) pattern)) (found_content (present history) pattern) history _ _ _ names (rw (name, bytes) at (c.store.ensures history)))
+    Does-allowed _ _ _ _ _ refused
+    (Does-given _ _ [] old old history _ _ (refl, refl)
+    (rw (← names) (rw (name, bytes) at (c.store.ensures history))))

@@ -1,21 +1,29 @@
-use Rattle.std.proofs.Common.{Ok}
-use Rattle.d64_dos.specs.Change.{Write}
-use Rattle.d64_files.specs.Name.{is_name}
-use Rattle.d64_shell.specs.Act.{World, FetchThen, Does}
-use Rattle.d64_shell.specs.Line.{host_file_limit, command_act}
+use Rattle.std.proofs.Common.{Ok, Err, refl}
+use Rattle.d64_shell.specs.Act.{HostState}
+use Rattle.d64_shell.proofs.Acts.{Does-given, Does-refused}
 use Rattle.d64_shell.proofs.TextArguments.{Does-read}
 use Rattle.d64_shell.proofs.handlers.write.Goals as goal
 
 pub returns-in-Ok : goal.returns-in-Ok
-unfolding Does
 returns-in-Ok g c =
-    let world : World = record { files = g.H.Host.files c.args.host.now; failures = g.H.Host.failure_count c.args.host.now; history = c.args.session.now } in
-    rw (← c.in_ok-source.ensures, ← c.in_ok-name.ensures, c.fetch.ensures.files_kept)
-    (Does-read is_name c.in_ok-name.name.now (λ name. FetchThen c.in_ok-source.source.now host_file_limit (λ bytes. command_act c.args.session.now (Write name c.in_ok-name.kind bytes)))
-    c.in_ok-name-2.name world _ _ c.in_ok-name-2.ensures (
+    let new : HostState = record { files = g.H.Host.files c.fetch.new.self; failures = g.H.Host.failure_count c.fetch.new.self } in
+    rw (← c.in_ok-source.ensures, ← c.in_ok-name.ensures)
+    (Does-read _ _ _ c.in_ok-name-2.name _ _ _ _ c.in_ok-name-2.ensures
+    (Does-given _ _ c.in-Ok.bytes.items _ new _ _ _
+    (
       Ok c.in-Ok.bytes.items,
-      g.H.Host.failure_count c.fetch.new.self,
-      c.in-Ok.ensures.answer,
-      c.in-Ok.ensures.counted,
-      c.run_command.ensures (g.H.Host.files c.args.host.now) (g.H.Host.failure_count c.fetch.new.self),
-    ))
+      record { answer = c.in-Ok.ensures.answer; counted = c.in-Ok.ensures.counted; kept = c.fetch.ensures.files_kept },
+      refl,
+    )
+    (c.run_command.ensures new)))
+
+pub returns-in-Err : goal.returns-in-Err
+returns-in-Err g c =
+    rw (← c.in_ok-source.ensures, ← c.in_ok-name.ensures, c.of_fault.ensures)
+    (Does-read _ _ _ c.in_ok-name-2.name _ _ _ _ c.in_ok-name-2.ensures
+    (Does-refused _ _ _ _ _ _
+    (
+      Err c.in-Err.fault,
+      record { answer = c.in-Err.ensures.answer; counted = c.in-Err.ensures.counted; kept = c.fetch.ensures.files_kept },
+      refl,
+    )))

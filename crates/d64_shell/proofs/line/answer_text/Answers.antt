@@ -5,5 +5,5 @@ use Rattle.d64_shell.proofs.line.answer_text.Goals as goal
 
 pub answer_command-requires : goal.answer_command-requires
 answer_command-requires g c =
-    let after_first : c.in-Some-split_first.arguments.now ≡ drop 1 c.in-Some.words.items = search rules in
-    rw after_first (All-drop (λ word. All IsPrintable word.now) 1 c.in-Some.words.items c.in-Some.ensures.printable)
+    let after_first : c.in-Some.arguments.now ≡ drop 1 c.words.new.words.items = search rules in
+    rw after_first (All-drop (λ word. All IsPrintable word.now) 1 c.words.new.words.items c.in-Ok.ensures.printable)

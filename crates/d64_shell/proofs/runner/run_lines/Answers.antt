@@ -2,8 +2,9 @@ use Rattle.std.proofs.Common.{arith, rules, if◌then◌else◌, ◌≡◌, ℕ,
 use Rattle.std.proofs.KnownBytes.{Appends-nil, Appends-trans}
 use Rattle.d64_script.specs.RawLines.{lines_of}
 use Rattle.d64_script.proofs.LineCuts.{length-lines_of}
-use Rattle.d64_shell.specs.Act.{World}
-use Rattle.d64_shell.specs.Answer.{shown}
+use Rattle.d64_shell.specs.Act.{World, world_of}
+use Rattle.d64_undo.specs.History.{present}
+use Rattle.d64_shell.specs.Response.{shown}
 use Rattle.d64_shell.specs.Transcript.{Progress, Transcript, printed, counted, is_accepted}
 use Rattle.d64_shell.specs.Runner.{begin}
 use Rattle.d64_shell.proofs.Transcripts.{Line-answered, Transcript-answered, Transcript-skipped, Transcript-closed}
@@ -53,18 +54,10 @@ pub returns-in-Err-clause-stopped : goal.returns-in-Err-clause-stopped
 returns-in-Err-clause-stopped g c =
     let i = c.loop-line.invariant in
     let line = c.in-Some.line.now in
-    let said = shown c.in-Some-answer_line.answer in
-    let write = c.in-Err.ensures.err in
-    let world : World = record {
-      files = g.H.Host.files c.loop-line.host;
-      failures = g.H.Host.failure_count c.loop-line.host;
-      history = c.loop-line.session;
-    } in
-    let after : World = record {
-      files = g.H.Host.files c.answer_line.new.host;
-      failures = g.H.Host.failure_count c.answer_line.new.host;
-      history = c.answer_line.new.session;
-    } in
+    let said = shown (present c.answer_line.new.session) c.in-Some-answer_line.response in
+    let write = rw c.image.ensures.present at c.in-Err.ensures.err in
+    let world : World = world_of (g.H.Host.files c.loop-line.host) (g.H.Host.failure_count c.loop-line.host) c.loop-line.session in
+    let after : World = world_of (g.H.Host.files c.answer_line.new.host) (g.H.Host.failure_count c.answer_line.new.host) c.answer_line.new.session in
     let middle : Progress = record {
       world = world;
       closed = false;
@@ -90,29 +83,21 @@ returns-in-Err-clause-stopped g c =
       world = refl;
     }
 
-pub returns-then-answer-clause-ran : goal.returns-then-answer-clause-ran
-returns-then-answer-clause-ran g c =
+pub returns-then-response-clause-ran : goal.returns-then-response-clause-ran
+returns-then-response-clause-ran g c =
     let i = c.loop-line.invariant in
     let line = c.in-Some.line.now in
-    let said = shown c.in-Some-answer_line.answer in
+    let said = shown (present c.answer_line.new.session) c.in-Some-answer_line.response in
     let after : Progress = record {
-      world = record {
-        files = g.H.Host.files c.answer_line.new.host;
-        failures = g.H.Host.failure_count c.answer_line.new.host;
-        history = c.answer_line.new.session;
-      };
+      world = world_of (g.H.Host.files c.answer_line.new.host) (g.H.Host.failure_count c.answer_line.new.host) c.answer_line.new.session;
       closed = true;
       accepted = c.count.new.self.accepted;
       refused = c.count.new.self.refused;
     } in
-    let start = begin (record {
-      files = g.H.Host.files c.args.host.now;
-      failures = g.H.Host.failure_count c.args.host.now;
-      history = c.args.session.now;
-    }) in
+    let start = begin (world_of (g.H.Host.files c.args.host.now) (g.H.Host.failure_count c.args.host.now) c.args.session.now) in
     let told =
     Transcript-answered c.args.home.now i.before line start i.out _ after.world _ _ after.accepted after.refused true said i.told
-    c.in-Some-answer_line.ensures (sym c.if-answer.true) c.count.ensures.accepted c.count.ensures.refused in
+    c.in-Some-answer_line.ensures (sym c.if-response.true) c.count.ensures.accepted c.count.ensures.refused in
     let P : List (List ℕ) → Type 0 = λ lines. Transcript c.args.home.now lines start (i.out ++ printed said) after in (
       after,
       (refl, refl, refl),
@@ -120,38 +105,38 @@ returns-then-answer-clause-ran g c =
         out = i.out ++ printed said;
         told = subst P (moved i.before line _ _ _ c.in-Some.ensures.steps i.split)
             (Transcript-closed c.args.home.now (i.before ++ line ∷ []) (lines_of c.next.new.self.0.now) start (i.out ++ printed said) after told refl);
-        written = Appends-trans _ _ _ i.out (printed said) i.written c.in-Ok.ensures.ok;
+        written = Appends-trans _ _ _ i.out (printed said) i.written (rw c.image.ensures.present at c.in-Ok.ensures.ok);
         world = refl;
       },
     )
 
 -- the same where the answer has memory of its own to give back, and where it has none
-pub loop-line-preserved-else-answer : goal.loop-line-preserved-else-answer
-loop-line-preserved-else-answer g c =
+pub loop-line-preserved-else-response : goal.loop-line-preserved-else-response
+loop-line-preserved-else-response g c =
     let i = c.loop-line.invariant in
     let line = c.in-Some.line.now in
-    let said = shown c.in-Some-answer_line.answer in
+    let said = shown (present c.answer_line.new.session) c.in-Some-answer_line.response in
     record {
       before = i.before ++ line ∷ [];
       split = moved i.before line _ _ _ c.in-Some.ensures.steps i.split;
       out = i.out ++ printed said;
       told = Transcript-answered c.args.home.now i.before line _ i.out _ _ _ _ _ _ false said i.told
-          c.in-Some-answer_line.ensures (sym c.if-answer.false) c.count.ensures.accepted c.count.ensures.refused;
-      written = Appends-trans _ _ _ i.out (printed said) i.written c.in-Ok.ensures.ok;
-      few = omega (arith, i.few, length-append i.before (line ∷ []), c.count.ensures.accepted, c.count.ensures.refused, one_more (is_accepted said));
+          c.in-Some-answer_line.ensures (sym c.if-response.false) c.count.ensures.accepted c.count.ensures.refused;
+      written = Appends-trans _ _ _ i.out (printed said) i.written (rw c.image.ensures.present at c.in-Ok.ensures.ok);
+      few = omega (arith, i.few, length-append i.before (line ∷ []), c.count.ensures.accepted, c.count.ensures.refused, one_more (is_accepted said.status));
     }
 
 pub loop-line-preserved : goal.loop-line-preserved
 loop-line-preserved g c =
     let i = c.loop-line.invariant in
     let line = c.in-Some.line.now in
-    let said = shown c.in-Some-answer_line.answer in
+    let said = shown (present c.answer_line.new.session) c.in-Some-answer_line.response in
     record {
       before = i.before ++ line ∷ [];
       split = moved i.before line _ _ _ c.in-Some.ensures.steps i.split;
       out = i.out ++ printed said;
       told = Transcript-answered c.args.home.now i.before line _ i.out _ _ _ _ _ _ false said i.told
-          c.in-Some-answer_line.ensures (sym c.if-answer.false) c.count.ensures.accepted c.count.ensures.refused;
-      written = Appends-trans _ _ _ i.out (printed said) i.written c.in-Ok.ensures.ok;
-      few = omega (arith, i.few, length-append i.before (line ∷ []), c.count.ensures.accepted, c.count.ensures.refused, one_more (is_accepted said));
+          c.in-Some-answer_line.ensures (sym c.if-response.false) c.count.ensures.accepted c.count.ensures.refused;
+      written = Appends-trans _ _ _ i.out (printed said) i.written (rw c.image.ensures.present at c.in-Ok.ensures.ok);
+      few = omega (arith, i.few, length-append i.before (line ∷ []), c.count.ensures.accepted, c.count.ensures.refused, one_more (is_accepted said.status));
     }

@@ -1,6 +1,7 @@
 use Rattle.std.proofs.Common.{◌≡◌, ℕ, ◌+◌, ◌≤◌, List, ◌++◌, length, false}
 use Rattle.std.specs.Io.KnownBytes.{Appends}
 use Rattle.d64_script.specs.RawLines.{lines_of}
+use Rattle.d64_shell.specs.Act.{world_of}
 use Rattle.d64_shell.specs.Transcript.{Transcript}
 use Rattle.d64_shell.specs.Runner.{begin}
 use Rattle.d64_shell.proofs.runner.run_lines.Given as goal
@@ -12,14 +13,10 @@ invariant-loop-line g l = record {
   split : before ++ lines_of l.line-iterator.0.now ≡ lines_of l.lines;
   out : List ℕ;
   told : Transcript l.home before
-      (begin (record {
-        files = g.H.Host.files l.initial.host;
-        failures = g.H.Host.failure_count l.initial.host;
-        history = l.initial.session;
-      }))
+      (begin (world_of (g.H.Host.files l.initial.host) (g.H.Host.failure_count l.initial.host) l.initial.session))
       out
       (record {
-        world = record { files = g.H.Host.files l.host; failures = g.H.Host.failure_count l.host; history = l.session };
+        world = world_of (g.H.Host.files l.host) (g.H.Host.failure_count l.host) l.session;
         closed = false;
         accepted = l.outcome.accepted;
         refused = l.outcome.refused;

@@ -2,8 +2,8 @@ use Rattle.std.proofs.Common.{◌++◌, Result, Ok, Err, ap, sym, ◌∙◌, app
 use Rattle.std.specs.Prelude.{OnErr}
 use Rattle.std.proofs.KnownBytes.{Appends-trans}
 use Rattle.d64_script.specs.Status.{status_line}
-use Rattle.d64_shell.specs.Answer.{output_bytes}
-use Rattle.d64_shell.proofs.answer.Answer.write.Goals as goal
+use Rattle.d64_shell.specs.Response.{output_bytes}
+use Rattle.d64_shell.proofs.response.Response.write.Goals as goal
 
 -- what an error leaves, as another fact
 OnErr-map : {T E : Type 0} (r : Result T E) (P Q : Type 0) → (P → Q) → OnErr r P → OnErr r Q
@@ -18,20 +18,20 @@ returns-in-Err-clause-err g c =
     record {
       part = first.part;
       rest = first.rest ++ status;
-      all = sym (append_assoc first.part first.rest status) ∙ ap (λ l. l ++ status) (first.all ∙ c.bytes.ensures);
+      all = sym (append_assoc first.part first.rest status) ∙ ap (λ l. l ++ status) first.all;
       gained = first.gained;
     }
 
 -- the output and a part of the status line were written
 pub returns-in-Ok-clause-err : goal.returns-in-Ok-clause-err
 returns-in-Ok-clause-err g c =
-    let output = output_bytes c.args.self.now.output in
-    let whole = rw c.bytes.ensures at c.in-Ok.ensures.ok in
-    OnErr-map c.write_answer-in-Ok.result _ _
+    let output = output_bytes c.args.image.now c.args.self.now.output in
+    let whole = c.in-Ok.ensures.ok in
+    OnErr-map c.write_answer.result _ _
     (λ second. record {
       part = output ++ second.part;
       rest = second.rest;
       all = append_assoc output second.part second.rest ∙ ap (λ l. output ++ l) (second.all ∙ c.as_slice.ensures.value ∙ c.line.ensures);
       gained = Appends-trans _ _ _ output second.part whole second.gained;
     })
-    c.write_answer-in-Ok.ensures.err
+    c.write_answer.ensures.err

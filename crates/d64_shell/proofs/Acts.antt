@@ -1,0 +1,67 @@
+-- Acts, done step by step.
+use Rattle.std.proofs.Common.{◌≡◌, ℕ, ◌≤◌, ◌⊎◌, List, length, Option, Some, None, Ok, Err, inl, inr, refl, sym, ap, subst}
+use Rattle.std.proofs.lemmas.Bool.{le-leb}
+use Rattle.d64_dos.specs.Refusal.{cause_of}
+use Rattle.d64_dos.specs.declared.refusal.Refusal.{Refusal}
+use Rattle.d64_dos.specs.declared.refusal.Refusal.TheVariants.{NotClosed, NotFound, Exists, WrongType, Directory, DiskFull, Memory}
+use Rattle.d64_script.specs.declared.status.Status.{Status}
+use Rattle.d64_script.specs.declared.status.Status.TheVariants.{OutOfMemory}
+use Rattle.d64_shell.specs.Act.{Act, Refuse, Then, ◌>>=◌, Call, Gives, Does, Ending, HostState, LineAnswer, World, plain}
+use Rattle.d64_undo.specs.History.{History}
+use Rattle.d64_shell.specs.Line.{allowed, act_of, act_of_command, status_of_refusal}
+use Rattle.d64_shell.specs.CommandWord.{fewest, most}
+use Rattle.d64_shell.specs.declared.command_word.CommandWord.{CommandWord}
+
+-- a call gave bytes, and what follows them was done
+pub Does-given : (call : Call) (next : List ℕ → Act Ending) (bytes : List ℕ) (old new : HostState) (history : History) (answer : LineAnswer) (after : World)
+    → Gives call old (Ok bytes) new → Does (next bytes) (record { host = new; history = history }) answer after
+    → Does (Then call next) (record { host = old; history = history }) answer after
+unfolding Does
+Does-given call next bytes old new history answer after gives done = inl (Ok bytes, new, gives, done)
+
+-- a call was refused
+pub Does-refused : (call : Call) (next : List ℕ → Act Ending) (status : Status) (old new : HostState) (history : History)
+    → Gives call old (Err status) new
+    → Does (Then call next) (record { host = old; history = history }) (plain status) (record { host = new; history = history })
+unfolding Does
+Does-refused call next status old new history gives = inl (Err status, new, gives, (refl, refl))
+
+-- an act is refused
+pub Does-refuse : (status : Status) (world : World) → Does (Refuse status) world (plain status) world
+unfolding Does
+Does-refuse status world = (refl, refl)
+
+-- before a call memory may be wanting
+pub Does-no_memory : (call : Call) (next : List ℕ → Act Ending) (world : World) → Does (Then call next) world (plain OutOfMemory) world
+unfolding Does
+Does-no_memory call next world = inr (refl, refl)
+
+-- an act is refused by its cause
+by_cause : (refusal : Refusal) (cause : Option Refusal) (act : Act Ending) (world : World) → Some refusal ≡ cause
+    → Does (allowed cause >>= (λ _. act)) world (plain (status_of_refusal refusal)) world
+unfolding Does
+by_cause refusal cause act world is =
+    subst (λ (c : Option Refusal). Does (allowed c >>= (λ _. act)) world (plain (status_of_refusal refusal)) world) is (refl, refl)
+
+-- where nothing refuses an act, it is done
+pub Does-allowed : (cause : Option Refusal) (act : Act Ending) (world : World) (answer : LineAnswer) (after : World)
+    → None ≡ cause → Does act world answer after → Does (allowed cause >>= (λ _. act)) world answer after
+Does-allowed cause act world answer after none done = subst (λ (c : Option Refusal). Does (allowed c >>= (λ _. act)) world answer after) none done
+
+-- an act that begins with a call is refused by its cause, or for want of memory
+pub Does-not_allowed : (refusal : Refusal) (cause : Option Refusal) (call : Call) (next : List ℕ → Act Ending) (world : World) → cause_of refusal ≡ cause
+    → Does (allowed cause >>= (λ _. Then call next)) world (plain (status_of_refusal refusal)) world
+Does-not_allowed NotClosed cause call next world is = by_cause NotClosed cause (Then call next) world is
+Does-not_allowed NotFound cause call next world is = by_cause NotFound cause (Then call next) world is
+Does-not_allowed Exists cause call next world is = by_cause Exists cause (Then call next) world is
+Does-not_allowed WrongType cause call next world is = by_cause WrongType cause (Then call next) world is
+Does-not_allowed (Directory fault) cause call next world is = by_cause (Directory fault) cause (Then call next) world is
+Does-not_allowed DiskFull cause call next world is = by_cause DiskFull cause (Then call next) world is
+Does-not_allowed Memory cause call next world is = Does-allowed cause (Then call next) world (plain OutOfMemory) world is (Does-no_memory call next world)
+
+-- as many words follow as the command takes
+pub Does-counted : (home : List ℕ) (history : History) (command : CommandWord) (words : List (List ℕ)) (world : World) (answer : LineAnswer) (after : World)
+    → fewest home command ≤ length words → length words ≤ most command
+    → Does (act_of home history command words) world answer after → Does (act_of_command home history command words) world answer after
+Does-counted home history command words world answer after enough within done =
+    rw (le-leb (fewest home command) (length words) enough, le-leb (length words) (most command) within) done
