@@ -21,10 +21,7 @@ pub struct NoWords;
 /// quote neither begins a word nor ends it; what `words` holds then is no matter. It takes no memory, and one list may
 /// serve one line after another.
 #[tactic(auto, unfolding(crate::specs::Words::words_of))]
-pub fn words<'a>(
-    line: &'a [u8],
-    words: &mut ArrayVec<&'a [u8], MAX_WORDS>,
-) -> Result<(), NoWords>
+pub fn words<'a>(line: &'a [u8], words: &mut ArrayVec<&'a [u8], MAX_WORDS>) -> Result<(), NoWords>
     ensures words { OnOk result (Some (map (λ word. word.now) words.new.items)
         ≡ (if nat_le (length line.now) line_limit then words_of line.now else None)) }
     ensures none { OnErr result (None ≡ (if nat_le (length line.now) line_limit then words_of line.now else None)) }
@@ -55,10 +52,7 @@ fn is_printable_line(line: &[u8]) -> bool
 }
 
 /// Appends the words of a line of printable bytes to none.
-fn split_words<'a>(
-    line: &'a [u8],
-    words: &mut ArrayVec<&'a [u8], MAX_WORDS>,
-) -> Result<(), NoWords>
+fn split_words<'a>(line: &'a [u8], words: &mut ArrayVec<&'a [u8], MAX_WORDS>) -> Result<(), NoWords>
     requires short { length line.now ≤ 1024 }
     requires empty { words.old.items ≡ [] }
     ensures words { OnOk result (Some (map (λ word. word.now) words.new.items) ≡ split_words line.now) }

@@ -2,7 +2,7 @@ use Rattle.std.specs.Prelude.{ℕ, List, [], ◌∷◌, Option, find, codes}
 use Rattle.std.specs.Option.{option_map}
 use Rattle.std.specs.Str.{bytes_eq}
 use Rattle.d64_shell.specs.declared.command_word.CommandWord.{CommandWord}
-use Rattle.d64_shell.specs.declared.command_word.CommandWord.TheVariants.{Block, BlockRead, BlockWrite, Format, ListDirectory, Quit, Read, Redo, Save, Undo, Write}
+use Rattle.d64_shell.specs.declared.command_word.CommandWord.TheVariants.{Block, BlockRead, BlockWrite, Format, ListHistory, ListDirectory, Quit, Read, Redo, Save, Undo, Write}
 
 -- the words that begin a line, and what each stands for
 abbrev pub command_words : List (List ℕ × CommandWord)
@@ -11,6 +11,7 @@ command_words =
     ∷ (codes "bread", BlockRead)
     ∷ (codes "bwrite", BlockWrite)
     ∷ (codes "format", Format)
+    ∷ (codes "history", ListHistory)
     ∷ (codes "list", ListDirectory)
     ∷ (codes "quit", Quit)
     ∷ (codes "read", Read)
@@ -30,6 +31,7 @@ fewest home Block = 2
 fewest home BlockRead = 3
 fewest home BlockWrite = 3
 fewest home Format = 1
+fewest home ListHistory = 0
 fewest home ListDirectory = 0
 fewest home Quit = 0
 fewest home Read = 1
@@ -45,6 +47,7 @@ most Block = 2
 most BlockRead = 3
 most BlockWrite = 3
 most Format = 1
+most ListHistory = 0
 most ListDirectory = 0
 most Quit = 0
 most Read = 2

@@ -18,6 +18,7 @@ pub mod CommandWord
 pub mod Arguments
 pub mod ArgumentTexts
 pub mod ListingText
+pub mod HistoryText
 pub mod FoundFile
 pub mod Act
 pub mod Response

@@ -12,6 +12,7 @@ use Rattle.d64_script.specs.Words.{words_of}
 use Rattle.petscii.specs.Spelling.{spelling}
 use Rattle.d64_shell.specs.Arguments.{host_in, block_in, at_comma, can_be_id, name_and_kind_of}
 use Rattle.d64_shell.specs.FoundFile.{found_name, found_content, is_file_name}
+use Rattle.d64_shell.specs.HistoryText.{history_text}
 use Rattle.d64_shell.specs.ListingText.{listing_text}
 use Rattle.d64_script.specs.RawLines.{text_of, is_too_long, is_skipped}
 use Rattle.d64_script.specs.Dump.{dump}
@@ -26,7 +27,7 @@ use Rattle.d64_dos.specs.declared.refusal.Refusal.TheVariants as refusals
 use Rattle.d64_script.specs.declared.status.Status.{Status}
 use Rattle.d64_script.specs.declared.status.Status.TheVariants.{Done, SyntaxError, UnknownCommand, LongLine, BadName, MissingWord, WriteFileOpen, FileNotFound, FileExists, FileTypeMismatch, DirectoryError, DiskFull, NothingToUndo, NothingToRedo, NotOneBlock, OutOfMemory}
 use Rattle.d64_shell.specs.declared.command_word.CommandWord.{CommandWord}
-use Rattle.d64_shell.specs.declared.command_word.CommandWord.TheVariants.{Block, BlockRead, BlockWrite, Format, ListDirectory, Quit, Read, Redo, Save, Undo, Write}
+use Rattle.d64_shell.specs.declared.command_word.CommandWord.TheVariants.{Block, BlockRead, BlockWrite, Format, ListHistory, ListDirectory, Quit, Read, Redo, Save, Undo, Write}
 
 -- one of the words that follow the first
 abbrev pub word_at : List (List ℕ) → ℕ → List ℕ
@@ -111,6 +112,12 @@ format_act history word = do
   id ← text can_be_id parts.1
   run history (changes.Format name id)
 
+-- `history`: the records are shown
+abbrev pub history_act : History → Act Ending
+history_act history = do
+  room
+  show (history_text history) history
+
 -- `list`: the directory is shown
 abbrev pub list_act : History → Act Ending
 list_act history = do
@@ -174,6 +181,7 @@ act_of home history Block words = block_act history (word_at words 0) (word_at w
 act_of home history BlockRead words = block_read_act history (word_at words 0) (word_at words 1) (word_at words 2)
 act_of home history BlockWrite words = block_write_act history (word_at words 0) (word_at words 1) (word_at words 2)
 act_of home history Format words = format_act history (word_at words 0)
+act_of home history ListHistory words = history_act history
 act_of home history ListDirectory words = list_act history
 act_of home history Quit words = quit_act history
 act_of home history Read words = read_act history (word_at words 0) (drop 1 words)

@@ -13,6 +13,8 @@ pub enum CommandWord {
     BlockWrite,
     /// `format name,id`: makes the disk an empty one.
     Format,
+    /// `history`: shows the records of what was done and undone.
+    ListHistory,
     /// `list`: shows the directory.
     ListDirectory,
     /// `quit`: ends the run.
@@ -39,6 +41,7 @@ impl CommandWord {
             b"bread" => Some(CommandWord::BlockRead),
             b"bwrite" => Some(CommandWord::BlockWrite),
             b"format" => Some(CommandWord::Format),
+            b"history" => Some(CommandWord::ListHistory),
             b"list" => Some(CommandWord::ListDirectory),
             b"quit" => Some(CommandWord::Quit),
             b"read" => Some(CommandWord::Read),
@@ -55,7 +58,8 @@ impl CommandWord {
         ensures { result ≡ fewest home.now self }
     {
         match self {
-            CommandWord::ListDirectory
+            CommandWord::ListHistory
+            | CommandWord::ListDirectory
             | CommandWord::Quit
             | CommandWord::Redo
             | CommandWord::Undo => 0,
@@ -71,7 +75,8 @@ impl CommandWord {
         ensures { result ≡ most self }
     {
         match self {
-            CommandWord::ListDirectory
+            CommandWord::ListHistory
+            | CommandWord::ListDirectory
             | CommandWord::Quit
             | CommandWord::Redo
             | CommandWord::Undo => 0,

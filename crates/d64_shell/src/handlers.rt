@@ -9,12 +9,12 @@ ghost use Rattle.d64_shell.specs.Response.{Responds, RespondsAlone};
 ghost use Rattle.petscii.specs.Spelling.{spelling};
 ghost use Rattle.d64_shell.specs.FoundFile.{is_file_name};
 ghost use Rattle.d64_undo.specs.History.{History};
-ghost use Rattle.d64_shell.specs.Line.{put, block_act, block_read_act, block_write_act, format_act, list_act, quit_act, read_act, read_to, redo_act, save_act, undo_act, write_act, run, write_one_block};
+ghost use Rattle.d64_shell.specs.Line.{put, block_act, block_read_act, block_write_act, format_act, history_act, list_act, quit_act, read_act, read_to, redo_act, save_act, undo_act, write_act, run, write_one_block};
 
-use crate::response::{Response, Output};
 use crate::arguments::{at_comma, block_in, host_in, id_in, name_and_kind_of, name_in, pattern_in};
+use crate::history_text::history_text;
 use crate::listing_text::listing_text;
-use d64_undo::Session;
+use crate::response::{Output, Response};
 use crate::status_from::{of_fault, of_nothing_to_redo, of_nothing_to_undo, of_refusal, of_reply};
 use cbm_text::to_text;
 use d64_dos::Command;
@@ -22,6 +22,7 @@ use d64_files::Pattern;
 use d64_host::Host;
 use d64_image::BlockNo;
 use d64_script::status::Status;
+use d64_undo::Session;
 use std::alloc::Global;
 use std::str;
 
@@ -114,6 +115,20 @@ pub(crate) fn format(alloc: Global, session: &mut Session, word: &[u8]) -> Resul
     match id_in(alloc, id) {
         Ok(id) => run_command(session, &Command::Format { name, id }),
         Err(status) => Err(status),
+    }
+}
+
+/// `history`: the lines that show the records.
+pub(crate) fn history(alloc: Global, session: &Session) -> Result<Response, Status>
+    ensures { RespondsAlone (history_act session.now) session.now result session.now }
+{
+    match history_text(alloc, session) {
+        Ok(text) => Ok(Response {
+            output: Output::Text(text),
+            status: Status::Done,
+            closes: false,
+        }),
+        Err(_) => Err(Status::OutOfMemory),
     }
 }
 

@@ -5,6 +5,7 @@ mod arguments;
 mod command_word;
 mod entry;
 mod handlers;
+mod history_text;
 mod line;
 mod listing_text;
 mod response;

@@ -8,15 +8,15 @@ ghost use Rattle.d64_undo.specs.History.{present};
 ghost use Rattle.d64_shell.specs.Response.{shown, Responds};
 ghost use Rattle.d64_shell.specs.Line.{act_of_command, act_of_text, act_of_line, IsSkipped, IsAnswered};
 
-use crate::response::Response;
 use crate::command_word::CommandWord;
 use crate::handlers;
-use d64_undo::Session;
+use crate::response::Response;
 use arrayvec::ArrayVec;
 use d64_host::Host;
 use d64_script::raw_lines;
 use d64_script::status::Status;
 use d64_script::words::{MAX_WORDS, words};
+use d64_undo::Session;
 use std::alloc::Global;
 
 /// The response to a raw line, or None where it is skipped. `found` is room for its words.
@@ -107,6 +107,7 @@ fn answer_command<H: Host>(
             alloc, host, session, words[0], words[1], words[2],
         ),
         CommandWord::Format => handlers::format(alloc, session, words[0]),
+        CommandWord::ListHistory => handlers::history(alloc, session),
         CommandWord::ListDirectory => handlers::list(alloc, session),
         CommandWord::Quit => handlers::quit(session),
         CommandWord::Read => handlers::read(alloc, host, session, words[0], &words[1..]),

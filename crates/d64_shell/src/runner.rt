@@ -7,13 +7,13 @@ ghost use Rattle.d64_shell.specs.Runner.{stand_of, Ran, RanLines, Counts, Stoppe
 ghost use Rattle.d64_script.specs.Script.{script_limit};
 
 use crate::line::answer_line;
-use d64_undo::Session;
 use arrayvec::ArrayVec;
 use d64_host::Host;
 use d64_script::output::WriteFault;
 use d64_script::raw_lines::RawLines;
 use d64_script::script::read_script;
 use d64_script::status::Status;
+use d64_undo::Session;
 use std::alloc::{AllocError, Global};
 use std::io::{Read, Write};
 use thiserror::Error;

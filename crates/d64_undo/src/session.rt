@@ -1,5 +1,5 @@
 //! Sessions: an image with undo and redo.
-ghost use Rattle.std.specs.Prelude.{◌≡◌, ◌+◌, ◌<◌, ◌↔◌, length, IsOk, OnOk, OnErr, IfOk};
+ghost use Rattle.std.specs.Prelude.{◌≡◌, ◌+◌, ◌^◌, ◌<◌, ◌↔◌, length, IsOk, OnOk, OnErr, IfOk};
 ghost use Rattle.d64_dos.specs.Change.{said};
 ghost use Rattle.d64_dos.specs.Command.{after, reply_to, refusal_of};
 ghost use Rattle.d64_dos.specs.Refusal.{refused_by};
@@ -83,7 +83,8 @@ impl Session {
 
     /// How many records can be redone.
     pub fn undone(&self) -> usize
-        ensures { self.now.cursor + result + 1 ≡ length self.now.images }
+        ensures count { self.now.cursor + result + 1 ≡ length self.now.images }
+        ensures within { self.now.cursor + result < 2 ^ 64 }
     {
         self.others.len() - self.done
     }

@@ -7,8 +7,7 @@ pub returns-in-Ok : goal.returns-in-Ok
 returns-in-Ok g c =
     let new : HostState = record { files = g.H.Host.files c.fetch.new.self; failures = g.H.Host.failure_count c.fetch.new.self } in
     rw (← c.in_ok-name.ensures, ← c.in_ok-at.ensures)
-    (Does-given _ _ c.in-Ok.bytes.items _ new _ _ _
-    (
+    (Does-given _ _ c.in-Ok.bytes.items _ new _ _ _ (
       Ok c.in-Ok.bytes.items,
       record { answer = c.in-Ok.ensures.answer; counted = c.in-Ok.ensures.counted; kept = c.fetch.ensures.files_kept },
       refl,
@@ -18,8 +17,7 @@ returns-in-Ok g c =
 pub returns-in-Err : goal.returns-in-Err
 returns-in-Err g c =
     rw (← c.in_ok-name.ensures, ← c.in_ok-at.ensures, c.of_fault.ensures)
-    (Does-refused _ _ _ _ _ _
-    (
+    (Does-refused _ _ _ _ _ _ (
       Err c.in-Err.fault,
       record { answer = c.in-Err.ensures.answer; counted = c.in-Err.ensures.counted; kept = c.fetch.ensures.files_kept },
       refl,

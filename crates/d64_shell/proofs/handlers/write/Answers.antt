@@ -9,8 +9,7 @@ returns-in-Ok g c =
     let new : HostState = record { files = g.H.Host.files c.fetch.new.self; failures = g.H.Host.failure_count c.fetch.new.self } in
     rw (← c.in_ok-source.ensures, ← c.in_ok-name.ensures)
     (Does-read _ _ _ c.in_ok-name-2.name _ _ _ _ c.in_ok-name-2.ensures
-    (Does-given _ _ c.in-Ok.bytes.items _ new _ _ _
-    (
+    (Does-given _ _ c.in-Ok.bytes.items _ new _ _ _ (
       Ok c.in-Ok.bytes.items,
       record { answer = c.in-Ok.ensures.answer; counted = c.in-Ok.ensures.counted; kept = c.fetch.ensures.files_kept },
       refl,
@@ -21,8 +20,7 @@ pub returns-in-Err : goal.returns-in-Err
 returns-in-Err g c =
     rw (← c.in_ok-source.ensures, ← c.in_ok-name.ensures, c.of_fault.ensures)
     (Does-read _ _ _ c.in_ok-name-2.name _ _ _ _ c.in_ok-name-2.ensures
-    (Does-refused _ _ _ _ _ _
-    (
+    (Does-refused _ _ _ _ _ _ (
       Err c.in-Err.fault,
       record { answer = c.in-Err.ensures.answer; counted = c.in-Err.ensures.counted; kept = c.fetch.ensures.files_kept },
       refl,

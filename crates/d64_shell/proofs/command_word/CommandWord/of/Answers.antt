@@ -7,3 +7,6 @@ returns-in-bwrite c = let word : c.args.word.now ≡ codes "bwrite" = text_from_
 
 pub returns-in-format : goal.returns-in-format
 returns-in-format c = let word : c.args.word.now ≡ codes "format" = text_from_reads _ _ (omega arith) (search (rules, arith)) in rw word refl
+
+pub returns-in-history : goal.returns-in-history
+returns-in-history c = let word : c.args.word.now ≡ codes "history" = text_from_reads _ _ (omega arith) (search (rules, arith)) in rw word refl
