@@ -282,7 +282,7 @@ def plan(free, count):
 # Lines
 
 FEWEST_AND_MOST = {"format": (1, 1), "list": (0, 0), "read": (1, 2), "write": (1, 2), "block": (2, 2), "bread": (3, 3), "bwrite": (3, 3),
-                   "undo": (0, 0), "redo": (0, 0), "save": (0, 1), "quit": (0, 0)}
+                   "undo": (0, 0), "redo": (0, 0), "history": (0, 0), "save": (0, 1), "quit": (0, 0)}
 
 
 def words_of(line):
@@ -416,6 +416,11 @@ class Shell:
         if self.cursor + 1 == len(self.images):
             raise Refused(82)
         self.cursor += 1
+
+    def do_history(self, _):
+        pairs = zip(self.images, self.images[1:])
+        counts = [sum(before.block(pair) != after.block(pair) for pair in PAIRS) for before, after in pairs]
+        return "".join(f"{number} {count} {'done' if number <= self.cursor else 'undone'}\n" for number, count in enumerate(counts, 1))
 
     def do_save(self, disk, host=None):
         self.store(self.home if host is None else host_in(host), disk.image)
