@@ -1,7 +1,12 @@
 pub mod Plans
 pub mod Entries
 pub mod Spaces
+pub mod Blanks
 pub mod Refusals
 pub mod ListedRows
 pub mod Steps
 pub mod FormattedListings
+pub mod BlockSets
+pub mod ClearedSlots
+pub mod ScratchedFiles
+pub mod RenamedFiles

@@ -1,13 +1,14 @@
 -- accepted file commands leave sound disks
-use Rattle.std.proofs.Common.{◌≡◌, ◌≢◌, ℕ, ◌||◌, Bool, true, false, not, cond, leb, List, length, Option, Some, None, refl, sym, ap, subst, arith}
-use Rattle.std.specs.Prelude.{is_some, Result, Ok, Err, IfOk}
+use Rattle.std.proofs.Common.{◌≡◌, ◌≢◌, ℕ, ◌||◌, Bool, true, false, not, cond, leb, List, [], length, Option, Some, None, refl, sym, ap, subst, arith}
+use Rattle.std.specs.Prelude.{is_some, Result, Ok, Err, IfOk, OnOk, OnErr}
 use Rattle.std.specs.Option.{option_map, option_or}
 use Rattle.std.proofs.lemmas.Bool.{and_parts}
 use Rattle.std.proofs.lemmas.Bool.Decides.{nat_tests}
 use Rattle.d64_map.specs.Map.{free_blocks}
 use Rattle.d64_map.specs.Plan.{room}
-use Rattle.d64_files.specs.Directory.{slots, is_name_taken}
-use Rattle.d64_files.specs.FirstFault.{first_fault, sound_conditions}
+use Rattle.d64_files.specs.Directory.{slots, is_name_taken, AllHold}
+use Rattle.d64_files.specs.FirstFault.{first_fault, owning_conditions, sound_conditions}
+use Rattle.d64_files.proofs.FirstFaults.{owning_tells}
 use Rattle.d64_files.specs.Writing.{blocks_for, first_unused, dir_last}
 use Rattle.d64_files.specs.declared.dir_fault.DirFault.{DirFault}
 use Rattle.d64_files.specs.declared.kind.Kind.{Kind}
@@ -16,13 +17,19 @@ use Rattle.d64_effects.specs.Laws.{HasRoom, IsWritable}
 use Rattle.d64_effects.specs.View.{IsSound}
 use Rattle.d64_effects.specs.Write.{next_of_directory}
 use Rattle.d64_effects.proofs.FormattedDisks.{holds-formatted, view-formatted}
+use Rattle.d64_effects.proofs.RenamedDisks.{renamed-is_sound, renamed-shows}
+use Rattle.d64_effects.proofs.ScratchedDisks.{scratched-is_sound, scratched-shows, scratched-are_counted}
+use Rattle.d64_effects.proofs.ValidatedDisks.{validated-is_sound, validated-shows}
 use Rattle.d64_effects.proofs.WrittenDisks.{written-is_sound, written-shows}
 use Rattle.d64_image.specs.Image.{IsImage}
-use Rattle.d64_dos.specs.Change.{Change, Format, Write, BlockWrite}
+use Rattle.d64_image.specs.Patch.{Kept, back}
+use Rattle.d64_dos.specs.Change.{Change, Format, Write, Delete, Rename, Validate, BlockWrite}
 use Rattle.d64_dos.specs.Command.{after, reply_to, refusal_of, IsFileCommand, StartsFrom}
+use Rattle.d64_dos.specs.FileRefusals.{validate_refusal}
 use Rattle.d64_dos.specs.Refusal.{refused_by}
 use Rattle.d64_dos.specs.Step.{FileCommandsKeepDisksSound, IsMade, Leaves}
 use Rattle.d64_dos.specs.declared.command.Reply.{Reply}
+use Rattle.d64_dos.specs.declared.command.Reply.TheVariants.{Done, Scratched}
 use Rattle.d64_dos.specs.WriteRefusal.{has_room, is_writable, write_refusal}
 use Rattle.d64_dos.specs.declared.refusal.Refusal.{Refusal}
 use Rattle.d64_dos.specs.declared.refusal.Refusal.TheVariants.{Exists, WrongType, Directory, DiskFull}
@@ -73,6 +80,15 @@ has_its_room image bytes h =
           (second_passes (is_some (first_unused (slots image))) (is_some (next_of_directory (free_blocks image) (dir_last image))) parts.1 (ap is_some none));
     }
 
+-- no fault is found
+none_found : (found : Option DirFault) → option_map Directory found ≡ None → found ≡ None
+none_found None h = refl
+none_found (Some fault) h = absurd (cc)
+
+-- a validation that no refusal stops has a directory, files and chains in order
+owning_conditions-hold : (image : List (List ℕ)) → validate_refusal image ≡ None → AllHold image 2 5
+owning_conditions-hold image h = (owning_tells image).0.0 (none_found (first_fault image owning_conditions) h)
+
 -- each accepted file command leaves a sound disk, which shows its change
 pub keeps_sound : FileCommandsKeepDisksSound
 keeps_sound image (Format name id) is made none from =
@@ -85,21 +101,43 @@ keeps_sound image (Write name kind bytes) is made none from =
       sound = written-is_sound image name kind bytes is made.0 kinds made.1 from fits;
       shows = (refl, written-shows image name kind bytes is made.0 kinds made.1 from fits);
     }
+keeps_sound image (Delete patterns) is made none from = record {
+  sound = scratched-is_sound image patterns is from;
+  shows = (ap Scratched (scratched-are_counted image patterns), scratched-shows image patterns is from);
+}
+keeps_sound image (Rename old new) is made none from =
+    record { sound = renamed-is_sound image old new is made.1 from; shows = (refl, renamed-shows image old new is made.1 from) }
+keeps_sound image Validate is made none from =
+    let owning = owning_conditions-hold image none in
+    record { sound = validated-is_sound image is owning; shows = (refl, validated-shows image is owning) }
 keeps_sound image (BlockWrite at block) is made none from = absurd from
 
 -- a file command may start from every sound image
 pub starts_from_sound : (image : List (List ℕ)) (change : Change) → IsFileCommand change → IsSound image → StartsFrom change image
 starts_from_sound image (Format name id) is sound = tt
 starts_from_sound image (Write name kind bytes) is sound = sound
+starts_from_sound image (Delete patterns) is sound = sound
+starts_from_sound image (Rename old new) is sound = sound
+starts_from_sound image Validate is sound = tt
 starts_from_sound image (BlockWrite at block) is sound = absurd (cc)
 
 -- what the answer of a command says of its image and its reply makes the step
-pub step_of : (image : List (List ℕ)) (change : Change) (result : Result (List (List ℕ) × Reply) Refusal)
+pub step_of : (image next : List (List ℕ)) (change : Change) (result : Result Reply Refusal)
     → IsImage image → IsMade change → refused_by result ≡ refusal_of image change
-    → IfOk result (λ done. done.1 ≡ reply_to image change) → IfOk result (λ done. done.0 ≡ after image change)
-    → IfOk result (λ done. StartsFrom change image → Leaves image change done.1 done.0)
-step_of image change (Err refusal) is made refused reply accepted = tt
-step_of image change (Ok done) is made refused reply accepted =
+    → IfOk result (λ reply. reply ≡ reply_to image change) → OnOk result (next ≡ after image change)
+    → IfOk result (λ reply. StartsFrom change image → Leaves image change reply next)
+step_of image next change (Err refusal) is made refused reply accepted = tt
+step_of image next change (Ok answer) is made refused reply accepted =
     λ from.
-    subst (λ (r : Reply). Leaves image change r done.0) (sym reply)
+    subst (λ (r : Reply). Leaves image change r next) (sym reply)
     (subst (Leaves image change (reply_to image change)) (sym accepted) (keeps_sound image change is made (sym refused) from))
+
+-- an empty patch puts nothing back
+pub nothing_back : (image : List (List ℕ)) (patch : Kept) → patch ≡ [] → back image patch ≡ image
+unfolding back
+nothing_back image patch empty = ap (back image) empty
+
+-- what holds whatever is answered holds after a refusal
+pub on_err : {T E P : Type 0} (result : Result T E) → P → OnErr result P
+on_err (Ok value) p = tt
+on_err (Err error) p = p

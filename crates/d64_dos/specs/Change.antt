@@ -10,6 +10,12 @@ pub data Change : Type 0 where
   Format : List ℕ → List ℕ → Change
   -- a file more, of this name, this kind and these bytes
   Write : List ℕ → Kind → List ℕ → Change
+  -- without the files that these patterns match
+  Delete : List (List ℕ) → Change
+  -- the first file of this name under that one
+  Rename : List ℕ → List ℕ → Change
+  -- without unclosed files, and with the map that the files ask for
+  Validate : Change
   -- other bytes in one block
   BlockWrite : ℕ → List ℕ → Change
 
@@ -17,4 +23,7 @@ pub data Change : Type 0 where
 abbrev pub said : Command → Change
 said (commands.Format name id) = Format name id
 said (commands.Write name kind bytes) = Write name kind bytes.items
+said (commands.Delete patterns) = Delete patterns.items
+said (commands.Rename old new) = Rename old new
+said commands.Validate = Validate
 said (commands.BlockWrite at block) = BlockWrite at block

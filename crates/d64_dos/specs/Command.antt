@@ -1,17 +1,23 @@
 -- What commands do, and when they are refused: a table with a row for each command.
-use Rattle.std.specs.Prelude.{◌≡◌, ℕ, List, length, Option, None, Some, IsSome, MatchOption}
+use Rattle.std.specs.Prelude.{◌≡◌, ℕ, List, length, filter, Option, None, Some, IsSome, MatchOption}
 use Rattle.d64_image.specs.Image.{with_sector}
+use Rattle.d64_effects.specs.Contents.{names_and_contents}
+use Rattle.d64_effects.specs.ContentsAfter.{is_scratched_row}
+use Rattle.d64_effects.specs.Delete.{scratched, scratched_count}
 use Rattle.d64_effects.specs.Format.{formatted}
+use Rattle.d64_effects.specs.Rename.{renamed}
+use Rattle.d64_effects.specs.Validate.{validated}
 use Rattle.d64_effects.specs.View.{View, IsSound}
-use Rattle.d64_effects.specs.ViewAfter.{formatted_view, written_view}
+use Rattle.d64_effects.specs.ViewAfter.{formatted_view, written_view, scratched_view, renamed_view, validated_view}
 use Rattle.d64_effects.specs.Write.{written}
-use Rattle.d64_dos.specs.Change.{Change, Format, Write, BlockWrite}
+use Rattle.d64_dos.specs.Change.{Change, Format, Write, Delete, Rename, Validate, BlockWrite}
+use Rattle.d64_dos.specs.FileRefusals.{delete_refusal, rename_refusal, validate_refusal}
 use Rattle.d64_dos.specs.WriteRefusal.{write_refusal}
 use Rattle.d64_dos.specs.declared.command.Reply.{Reply}
-use Rattle.d64_dos.specs.declared.command.Reply.TheVariants.{Done}
+use Rattle.d64_dos.specs.declared.command.Reply.TheVariants.{Done, Scratched}
 use Rattle.d64_dos.specs.declared.refusal.Refusal.{Refusal}
 
--- the disks from which a promise holds
+-- the disks from which a promise holds, where the command is accepted
 pub data Start : Type 0 where
   AnyDisk : Start
   SoundDisk : Start
@@ -30,6 +36,10 @@ pub record Row : Type 0 where
   pub reply : List (List ℕ) → Reply
   pub promise : Option Promise
 
+-- how many files of the directory's list patterns scratch
+abbrev pub scratched_of : View → List (List ℕ) → ℕ
+scratched_of shown patterns = length (filter (is_scratched_row patterns) (names_and_contents shown))
+
 -- the table
 abbrev pub row : Change → Row
 row (Format name id) = record {
@@ -43,6 +53,24 @@ row (Write name kind bytes) = record {
   effect = λ image. written image name kind bytes;
   reply = λ image. Done;
   promise = Some (record { start = SoundDisk; reply = λ old. Done; shows = λ old. written_view old name kind bytes });
+}
+row (Delete patterns) = record {
+  refusal = delete_refusal;
+  effect = λ image. scratched image patterns;
+  reply = λ image. Scratched (scratched_count image patterns);
+  promise = Some (record { start = SoundDisk; reply = λ old. Scratched (scratched_of old patterns); shows = λ old. scratched_view old patterns });
+}
+row (Rename old new) = record {
+  refusal = λ image. rename_refusal image old new;
+  effect = λ image. renamed image old new;
+  reply = λ image. Done;
+  promise = Some (record { start = SoundDisk; reply = λ shown. Done; shows = λ shown. renamed_view shown old new });
+}
+row Validate = record {
+  refusal = validate_refusal;
+  effect = validated;
+  reply = λ image. Done;
+  promise = Some (record { start = AnyDisk; reply = λ old. Done; shows = validated_view });
 }
 row (BlockWrite at block) = record {
   refusal = λ image. None;

@@ -4,6 +4,7 @@ pub mod Command
 pub mod Reading
 pub mod Listing
 pub mod Planning
+pub mod FileRefusals
 pub mod WriteRefusal
 pub mod Space
 pub mod Step

@@ -4,7 +4,7 @@ use Rattle.d64_files.specs.Name.{IsName}
 use Rattle.d64_image.specs.Image.{IsImage}
 use Rattle.d64_effects.specs.Laws.{AreTwoBytes, AreBytes}
 use Rattle.d64_effects.specs.View.{IsSound, view}
-use Rattle.d64_dos.specs.Change.{Change, Format, Write, BlockWrite}
+use Rattle.d64_dos.specs.Change.{Change, Format, Write, Delete, Rename, Validate, BlockWrite}
 use Rattle.d64_dos.specs.Command.{after, reply_to, refusal_of, StartsFrom, ViewStep}
 use Rattle.d64_dos.specs.declared.command.Reply.{Reply}
 
@@ -17,6 +17,9 @@ pub record Leaves (image : List (List ℕ)) (change : Change) (reply : Reply) (n
 abbrev pub IsMade : Change → Type 0
 IsMade (Format name id) = IsName name × AreTwoBytes id
 IsMade (Write name kind bytes) = IsName name × AreBytes bytes
+IsMade (Delete patterns) = Unit {0}
+IsMade (Rename old new) = IsName old × IsName new
+IsMade Validate = Unit {0}
 IsMade (BlockWrite at block) = Unit {0}
 
 -- an accepted file command leaves a sound disk, which shows the command's change and nothing else

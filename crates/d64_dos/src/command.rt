@@ -1,18 +1,21 @@
 //! Commands on an image, and what they answer.
-ghost use Rattle.std.specs.Prelude.{◌≡◌, IfOk};
+ghost use Rattle.std.specs.Prelude.{◌≡◌, [], IfOk, OnOk, OnErr};
 ghost use Rattle.d64_dos.specs.Change.{said};
 ghost use Rattle.d64_dos.specs.Command.{after, reply_to, refusal_of, StartsFrom};
 ghost use Rattle.d64_dos.specs.Refusal.{refused_by};
 ghost use Rattle.d64_dos.specs.Step.{IsMade, Leaves};
 ghost use Rattle.d64_effects.specs.Laws.{AreBytes};
 ghost use Rattle.d64_image.specs.Image.{IsImage};
+ghost use Rattle.d64_image.specs.Patch.{back, changed};
 
-use crate::format::formatted;
+use crate::delete::scratch;
+use crate::format::format;
 use crate::refusal::Refusal;
-use crate::write::written;
-use d64_files::{Kind, Name};
-use d64_image::{BLOCK_BYTES, BlockNo, Image};
-use std::alloc::Global;
+use crate::rename::rename;
+use crate::validate::validate;
+use crate::write::write;
+use d64_files::{Kind, Name, Pattern};
+use d64_image::{BLOCK_BYTES, BlockNo, Image, Patch};
 
 /// A change of an image.
 #[derive(Debug, Drop)]
@@ -29,6 +32,21 @@ pub enum Command {
         kind: Kind,
         bytes: Vec<u8>,
     },
+    /// Deletes each file that is closed and not locked and whose name one of the patterns matches or more (1541 User's
+    /// Guide, "Scratch"): its slot is unused then, and the blocks of its chain and of its side chain are free. Where there
+    /// is no such file, nothing is written.
+    Delete {
+        patterns: Vec<Pattern>,
+    },
+    /// Gives the first used slot of one name another (1541 User's Guide, "Rename"). Every other byte of its entry stays, and
+    /// the file may be locked or unclosed.
+    Rename {
+        old: Name,
+        new: Name,
+    },
+    /// Drops the files that were never closed, and writes the map anew: free is what no file, directory or map owns (1541
+    /// User's Guide, "Validate").
+    Validate,
     /// Replaces the 256 bytes of one block.
     BlockWrite {
         at: BlockNo,
@@ -40,28 +58,45 @@ pub enum Command {
 #[derive(Clone, Copy, Debug, PartialEq, Eq)]
 pub enum Reply {
     Done,
+    /// So many files were deleted.
+    Scratched(usize),
 }
 
-/// The image after a command, and the reply to it.
+/// Changes the image as a command asks, and answers it. The patch, empty before, keeps each block that the command
+/// changed, once and ascending, with its bytes from before.
 ///
-/// The first refusal that applies is answered, and want of memory only where none does. Neither a format nor a block
-/// write has a refusal of its own. A write has these, in order:
+/// The first refusal that applies is answered, and want of memory only where none does; then the image is as it was,
+/// and the patch is empty. Neither a format nor a block write has a refusal of its own. The others have these, in order:
 ///
-/// - `WrongType`: the kind is DEL or REL.
-/// - `Directory` with the first condition of a sound image that fails.
-/// - `Exists`: a used slot has exactly the name.
-/// - `DiskFull`: fewer blocks outside track 18 are free than the file takes, or no slot is empty and no block of track 18
-///   is free.
+/// - A write `WrongType`, where the kind is DEL or REL; `Directory` with the first condition of a sound image that fails;
+///   `Exists`, where a used slot has exactly the name; `DiskFull`, where fewer blocks outside track 18 are free than the
+///   file takes, or no slot is empty and no block of track 18 is free.
+/// - A deletion `Directory`, as a write.
+/// - A renaming `Directory`, as a write; `NotFound`, where no used slot has the old name; `Exists`, where one has the new
+///   name, be it the same.
+/// - A validation `Directory` with the first condition that fails of those on the directory, the files and their chains.
 ///
-/// An accepted file command leaves a sound disk, which shows the command's change and nothing else: a format always, a write
-/// where the disk was sound.
-pub fn apply(alloc: Global, image: &Image, command: &Command) -> Result<(Image, Reply), Refusal>
-    ensures refused { refused_by result ≡ refusal_of image.now (said command.now) }
-    ensures reply { IfOk result (λ done. done.1 ≡ reply_to image.now (said command.now)) }
-    ensures accepted { IfOk result (λ done. done.0 ≡ after image.now (said command.now)) }
-    ensures step { IfOk result (λ done. StartsFrom (said command.now) image.now → Leaves image.now (said command.now) done.1 done.0) }
+/// An accepted file command leaves a sound disk, which shows the command's change and nothing else: a format always, a
+/// validation too, the others where the disk was sound.
+pub fn apply(image: &mut Image, patch: &mut Patch, command: &Command) -> Result<Reply, Refusal>
+    requires { patch.old ≡ [] }
+    ensures refused { refused_by result ≡ refusal_of image.old (said command.now) }
+    ensures reply { IfOk result (λ reply. reply ≡ reply_to image.old (said command.now)) }
+    ensures accepted { OnOk result (image.new ≡ after image.old (said command.now)) }
+    ensures changed { OnOk result (patch.new ≡ changed image.old image.new) }
+    ensures back { OnOk result (back image.new patch.new ≡ image.old) }
+    ensures unchanged { OnErr result (image.new ≡ image.old) }
+    ensures forgotten { OnErr result (patch.new ≡ []) }
+    ensures step { IfOk result (λ reply. StartsFrom (said command.now) image.old → Leaves image.old (said command.now) reply image.new) }
 {
-    carried_out(alloc, image, command)
+    let answer = carried_out(image, patch, command);
+    if answer.is_ok() {
+        patch.trim(image);
+    } else {
+        patch.swap(image);
+        patch.clear();
+    }
+    answer
 }
 
 // The bytes of a slice are known to be bytes.
@@ -86,32 +121,51 @@ fn known_command(command: &Command)
             let _ = name.bytes();
             known_bytes(bytes);
         }
+        Command::Rename { old, new } => {
+            let _ = old.bytes();
+            let _ = new.bytes();
+        }
+        Command::Delete { patterns: _ } => {}
+        Command::Validate => {}
         Command::BlockWrite { at: _, block: _ } => {}
     }
 }
 
-/// The image after a command, and the reply to it, byte for byte.
-fn carried_out(alloc: Global, image: &Image, command: &Command) -> Result<(Image, Reply), Refusal>
-    ensures refused { refused_by result ≡ refusal_of image.now (said command.now) }
-    ensures reply { IfOk result (λ done. done.1 ≡ reply_to image.now (said command.now)) }
-    ensures accepted { IfOk result (λ done. done.0 ≡ after image.now (said command.now)) }
-    ensures known { IsImage image.now × IsMade (said command.now) }
+/// Changes the image as a command asks, byte for byte. After a refusal in the middle some blocks may be written; the image
+/// with the patch put back is the one from before in any case.
+fn carried_out(image: &mut Image, patch: &mut Patch, command: &Command) -> Result<Reply, Refusal>
+    ensures refused { refused_by result ≡ refusal_of image.old (said command.now) }
+    ensures reply { IfOk result (λ reply. reply ≡ reply_to image.old (said command.now)) }
+    ensures accepted { OnOk result (image.new ≡ after image.old (said command.now)) }
+    ensures back { back image.new patch.new ≡ back image.old patch.old }
+    ensures known { IsImage image.old × IsMade (said command.now) }
 {
     known_command(command);
     let _ = image.bytes();
     match command {
         Command::Format { name, id } => {
-            let next = formatted(alloc, name, id)?;
-            Ok((next, Reply::Done))
+            format(image, patch, name, id)?;
+            Ok(Reply::Done)
         }
-        Command::Write { name, kind, bytes } => match written(alloc, image, name, *kind, bytes) {
-            Ok(next) => Ok((next, Reply::Done)),
+        Command::Write { name, kind, bytes } => match write(image, patch, name, *kind, bytes) {
+            Ok(()) => Ok(Reply::Done),
+            Err(refusal) => Err(refusal),
+        },
+        Command::Delete { patterns } => match scratch(image, patch, patterns) {
+            Ok(count) => Ok(Reply::Scratched(count)),
+            Err(refusal) => Err(refusal),
+        },
+        Command::Rename { old, new } => match rename(image, patch, old, new) {
+            Ok(()) => Ok(Reply::Done),
+            Err(refusal) => Err(refusal),
+        },
+        Command::Validate => match validate(image, patch) {
+            Ok(()) => Ok(Reply::Done),
             Err(refusal) => Err(refusal),
         },
         Command::BlockWrite { at, block } => {
-            let mut next = image.try_clone(alloc)?;
-            *next.sector_mut(*at) = *block;
-            Ok((next, Reply::Done))
+            patch.write(image, *at, block)?;
+            Ok(Reply::Done)
         }
     }
 }

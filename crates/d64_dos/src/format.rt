@@ -1,11 +1,15 @@
 //! An empty disk, made block by block.
-ghost use Rattle.std.specs.Prelude.{◌≡◌, IfOk};
+ghost use Rattle.std.specs.Prelude.{◌≡◌, replicate, OnOk};
+ghost use Rattle.d64_image.specs.declared.block.TheConstants.{BLOCKS};
+ghost use Rattle.d64_image.specs.declared.image.TheConstants.{BLOCK_BYTES};
+ghost use Rattle.d64_image.specs.Image.{with_sector};
+ghost use Rattle.d64_image.specs.Patch.{back};
 ghost use Rattle.d64_effects.specs.Format.{directory_start, header, free_when_formatted, formatted};
 
 use d64_files::{DIRECTORY_SECTOR, Name, empty_directory, write_at};
-use d64_image::{BLOCK_BYTES, BLOCKS, BlockNo, BlockSet, Image};
+use d64_image::{BLOCK_BYTES, BLOCKS, BlockNo, BlockSet, Image, Patch};
 use d64_map::{DIRECTORY_TRACK, map_block, put_map};
-use std::alloc::{AllocError, Global};
+use std::alloc::AllocError;
 
 /// What begins the map's block: the link to the directory's first block, and the mark of the 1541's format.
 const LINK_AND_FORMAT: [u8; 4] = [DIRECTORY_TRACK, DIRECTORY_SECTOR, 0x41, 0x00];
@@ -64,13 +68,46 @@ fn free_when_formatted() -> BlockSet
     free
 }
 
-/// The image of an empty disk with that name and id.
-pub(crate) fn formatted(alloc: Global, name: &Name, id: &[u8; 2]) -> Result<Image, AllocError>
-    ensures { IfOk result (λ image. image ≡ formatted name.now id.now) }
+/// Writes zeros into a block, where it has other bytes: what a patch need not keep takes no memory.
+fn blank_block(image: &mut Image, patch: &mut Patch, block: BlockNo) -> Result<(), AllocError>
+    ensures blank { OnOk result (image.new ≡ with_sector image.old block (replicate BLOCK_BYTES 0)) }
+    ensures back { back image.new patch.new ≡ back image.old patch.old }
 {
-    let mut image = Image::zeroed(alloc)?;
-    *image.sector_mut(map_block()) = header(name, id);
-    *image.sector_mut(directory_start()) = empty_directory();
-    put_map(&mut image, &free_when_formatted())?;
-    Ok(image)
+    let blank = [0; BLOCK_BYTES];
+    if *image.sector(block) == blank {
+        return Ok(());
+    }
+    patch.write(image, block, &blank)
+}
+
+/// Writes zeros into all blocks.
+fn blank(image: &mut Image, patch: &mut Patch) -> Result<(), AllocError>
+    ensures blank { OnOk result (image.new ≡ replicate BLOCKS (replicate BLOCK_BYTES 0)) }
+    ensures back { back image.new patch.new ≡ back image.old patch.old }
+{
+    let _ = image.bytes();
+    for index in 0..BLOCKS {
+        match BlockNo::at(index) {
+            Some(block) => blank_block(image, patch, block)?,
+            None => {}
+        }
+    }
+    Ok(())
+}
+
+/// Makes the disk an empty one with that name and id. Refused where there is no memory to keep what stood there: then some
+/// blocks may be written, and the image with the patch put back is still the one from before.
+pub(crate) fn format(
+    image: &mut Image,
+    patch: &mut Patch,
+    name: &Name,
+    id: &[u8; 2],
+) -> Result<(), AllocError>
+    ensures formatted { OnOk result (image.new ≡ formatted name.now id.now) }
+    ensures back { back image.new patch.new ≡ back image.old patch.old }
+{
+    blank(image, patch)?;
+    patch.write(image, map_block(), &header(name, id))?;
+    patch.write(image, directory_start(), &empty_directory())?;
+    put_map(image, patch, &free_when_formatted())
 }

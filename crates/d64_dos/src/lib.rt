@@ -5,13 +5,16 @@
 #![tactic(auto)]
 
 mod command;
+mod delete;
 mod directory;
 mod format;
 pub mod laws;
 mod plan;
 mod read_back;
 mod refusal;
+mod rename;
 mod row;
+mod validate;
 mod write;
 
 pub use command::{Command, Reply, apply};
@@ -19,6 +22,3 @@ pub use directory::listing;
 pub use read_back::{ReadBack, read};
 pub use refusal::Refusal;
 pub use row::{Listing, Row};
-
-#[cfg(test)]
-mod tests;

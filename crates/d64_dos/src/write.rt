@@ -1,5 +1,6 @@
 //! The writing of a file: its blocks, its entry, and the map.
-ghost use Rattle.std.specs.Prelude.{◌≡◌, length, is_some, IsOk, IfOk, IfSome, MatchOption};
+ghost use Rattle.std.specs.Prelude.{◌≡◌, length, is_some, IfOk, OnOk, IfSome, MatchOption};
+ghost use Rattle.d64_image.specs.Patch.{back};
 ghost use Rattle.d64_map.specs.Map.{free_blocks};
 ghost use Rattle.d64_files.specs.Writing.{entry_bytes};
 ghost use Rattle.d64_effects.specs.Write.{with_new_entry, written};
@@ -11,10 +12,10 @@ use crate::plan::take_plan;
 use crate::refusal::Refusal;
 use arrayvec::ArrayVec;
 use d64_files::{Directory, Kind, Name, blocks_for, checked, grow_after, put_chain, put_entry_at};
-use d64_image::{BLOCKS, BlockNo, BlockSet, Image};
+use d64_image::{BLOCKS, BlockNo, BlockSet, Image, Patch};
 use d64_map::laws::plan_takes_free_blocks;
 use d64_map::{free_set, pick_dir, put_map, room};
-use std::alloc::{AllocError, Global};
+use std::alloc::AllocError;
 
 /// Where the entry of a new file goes.
 #[derive(Clone, Copy)]
@@ -109,9 +110,10 @@ fn space_for(image: &Image, name: &Name, kind: Kind, bytes: usize) -> Result<Spa
     }
 }
 
-/// Writes the entry of a new file into its place. It answers Ok.
+/// Writes the entry of a new file into its place.
 fn put_new_entry(
     image: &mut Image,
+    patch: &mut Patch,
     place: Place,
     name: &Name,
     kind: Kind,
@@ -119,69 +121,70 @@ fn put_new_entry(
     blocks: u16,
 ) -> Result<(), AllocError>
     requires { IsPlace image.old (free_blocks image.old) place }
-    ensures ok { IsOk result }
-    ensures written { image.new ≡ with_new_entry image.old (entry_bytes name.now kind first blocks) }
+    ensures written { OnOk result (image.new ≡ with_new_entry image.old (entry_bytes name.now kind first blocks)) }
+    ensures back { back image.new patch.new ≡ back image.old patch.old }
 {
     match place {
         Place::Vacant { block, index } => {
-            put_entry_at(image, block, index, name, kind, first, blocks)
+            put_entry_at(image, patch, block, index, name, kind, first, blocks)
         }
         Place::New { last, block } => {
-            grow_after(image, last, block)?;
-            put_entry_at(image, block, 0, name, kind, first, blocks)
+            grow_after(image, patch, last, block)?;
+            put_entry_at(image, patch, block, 0, name, kind, first, blocks)
         }
     }
 }
 
-/// Writes a new file into its space: its entry, its data, and the map of the blocks that stay free. It answers Ok.
+/// Writes a new file into its space: its entry, its data, and the map of the blocks that stay free.
 fn put_file(
     image: &mut Image,
+    patch: &mut Patch,
     space: &Space,
     name: &Name,
     kind: Kind,
     bytes: &[u8],
 ) -> Result<(), AllocError>
     requires { IsSpace image.old (length bytes.now) space.now }
-    ensures ok { IsOk result }
-    ensures written { image.new ≡ written image.old name.now kind bytes.now }
+    ensures written { OnOk result (image.new ≡ written image.old name.now kind bytes.now) }
+    ensures back { back image.new patch.new ≡ back image.old patch.old }
 {
     plan_takes_free_blocks();
     let blocks = space.blocks.as_slice();
     put_new_entry(
         image,
+        patch,
         space.place,
         name,
         kind,
         blocks[0],
         blocks.len() as u16,
     )?;
-    put_chain(image, blocks, bytes)?;
-    put_map(image, &space.free)
+    put_chain(image, patch, blocks, bytes)?;
+    put_map(image, patch, &space.free)
 }
 
-/// The image after the writing of a file.
+/// Writes a file.
 ///
-/// The first refusal that applies is answered: `WrongType` for a DEL or a REL file, `Directory` with the first condition
-/// of a sound image that fails, `Exists` where a used slot has the name, and `DiskFull` where too few blocks outside
-/// track 18 are free, or where no slot is empty and no block of track 18 is free. `Memory` comes only where none does.
-pub(crate) fn written(
-    alloc: Global,
-    image: &Image,
+/// The first refusal that applies is answered, and then nothing is written: `WrongType` for a DEL or a REL file,
+/// `Directory` with the first condition of a sound image that fails, `Exists` where a used slot has the name, and
+/// `DiskFull` where too few blocks outside track 18 are free, or where no slot is empty and no block of track 18 is free.
+/// `Memory` comes only where none does: then some blocks may be written, and the image with the patch put back is still
+/// the one from before.
+pub(crate) fn write(
+    image: &mut Image,
+    patch: &mut Patch,
     name: &Name,
     kind: Kind,
     bytes: &[u8],
-) -> Result<Image, Refusal>
-    ensures refused { refused_by result ≡ write_refusal image.now name.now kind (length bytes.now) }
-    ensures image { IfOk result (λ next. next ≡ written image.now name.now kind bytes.now) }
+) -> Result<(), Refusal>
+    ensures refused { refused_by result ≡ write_refusal image.old name.now kind (length bytes.now) }
+    ensures written { OnOk result (image.new ≡ written image.old name.now kind bytes.now) }
+    ensures back { back image.new patch.new ≡ back image.old patch.old }
 {
     let space = match space_for(image, name, kind, bytes.len()) {
         Ok(space) => space,
         Err(refusal) => return Err(refusal),
     };
-    let mut next = image.try_clone(alloc)?;
-    put_file(&mut next, &space, name, kind, bytes)?;
-    Ok(next)
+    put_file(image, patch, &space, name, kind, bytes)?;
+    Ok(())
 }
-
-#[cfg(test)]
-mod tests;

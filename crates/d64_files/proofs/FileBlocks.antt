@@ -33,18 +33,19 @@ count_after place count bytes within fits =
     ap (λ (n : ℕ). place + 1 + blocks_for n) (ap length (rest_is bytes) ∙ length-drop 254 bytes) ∙ omega arith
 
 -- the first of the blocks that are left was written
-pub after_first : (image : List (List ℕ)) (blocks bytes block : List ℕ) (place here next : ℕ) → place + 1 < length blocks
+pub after_first : (image after : List (List ℕ)) (blocks bytes block : List ℕ) (place here next : ℕ) → place + 1 < length blocks
     → here ≡ get_or blocks place here → next ≡ get_or blocks (place + 1) next → block ≡ linked_block next bytes
-    → with_chain (with_sector image here block) (drop (place + 1) blocks) (take (length bytes - 254) (drop 254 bytes))
+    → after ≡ with_sector image here block
+    → with_chain after (drop (place + 1) blocks) (take (length bytes - 254) (drop 254 bytes))
     ≡ with_chain image (drop place blocks) bytes
 unfolding with_chain
-after_first image blocks bytes block place here next within is_here is_next written =
+after_first image after blocks bytes block place here next within is_here is_next linked written =
     let left : List ℕ = drop (place + 1) blocks in
     let there : left ≡ get_or blocks (place + 1) 0 ∷ drop (place + 1 + 1) blocks = drop_more blocks (place + 1) 0 within in
     let h : here ≡ get_or blocks place 0 = is_here ∙ get_or_default_zero blocks place here (omega arith) in
     let n : next ≡ get_or blocks (place + 1) 0 = is_next ∙ get_or_default_zero blocks (place + 1) next within in
-    ap (with_chain (with_sector image here block) left) (rest_is bytes)
-    ∙ ap₂ (λ (b : ℕ) (content : List ℕ). with_chain (with_sector image b content) left (drop 254 bytes)) h (written ∙ ap (λ (k : ℕ). linked_block k bytes) n)
+    ap₂ (λ (i : List (List ℕ)) (content : List ℕ). with_chain i left content) written (rest_is bytes)
+    ∙ ap₂ (λ (b : ℕ) (content : List ℕ). with_chain (with_sector image b content) left (drop 254 bytes)) h (linked ∙ ap (λ (k : ℕ). linked_block k bytes) n)
     ∙ ap (λ (bs : List ℕ). with_chain (with_sector image (get_or blocks place 0) (linked_block (get_or blocks (place + 1) 0) bytes)) bs (drop 254 bytes)) there
     ∙ sym (ap (λ (bs : List ℕ). with_chain image bs bytes) (drop_more blocks place 0 (omega arith) ∙ ap (λ (bs : List ℕ). get_or blocks place 0 ∷ bs) there))
 

@@ -37,31 +37,3 @@ pub(crate) fn data_along(
     }
     Ok(bytes)
 }
-
-#[cfg(test)]
-mod tests {
-    use super::*;
-    use std::test::Fail;
-
-    #[test]
-    fn ends_with_the_last_byte_used(rt: HostRuntime) -> Result<(), Fail> {
-        let mut image = Image::zeroed(rt.alloc())?;
-        let first = BlockNo::of(17, 0).ok_or("no such block")?;
-        let last = BlockNo::of(17, 10).ok_or("no such block")?;
-        let bytes = image.sector_mut(first);
-        bytes[0] = 17;
-        bytes[1] = 10;
-        bytes[255] = 7;
-        let bytes = image.sector_mut(last);
-        bytes[1] = 3;
-        bytes[2] = 8;
-        bytes[3] = 9;
-        bytes[4] = 10;
-        let content = data_along(rt.alloc(), &image, &[first, last])?;
-        assert_eq!(rt; content.len(), 256);
-        assert_eq!(rt; content.last(), Some(&9));
-        image.sector_mut(last)[1] = 1;
-        assert_eq!(rt; data_of(image.sector(last)).len(), 0);
-        Ok(())
-    }
-}

@@ -7,6 +7,7 @@ mod block_list;
 mod chain;
 pub mod chain_laws;
 mod claims;
+mod clearing;
 mod dir_fault;
 mod directory_blocks;
 mod entry;
@@ -24,6 +25,7 @@ mod vacancy;
 mod writing;
 
 pub use block_bytes::write_at;
+pub use clearing::{clear_slot, set_name};
 pub use dir_fault::DirFault;
 pub use directory_blocks::{DIRECTORY_SECTOR, Directory};
 pub use entry::{Entry, SlotNo};

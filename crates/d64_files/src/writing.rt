@@ -1,8 +1,11 @@
 //! The writers of files: their entries in the directory, and their chains of blocks (the VICE manual, "The D64 disk image
 //! format").
 //!
-//! They take no memory and answer Ok. Their results are those of writers which keep what they replace.
-ghost use Rattle.std.specs.Prelude.{◌≡◌, ◌≢◌, ◌+◌, ◌*◌, ◌<◌, ◌≤◌, [], length, IsOk};
+//! They write through a patch, which keeps the blocks that they replace: the image with the patch put back stays the
+//! same. They are refused where there is no memory to keep what stood there. Then some blocks may be written, and the
+//! image with the patch put back is still the one from before.
+ghost use Rattle.std.specs.Prelude.{◌≡◌, ◌≢◌, ◌+◌, ◌*◌, ◌<◌, ◌≤◌, [], length, OnOk};
+ghost use Rattle.d64_image.specs.Patch.{back};
 ghost use Rattle.d64_files.specs.Directory.{directory, slots};
 ghost use Rattle.d64_files.specs.Writing.{written_at, with_bytes, blocks_for, linked_block, last_block, with_chain, entry_bytes, with_entry, dir_last, empty_directory, with_growth};
 
@@ -13,7 +16,7 @@ use crate::kind::Kind;
 use crate::label::MAX_LEN;
 use crate::name::Name;
 use crate::slots::SLOTS_PER_BLOCK;
-use d64_image::{BLOCK_BYTES, BlockNo, Image};
+use d64_image::{BLOCK_BYTES, BlockNo, Image, Patch};
 use std::alloc::AllocError;
 
 /// How many bytes of data a block of a file holds, beside its link.
@@ -60,9 +63,11 @@ fn write_entry(
 /// its kind, its first block, its name, no side blocks, and the size in blocks that the directory shows. Every other
 /// byte of the image stays.
 ///
-/// It takes no memory and answers Ok.
+/// Refused where there is no memory to keep what stood there: the image with the patch put back is still the one from
+/// before.
 pub fn put_entry_at(
     image: &mut Image,
+    patch: &mut Patch,
     block: BlockNo,
     index: usize,
     name: &Name,
@@ -71,21 +76,24 @@ pub fn put_entry_at(
     blocks: u16,
 ) -> Result<(), AllocError>
     requires { index < 8 }
-    ensures ok { IsOk result }
-    ensures written { image.new ≡ with_bytes image.old block (32 * index + 2) (entry_bytes name.now kind first blocks) }
+    ensures written { OnOk result (image.new ≡ with_bytes image.old block (32 * index + 2) (entry_bytes name.now kind first blocks)) }
+    ensures back { back image.new patch.new ≡ back image.old patch.old }
 {
     let start = SLOT_BYTES * index + 2;
-    write_entry(image.sector_mut(block), start, name, kind, first, blocks);
-    Ok(())
+    let mut bytes = *image.sector(block);
+    write_entry(&mut bytes, start, name, kind, first, blocks);
+    patch.write(image, block, &bytes)
 }
 
 /// Writes the entry of a closed file into a slot of the directory: its kind, its first block, its name, no side blocks,
 /// and the size in blocks that the directory shows. The first two bytes of the slot stay, and so does every other byte
 /// of the image.
 ///
-/// It takes no memory and answers Ok. The caller knows that the directory has that slot.
+/// Refused where there is no memory to keep what stood there: the image with the patch put back is still the one from
+/// before. The caller knows that the directory has that slot.
 pub fn put_entry(
     image: &mut Image,
+    patch: &mut Patch,
     slot: SlotNo,
     name: &Name,
     kind: Kind,
@@ -94,12 +102,12 @@ pub fn put_entry(
 ) -> Result<(), AllocError>
     requires directory { directory image.old ≢ [] }
     requires slot { slot < length (slots image.old) }
-    ensures ok { IsOk result }
-    ensures written { image.new ≡ with_entry image.old slot (entry_bytes name.now kind first blocks) }
+    ensures written { OnOk result (image.new ≡ with_entry image.old slot (entry_bytes name.now kind first blocks)) }
+    ensures back { back image.new patch.new ≡ back image.old patch.old }
 {
     let block = block_of_slot(image, slot);
     let index = slot.place() % SLOTS_PER_BLOCK;
-    put_entry_at(image, block, index, name, kind, first, blocks)
+    put_entry_at(image, patch, block, index, name, kind, first, blocks)
 }
 
 /// A block of a file that another one follows: the link to that one, and the first 254 of the bytes.
@@ -126,20 +134,25 @@ fn last_block(bytes: &[u8]) -> [u8; BLOCK_BYTES]
 
 /// Writes the data of a file into blocks, each linked to the next. No other block changes.
 ///
-/// It takes no memory and answers Ok. The caller knows that there are as many blocks as the file takes.
-pub fn put_chain(image: &mut Image, blocks: &[BlockNo], bytes: &[u8]) -> Result<(), AllocError>
+/// Refused where there is no memory to keep what stood there: then some blocks may be written, and the image with the
+/// patch put back is still the one from before. The caller knows that there are as many blocks as the file takes.
+pub fn put_chain(
+    image: &mut Image,
+    patch: &mut Patch,
+    blocks: &[BlockNo],
+    bytes: &[u8],
+) -> Result<(), AllocError>
     requires count { length blocks.now ≡ blocks_for (length bytes.now) }
-    ensures ok { IsOk result }
-    ensures written { image.new ≡ with_chain image.old blocks.now bytes.now }
+    ensures written { OnOk result (image.new ≡ with_chain image.old blocks.now bytes.now) }
+    ensures back { back image.new patch.new ≡ back image.old patch.old }
 {
     let last = blocks.len() - 1;
     let mut rest = bytes;
     for place in 0..last {
-        *image.sector_mut(blocks[place]) = linked_block(blocks[place + 1], rest);
+        patch.write(image, blocks[place], &linked_block(blocks[place + 1], rest))?;
         rest = &rest[DATA_BYTES..];
     }
-    *image.sector_mut(blocks[last]) = last_block(rest);
-    Ok(())
+    patch.write(image, blocks[last], &last_block(rest))
 }
 
 /// The bytes of a block of the directory that no block follows, and whose eight slots are empty.
@@ -154,28 +167,32 @@ pub fn empty_directory() -> [u8; BLOCK_BYTES]
 /// Appends a block to the directory: the last one's link names it, and its eight slots are empty. No other byte of the
 /// image changes.
 ///
-/// It takes no memory and answers Ok. The caller knows which block is the last one.
-pub fn grow_after(image: &mut Image, last: BlockNo, new: BlockNo) -> Result<(), AllocError>
+/// Refused where there is no memory to keep what stood there: then the link may be written, and the image with the
+/// patch put back is still the one from before. The caller knows which block is the last one.
+pub fn grow_after(
+    image: &mut Image,
+    patch: &mut Patch,
+    last: BlockNo,
+    new: BlockNo,
+) -> Result<(), AllocError>
     requires { last ≡ dir_last image.old }
-    ensures ok { IsOk result }
-    ensures written { image.new ≡ with_growth image.old new }
+    ensures written { OnOk result (image.new ≡ with_growth image.old new) }
+    ensures back { back image.new patch.new ≡ back image.old patch.old }
 {
-    write_at(image.sector_mut(last), 0, &[new.track(), new.sector()]);
-    *image.sector_mut(new) = empty_directory();
-    Ok(())
+    let mut bytes = *image.sector(last);
+    write_at(&mut bytes, 0, &[new.track(), new.sector()]);
+    patch.write(image, last, &bytes)?;
+    patch.write(image, new, &empty_directory())
 }
 
-/// Appends a block to the directory, as `grow_after` does after its last block.
+/// Appends a block to the directory, as `grow_after` does after its last block, and refused as there.
 ///
-/// It takes no memory and answers Ok. The caller knows that there is a directory.
-pub fn grow(image: &mut Image, new: BlockNo) -> Result<(), AllocError>
+/// The caller knows that there is a directory.
+pub fn grow(image: &mut Image, patch: &mut Patch, new: BlockNo) -> Result<(), AllocError>
     requires directory { directory image.old ≢ [] }
-    ensures ok { IsOk result }
-    ensures written { image.new ≡ with_growth image.old new }
+    ensures written { OnOk result (image.new ≡ with_growth image.old new) }
+    ensures back { back image.new patch.new ≡ back image.old patch.old }
 {
     let last = last_directory_block(image);
-    grow_after(image, last, new)
+    grow_after(image, patch, last, new)
 }
-
-#[cfg(test)]
-mod tests;

@@ -26,7 +26,7 @@ pub enum ImageFault {
     Memory(AllocError),
 }
 
-/// The content of a disk: its 683 blocks of 256 bytes, in one buffer.
+/// The content of a disk: its 683 blocks of 256 bytes, in one buffer. What is written to it goes through a `Patch`.
 #[derive(Debug, Drop)]
 pub struct Image {
     sectors: Vec<[u8; BLOCK_BYTES]>,
@@ -115,8 +115,8 @@ impl Image {
         sector
     }
 
-    /// The 256 bytes of a block, to be written in place. No other block changes.
-    pub fn sector_mut(&mut self, block: BlockNo) -> &mut [u8; BLOCK_BYTES]
+    // The 256 bytes of a block, to be written in place. No other block changes.
+    pub(crate) fn sector_mut(&mut self, block: BlockNo) -> &mut [u8; BLOCK_BYTES]
         ensures* written { sem 𝓛 (LendsSector self.entry block result) }
         ensures value { result.now ≡ sector_at self.old block }
     {

@@ -15,6 +15,3 @@ pub use block::{BLOCKS, BlockNo};
 pub use block_set::BlockSet;
 pub use image::{BLOCK_BYTES, Image, ImageFault};
 pub use patch::Patch;
-
-#[cfg(test)]
-mod tests;

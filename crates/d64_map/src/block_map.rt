@@ -1,15 +1,15 @@
 //! The block allocation map, read and written.
-ghost use Rattle.std.specs.Prelude.{◌≡◌, ℕ, ◌+◌, ◌<◌, ◌≤◌, ◌==◌, ◌↔◌, true, false, IsTrue, IsOk};
+ghost use Rattle.std.specs.Prelude.{◌≡◌, ℕ, ◌+◌, ◌<◌, ◌≤◌, ◌==◌, ◌↔◌, true, false, IsTrue, OnOk};
 ghost use Rattle.std.specs.FinSet as set;
 ghost use Rattle.d64_image.specs.Block.{first_block};
 ghost use Rattle.d64_image.specs.BlockSet.{MembersAreBlocks};
-ghost use Rattle.d64_image.specs.Image.{IsBlock, sector_at};
+ghost use Rattle.d64_image.specs.Patch.{back};
 ghost use Rattle.d64_image.specs.declared.block.TheConstants.{BLOCKS};
 ghost use Rattle.d64_map.specs.Track.{members_on};
 ghost use Rattle.d64_map.specs.Map.{map_block, count_of, bit_in, is_free, free_below, free_blocks, NoneIsFreeBetween, blocks_free, CountsFit, bits_for, map_byte, with_map};
 
 use crate::tracks::{DIRECTORY_TRACK, TRACKS, has_sector, members_on, sector_count};
-use d64_image::{BLOCK_BYTES, BlockNo, BlockSet, Image};
+use d64_image::{BLOCK_BYTES, BlockNo, BlockSet, Image, Patch};
 use std::alloc::AllocError;
 
 /// Where the first track's entry stands in the map's block. Each entry has four bytes.
@@ -30,13 +30,6 @@ fn known_block(block: BlockNo)
     ensures { block < BLOCKS }
 {
     let _ = block.index();
-}
-
-// The map's block has 256 bytes.
-fn known_map(image: &Image)
-    ensures { IsBlock (sector_at image.now map_block) }
-{
-    let _ = image.sector(map_block());
 }
 
 // The members of a set of blocks are blocks of the disk.
@@ -199,18 +192,18 @@ fn map_byte(free: &BlockSet, place: usize) -> u8
 
 /// Writes the map for a set of free blocks: the count and the bits of each track. No other byte of the image changes.
 ///
-/// It takes no memory and answers Ok. Its result is that of the writers which keep what they replace.
-pub fn put_map(image: &mut Image, free: &BlockSet) -> Result<(), AllocError>
-    ensures ok { IsOk result }
-    ensures written { image.new ≡ with_map image.old free.now }
-    ensures free { free_blocks image.new ≡ free.now }
-    ensures counts { CountsFit image.new }
+/// The patch keeps the map's block: the image with the patch put back stays the same. Refused where there is no memory
+/// to keep it.
+pub fn put_map(image: &mut Image, patch: &mut Patch, free: &BlockSet) -> Result<(), AllocError>
+    ensures written { OnOk result (image.new ≡ with_map image.old free.now) }
+    ensures free { OnOk result (free_blocks image.new ≡ free.now) }
+    ensures counts { OnOk result (CountsFit image.new) }
+    ensures back { back image.new patch.new ≡ back image.old patch.old }
 {
-    known_map(image);
     known_members(free);
-    let map = image.sector_mut(map_block());
+    let mut map = *image.sector(map_block());
     for place in ENTRIES_START..ENTRIES_END {
         map[place] = map_byte(free, place);
     }
-    Ok(())
+    patch.write(image, map_block(), &map)
 }

@@ -14,6 +14,3 @@ pub use block_map::{
 };
 pub use search::{pick_dir, pick_first, pick_next, room};
 pub use tracks::DIRECTORY_TRACK;
-
-#[cfg(test)]
-mod tests;

@@ -65,19 +65,3 @@ fn digit(number: u8) -> u8
 {
     b"0123456789abcdef"[usize::from(number)]
 }
-
-#[cfg(test)]
-mod tests {
-    use super::*;
-
-    #[test]
-    fn shows_sixteen_lines(rt: HostRuntime) {
-        let lines = dump(&[1; 256]);
-        let shown = lines.as_slice();
-        assert_eq!(rt; shown.len(), 832);
-        assert!(rt;
-            shown.starts_with(b"00: 01 01 01 01 01 01 01 01 01 01 01 01 01 01 01 01\n10: 01")
-        );
-        assert!(rt; shown.ends_with(b"\nf0: 01 01 01 01 01 01 01 01 01 01 01 01 01 01 01 01\n"));
-    }
-}

@@ -9,6 +9,4 @@ pub mod output;
 pub mod raw_lines;
 pub mod script;
 pub mod status;
-#[cfg(test)]
-mod tests;
 pub mod words;

@@ -27,18 +27,3 @@ fn is_digits(word: &[u8]) -> bool
 {
     word.iter().all(u8::is_ascii_digit)
 }
-
-#[cfg(test)]
-mod tests {
-    use super::*;
-
-    #[test]
-    fn reads_one_to_three_digits_of_a_byte(rt: HostRuntime) {
-        assert_eq!(rt; number(b"0"), Some(0));
-        assert_eq!(rt; number(b"036"), Some(36));
-        assert_eq!(rt; number(b"255"), Some(255));
-        for word in [&b""[..], &b"256"[..], &b"0001"[..], &b"+1"[..], &b"x"[..]] {
-            assert_eq!(rt; number(word), None);
-        }
-    }
-}

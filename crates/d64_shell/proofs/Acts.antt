@@ -1,12 +1,13 @@
 -- Acts, done step by step.
-use Rattle.std.proofs.Common.{◌≡◌, ℕ, ◌≤◌, ◌⊎◌, List, length, Option, Some, None, Ok, Err, inl, inr, refl, sym, ap, subst}
+use Rattle.std.proofs.Common.{◌≡◌, ℕ, ◌≤◌, List, length, map, Bor, Option, Some, None, Ok, Err, inl, inr, refl, subst, arith}
+use Rattle.std.proofs.lemmas.List.{length-map}
 use Rattle.std.proofs.lemmas.Bool.{le-leb}
 use Rattle.d64_dos.specs.Refusal.{cause_of}
 use Rattle.d64_dos.specs.declared.refusal.Refusal.{Refusal}
 use Rattle.d64_dos.specs.declared.refusal.Refusal.TheVariants.{NotClosed, NotFound, Exists, WrongType, Directory, DiskFull, Memory}
 use Rattle.d64_script.specs.declared.status.Status.{Status}
 use Rattle.d64_script.specs.declared.status.Status.TheVariants.{OutOfMemory}
-use Rattle.d64_shell.specs.Act.{Act, Refuse, Then, ◌>>=◌, Call, Gives, Does, Ending, HostState, LineAnswer, World, plain}
+use Rattle.d64_shell.specs.Act.{Act, Give, Refuse, Then, ◌>>=◌, Call, Gives, Does, Ending, HostState, LineAnswer, World, plain}
 use Rattle.d64_undo.specs.History.{History}
 use Rattle.d64_shell.specs.Line.{allowed, act_of, act_of_command, status_of_refusal}
 use Rattle.d64_shell.specs.CommandWord.{fewest, most}
@@ -25,6 +26,17 @@ pub Does-refused : (call : Call) (next : List ℕ → Act Ending) (status : Stat
     → Does (Then call next) (record { host = old; history = history }) (plain status) (record { host = new; history = history })
 unfolding Does
 Does-refused call next status old new history gives = inl (Err status, new, gives, (refl, refl))
+
+-- the steps of an act are done however they are grouped
+pub Does-grouped : {A B : Type 0} (act : Act A) (next : A → Act B) (last : B → Act Ending) (world : World) (answer : LineAnswer) (after : World)
+    → Does (act >>= (λ value. next value >>= last)) world answer after → Does (act >>= next >>= last) world answer after
+unfolding Does
+Does-grouped (Give value) next last world answer after done = done
+Does-grouped (Refuse status) next last world answer after done = done
+Does-grouped (Then call more) next last world answer after (inl (Ok bytes, host, gives, done)) =
+    inl (Ok bytes, host, gives, Does-grouped (more bytes) next last _ answer after done)
+Does-grouped (Then call more) next last world answer after (inl (Err status, host, gives, done)) = inl (Err status, host, gives, done)
+Does-grouped (Then call more) next last world answer after (inr memory) = inr memory
 
 -- an act is refused
 pub Does-refuse : (status : Status) (world : World) → Does (Refuse status) world (plain status) world
@@ -60,8 +72,12 @@ Does-not_allowed DiskFull cause call next world is = by_cause DiskFull cause (Th
 Does-not_allowed Memory cause call next world is = Does-allowed cause (Then call next) world (plain OutOfMemory) world is (Does-no_memory call next world)
 
 -- as many words follow as the command takes
-pub Does-counted : (home : List ℕ) (history : History) (command : CommandWord) (words : List (List ℕ)) (world : World) (answer : LineAnswer) (after : World)
-    → fewest home command ≤ length words → length words ≤ most command
-    → Does (act_of home history command words) world answer after → Does (act_of_command home history command words) world answer after
-Does-counted home history command words world answer after enough within done =
-    rw (le-leb (fewest home command) (length words) enough, le-leb (length words) (most command) within) done
+pub Does-counted : (home : List ℕ) (history : History) (command : CommandWord) (words : List (Bor (List ℕ))) (few many : ℕ)
+    (world : World) (answer : LineAnswer) (after : World)
+    → few ≡ fewest home command → many ≡ most command → few ≤ length words → length words ≤ many
+    → Does (act_of home history command (map (λ word. word.now) words)) world answer after
+    → Does (act_of_command home history command (map (λ word. word.now) words)) world answer after
+Does-counted home history command words few many world answer after least greatest enough within done =
+    let count = length-map words (λ (word : Bor (List ℕ)). word.now) in
+    let lists = map (λ (word : Bor (List ℕ)). word.now) words in
+    rw (le-leb (fewest home command) (length lists) (omega arith), le-leb (length lists) (most command) (omega arith)) done

@@ -6,3 +6,4 @@ pub mod LastParts
 pub mod AsciiTexts
 pub mod FoundFiles
 pub mod ProgramRuns
+pub mod ScriptHistories

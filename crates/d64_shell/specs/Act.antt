@@ -1,5 +1,5 @@
 -- What a line asks for, as an act of one step after another, and how an act is done.
-use Rattle.std.specs.Prelude.{◌≡◌, ℕ, List, [], Bool, true, false, if◌then◌else◌, Option, Some, None, Result, MatchResult, Ok, Err, ◌⊎◌}
+use Rattle.std.specs.Prelude.{◌≡◌, ℕ, List, [], ◌∷◌, Bool, true, false, if◌then◌else◌, Option, Result, MatchResult, Ok, Err, ◌⊎◌}
 use Rattle.petscii.specs.TextForm.{IsTextOf}
 use Rattle.d64_host.specs.Files.{Files}
 use Rattle.d64_host.specs.Host.{fault_number, Fetches, Stores, CountsDevice}
@@ -7,7 +7,7 @@ use Rattle.d64_undo.specs.History.{History}
 use Rattle.d64_host.specs.declared.host.HostFault.{HostFault}
 use Rattle.d64_host.specs.declared.host.HostFault.TheVariants.{Missing, Device, TooLong, Memory}
 use Rattle.d64_script.specs.declared.status.Status.{Status}
-use Rattle.d64_script.specs.declared.status.Status.TheVariants.{Done, BadName, HostFile, OutOfMemory}
+use Rattle.d64_script.specs.declared.status.Status.TheVariants.{BadName, HostFile, OutOfMemory}
 
 -- what a line is answered: its output, its status, and whether it ends the run
 pub record LineAnswer : Type 0 where
@@ -73,6 +73,14 @@ need test status = if test then Give tt else Refuse status
 
 abbrev pub text : (List ℕ → Bool) → List ℕ → Act (List ℕ)
 text test word = Then (Text test word) Give
+
+-- the bytes that words stand for in text form, from left to right
+abbrev pub each_text : (List ℕ → Bool) → List (List ℕ) → Act (List (List ℕ))
+each_text test [] = Give []
+each_text test (word ∷ words) = do
+  bytes ← text test word
+  more ← each_text test words
+  Give (bytes ∷ more)
 
 abbrev pub fetch : List ℕ → ℕ → Act (List ℕ)
 fetch name limit = Then (Fetch name limit) Give

@@ -1,5 +1,6 @@
-use Rattle.std.specs.Prelude.{◌≡◌, ℕ, ◌⊎◌, List, Bool, Vec, Result, Ok, Err}
+use Rattle.std.specs.Prelude.{◌≡◌, ℕ, ◌⊎◌, List, ◌∷◌, ◌++◌, Bool, Vec, Result, Ok, Err}
 use Rattle.std.specs.Borrow.{Bor}
+use Rattle.std.specs.List.{AllZip}
 use Rattle.d64_files.specs.declared.kind.Kind.{Kind}
 use Rattle.d64_script.specs.declared.status.Status.{Status}
 use Rattle.d64_script.specs.declared.status.Status.TheVariants.{BadName, OutOfMemory}
@@ -16,8 +17,8 @@ named (Ok file) = Ok (file.0.now, file.1)
 named (Err fault) = Err fault
 
 -- a vector that was answered, as its list
-abbrev pub items : {A E : Type 0} → Result (Vec ℕ A) E → Result (List ℕ) E
-items (Ok bytes) = Ok bytes.items
+abbrev pub items : {T A E : Type 0} → Result (Vec T A) E → Result (List T) E
+items (Ok values) = Ok values.items
 items (Err fault) = Err fault
 
 -- a word was read: the bytes that it stands for, which pass a test; or it stands for no such bytes, or memory was wanting
@@ -25,3 +26,10 @@ abbrev pub Reads : (List ℕ → Bool) → List ℕ → Result (List ℕ) Status
 Reads test word (Ok bytes) = IsSpelled test word bytes
 Reads test word (Err status) =
     ((status ≡ BadName) × ((bytes : List ℕ) → IsSpelled test word bytes → ⊥)) ⊎ (status ≡ OutOfMemory)
+
+-- words were read from left to right: the bytes that each stands for, which pass a test; or some were, and the next was not
+abbrev pub ReadsEach : (List ℕ → Bool) → List (List ℕ) → Result (List (List ℕ)) Status → Type 0
+ReadsEach test words (Ok texts) = AllZip (IsSpelled test) words texts
+ReadsEach test words (Err status) =
+    (before : List (List ℕ)) × (texts : List (List ℕ)) × (word : List ℕ) × (more : List (List ℕ))
+    × (words ≡ before ++ word ∷ more) × AllZip (IsSpelled test) before texts × Reads test word (Err status)

@@ -1,8 +1,9 @@
 use Rattle.std.specs.Prelude.{ℕ, List, [], ◌∷◌, Option, find, codes}
 use Rattle.std.specs.Option.{option_map}
 use Rattle.std.specs.Str.{bytes_eq}
+use Rattle.d64_script.specs.declared.words.TheConstants.{MAX_WORDS}
 use Rattle.d64_shell.specs.declared.command_word.CommandWord.{CommandWord}
-use Rattle.d64_shell.specs.declared.command_word.CommandWord.TheVariants.{Block, BlockRead, BlockWrite, Format, ListHistory, ListDirectory, Quit, Read, Redo, Save, Undo, Write}
+use Rattle.d64_shell.specs.declared.command_word.CommandWord.TheVariants.{Block, BlockRead, BlockWrite, Delete, Format, ListHistory, ListDirectory, Quit, Read, Redo, Rename, Save, Undo, Validate, Write}
 
 -- the words that begin a line, and what each stands for
 abbrev pub command_words : List (List ℕ × CommandWord)
@@ -10,14 +11,17 @@ command_words =
     (codes "block", Block)
     ∷ (codes "bread", BlockRead)
     ∷ (codes "bwrite", BlockWrite)
+    ∷ (codes "delete", Delete)
     ∷ (codes "format", Format)
     ∷ (codes "history", ListHistory)
     ∷ (codes "list", ListDirectory)
     ∷ (codes "quit", Quit)
     ∷ (codes "read", Read)
     ∷ (codes "redo", Redo)
+    ∷ (codes "rename", Rename)
     ∷ (codes "save", Save)
     ∷ (codes "undo", Undo)
+    ∷ (codes "validate", Validate)
     ∷ (codes "write", Write)
     ∷ []
 
@@ -30,28 +34,34 @@ abbrev pub fewest : List ℕ → CommandWord → ℕ
 fewest home Block = 2
 fewest home BlockRead = 3
 fewest home BlockWrite = 3
+fewest home Delete = 1
 fewest home Format = 1
 fewest home ListHistory = 0
 fewest home ListDirectory = 0
 fewest home Quit = 0
 fewest home Read = 1
 fewest home Redo = 0
+fewest home Rename = 2
 fewest [] Save = 1
 fewest (byte ∷ bytes) Save = 0
 fewest home Undo = 0
+fewest home Validate = 0
 fewest home Write = 1
 
--- how many words follow at most
+-- how many words follow at most; after `delete` as many as a line holds
 abbrev pub most : CommandWord → ℕ
 most Block = 2
 most BlockRead = 3
 most BlockWrite = 3
+most Delete = MAX_WORDS
 most Format = 1
 most ListHistory = 0
 most ListDirectory = 0
 most Quit = 0
 most Read = 2
 most Redo = 0
+most Rename = 2
 most Save = 1
 most Undo = 0
+most Validate = 0
 most Write = 2

@@ -24,5 +24,6 @@ pub mod Act
 pub mod Response
 pub mod Line
 pub mod Transcript
+pub mod ScriptLaws
 pub mod Runner
 pub mod Program

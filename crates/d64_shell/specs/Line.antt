@@ -1,5 +1,5 @@
 -- What each line of a script asks for.
-use Rattle.std.specs.Prelude.{◌≡◌, ℕ, nat_lt, nat_le, List, [], ◌∷◌, length, false, true, ◌+◌, ◌==◌, if◌then◌else◌, Option, None, Some, MatchOption, Ok, Err, ok_or, slice_index_or, drop}
+use Rattle.std.specs.Prelude.{◌≡◌, ℕ, nat_lt, nat_le, List, [], ◌∷◌, length, false, true, ◌+◌, ◌==◌, if◌then◌else◌, Option, None, Some, MatchOption, ok_or, slice_index_or, drop}
 use Rattle.d64_files.specs.Name.{is_name}
 use Rattle.d64_image.specs.Image.{sector_at, bytes_of}
 use Rattle.d64_undo.specs.History.{History, present, added, undone, redone}
@@ -17,7 +17,7 @@ use Rattle.d64_shell.specs.ListingText.{listing_text}
 use Rattle.d64_script.specs.RawLines.{text_of, is_too_long, is_skipped}
 use Rattle.d64_script.specs.Dump.{dump}
 use Rattle.d64_shell.specs.CommandWord.{command_word_of, fewest, most}
-use Rattle.d64_shell.specs.Act.{Act, Give, Refuse, ◌>>=◌, ◌>>◌, valid, need, text, fetch, store, room, Ending, plain, World, LineAnswer, Does}
+use Rattle.d64_shell.specs.Act.{Act, Give, Refuse, ◌>>=◌, ◌>>◌, valid, need, text, each_text, fetch, store, room, Ending, plain, World, LineAnswer, Does}
 use Rattle.d64_dos.specs.Change.{Change}
 use Rattle.d64_dos.specs.Change as changes
 use Rattle.d64_dos.specs.declared.command.Reply.{Reply}
@@ -25,9 +25,9 @@ use Rattle.d64_dos.specs.declared.command.Reply.TheVariants as replies
 use Rattle.d64_dos.specs.declared.refusal.Refusal.{Refusal}
 use Rattle.d64_dos.specs.declared.refusal.Refusal.TheVariants as refusals
 use Rattle.d64_script.specs.declared.status.Status.{Status}
-use Rattle.d64_script.specs.declared.status.Status.TheVariants.{Done, SyntaxError, UnknownCommand, LongLine, BadName, MissingWord, WriteFileOpen, FileNotFound, FileExists, FileTypeMismatch, DirectoryError, DiskFull, NothingToUndo, NothingToRedo, NotOneBlock, OutOfMemory}
+use Rattle.d64_script.specs.declared.status.Status.TheVariants.{Done, FilesScratched, SyntaxError, UnknownCommand, LongLine, BadName, MissingWord, WriteFileOpen, FileNotFound, FileExists, FileTypeMismatch, DirectoryError, DiskFull, NothingToUndo, NothingToRedo, NotOneBlock, OutOfMemory}
 use Rattle.d64_shell.specs.declared.command_word.CommandWord.{CommandWord}
-use Rattle.d64_shell.specs.declared.command_word.CommandWord.TheVariants.{Block, BlockRead, BlockWrite, Format, ListHistory, ListDirectory, Quit, Read, Redo, Save, Undo, Write}
+use Rattle.d64_shell.specs.declared.command_word.CommandWord.TheVariants.{Block, BlockRead, BlockWrite, Delete, Format, ListHistory, ListDirectory, Quit, Read, Redo, Rename, Save, Undo, Validate, Write}
 
 -- one of the words that follow the first
 abbrev pub word_at : List (List ℕ) → ℕ → List ℕ
@@ -46,6 +46,7 @@ status_of_refusal refusals.Memory = OutOfMemory
 -- how an accepted command is answered
 abbrev pub status_of_reply : Reply → Status
 status_of_reply replies.Done = Done
+status_of_reply (replies.Scratched count) = FilesScratched count
 
 -- refused by a refusal, where there is one
 abbrev pub allowed : Option Refusal → Act (Unit {0})
@@ -104,6 +105,12 @@ block_write_act history host track sector = do
   bytes ← fetch name host_file_limit
   write_one_block history block bytes
 
+-- `delete`: the files that patterns match are deleted
+abbrev pub delete_act : History → List (List ℕ) → Act Ending
+delete_act history words = do
+  patterns ← each_text is_pattern words
+  run history (changes.Delete patterns)
+
 -- `format`: the disk is made an empty one, with the name and the id in one word
 abbrev pub format_act : History → List ℕ → Act Ending
 format_act history word = do
@@ -153,6 +160,13 @@ redo_act history = do
   need (nat_lt (history.cursor + 1) (length history.images)) NothingToRedo
   leave (redone history)
 
+-- `rename`: a file of one name is given another
+abbrev pub rename_act : History → List ℕ → List ℕ → Act Ending
+rename_act history old_word new_word = do
+  old ← text is_name old_word
+  new ← text is_name new_word
+  run history (changes.Rename old new)
+
 -- `save`: the image is stored in a host file, by default in the one that it has
 abbrev pub save_act : List ℕ → History → List (List ℕ) → Act Ending
 save_act home history [] = put history home (bytes_of (present history))
@@ -165,6 +179,10 @@ abbrev pub undo_act : History → Act Ending
 undo_act history = do
   need (nat_lt 0 history.cursor) NothingToUndo
   leave (undone history)
+
+-- `validate`: unclosed files are dropped, and the map is written anew
+abbrev pub validate_act : History → Act Ending
+validate_act history = run history changes.Validate
 
 -- `write`: a host file is written to the disk, under the name and with the kind of a word, or by default under its own name and as PRG
 abbrev pub write_act : History → List ℕ → List (List ℕ) → Act Ending
@@ -180,14 +198,17 @@ abbrev pub act_of : List ℕ → History → CommandWord → List (List ℕ) →
 act_of home history Block words = block_act history (word_at words 0) (word_at words 1)
 act_of home history BlockRead words = block_read_act history (word_at words 0) (word_at words 1) (word_at words 2)
 act_of home history BlockWrite words = block_write_act history (word_at words 0) (word_at words 1) (word_at words 2)
+act_of home history Delete words = delete_act history words
 act_of home history Format words = format_act history (word_at words 0)
 act_of home history ListHistory words = history_act history
 act_of home history ListDirectory words = list_act history
 act_of home history Quit words = quit_act history
 act_of home history Read words = read_act history (word_at words 0) (drop 1 words)
 act_of home history Redo words = redo_act history
+act_of home history Rename words = rename_act history (word_at words 0) (word_at words 1)
 act_of home history Save words = save_act home history words
 act_of home history Undo words = undo_act history
+act_of home history Validate words = validate_act history
 act_of home history Write words = write_act history (word_at words 0) (drop 1 words)
 
 -- what a command word and the words after it ask for: too few words first, then too many

@@ -4,7 +4,7 @@
 ghost use Rattle.std.specs.Prelude.{◌≡◌, ◌<◌, All, Result, ◌==◌, true, map, option_map, position};
 ghost use Rattle.d64_shell.specs.Arguments.{host_in, number_in, block_in, can_be_id, at_comma, kind_of_letter, name_and_kind_in, after_slash, name_and_kind_of};
 ghost use Rattle.d64_script.specs.Words.{IsPrintable};
-ghost use Rattle.d64_shell.specs.ArgumentTexts.{texts, named, items, Reads};
+ghost use Rattle.d64_shell.specs.ArgumentTexts.{texts, named, items, Reads, ReadsEach};
 ghost use Rattle.petscii.specs.TextForm.{HasOneReading};
 ghost use Rattle.d64_files.specs.Name.{is_name};
 ghost use Rattle.d64_files.specs.Pattern.{is_pattern};
@@ -80,6 +80,21 @@ pub(crate) fn pattern_in(alloc: Global, word: &[u8]) -> Result<Pattern, Status>
         Ok(pattern) => Ok(pattern),
         Err(_) => Err(Status::BadName),
     }
+}
+
+/// The patterns that words stand for, from left to right. The first word that stands for none is refused.
+pub(crate) fn patterns_in(alloc: Global, words: &[&[u8]]) -> Result<Vec<Pattern>, Status>
+    ensures { ReadsEach is_pattern (map (λ word. word.now) words.now) (items result) }
+{
+    let mut patterns = Vec::new(alloc);
+    for word in words {
+        let pattern = pattern_in(alloc, word)?;
+        match patterns.push(pattern) {
+            Ok(()) => {}
+            Err(_) => return Err(Status::OutOfMemory),
+        }
+    }
+    Ok(patterns)
 }
 
 /// The id of a disk that a word stands for: two bytes, none of which is forbidden in names.

@@ -2,6 +2,8 @@
 ghost use Rattle.std.specs.Prelude.{◌≡◌};
 ghost use Rattle.d64_shell.specs.CommandWord.{command_word_of, fewest, most};
 
+use d64_script::words::MAX_WORDS;
+
 /// What the first word of a line stands for.
 #[derive(Clone, Copy, Debug, PartialEq, Eq)]
 pub enum CommandWord {
@@ -11,6 +13,8 @@ pub enum CommandWord {
     BlockRead,
     /// `bwrite host t s`: replaces a block by a host file.
     BlockWrite,
+    /// `delete pattern ..`: deletes the files that the patterns match.
+    Delete,
     /// `format name,id`: makes the disk an empty one.
     Format,
     /// `history`: shows the records of what was done and undone.
@@ -23,10 +27,14 @@ pub enum CommandWord {
     Read,
     /// `redo`: takes an undo back.
     Redo,
+    /// `rename old new`: gives a file another name.
+    Rename,
     /// `save [host]`: stores the image.
     Save,
     /// `undo`: takes the last command back.
     Undo,
+    /// `validate`: drops the files that were never closed, and writes the map anew.
+    Validate,
     /// `write host [name[,t]]`: writes a host file to the disk.
     Write,
 }
@@ -40,14 +48,17 @@ impl CommandWord {
             b"block" => Some(CommandWord::Block),
             b"bread" => Some(CommandWord::BlockRead),
             b"bwrite" => Some(CommandWord::BlockWrite),
+            b"delete" => Some(CommandWord::Delete),
             b"format" => Some(CommandWord::Format),
             b"history" => Some(CommandWord::ListHistory),
             b"list" => Some(CommandWord::ListDirectory),
             b"quit" => Some(CommandWord::Quit),
             b"read" => Some(CommandWord::Read),
             b"redo" => Some(CommandWord::Redo),
+            b"rename" => Some(CommandWord::Rename),
             b"save" => Some(CommandWord::Save),
             b"undo" => Some(CommandWord::Undo),
+            b"validate" => Some(CommandWord::Validate),
             b"write" => Some(CommandWord::Write),
             _ => None,
         }
@@ -62,15 +73,16 @@ impl CommandWord {
             | CommandWord::ListDirectory
             | CommandWord::Quit
             | CommandWord::Redo
-            | CommandWord::Undo => 0,
+            | CommandWord::Undo
+            | CommandWord::Validate => 0,
             CommandWord::Save => usize::from(home.is_empty()),
-            CommandWord::Format | CommandWord::Read | CommandWord::Write => 1,
-            CommandWord::Block => 2,
+            CommandWord::Delete | CommandWord::Format | CommandWord::Read | CommandWord::Write => 1,
+            CommandWord::Block | CommandWord::Rename => 2,
             CommandWord::BlockRead | CommandWord::BlockWrite => 3,
         }
     }
 
-    /// How many words follow at most.
+    /// How many words follow at most: after `delete` as many as a line holds.
     pub fn most(self) -> usize
         ensures { result ≡ most self }
     {
@@ -79,10 +91,12 @@ impl CommandWord {
             | CommandWord::ListDirectory
             | CommandWord::Quit
             | CommandWord::Redo
-            | CommandWord::Undo => 0,
+            | CommandWord::Undo
+            | CommandWord::Validate => 0,
             CommandWord::Format | CommandWord::Save => 1,
-            CommandWord::Block | CommandWord::Read | CommandWord::Write => 2,
+            CommandWord::Block | CommandWord::Read | CommandWord::Rename | CommandWord::Write => 2,
             CommandWord::BlockRead | CommandWord::BlockWrite => 3,
+            CommandWord::Delete => MAX_WORDS,
         }
     }
 }

@@ -9,9 +9,11 @@ ghost use Rattle.d64_shell.specs.Response.{Responds, RespondsAlone};
 ghost use Rattle.petscii.specs.Spelling.{spelling};
 ghost use Rattle.d64_shell.specs.FoundFile.{is_file_name};
 ghost use Rattle.d64_undo.specs.History.{History};
-ghost use Rattle.d64_shell.specs.Line.{put, block_act, block_read_act, block_write_act, format_act, history_act, list_act, quit_act, read_act, read_to, redo_act, save_act, undo_act, write_act, run, write_one_block};
+ghost use Rattle.d64_shell.specs.Line.{put, block_act, block_read_act, block_write_act, delete_act, format_act, history_act, list_act, quit_act, read_act, read_to, redo_act, rename_act, save_act, undo_act, validate_act, write_act, run, write_one_block};
 
-use crate::arguments::{at_comma, block_in, host_in, id_in, name_and_kind_of, name_in, pattern_in};
+use crate::arguments::{
+    at_comma, block_in, host_in, id_in, name_and_kind_of, name_in, pattern_in, patterns_in,
+};
 use crate::history_text::history_text;
 use crate::listing_text::listing_text;
 use crate::response::{Output, Response};
@@ -101,6 +103,20 @@ fn run_command(session: &mut Session, command: &Command) -> Result<Response, Sta
     match session.run(command) {
         Ok(reply) => Ok(Response::plain(of_reply(reply))),
         Err(refusal) => Err(of_refusal(refusal)),
+    }
+}
+
+/// `delete`: the files deleted that one of the patterns matches or more, a pattern a word.
+pub(crate) fn delete(
+    alloc: Global,
+    session: &mut Session,
+    words: &[&[u8]],
+) -> Result<Response, Status>
+    ensures { RespondsAlone (delete_act session.old (map (λ word. word.now) words.now)) session.old result session.new }
+{
+    match patterns_in(alloc, words) {
+        Ok(patterns) => run_command(session, &Command::Delete { patterns }),
+        Err(status) => Err(status),
     }
 }
 
@@ -240,6 +256,22 @@ pub(crate) fn redo(session: &mut Session) -> Result<Response, Status>
     Ok(Response::plain(Status::Done))
 }
 
+/// `rename`: the first file of one name given another.
+pub(crate) fn rename(
+    alloc: Global,
+    session: &mut Session,
+    old: &[u8],
+    new: &[u8],
+) -> Result<Response, Status>
+    ensures { RespondsAlone (rename_act session.old old.now new.now) session.old result session.new }
+{
+    let old = name_in(alloc, old)?;
+    match name_in(alloc, new) {
+        Ok(new) => run_command(session, &Command::Rename { old, new }),
+        Err(status) => Err(status),
+    }
+}
+
 /// `save`: the image stored in a host file, by default its own.
 pub(crate) fn save<H: Host>(
     alloc: Global,
@@ -267,6 +299,13 @@ pub(crate) fn undo(session: &mut Session) -> Result<Response, Status>
 {
     session.undo().map_err(of_nothing_to_undo)?;
     Ok(Response::plain(Status::Done))
+}
+
+/// `validate`: the files dropped that were never closed, and the map written anew.
+pub(crate) fn validate(session: &mut Session) -> Result<Response, Status>
+    ensures { RespondsAlone (validate_act session.old) session.old result session.new }
+{
+    run_command(session, &Command::Validate)
 }
 
 /// `write`: a host file written to the disk, by default under its own name and as PRG.

@@ -6,6 +6,7 @@ mod command_word;
 mod entry;
 mod handlers;
 mod history_text;
+pub mod laws;
 mod line;
 mod listing_text;
 mod response;

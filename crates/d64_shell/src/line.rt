@@ -106,14 +106,17 @@ fn answer_command<H: Host>(
         CommandWord::BlockWrite => handlers::block_write(
             alloc, host, session, words[0], words[1], words[2],
         ),
+        CommandWord::Delete => handlers::delete(alloc, session, words),
         CommandWord::Format => handlers::format(alloc, session, words[0]),
         CommandWord::ListHistory => handlers::history(alloc, session),
         CommandWord::ListDirectory => handlers::list(alloc, session),
         CommandWord::Quit => handlers::quit(session),
         CommandWord::Read => handlers::read(alloc, host, session, words[0], &words[1..]),
         CommandWord::Redo => handlers::redo(session),
+        CommandWord::Rename => handlers::rename(alloc, session, words[0], words[1]),
         CommandWord::Save => handlers::save(alloc, host, home, session, words),
         CommandWord::Undo => handlers::undo(session),
+        CommandWord::Validate => handlers::validate(session),
         CommandWord::Write => handlers::write(alloc, host, session, words[0], &words[1..]),
     }
 }

@@ -57,6 +57,7 @@ pub(crate) fn of_reply(reply: Reply) -> Status
 {
     match reply {
         Reply::Done => Status::Done,
+        Reply::Scratched(count) => Status::FilesScratched { count },
     }
 }
 

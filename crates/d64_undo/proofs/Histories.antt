@@ -1,34 +1,8 @@
 -- histories: what commands, undos and redos one after another leave
-use Rattle.std.proofs.Common.{◌≡◌, ℕ, ◌+◌, ◌-◌, ◌≤◌, zero, suc, List, [], ◌∷◌, ◌++◌, length, take, drop, get_or, refl, sym, ap, ap₂, ◌∙◌, arith, append_assoc}
-use Rattle.std.proofs.lemmas.List.{length-take-le, length_push, get_or_append_left, get_or-take, get_or_push, get_or_at, take_all, take_at, drop_all}
+use Rattle.std.proofs.Common.{◌≡◌, ℕ, ◌+◌, ◌-◌, ◌≤◌, zero, suc, List, [], ◌∷◌, length, take, get_or, refl, ap, ◌∙◌, arith}
+use Rattle.std.proofs.lemmas.List.{length-take-le, length_push, get_or_append_left, get_or-take, get_or_push}
 use Rattle.d64_undo.specs.History.{History, IsHistory, present, added, undone, redone}
 use Rattle.d64_undo.specs.HistoryLaws.{added_all, undone_by, redone_by, Retraces}
-
--- the history with an image at the cursor and the others around it, so many of them before it
-abbrev pub surrounded : List (List (List ℕ)) → List (List ℕ) → ℕ → History
-surrounded others image before = record { images = take before others ++ image ∷ drop before others; cursor = before }
-
-pub present-surrounded : (others : List (List (List ℕ))) (image : List (List ℕ)) (before : ℕ) → before ≤ length others
-    → present (surrounded others image before) ≡ image
-present-surrounded others image before h =
-    get_or_at (take before others) image (drop before others) [] before (length-take-le before others h)
-
--- an image is added where the others are those before the cursor and the image that stood there
-pub added-surrounded : (others kept : List (List (List ℕ))) (image next : List (List ℕ)) (before count : ℕ) → before ≤ length others
-    → kept ≡ take before others ++ image ∷ [] → count ≡ length kept
-    → surrounded kept next count ≡ added (surrounded others image before) next
-added-surrounded others kept image next before count h e n =
-    let one_more : length (take before others ++ image ∷ []) ≡ before + 1 =
-    length_push (take before others) image ∙ ap (λ (k : ℕ). k + 1) (length-take-le before others h) in
-    let cursor : count ≡ before + 1 = n ∙ ap length e ∙ one_more in
-    let front : take count kept ≡ kept = take_all count kept (omega arith) in
-    let back : drop count kept ≡ [] = drop_all count kept (omega arith) in
-    let cut : take (before + 1) (take before others ++ image ∷ drop before others) ≡ take before others ++ image ∷ [] =
-    ap (λ (xs : List (List (List ℕ))). take (before + 1) xs) (sym (append_assoc (take before others) (image ∷ []) (drop before others)))
-    ∙ take_at (take before others ++ image ∷ []) (drop before others) (before + 1) one_more in
-    let images : take count kept ++ next ∷ drop count kept ≡ take (before + 1) (take before others ++ image ∷ drop before others) ++ next ∷ [] =
-    ap₂ (λ (xs ys : List (List (List ℕ))). xs ++ next ∷ ys) (front ∙ e ∙ sym cut) back in
-    ap₂ (λ (xs : List (List (List ℕ))) (k : ℕ). let h : History = record { images = xs; cursor = k } in h) images cursor
 
 -- commands move the cursor on by their number
 cursor-added_all : (images : List (List (List ℕ))) (history : History)

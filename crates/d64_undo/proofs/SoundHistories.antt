@@ -1,12 +1,10 @@
 -- sound histories stay sound
-use Rattle.std.proofs.Common.{◌≡◌, ℕ, ◌+◌, ◌≤◌, List, [], ◌∷◌, length, take, drop, subst, sym, arith}
+use Rattle.std.proofs.Common.{◌≡◌, ℕ, ◌+◌, List, [], ◌∷◌, take, subst, sym}
 use Rattle.std.specs.Prelude.{All}
-use Rattle.std.proofs.lemmas.List.{length-append, length-drop, length-take-le}
 use Rattle.std.proofs.lemmas.List.Elements.{All-nil, All-cons, All-append, All-take, All-get_or}
 use Rattle.d64_effects.specs.View.{IsSound}
 use Rattle.d64_undo.specs.History.{History, IsHistory, present, begun, added}
 use Rattle.d64_undo.specs.SoundHistory.{IsSoundHistory}
-use Rattle.d64_undo.proofs.Histories.{surrounded}
 
 -- the history that begins with a sound image
 pub begun-sound : (image : List (List ℕ)) → IsSound image → IsSoundHistory (begun image)
@@ -29,11 +27,3 @@ added-sound history image all sound =
 pub moved-sound : (history other : History) → other.images ≡ history.images → IsSoundHistory history → IsSoundHistory other
 unfolding IsSoundHistory
 moved-sound history other same all = subst (All IsSound) (sym same) all
-
--- the cursor of a session stands on an image
-pub surrounded-is_history : (others : List (List (List ℕ))) (image : List (List ℕ)) (done : ℕ) → done ≤ length others → IsHistory (surrounded others image done)
-surrounded-is_history others image done within =
-    let joined = length-append (take done others) (image ∷ drop done others) in
-    let front = length-take-le done others within in
-    let back = length-drop done others in
-    omega arith

@@ -1,5 +1,6 @@
 use Rattle.std.specs.Prelude.{ℕ, ◌+◌, ◌-◌, ◌<◌, nat_lt, if◌then◌else◌, Option, Some, None, List, [], ◌∷◌, ◌++◌, length, take, slice_index_or}
 use Rattle.d64_image.specs.Image.{differences}
+use Rattle.d64_image.specs.Patch.{Kept, changed}
 
 -- a history is a list of whole images with a cursor
 pub record History : Type 0 where
@@ -43,4 +44,14 @@ abbrev pub record_len : History → ℕ → Option ℕ
 record_len history number =
     if nat_lt (number + 1) (length history.images)
     then Some (length (differences (image_at history number) (image_at history (number + 1))))
+    else None
+
+-- the blocks in which the images before and after a record differ, ascending, where the history has that record: with their bytes from
+-- before it where it is done, and from after it where it is undone
+abbrev pub record_at : History → ℕ → Option Kept
+record_at history number =
+    if nat_lt (number + 1) (length history.images)
+    then Some (if nat_lt number history.cursor
+    then changed (image_at history number) (image_at history (number + 1))
+    else changed (image_at history (number + 1)) (image_at history number))
     else None

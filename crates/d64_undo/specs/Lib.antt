@@ -1,4 +1,5 @@
 pub mod History
 pub mod HistoryLaws
+pub mod Records
 pub mod SoundHistory
 pub mod Request

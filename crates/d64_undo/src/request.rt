@@ -62,34 +62,3 @@ pub fn run_all(
     }
     Ok(answers)
 }
-
-#[cfg(test)]
-mod tests {
-    use super::*;
-    use d64_image::{BlockNo, Image};
-    use std::test::Fail;
-
-    #[test]
-    fn answers_in_turn(rt: HostRuntime) -> Result<(), Fail> {
-        let mut session = Session::new(rt.alloc(), Image::zeroed(rt.alloc())?);
-        let at = BlockNo::of(17, 0).ok_or("no block")?;
-        let block = [1; 256];
-        let requests = [
-            Request::Redo,
-            Request::Apply(Command::BlockWrite { at, block }),
-            Request::Undo,
-            Request::Undo,
-            Request::Redo,
-        ];
-        let answers = run_all(rt.alloc(), &mut session, &requests)?;
-        let expected = [
-            Answer::NothingToRedo,
-            Answer::Accepted(Reply::Done),
-            Answer::Undone,
-            Answer::NothingToUndo,
-            Answer::Redone,
-        ];
-        assert_eq!(rt; answers.as_slice(), expected.as_slice());
-        Ok(())
-    }
-}

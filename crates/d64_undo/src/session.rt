@@ -1,17 +1,16 @@
 //! Sessions: an image with undo and redo.
-ghost use Rattle.std.specs.Prelude.{◌≡◌, ◌+◌, ◌^◌, ◌<◌, ◌↔◌, length, IsOk, OnOk, OnErr, IfOk};
+ghost use Rattle.std.specs.Prelude.{◌≡◌, ◌+◌, ◌^◌, ◌<◌, ◌↔◌, length, option_copied, IsOk, OnOk, OnErr, IfOk};
 ghost use Rattle.d64_dos.specs.Change.{said};
 ghost use Rattle.d64_dos.specs.Command.{after, reply_to, refusal_of};
 ghost use Rattle.d64_dos.specs.Refusal.{refused_by};
 ghost use Rattle.d64_effects.specs.View.{IsSound};
-ghost use Rattle.d64_undo.specs.History.{IsHistory, image_at, present, begun, added, undone, redone, record_len};
+ghost use Rattle.d64_undo.specs.History.{IsHistory, present, begun, added, undone, redone, record_len, record_at};
 ghost use Rattle.d64_undo.specs.SoundHistory.{IsSoundHistory, KeepsSound};
 
 use d64_dos::{Command, Refusal, Reply, apply};
-use d64_image::Image;
+use d64_image::{BLOCK_BYTES, BlockNo, Image, Patch};
 use std::alloc::Global;
 use std::marker::Model;
-use std::mem;
 use thiserror::Error;
 
 /// Why an undo is refused: there is no record before the cursor.
@@ -27,29 +26,29 @@ pub struct NothingToRedo;
 /// An image with its history: all images that it was, and those that were undone and can be redone.
 ///
 /// The history is a list of whole images with a cursor, which stands on the present image. Each accepted
-/// command is a record between two images.
+/// command is a record between two images. Of all images the present one alone is held, and of each record the blocks in
+/// which the images before and after it differ.
 #[derive(Drop)]
 pub struct Session {
     alloc: Global,
     image: Image,
-    /// The images of the history without the present one.
-    others: Vec<Image>,
-    /// How many of the others come before the present one.
+    /// What changed by each command: the records that are done lead back from the present image, the last one first, and
+    /// those that are undone lead on from it.
+    records: Vec<Patch>,
+    /// How many of the records are done.
     done: usize,
 }
 
 impl Model for Session {
-    ghost use Rattle.std.specs.Prelude.{◌≤◌, ◌∷◌, ◌++◌, length, take, drop};
+    ghost use Rattle.std.specs.Prelude.{◌≤◌, length};
     ghost use Rattle.d64_undo.specs.History.{History};
+    ghost use Rattle.d64_undo.specs.Records.{images_of, AreRecords};
 
     ghost Value = { History };
 
-    ghost view = { λ s. record {
-      images = take s.done s.others.items ++ s.image ∷ drop s.done s.others.items;
-      cursor = s.done;
-    } };
+    ghost view = { λ s. record { images = images_of s.records.items s.image s.done; cursor = s.done } };
 
-    ghost invariant = { λ s. s.done ≤ length s.others.items };
+    ghost invariant = { λ s. (s.done ≤ length s.records.items) × AreRecords s.records.items s.image s.done };
 }
 
 impl Session {
@@ -61,7 +60,7 @@ impl Session {
         Session {
             alloc,
             image,
-            others: Vec::new(alloc),
+            records: Vec::new(alloc),
             done: 0,
         }
     }
@@ -86,21 +85,7 @@ impl Session {
         ensures count { self.now.cursor + result + 1 ≡ length self.now.images }
         ensures within { self.now.cursor + result < 2 ^ 64 }
     {
-        self.others.len() - self.done
-    }
-
-    // The image at a place of the history, from 0.
-    fn image_at(&self, place: usize) -> &Image
-        requires { place < length self.now.images }
-        ensures { result.now ≡ image_at self.now place }
-    {
-        if place < self.done {
-            &self.others[place]
-        } else if place == self.done {
-            self.image()
-        } else {
-            &self.others[place - 1]
-        }
+        self.records.len() - self.done
     }
 
     /// In how many blocks the images before and after a record differ. Records are numbered from 0, first those that are
@@ -108,11 +93,16 @@ impl Session {
     pub fn record_len(&self, number: usize) -> Option<usize>
         ensures { result ≡ record_len self.now number }
     {
-        if number >= self.others.len() {
-            return None;
-        }
-        let before = self.image_at(number);
-        Some(before.difference_count(self.image_at(number + 1)))
+        Some(self.records.get(number)?.len())
+    }
+
+    /// The blocks in which the images before and after a record differ, ascending, each with its 256 bytes: those from
+    /// before the record where it is done, and those from after it where it is undone. The numbers are those of
+    /// `record_len`. Takes no memory.
+    pub fn record_at(&self, number: usize) -> Option<&[(BlockNo, [u8; BLOCK_BYTES])]>
+        ensures { option_copied result ≡ record_at self.now number }
+    {
+        Some(self.records.get(number)?.blocks())
     }
 
     /// Runs a command on the present image. Where it is accepted, the records after the cursor are dropped
@@ -127,12 +117,15 @@ impl Session {
         ensures unchanged { OnErr result (self.new ≡ self.old) }
         ensures sound { KeepsSound (said command.now) result → IsSoundHistory self.old → IsSoundHistory self.new }
     {
-        let (image, reply) = apply(self.alloc, &self.image, command)?;
-        self.others.reserve(1)?;
-        self.others.truncate(self.done);
-        let before = mem::replace(&mut self.image, image);
-        self.others.push(before).unwrap();
-        self.done = self.others.len();
+        let mut record = Patch::new(self.alloc);
+        let reply = apply(&mut self.image, &mut record, command)?;
+        if self.records.reserve(1).is_err() {
+            record.swap(&mut self.image);
+            return Err(Refusal::Memory);
+        }
+        self.records.truncate(self.done);
+        self.records.push(record).unwrap();
+        self.done = self.records.len();
         Ok(reply)
     }
 
@@ -156,7 +149,7 @@ impl Session {
         ensures { self.new ≡ undone self.old }
     {
         self.done -= 1;
-        mem::swap(&mut self.image, &mut self.others[self.done]);
+        self.records[self.done].swap(&mut self.image);
     }
 
     /// Goes one record forward. Refused where none is undone. Takes no memory.
@@ -166,7 +159,7 @@ impl Session {
         ensures unchanged { OnErr result (self.new ≡ self.old) }
         ensures sound { IsSoundHistory self.old → IsSoundHistory self.new }
     {
-        if self.done == self.others.len() {
+        if self.undone() == 0 {
             return Err(NothingToRedo);
         }
         self.step_on();
@@ -178,147 +171,7 @@ impl Session {
         requires { self.old.cursor + 1 < length self.old.images }
         ensures { self.new ≡ redone self.old }
     {
-        mem::swap(&mut self.image, &mut self.others[self.done]);
+        self.records[self.done].swap(&mut self.image);
         self.done += 1;
-    }
-}
-
-#[cfg(test)]
-mod tests {
-    use super::*;
-    use d64_files::{Kind, Name};
-    use d64_image::{BlockNo, Image};
-    use std::test::Fail;
-
-    #[test]
-    fn write_undo_redo(rt: HostRuntime) -> Result<(), Fail> {
-        let mut session = Session::new(rt.alloc(), Image::zeroed(rt.alloc())?);
-        let first = BlockNo::of(17, 0).ok_or("no block")?;
-        let second = BlockNo::of(17, 1).ok_or("no block")?;
-        let block = [1; 256];
-        let reply = session.run(&Command::BlockWrite { at: first, block })?;
-        assert_eq!(rt; reply, Reply::Done);
-        session.undo()?;
-        assert_eq!(rt;
-            session.image().sector(first).as_slice(),
-            [0; 256].as_slice()
-        );
-        session.redo()?;
-        assert_eq!(rt;
-            session.image().sector(first).as_slice(),
-            [1; 256].as_slice()
-        );
-        session.undo()?;
-        session.run(&Command::BlockWrite { at: second, block })?;
-        assert_eq!(rt; session.redo(), Err(NothingToRedo));
-        assert_eq!(rt;
-            session.image().sector(first).as_slice(),
-            [0; 256].as_slice()
-        );
-        assert_eq!(rt;
-            session.image().sector(second).as_slice(),
-            [1; 256].as_slice()
-        );
-        Ok(())
-    }
-
-    #[test]
-    fn hundred_there_and_back(rt: HostRuntime) -> Result<(), Fail> {
-        let alloc = rt.alloc();
-        let mut session = Session::new(alloc, Image::zeroed(alloc)?);
-        let mut copies = Vec::new(alloc);
-        for n in 0..100u8 {
-            copies.push(session.image().try_clone(alloc)?)?;
-            let at = BlockNo::at(usize::from(n % 3) * 341).ok_or("no block")?;
-            session.run(&Command::BlockWrite {
-                at,
-                block: [n; 256],
-            })?;
-        }
-        copies.push(session.image().try_clone(alloc)?)?;
-        for copy in copies.iter().rev().skip(1) {
-            session.undo()?;
-            assert_eq!(rt; session.image().bytes(), copy.bytes());
-        }
-        assert_eq!(rt; session.undo(), Err(NothingToUndo));
-        assert_eq!(rt; session.undone(), 100);
-        for copy in copies.iter().skip(1) {
-            session.redo()?;
-            assert_eq!(rt; session.image().bytes(), copy.bytes());
-        }
-        assert_eq!(rt; session.redo(), Err(NothingToRedo));
-        assert_eq!(rt; session.done(), 100);
-        Ok(())
-    }
-
-    /// How many pieces of 256 bytes differ.
-    fn plain_count(bytes: &[u8], others: &[u8]) -> usize {
-        let pieces = bytes.chunks(256).zip(others.chunks(256));
-        pieces.filter(|(piece, other)| *piece != *other).count()
-    }
-
-    #[test]
-    fn records_of_a_hundred_random_block_writes(rt: HostRuntime) -> Result<(), Fail> {
-        let alloc = rt.alloc();
-        let mut session = Session::new(alloc, Image::zeroed(alloc)?);
-        let mut counts = Vec::new(alloc);
-        let mut random = 1u32;
-        for _ in 0..100 {
-            random = random.wrapping_mul(1_103_515_245).wrapping_add(12_345);
-            let at = BlockNo::at((random >> 16) as usize % 4).ok_or("no block")?;
-            let mut block = [0; 256];
-            block[255] = (random >> 24) as u8 % 2;
-            let before = session.image().try_clone(alloc)?;
-            session.run(&Command::BlockWrite { at, block })?;
-            counts.push(plain_count(before.bytes(), session.image().bytes()))?;
-        }
-        assert!(rt; counts.iter().any(|count| *count == 0));
-        assert!(rt; counts.iter().any(|count| *count == 1));
-        for _ in 0..50 {
-            session.undo()?;
-        }
-        for (number, count) in counts.iter().enumerate() {
-            assert_eq!(rt; session.record_len(number), Some(*count), "at {number}");
-        }
-        assert_eq!(rt; session.record_len(100), None);
-        assert_eq!(rt; session.record_len(usize::MAX), None);
-        Ok(())
-    }
-
-    #[test]
-    fn records_of_a_format_and_a_write(rt: HostRuntime) -> Result<(), Fail> {
-        let alloc = rt.alloc();
-        let mut session = Session::new(alloc, Image::zeroed(alloc)?);
-        assert_eq!(rt; session.record_len(0), None);
-        let format = Command::Format {
-            name: Name::new(b"d")?,
-            id: *b"01",
-        };
-        session.run(&format)?;
-        session.run(&format)?;
-        session.run(&Command::Write {
-            name: Name::new(b"x")?,
-            kind: Kind::Prg,
-            bytes: vec![in alloc; 1u8; 1]?,
-        })?;
-        session.undo()?;
-        assert_eq!(rt; session.record_len(0), Some(2));
-        assert_eq!(rt; session.record_len(1), Some(0));
-        assert_eq!(rt; session.record_len(2), Some(3));
-        assert_eq!(rt; session.record_len(3), None);
-        Ok(())
-    }
-
-    #[test]
-    fn messages(rt: HostRuntime) -> Result<(), Fail> {
-        let texts = format!(in rt.alloc();
-            "{NothingToUndo}, {NothingToRedo}, {}",
-            Refusal::Memory
-        )?;
-        assert_eq!(rt;
-            texts.as_str(),
-            "nothing to undo, nothing to redo, out of memory"
-        );
-        Ok(())
     }
 }

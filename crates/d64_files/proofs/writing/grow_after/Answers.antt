@@ -1,4 +1,5 @@
 use Rattle.std.proofs.Common.{◌≡◌, ℕ, ◌∷◌, List, [], ap, ap₂, ◌∙◌}
+use Rattle.std.proofs.lemmas.Result.{on_ok_weaker}
 use Rattle.d64_image.specs.Image.{sector_at, with_sector}
 use Rattle.d64_files.specs.Writing.{written_at, with_bytes, pair_bytes, empty_directory, with_growth}
 use Rattle.d64_files.proofs.writing.grow_after.Goals as goal
@@ -10,7 +11,13 @@ returns-clause-written c =
     let last = c.args.last in
     let linked : c.write_at.new.block ≡ written_at (sector_at image last) 0 (pair_bytes c.args.new) =
     c.write_at.ensures
-    ∙ ap (λ (bytes : List ℕ). written_at bytes 0 (c.track.result ∷ c.sector.result ∷ [])) c.sector_mut.ensures.value
-    ∙ ap₂ (λ (track sector : ℕ). written_at (sector_at image last) 0 (track ∷ sector ∷ [])) c.track.ensures.pair c.sector.ensures.pair in
-    ap₂ (λ (bytes new : List ℕ). with_sector (with_sector image last bytes) c.args.new new) linked c.empty_directory.ensures
-    ∙ ap (λ (block : ℕ). with_sector (with_bytes image block 0 (pair_bytes c.args.new)) c.args.new empty_directory) c.requires
+    ∙ ap (λ (bytes : List ℕ). written_at bytes 0 (c.track.result ∷ c.sector-2.result ∷ [])) c.sector.ensures.value
+    ∙ ap₂ (λ (track sector : ℕ). written_at (sector_at image last) 0 (track ∷ sector ∷ [])) c.track.ensures.pair c.sector-2.ensures.pair in
+    let first : c.write.new.image ≡ with_bytes image last 0 (pair_bytes c.args.new) =
+    c.in_ok-write.ensures.written ∙ ap (with_sector image last) linked in
+    on_ok_weaker c.write-2.result
+    (λ written.
+    written
+    ∙ ap₂ (λ (held : List (List ℕ)) (new : List ℕ). with_sector held c.args.new new) first c.empty_directory.ensures
+    ∙ ap (λ (block : ℕ). with_sector (with_bytes image block 0 (pair_bytes c.args.new)) c.args.new empty_directory) c.requires)
+    c.write-2.ensures.written

@@ -1,4 +1,5 @@
 use Rattle.std.proofs.Common.{◌≡◌, ℕ, ◌+◌, ◌-◌, ◌<◌, length, get_or, ap, ◌∙◌, arith}
+use Rattle.std.proofs.lemmas.Result.{on_ok_weaker}
 use Rattle.d64_files.proofs.FileBlocks.{needs_one, count_after, after_first, after_last}
 use Rattle.d64_files.proofs.writing.put_chain.Goals as goal
 
@@ -7,10 +8,11 @@ loop-place-preserved c =
     let within = c.loop-place-test.true in
     let inside : c.loop-place.place + 1 < length c.args.blocks.now = omega arith in
     record {
-      image = after_first c.loop-place.image c.args.blocks.now c.loop-place.rest.now c.linked_block.result c.loop-place.place
-          c.index-blocks-place-in-loop-place.result c.index-blocks-place.result inside c.index-blocks-place-in-loop-place.is c.index-blocks-place.is
-          c.linked_block.ensures
+      image = after_first c.loop-place.image c.write.new.image c.args.blocks.now c.loop-place.rest.now c.linked_block.result c.loop-place.place
+          c.index-blocks-place.result c.index-blocks-place-in-loop-place.result inside c.index-blocks-place.is c.index-blocks-place-in-loop-place.is
+          c.linked_block.ensures c.in_ok-write.ensures.written
           ∙ c.loop-place.invariant.image;
+      back = c.write.ensures.back ∙ c.loop-place.invariant.back;
       count = count_after c.loop-place.place (length c.args.blocks.now) c.loop-place.rest.now inside c.loop-place.invariant.count;
     }
 
@@ -21,6 +23,10 @@ returns-clause-written c =
     let test = c.loop-place-test.false in
     let end = c.loop-place.auto.place-end in
     let last : length c.args.blocks.now - 1 ≡ c.loop-place.place = omega arith in
-    after_last c.loop-place.image c.args.blocks.now c.loop-place.rest.now c.last_block.result c.loop-place.place c.index-blocks-last.result (omega arith)
+    on_ok_weaker c.write-2.result
+    (λ written.
+    written
+    ∙ after_last c.loop-place.image c.args.blocks.now c.loop-place.rest.now c.last_block.result c.loop-place.place c.index-blocks-last.result (omega arith)
     (c.index-blocks-last.is ∙ ap (λ (n : ℕ). get_or c.args.blocks.now n c.index-blocks-last.result) last) c.last_block.ensures
-    ∙ c.loop-place.invariant.image
+    ∙ c.loop-place.invariant.image)
+    c.write-2.ensures.written

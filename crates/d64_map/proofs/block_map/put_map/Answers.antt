@@ -1,13 +1,14 @@
-use Rattle.std.proofs.Common.{ℕ, length, List, get_or, arith, refl, ap, ◌∙◌}
+use Rattle.std.proofs.Common.{ℕ, length, List, get_or, arith, refl, sym, ap, ◌∙◌, subst}
+use Rattle.std.proofs.lemmas.Result.{on_ok_weaker}
 use Rattle.d64_image.specs.Image.{sector_at, with_sector}
-use Rattle.d64_map.specs.Map.{map_block, with_map, free_blocks}
+use Rattle.d64_map.specs.Map.{map_block, with_map, free_blocks, CountsFit}
 use Rattle.d64_map.proofs.Maps.{map_for-is, has_map, free_blocks-with_map, counts-with_map}
 use Rattle.d64_map.proofs.block_map.put_map.Goals as goal
 
--- what the loan holds at first is the map's block
+-- what is copied first is the map's block
 pub loop-place-init : goal.loop-place-init
 loop-place-init c = record {
-  long = ap length (c.sector_mut-map.ensures.value ∙ ap (sector_at c.args.image.now) c.map_block.ensures) ∙ c.known_map.ensures.0;
+  long = c.sector.ensures.block.0;
   written = λ k l h. absurd (omega arith);
   before = λ k h. refl;
   after = λ k h. refl;
@@ -17,18 +18,29 @@ pub returns-clause-written : goal.returns-clause-written
 unfolding with_map
 returns-clause-written c =
     let image = c.args.image.now in
-    let old = c.sector_mut-map.ensures.value ∙ ap (sector_at image) c.map_block.ensures in
-    ap (λ (b : ℕ). with_sector image b c.loop-place.map) c.map_block.ensures
+    let old = c.sector.ensures.value ∙ ap (sector_at image) c.map_block.ensures in
+    on_ok_weaker c.write.result
+    (λ written.
+    written
+    ∙ ap (λ (b : ℕ). with_sector image b c.loop-place.map) c.map_block-2.ensures
     ∙ ap (with_sector image map_block) (map_for-is (sector_at image map_block) c.loop-place.map c.args.free.now c.loop-place.invariant.long
     (λ k l h. c.loop-place.invariant.written k l (omega arith))
     (λ k h. c.loop-place.invariant.before k h ∙ ap (λ (xs : List ℕ). get_or xs k 0) old)
-    (λ k h. c.loop-place.invariant.after k (omega arith) ∙ ap (λ (xs : List ℕ). get_or xs k 0) old))
+    (λ k h. c.loop-place.invariant.after k (omega arith) ∙ ap (λ (xs : List ℕ). get_or xs k 0) old)))
+    c.write.ensures.written
 
 pub returns-clause-free : goal.returns-clause-free
 returns-clause-free c =
-    ap free_blocks (returns-clause-written c)
-    ∙ free_blocks-with_map c.args.image.now c.args.free.now (has_map c.args.image.now c.known_map.ensures.0) c.known_members.ensures
+    let image = c.args.image.now in
+    let long = ap length (sym (c.sector.ensures.value ∙ ap (sector_at image) c.map_block.ensures)) ∙ c.sector.ensures.block.0 in
+    on_ok_weaker c.write.result
+    (λ written. ap free_blocks written ∙ free_blocks-with_map image c.args.free.now (has_map image long) c.known_members.ensures)
+    (returns-clause-written c)
 
 pub returns-clause-counts : goal.returns-clause-counts
 returns-clause-counts c =
-    rw (returns-clause-written c) (counts-with_map c.args.image.now c.args.free.now (has_map c.args.image.now c.known_map.ensures.0) c.known_members.ensures)
+    let image = c.args.image.now in
+    let long = ap length (sym (c.sector.ensures.value ∙ ap (sector_at image) c.map_block.ensures)) ∙ c.sector.ensures.block.0 in
+    on_ok_weaker c.write.result
+    (λ written. subst CountsFit (sym written) (counts-with_map image c.args.free.now (has_map image long) c.known_members.ensures))
+    (returns-clause-written c)

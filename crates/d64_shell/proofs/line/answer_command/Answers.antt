@@ -1,33 +1,74 @@
-use Rattle.std.proofs.Common.{ℕ, ◌≤◌, List, length, map, Bor, arith}
-use Rattle.std.proofs.lemmas.List.{length-map}
+use Rattle.std.proofs.Common.{ℕ, ◌≤◌, List, [], ◌∷◌, length, map, get_or, Bor, arith}
 use Rattle.d64_shell.specs.Act.{HostState}
-use Rattle.d64_shell.specs.CommandWord.{fewest, most}
+use Rattle.d64_shell.specs.Line.{word_at, block_act, format_act, rename_act}
+use Rattle.d64_shell.specs.Response.{RespondsAlone}
 use Rattle.d64_shell.proofs.Acts.{Does-counted}
 use Rattle.d64_shell.proofs.line.answer_command.Goals as goal
 
 pub returns-in-ListDirectory : goal.returns-in-ListDirectory
 returns-in-ListDirectory g c =
     let host : HostState = record { files = g.H.Host.files c.args.host.now; failures = g.H.Host.failure_count c.args.host.now } in
-    let words = map (λ (word : Bor (List ℕ)). word.now) c.args.words.now in
-    let count = length-map c.args.words.now (λ (word : Bor (List ℕ)). word.now) in
-    let enough : fewest c.args.home.now c.args.command ≤ length words = omega (arith, count, c.fewest.ensures, c.if-words-fewest.false) in
-    let within : length words ≤ most c.args.command = omega (arith, count, c.most.ensures, c.if-most-words.false) in
-    Does-counted c.args.home.now c.args.session.now c.args.command words _ _ _ enough within (rw c.in-ListDirectory.is (c.list.ensures host))
-
-pub returns-in-Quit : goal.returns-in-Quit
-returns-in-Quit g c =
-    let host : HostState = record { files = g.H.Host.files c.args.host.now; failures = g.H.Host.failure_count c.args.host.now } in
-    let words = map (λ (word : Bor (List ℕ)). word.now) c.args.words.now in
-    let count = length-map c.args.words.now (λ (word : Bor (List ℕ)). word.now) in
-    let enough : fewest c.args.home.now c.args.command ≤ length words = omega (arith, count, c.fewest.ensures, c.if-words-fewest.false) in
-    let within : length words ≤ most c.args.command = omega (arith, count, c.most.ensures, c.if-most-words.false) in
-    Does-counted c.args.home.now c.args.session.now c.args.command words _ _ _ enough within (rw c.in-Quit.is (c.quit.ensures host))
+    Does-counted c.args.home.now c.args.session.now c.args.command c.args.words.now _ _ _ _ _ c.fewest.ensures c.most.ensures
+    c.if-words-fewest.false c.if-most-words.false (rw c.in-ListDirectory.is (c.list.ensures host))
 
 pub returns-in-ListHistory : goal.returns-in-ListHistory
 returns-in-ListHistory g c =
     let host : HostState = record { files = g.H.Host.files c.args.host.now; failures = g.H.Host.failure_count c.args.host.now } in
-    let words = map (λ (word : Bor (List ℕ)). word.now) c.args.words.now in
-    let count = length-map c.args.words.now (λ (word : Bor (List ℕ)). word.now) in
-    let enough : fewest c.args.home.now c.args.command ≤ length words = omega (arith, count, c.fewest.ensures, c.if-words-fewest.false) in
-    let within : length words ≤ most c.args.command = omega (arith, count, c.most.ensures, c.if-most-words.false) in
-    Does-counted c.args.home.now c.args.session.now c.args.command words _ _ _ enough within (rw c.in-ListHistory.is (c.history.ensures host))
+    Does-counted c.args.home.now c.args.session.now c.args.command c.args.words.now _ _ _ _ _ c.fewest.ensures c.most.ensures
+    c.if-words-fewest.false c.if-most-words.false (rw c.in-ListHistory.is (c.history.ensures host))
+
+pub returns-in-Quit : goal.returns-in-Quit
+returns-in-Quit g c =
+    let host : HostState = record { files = g.H.Host.files c.args.host.now; failures = g.H.Host.failure_count c.args.host.now } in
+    Does-counted c.args.home.now c.args.session.now c.args.command c.args.words.now _ _ _ _ _ c.fewest.ensures c.most.ensures
+    c.if-words-fewest.false c.if-most-words.false (rw c.in-Quit.is (c.quit.ensures host))
+
+pub returns-in-Validate : goal.returns-in-Validate
+returns-in-Validate g c =
+    let host : HostState = record { files = g.H.Host.files c.args.host.now; failures = g.H.Host.failure_count c.args.host.now } in
+    Does-counted c.args.home.now c.args.session.now c.args.command c.args.words.now _ _ _ _ _ c.fewest.ensures c.most.ensures
+    c.if-words-fewest.false c.if-most-words.false (rw c.in-Validate.is (c.validate.ensures host))
+
+-- the first word, as the bytes that it is
+one_word : (words : List (Bor (List ℕ))) (first : Bor (List ℕ)) (P : List ℕ → Type 0) → 1 ≤ length words
+    → P (get_or words 0 first).now → P (word_at (map (λ word. word.now) words) 0)
+one_word [] first P enough known = absurd (omega arith)
+one_word (word ∷ words) first P enough known = known
+
+pub returns-in-Format : goal.returns-in-Format
+returns-in-Format g c =
+    let host : HostState = record { files = g.H.Host.files c.args.host.now; failures = g.H.Host.failure_count c.args.host.now } in
+    let enough : 1 ≤ length c.args.words.now = omega (arith, c.if-words-fewest.false, rw c.in-Format.is at c.fewest.ensures) in
+    Does-counted c.args.home.now c.args.session.now c.args.command c.args.words.now _ _ _ _ _ c.fewest.ensures c.most.ensures
+    c.if-words-fewest.false c.if-most-words.false
+    (rw c.in-Format.is
+    (one_word c.args.words.now _ (λ word. RespondsAlone (format_act c.args.session.now word) c.args.session.now c.format.result c.format.new.session)
+    enough c.format.ensures host))
+
+-- the first two words, as the bytes that they are
+two_words : (words : List (Bor (List ℕ))) (first second : Bor (List ℕ)) (P : List ℕ → List ℕ → Type 0) → 2 ≤ length words
+    → P (get_or words 0 first).now (get_or words 1 second).now
+    → P (word_at (map (λ word. word.now) words) 0) (word_at (map (λ word. word.now) words) 1)
+two_words [] first second P enough known = absurd (omega arith)
+two_words (word ∷ []) first second P enough known = absurd (omega arith)
+two_words (word ∷ other ∷ words) first second P enough known = known
+
+pub returns-in-Block : goal.returns-in-Block
+returns-in-Block g c =
+    let host : HostState = record { files = g.H.Host.files c.args.host.now; failures = g.H.Host.failure_count c.args.host.now } in
+    let two : 2 ≤ length c.args.words.now = omega (arith, c.if-words-fewest.false, rw c.in-Block.is at c.fewest.ensures) in
+    Does-counted c.args.home.now c.args.session.now c.args.command c.args.words.now _ _ _ _ _ c.fewest.ensures c.most.ensures
+    c.if-words-fewest.false c.if-most-words.false
+    (rw c.in-Block.is
+    (two_words c.args.words.now _ _ (λ track sector. RespondsAlone (block_act c.args.session.now track sector) c.args.session.now c.block.result c.args.session.now)
+    two c.block.ensures host))
+
+pub returns-in-Rename : goal.returns-in-Rename
+returns-in-Rename g c =
+    let host : HostState = record { files = g.H.Host.files c.args.host.now; failures = g.H.Host.failure_count c.args.host.now } in
+    let two : 2 ≤ length c.args.words.now = omega (arith, c.if-words-fewest.false, rw c.in-Rename.is at c.fewest.ensures) in
+    Does-counted c.args.home.now c.args.session.now c.args.command c.args.words.now _ _ _ _ _ c.fewest.ensures c.most.ensures
+    c.if-words-fewest.false c.if-most-words.false
+    (rw c.in-Rename.is
+    (two_words c.args.words.now _ _ (λ old new. RespondsAlone (rename_act c.args.session.now old new) c.args.session.now c.rename.result c.rename.new.session)
+    two c.rename.ensures host))

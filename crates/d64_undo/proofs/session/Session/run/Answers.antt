@@ -1,41 +1,87 @@
-use Rattle.std.proofs.Common.{◌≡◌, ℕ, List, [], ◌∷◌, ◌++◌, length, take, sym, ap, ◌∙◌, subst, arith}
+use Rattle.std.proofs.Common.{arith, rules, ◌≡◌, ◌+◌, ◌++◌, ◌∷◌, [], List, ℕ, take, sym, ap, ◌∙◌, subst}
 use Rattle.d64_dos.specs.Change.{said}
-use Rattle.d64_dos.specs.Command.{after}
-use Rattle.d64_undo.specs.History.{History, IsHistory, present, added}
-use Rattle.d64_undo.proofs.Histories.{surrounded, present-surrounded, added-surrounded}
+use Rattle.d64_dos.specs.Command.{after, refusal_of, reply_to}
+use Rattle.d64_dos.specs.Refusal.{refused_by}
 use Rattle.d64_dos.specs.Step.{Leaves}
 use Rattle.d64_dos.proofs.Steps.{starts_from_sound}
 use Rattle.d64_effects.specs.View.{IsSound}
+use Rattle.d64_undo.specs.History.{present, added}
+use Rattle.d64_undo.specs.Records.{AreRecords}
 use Rattle.d64_undo.specs.SoundHistory.{IsSoundHistory}
-use Rattle.d64_undo.proofs.SoundHistories.{present-sound, added-sound, surrounded-is_history}
+use Rattle.d64_undo.proofs.Records.{records_added}
+use Rattle.d64_undo.proofs.Sessions.{count-added, history-added, present_is, stands}
+use Rattle.d64_undo.proofs.SoundHistories.{present-sound, added-sound}
 use Rattle.d64_undo.proofs.session.Session.run.Goals as goal
 
--- the present image is kept, what lay after the cursor is dropped, and the new image is added
+-- the command is refused, and so nothing was changed
+pub returns-in_err-reply-clause-refused : goal.returns-in_err-reply-clause-refused
+returns-in_err-reply-clause-refused c =
+    let s = c.self.inside in
+    let old : present c.args.self.now ≡ s.image = present_is s.records.items s.image s.done c.args.self.now c.self.invariant.0 c.self.view_is in
+    subst (λ (image : List (List ℕ)). refused_by c.from_residual.result ≡ refusal_of image (said c.args.command.now)) (sym old) (search rules)
+
+-- the command would have been accepted
+pub returns-then-is_err-clause-refused : goal.returns-then-is_err-clause-refused
+returns-then-is_err-clause-refused c =
+    let s = c.self.inside in
+    let old : present c.args.self.now ≡ s.image = present_is s.records.items s.image s.done c.args.self.now c.self.invariant.0 c.self.view_is in
+    c.in_ok-reply.ensures.refused ∙ ap (λ (image : List (List ℕ)). refusal_of image (said c.args.command.now)) (sym old)
+
+pub returns-clause-refused : goal.returns-clause-refused
+returns-clause-refused c =
+    let s = c.self.inside in
+    let old : present c.args.self.now ≡ s.image = present_is s.records.items s.image s.done c.args.self.now c.self.invariant.0 c.self.view_is in
+    c.in_ok-reply.ensures.refused ∙ ap (λ (image : List (List ℕ)). refusal_of image (said c.args.command.now)) (sym old)
+
+pub returns-clause-reply : goal.returns-clause-reply
+returns-clause-reply c =
+    let s = c.self.inside in
+    let old : present c.args.self.now ≡ s.image = present_is s.records.items s.image s.done c.args.self.now c.self.invariant.0 c.self.view_is in
+    c.in_ok-reply.ensures.reply ∙ ap (λ (image : List (List ℕ)). reply_to image (said c.args.command.now)) (sym old)
+
+-- what lies after the cursor is dropped, and the record of this command is added
+pub invariant_of-self-2 : goal.invariant_of-self-2
+invariant_of-self-2 c =
+    let s = c.self.inside in
+    let within = c.self.invariant.0 in
+    let reserved = c.reserve.ensures.items in
+    let truncated = c.truncate.ensures.items in
+    let pushed = rw c.unwrap.ensures at c.push.ensures.items in
+    let kept : c.push.new.self.items ≡ take s.done s.records.items ++ c.apply.new.patch ∷ [] = cc in
+    let long = count-added s.records.items c.push.new.self.items c.apply.new.patch s.done within kept in
+    let count : c.len-self-inside.result ≡ s.done + 1 = omega arith in (
+      omega arith,
+      subst (AreRecords c.push.new.self.items c.apply.new.image) (sym count)
+          (records_added s.records.items c.push.new.self.items c.apply.new.patch s.image c.apply.new.image s.done within kept
+          c.in_ok-reply.ensures.back c.in_ok-reply.ensures.changed c.self.invariant.1),
+    )
+
+-- the new image is added to the history
 pub returns-clause-accepted : goal.returns-clause-accepted
 returns-clause-accepted c =
-    let truncated = c.truncate.ensures.items in
+    let s = c.self.inside in
+    let within = c.self.invariant.0 in
     let reserved = c.reserve.ensures.items in
+    let truncated = c.truncate.ensures.items in
     let pushed = rw c.unwrap.ensures at c.push.ensures.items in
-    let before = c.replace-before.ensures.value in
-    let kept : c.push.new.self.items ≡ take c.self.inside.done c.self.inside.others.items ++ c.self.inside.image ∷ [] = cc in
-    let count : c.len-self-inside.result ≡ length c.push.new.self.items = omega arith in
-    let here = present-surrounded c.self.inside.others.items c.self.inside.image c.self.inside.done c.self.invariant in
-    let next : c.replace-before.new.dest ≡ after (present (surrounded c.self.inside.others.items c.self.inside.image c.self.inside.done)) (said c.args.command.now) =
-    c.replace-before.ensures.after ∙ c.in_ok-image.ensures.accepted ∙ ap (λ (image : List (List ℕ)). after image (said c.args.command.now)) (sym here) in
-    subst (λ (history : History). surrounded c.push.new.self.items c.replace-before.new.dest c.len-self-inside.result ≡ added history (after (present history) (said c.args.command.now))) c.self.view_is
-    (added-surrounded c.self.inside.others.items c.push.new.self.items c.self.inside.image c.replace-before.new.dest c.self.inside.done c.len-self-inside.result c.self.invariant kept count
-    ∙ ap (λ (image : List (List ℕ)). added (surrounded c.self.inside.others.items c.self.inside.image c.self.inside.done) image) next)
+    let kept : c.push.new.self.items ≡ take s.done s.records.items ++ c.apply.new.patch ∷ [] = cc in
+    let old : present c.args.self.now ≡ s.image = present_is s.records.items s.image s.done c.args.self.now within c.self.view_is in
+    let long = count-added s.records.items c.push.new.self.items c.apply.new.patch s.done within kept in
+    let count : c.len-self-inside.result ≡ s.done + 1 = omega arith in
+    history-added s.records.items c.push.new.self.items c.apply.new.patch s.image c.apply.new.image s.done c.len-self-inside.result c.args.self.now within
+    c.self.view_is kept count c.in_ok-reply.ensures.back
+    ∙ ap (added c.args.self.now) (c.in_ok-reply.ensures.accepted ∙ ap (λ (image : List (List ℕ)). after image (said c.args.command.now)) (sym old))
 
 -- a sound image is added
 pub returns-clause-sound : goal.returns-clause-sound
 returns-clause-sound c is all =
-    let here = present-surrounded c.self.inside.others.items c.self.inside.image c.self.inside.done c.self.invariant in
-    let old : present c.args.self.now ≡ c.self.inside.image = subst (λ (history : History). present history ≡ c.self.inside.image) c.self.view_is here in
-    let stands : IsHistory c.args.self.now =
-    subst IsHistory c.self.view_is (surrounded-is_history c.self.inside.others.items c.self.inside.image c.self.inside.done c.self.invariant) in
-    let sound : IsSound c.self.inside.image = subst IsSound old (present-sound c.args.self.now stands all) in
-    let left : Leaves c.self.inside.image (said c.args.command.now) c.in_ok-image.reply c.in_ok-image.image =
-    c.in_ok-image.ensures.step (starts_from_sound c.self.inside.image (said c.args.command.now) is sound) in
+    let s = c.self.inside in
+    let within = c.self.invariant.0 in
+    let old : present c.args.self.now ≡ s.image = present_is s.records.items s.image s.done c.args.self.now within c.self.view_is in
+    let standing = stands s.records.items s.image s.done c.args.self.now within c.self.view_is in
+    let sound : IsSound s.image = subst IsSound old (present-sound c.args.self.now standing all) in
+    let left : Leaves s.image (said c.args.command.now) c.in_ok-reply.reply c.apply.new.image =
+    c.in_ok-reply.ensures.step (starts_from_sound s.image (said c.args.command.now) is sound) in
     subst IsSoundHistory (sym (returns-clause-accepted c))
     (added-sound c.args.self.now (after (present c.args.self.now) (said c.args.command.now)) all
-    (subst IsSound (c.in_ok-image.ensures.accepted ∙ ap (λ (image : List (List ℕ)). after image (said c.args.command.now)) (sym old)) left.sound))
+    (subst IsSound (c.in_ok-reply.ensures.accepted ∙ ap (λ (image : List (List ℕ)). after image (said c.args.command.now)) (sym old)) left.sound))

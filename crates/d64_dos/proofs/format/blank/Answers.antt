@@ -1,0 +1,31 @@
+use Rattle.std.proofs.Common.{◌≡◌, ℕ, ◌<◌, ◌++◌, length, List, drop, sym, ap, ap₂, ◌∙◌, arith}
+use Rattle.std.proofs.Math.ListN.{replicate}
+use Rattle.d64_image.specs.declared.block.TheConstants.{BLOCKS}
+use Rattle.d64_image.specs.Image.{with_sector}
+use Rattle.d64_dos.proofs.Blanks.{one_more, all_blank}
+use Rattle.d64_dos.proofs.format.blank.Goals as goal
+use Rattle.d64_dos.proofs.format.blank.Goals.{in-Some+in_ok-blank_block-in-Some, in-None}
+
+pub loop-index-preserved : goal.loop-index-preserved
+loop-index-preserved c =
+    let image = c.args.image.now in
+    let long = c.bytes.ensures.image.0 in
+    let test = c.loop-index-test.true in
+    let inside : c.loop-index.index < length image = omega arith in
+    elim c.match-at.branch [
+      | in-Some+in_ok-blank_block-in-Some w ↦ record {
+        image = w.image-is ∙ w.in_ok-blank_block-in-Some.ensures.blank
+            ∙ ap₂ (λ (held : List (List ℕ)) (block : ℕ). with_sector held block (replicate 256 0)) c.loop-index.invariant.image w.in-Some.ensures.1
+            ∙ one_more c.loop-index.index image (replicate 256 0) inside;
+        back = cc;
+      }
+      | in-None w ↦ absurd (w.in-None.ensures test)
+    ]
+
+pub returns-clause-blank : goal.returns-clause-blank
+returns-clause-blank c =
+    let image = c.args.image.now in
+    let end : c.loop-index.index ≡ BLOCKS = let test = c.loop-index-test.false in let below = c.loop-index.auto.index-end in omega arith in
+    c.loop-index.invariant.image
+    ∙ ap (λ (index : ℕ). replicate index (replicate 256 0) ++ drop index image) end
+    ∙ all_blank BLOCKS image (replicate 256 0) (let long = c.bytes.ensures.image.0 in omega arith)

@@ -1,0 +1,15 @@
+use Rattle.std.proofs.Common.{◌≡◌, ℕ, List, ap, ap₂, ◌∙◌}
+use Rattle.d64_map.specs.Map.{with_map}
+use Rattle.d64_files.specs.Directory.{owned_blocks}
+use Rattle.d64_effects.specs.Clear.{with_cleared}
+use Rattle.d64_effects.specs.Validate.{unclosed_slots, validated}
+use Rattle.d64_dos.proofs.validate.validate.Goals as goal
+
+pub returns-clause-image : goal.returns-clause-image
+unfolding validated
+returns-clause-image c =
+    let image = c.args.image.now in
+    let places : c.as_slice.result.now ≡ unclosed_slots image =
+    c.as_slice.ensures.value ∙ c.unclosed_slots-unclosed.ensures ∙ ap (λ (one : List (List ℕ)). unclosed_slots one) c.in-Ok-of.ensures.image in
+    c.in_ok-put_map.ensures.written
+    ∙ ap₂ with_map (c.in_ok-clear_slots.ensures.cleared ∙ ap (with_cleared image) places) (c.all_but.ensures (owned_blocks image) c.in-Ok.ensures.verdict.1)

@@ -1,0 +1,141 @@
+//! The deleting of files: their slots become unused, and their blocks free.
+ghost use Rattle.std.specs.Prelude.{◌≡◌, ◌<◌, ℕ, List, length, All, IfOk, OnOk};
+ghost use Rattle.std.specs.List.{list_any, flat_map};
+ghost use Rattle.std.specs.FinSet as set;
+ghost use Rattle.d64_image.specs.BlockSet.{MembersAreBlocks};
+ghost use Rattle.d64_image.specs.Patch.{back};
+ghost use Rattle.d64_map.specs.Map.{free_blocks};
+ghost use Rattle.d64_files.specs.Directory.{slots, slot_owns, AllHold};
+ghost use Rattle.d64_files.specs.Pattern.{matches as is_match};
+ghost use Rattle.d64_effects.specs.Clear.{with_cleared, with_freed};
+ghost use Rattle.d64_effects.specs.Delete.{is_scratched_slot, scratched_slots, scratched_count, scratched};
+ghost use Rattle.d64_dos.specs.FileRefusals.{delete_refusal};
+ghost use Rattle.d64_dos.specs.Refusal.{refused_by};
+
+use crate::refusal::Refusal;
+use arrayvec::ArrayVec;
+use d64_effects::laws::clearing_keeps_the_directory;
+use d64_files::{Directory, Entry, Pattern, SlotNo, checked, clear_slot, matches, slot_blocks};
+use d64_image::{BLOCKS, BlockNo, BlockSet, Image, Patch};
+use d64_map::{free_set, map_block, put_map};
+use std::alloc::AllocError;
+
+/// How many slots a directory has at most: eight in each of its blocks.
+pub(crate) const MOST_SLOTS: usize = 8 * BLOCKS;
+
+/// The files that patterns scratch.
+#[derive(Drop)]
+struct Scratched {
+    /// The places of their slots, in the directory's order.
+    places: ArrayVec<usize, MOST_SLOTS>,
+    /// The blocks that are free without them.
+    free: BlockSet,
+}
+
+/// Whether one of the patterns matches a name.
+fn is_named_by(patterns: &[Pattern], name: &[u8]) -> bool
+    ensures { result ≡ list_any (λ (pattern : List ℕ). is_match pattern name.now) patterns.now }
+{
+    patterns.iter().any(|pattern| matches(pattern, name))
+}
+
+/// Whether patterns scratch the file of an entry: it is closed and not locked, and one of them matches its name or more.
+fn is_scratched(patterns: &[Pattern], entry: &Entry) -> bool
+    ensures { result ≡ is_scratched_slot patterns.now entry.now.1 }
+{
+    entry.used() && entry.closed() && !entry.locked() && is_named_by(patterns, entry.name())
+}
+
+// The members of a set of blocks are blocks of the disk.
+fn known_members(blocks: &BlockSet)
+    ensures { MembersAreBlocks blocks.now }
+{
+    let _ = blocks.has(map_block());
+}
+
+/// Makes the members of another set free, too.
+fn free_all(free: &mut BlockSet, given: &BlockSet)
+    ensures { (blocks : List ℕ) → given.now ≡ set.from_list blocks → free.new ≡ with_freed free.old blocks }
+{
+    known_members(given);
+    for index in 0..BLOCKS {
+        match BlockNo::at(index) {
+            Some(block) => {
+                if given.has(block) {
+                    free.add(block);
+                }
+            }
+            None => {}
+        }
+    }
+}
+
+/// The files that patterns scratch.
+///
+/// The caller knows that the disk is sound.
+fn find_scratched(directory: &Directory, patterns: &[Pattern]) -> Scratched
+    requires { AllHold directory.now 1 6 }
+    ensures places { result.places.items ≡ scratched_slots directory.now patterns.now }
+    ensures free { result.free ≡ with_freed (free_blocks directory.now) (flat_map (slot_owns directory.now) (scratched_slots directory.now patterns.now)) }
+{
+    let image = directory.image();
+    let mut places = ArrayVec::new();
+    let mut free = free_set(image);
+    for entry in directory.slots() {
+        if is_scratched(patterns, &entry) {
+            places.push(entry.slot().place());
+            free_all(&mut free, &slot_blocks(image, entry.slot()));
+        }
+    }
+    Scratched { places, free }
+}
+
+/// Makes the slots of these places unused ones.
+///
+/// Refused where there is no memory to keep the bytes of a block. The caller knows that the directory has these slots.
+pub(crate) fn clear_slots(
+    image: &mut Image,
+    patch: &mut Patch,
+    places: &[usize],
+) -> Result<(), AllocError>
+    requires { All (λ place. place < length (slots image.old)) places.now }
+    ensures cleared { OnOk result (image.new ≡ with_cleared image.old places.now) }
+    ensures back { back image.new patch.new ≡ back image.old patch.old }
+{
+    clearing_keeps_the_directory();
+    let _ = image.bytes();
+    for place in places {
+        clear_slot(image, patch, SlotNo::at(*place))?;
+    }
+    Ok(())
+}
+
+/// Deletes the files that are closed and not locked and whose names one of the patterns matches or more, and answers how
+/// many: their slots become unused, and the blocks of their chains and side chains free. Where there is none, nothing is
+/// written. It takes memory for nothing but the patch.
+///
+/// Refused with `Directory` and the first condition of a sound image that fails, and else with `Memory` where there is no
+/// memory to keep the bytes of a block. After a refusal some blocks may be written; the image with the patch put back
+/// stays the same in any case.
+pub(crate) fn scratch(
+    image: &mut Image,
+    patch: &mut Patch,
+    patterns: &[Pattern],
+) -> Result<usize, Refusal>
+    ensures refused { refused_by result ≡ delete_refusal image.old }
+    ensures count { IfOk result (λ count. count ≡ scratched_count image.old patterns.now) }
+    ensures image { OnOk result (image.new ≡ scratched image.old patterns.now) }
+    ensures back { back image.new patch.new ≡ back image.old patch.old }
+{
+    clearing_keeps_the_directory();
+    let found = match checked(image) {
+        Ok((directory, _owned)) => find_scratched(&directory, patterns),
+        Err(fault) => return Err(Refusal::Directory(fault)),
+    };
+    if found.places.is_empty() {
+        return Ok(0);
+    }
+    clear_slots(image, patch, found.places.as_slice())?;
+    put_map(image, patch, &found.free)?;
+    Ok(found.places.len())
+}

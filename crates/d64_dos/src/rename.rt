@@ -1,0 +1,68 @@
+//! The renaming of a file.
+ghost use Rattle.std.specs.Prelude.{◌≡◌, ◌<◌, Some, length, IfOk, IfSome, OnOk};
+ghost use Rattle.d64_image.specs.Patch.{back};
+ghost use Rattle.d64_files.specs.Directory.{slots};
+ghost use Rattle.d64_effects.specs.Rename.{first_of_name, renamed};
+ghost use Rattle.d64_dos.specs.FileRefusals.{rename_refusal};
+ghost use Rattle.d64_dos.specs.Refusal.{refused_by};
+
+use crate::refusal::Refusal;
+use d64_files::{Directory, Name, SlotNo, checked, set_name};
+use d64_image::{Image, Patch};
+
+/// The first used slot of exactly this name, or None where there is none.
+fn slot_of_name(directory: &Directory, name: &Name) -> Option<SlotNo>
+    ensures slot { result ≡ first_of_name name.now (slots directory.now) }
+    ensures within { IfSome result (λ slot. slot < length (slots directory.now)) }
+{
+    for entry in directory.slots() {
+        if entry.used() && entry.name() == name.bytes() {
+            return Some(entry.slot());
+        }
+    }
+    None
+}
+
+/// The slot whose name changes, or the first refusal that applies.
+#[tactic(auto, unfolding(crate::specs::FileRefusals::rename_refusal))]
+fn slot_to_rename(image: &Image, old: &Name, new: &Name) -> Result<SlotNo, Refusal>
+    ensures refused { refused_by result ≡ rename_refusal image.now old.now new.now }
+    ensures slot { IfOk result (λ slot. first_of_name old.now (slots image.now) ≡ Some slot) }
+    ensures within { IfOk result (λ slot. slot < length (slots image.now)) }
+{
+    let directory = match checked(image) {
+        Ok((directory, _owned)) => directory,
+        Err(fault) => return Err(Refusal::Directory(fault)),
+    };
+    let Some(first) = slot_of_name(&directory, old) else {
+        return Err(Refusal::NotFound);
+    };
+    if directory.is_taken(new) {
+        return Err(Refusal::Exists);
+    }
+    Ok(first)
+}
+
+/// Gives the first used slot of one name another. Every other byte of its entry stays, and the file may be locked or
+/// unclosed. It takes memory for nothing but the patch.
+///
+/// The first refusal that applies is answered: `Directory` with the first condition of a sound image that fails,
+/// `NotFound` where no used slot has the old name, and `Exists` where one has the new name, be it the same. `Memory`
+/// comes only where none does. The image with the patch put back stays the same in any case.
+pub(crate) fn rename(
+    image: &mut Image,
+    patch: &mut Patch,
+    old: &Name,
+    new: &Name,
+) -> Result<(), Refusal>
+    ensures refused { refused_by result ≡ rename_refusal image.old old.now new.now }
+    ensures image { OnOk result (image.new ≡ renamed image.old old.now new.now) }
+    ensures back { back image.new patch.new ≡ back image.old patch.old }
+{
+    let slot = match slot_to_rename(image, old, new) {
+        Ok(slot) => slot,
+        Err(refusal) => return Err(refusal),
+    };
+    set_name(image, patch, slot, new)?;
+    Ok(())
+}

@@ -1,0 +1,71 @@
+//! The validation of a disk: unclosed files are dropped, and free is what nobody owns.
+ghost use Rattle.std.specs.Prelude.{◌≡◌, ℕ, List, OnOk};
+ghost use Rattle.std.specs.FinSet as set;
+ghost use Rattle.d64_image.specs.Patch.{back};
+ghost use Rattle.d64_effects.specs.Validate.{unclosed_slots, all_but, validated};
+ghost use Rattle.d64_dos.specs.FileRefusals.{validate_refusal};
+ghost use Rattle.d64_dos.specs.Refusal.{refused_by};
+
+use crate::delete::{MOST_SLOTS, clear_slots};
+use crate::refusal::Refusal;
+use arrayvec::ArrayVec;
+use d64_effects::laws::clearing_keeps_the_directory;
+use d64_files::{Directory, owned};
+use d64_image::{BLOCKS, BlockNo, BlockSet, Image, Patch};
+use d64_map::put_map;
+
+/// The places of the used slots whose files aren't closed, in the directory's order.
+fn unclosed_slots(directory: &Directory) -> ArrayVec<usize, MOST_SLOTS>
+    ensures { result.items ≡ unclosed_slots directory.now }
+{
+    let mut places = ArrayVec::new();
+    for entry in directory.slots() {
+        if entry.used() && !entry.closed() {
+            places.push(entry.slot().place());
+        }
+    }
+    places
+}
+
+/// All blocks but these.
+fn all_but(owned: &BlockSet) -> BlockSet
+    ensures { (blocks : List ℕ) → owned.now ≡ set.from_list blocks → result ≡ all_but blocks }
+{
+    let mut others = BlockSet::empty();
+    for index in 0..BLOCKS {
+        match BlockNo::at(index) {
+            Some(block) => {
+                if !owned.has(block) {
+                    others.add(block);
+                }
+            }
+            None => {}
+        }
+    }
+    others
+}
+
+/// Drops the files that were never closed, and writes the map anew: free is exactly what neither the map, nor the
+/// directory, nor a file owns. It takes memory for nothing but the patch.
+///
+/// Refused with `Directory` and the first condition that fails of those on the directory, the files and their chains,
+/// whatever the map says, and else with `Memory` where there is no memory to keep the bytes of a block. After a refusal
+/// some blocks may be written; the image with the patch put back stays the same in any case.
+pub(crate) fn validate(image: &mut Image, patch: &mut Patch) -> Result<(), Refusal>
+    ensures refused { refused_by result ≡ validate_refusal image.old }
+    ensures image { OnOk result (image.new ≡ validated image.old) }
+    ensures back { back image.new patch.new ≡ back image.old patch.old }
+{
+    clearing_keeps_the_directory();
+    let owned = match owned(image) {
+        Ok(owned) => owned,
+        Err(fault) => return Err(Refusal::Directory(fault)),
+    };
+    let unclosed = match Directory::of(image) {
+        Ok(directory) => unclosed_slots(&directory),
+        Err(fault) => return Err(Refusal::Directory(fault)),
+    };
+    clear_slots(image, patch, unclosed.as_slice())?;
+    put_map(image, patch, &all_but(&owned))?;
+    Ok(())
+}

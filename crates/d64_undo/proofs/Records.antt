@@ -1,0 +1,320 @@
+-- records: the images that they lead to, and what commands, undos and redos leave of them
+use Rattle.std.proofs.Common.{◌≡◌, ℕ, ◌+◌, ◌-◌, ◌<◌, ◌≤◌, zero, suc, List, [], ◌∷◌, ◌++◌, length, reverse, take, drop, get_or, set, refl, sym, ap, ap₂, ◌∙◌, subst, arith, append_assoc}
+use Rattle.std.proofs.lemmas.Grind.{reverse_onto}
+use Rattle.std.proofs.lemmas.List.{length-append, length-reverse, length-map, length-take-le, length-drop, length_push, reverse-append, get_or_at, get_or-reverse, get_or-drop, get_or-take, get_or-append-add, get_or_append_left, take_all, take_at, drop_all, take_more, take_more_set, drop_more, take-set, drop-set, drop-set-lt}
+use Rattle.d64_image.specs.Image.{sector_at, differences}
+use Rattle.d64_image.specs.Patch.{Kept, back, changed, taken}
+use Rattle.d64_image.proofs.Patches.{length-back, taken-changed}
+use Rattle.d64_undo.specs.Records.{along, LeadAlong, images_of, AreRecords}
+
+-- a list with one more in front, reversed
+reverse-cons : {X : Type 0} (x : X) (xs : List X) → reverse (x ∷ xs) ≡ reverse xs ++ x ∷ []
+reverse-cons x xs = reverse_onto xs x []
+
+-- a list with one more at its end, reversed
+reverse-push : {X : Type 0} (xs : List X) (x : X) → reverse (xs ++ x ∷ []) ≡ x ∷ reverse xs
+reverse-push xs x = reverse-append xs (x ∷ [])
+
+length-along : (patches : List Kept) (image : List (List ℕ)) → length (along image patches) ≡ length patches
+unfolding along
+length-along [] image = refl
+length-along (patch ∷ patches) image = ap suc (length-along patches (back image patch))
+
+-- the records that are done, the last one first
+past : List Kept → ℕ → List Kept
+past records done = reverse (take done records)
+
+-- the images before the present one
+before : List Kept → List (List ℕ) → ℕ → List (List (List ℕ))
+before records image done = reverse (along image (past records done))
+
+length-before : (records : List Kept) (image : List (List ℕ)) (done : ℕ) → done ≤ length records → length (before records image done) ≡ done
+unfolding before past
+length-before records image done within =
+    length-reverse (along image (reverse (take done records)))
+    ∙ length-along (reverse (take done records)) image
+    ∙ length-reverse (take done records)
+    ∙ length-take-le done records within
+
+-- each record stands between two images
+pub length-images : (records : List Kept) (image : List (List ℕ)) (done : ℕ) → done ≤ length records
+    → length (images_of records image done) ≡ length records + 1
+unfolding images_of before past
+length-images records image done within =
+    let joined = length-append (before records image done) (image ∷ along image (drop done records)) in
+    let front = length-before records image done within in
+    let rest = length-along (drop done records) image in
+    let back = length-drop done records in
+    omega arith
+
+-- the present image stands at the cursor
+pub image-at_cursor : (records : List Kept) (image : List (List ℕ)) (done : ℕ) → done ≤ length records
+    → get_or (images_of records image done) done [] ≡ image
+unfolding images_of before past
+image-at_cursor records image done within =
+    get_or_at (before records image done) image (along image (drop done records)) [] done (length-before records image done within)
+
+-- no record at the beginning
+pub images-begun : (image : List (List ℕ)) → images_of [] image 0 ≡ image ∷ []
+unfolding images_of along
+images-begun image = refl
+
+pub begun-records : (image : List (List ℕ)) → AreRecords [] image 0
+unfolding AreRecords LeadAlong
+begun-records image = (tt, tt)
+
+-- the record before the cursor is the first of those that are done
+past-more : (records : List Kept) (n : ℕ) (patch : Kept) → n < length records → patch ≡ get_or records n patch
+    → past records (n + 1) ≡ patch ∷ past records n
+unfolding past
+past-more records n patch h e =
+    ap reverse (take_more records n patch h) ∙ reverse-push (take n records) (get_or records n patch) ∙ ap (λ (p : Kept). p ∷ reverse (take n records)) (sym e)
+
+-- one image more before the present one
+before-more : (past' : List Kept) (image next : List (List ℕ)) (patch : Kept) → back next patch ≡ image
+    → reverse (along next (patch ∷ past')) ≡ reverse (along image past') ++ image ∷ []
+unfolding along
+before-more past' image next patch e =
+    ap (λ (x : List (List ℕ)). reverse (x ∷ along x past')) e ∙ reverse-cons image (along image past')
+
+along-none : (image : List (List ℕ)) → along image [] ≡ []
+unfolding along
+along-none image = refl
+
+-- the next image and those after it
+along-one : (patches : List Kept) (image next : List (List ℕ)) (patch : Kept) → back image patch ≡ next → along image (patch ∷ patches) ≡ next ∷ along next patches
+unfolding along
+along-one patches image next patch e = ap (λ (x : List (List ℕ)). x ∷ along x patches) e
+
+-- the record after the cursor is the first of those that are undone
+rest-more : (records : List Kept) (n : ℕ) (patch : Kept) → n < length records → patch ≡ get_or records n patch
+    → drop n records ≡ patch ∷ drop (n + 1) records
+rest-more records n patch h e = drop_more records n patch h ∙ ap (λ (p : Kept). p ∷ drop (n + 1) records) (sym e)
+
+lead-none : (image : List (List ℕ)) → LeadAlong image []
+unfolding LeadAlong
+lead-none image = tt
+
+-- records that lead away from the image after one more, if they led away from the one before
+lead-more : (patches : List Kept) (image next : List (List ℕ)) (patch : Kept) → back next patch ≡ image → patch ≡ changed image next
+    → LeadAlong image patches → LeadAlong next (patch ∷ patches)
+unfolding LeadAlong
+lead-more patches image next patch e d leads =
+    (d ∙ ap (λ (x : List (List ℕ)). changed x next) (sym e), subst (λ (x : List (List ℕ)). LeadAlong x patches) (sym e) leads)
+
+lead-head : (patches : List Kept) (image : List (List ℕ)) (patch : Kept) → LeadAlong image (patch ∷ patches) → patch ≡ changed (back image patch) image
+unfolding LeadAlong
+lead-head patches image patch leads = leads.0
+
+lead-tail : (patches : List Kept) (image : List (List ℕ)) (patch : Kept) → LeadAlong image (patch ∷ patches) → LeadAlong (back image patch) patches
+unfolding LeadAlong
+lead-tail patches image patch leads = leads.1
+
+-- what lies after the cursor is dropped and a record is added
+past-added : (records kept : List Kept) (patch : Kept) (done : ℕ) → done ≤ length records → kept ≡ take done records ++ patch ∷ []
+    → past kept (done + 1) ≡ patch ∷ past records done
+unfolding past
+past-added records kept patch done within e =
+    let long : length kept ≡ done + 1 =
+    ap length e ∙ length_push (take done records) patch ∙ ap (λ (n : ℕ). n + 1) (length-take-le done records within) in
+    ap reverse (take_all (done + 1) kept (omega arith) ∙ e) ∙ reverse-push (take done records) patch
+
+rest-added : (records kept : List Kept) (patch : Kept) (done : ℕ) → done ≤ length records → kept ≡ take done records ++ patch ∷ []
+    → drop (done + 1) kept ≡ []
+rest-added records kept patch done within e =
+    let long : length kept ≡ done + 1 =
+    ap length e ∙ length_push (take done records) patch ∙ ap (λ (n : ℕ). n + 1) (length-take-le done records within) in
+    drop_all (done + 1) kept (omega arith)
+
+pub kept_added : (records kept : List Kept) (patch : Kept) (image next : List (List ℕ)) (done : ℕ) → done ≤ length records
+    → kept ≡ take done records ++ patch ∷ [] → back next patch ≡ image
+    → images_of kept next (done + 1) ≡ take (done + 1) (images_of records image done) ++ next ∷ []
+unfolding images_of before past
+kept_added records kept patch image next done within e put_back =
+    let front = before records image done in
+    let rest = along image (drop done records) in
+    let long : length (front ++ image ∷ []) ≡ done + 1 = omega (arith, length_push front image, length-before records image done within) in
+    let cut : take (done + 1) (front ++ image ∷ rest) ≡ front ++ image ∷ [] =
+    ap (take (done + 1)) (sym (append_assoc front (image ∷ []) rest)) ∙ take_at (front ++ image ∷ []) rest (done + 1) long in
+    let earlier : reverse (along next (past kept (done + 1))) ≡ front ++ image ∷ [] =
+    ap (λ (ps : List Kept). reverse (along next ps)) (past-added records kept patch done within e) ∙ before-more (past records done) image next patch put_back in
+    let none : along next (drop (done + 1) kept) ≡ [] = ap (along next) (rest-added records kept patch done within e) ∙ along-none next in
+    ap₂ (λ (xs ys : List (List (List ℕ))). xs ++ next ∷ ys) (earlier ∙ sym cut) none
+
+pub records_added : (records kept : List Kept) (patch : Kept) (image next : List (List ℕ)) (done : ℕ) → done ≤ length records
+    → kept ≡ take done records ++ patch ∷ [] → back next patch ≡ image → patch ≡ changed image next
+    → AreRecords records image done → AreRecords kept next (done + 1)
+unfolding AreRecords past
+records_added records kept patch image next done within e put_back differs leads = (
+  subst (LeadAlong next) (sym (past-added records kept patch done within e)) (lead-more (past records done) image next patch put_back differs leads.0),
+  subst (LeadAlong next) (sym (rest-added records kept patch done within e)) (lead-none next),
+)
+
+-- the record before the cursor is the difference to the image before
+pub last_done : (records : List Kept) (image : List (List ℕ)) (n : ℕ) (patch : Kept) → n < length records → patch ≡ get_or records n patch
+    → AreRecords records image (n + 1) → patch ≡ changed (back image patch) image
+unfolding AreRecords past
+last_done records image n patch h is leads =
+    lead-head (past records n) image patch (subst (LeadAlong image) (past-more records n patch h is) leads.0)
+
+-- the record after the cursor is the difference to the image after
+pub next_undone : (records : List Kept) (image : List (List ℕ)) (n : ℕ) (patch : Kept) → n < length records → patch ≡ get_or records n patch
+    → AreRecords records image n → patch ≡ changed (back image patch) image
+unfolding AreRecords
+next_undone records image n patch h is leads =
+    lead-head (drop (n + 1) records) image patch (subst (LeadAlong image) (rest-more records n patch h is) leads.1)
+
+-- the images are the same where a record is exchanged with the image after it
+pub kept_undone : (records : List Kept) (image other : List (List ℕ)) (n : ℕ) (patch exchanged : Kept) → n < length records
+    → patch ≡ get_or records n patch → other ≡ back image patch → back other exchanged ≡ image
+    → images_of (set records n exchanged) other n ≡ images_of records image (n + 1)
+unfolding images_of past
+kept_undone records image other n patch exchanged h is there here =
+    let earlier : reverse (along image (past records (n + 1))) ≡ reverse (along other (past records n)) ++ other ∷ [] =
+    ap (λ (ps : List Kept). reverse (along image ps)) (past-more records n patch h is) ∙ before-more (past records n) other image patch (sym there) in
+    let later : along other (drop n (set records n exchanged)) ≡ image ∷ along image (drop (n + 1) records) =
+    ap (along other) (drop-set records n exchanged h) ∙ along-one (drop (n + 1) records) other image exchanged here in
+    ap₂ (λ (xs : List Kept) (ys : List (List (List ℕ))). reverse (along other (reverse xs)) ++ other ∷ ys) (take-set records n exchanged) later
+    ∙ sym (append_assoc (reverse (along other (past records n))) (other ∷ []) (image ∷ along image (drop (n + 1) records)))
+    ∙ ap (λ (xs : List (List (List ℕ))). xs ++ image ∷ along image (drop (n + 1) records)) (sym earlier)
+
+pub records_undone : (records : List Kept) (image other : List (List ℕ)) (n : ℕ) (patch exchanged : Kept) → n < length records
+    → patch ≡ get_or records n patch → other ≡ back image patch → back other exchanged ≡ image → exchanged ≡ changed image other
+    → AreRecords records image (n + 1) → AreRecords (set records n exchanged) other n
+unfolding AreRecords past
+records_undone records image other n patch exchanged h is there here differs leads = (
+  subst (λ (xs : List Kept). LeadAlong other (reverse xs)) (sym (take-set records n exchanged))
+      (subst (λ (x : List (List ℕ)). LeadAlong x (past records n)) (sym there)
+      (lead-tail (past records n) image patch (subst (LeadAlong image) (past-more records n patch h is) leads.0))),
+  subst (LeadAlong other) (sym (drop-set records n exchanged h)) (lead-more (drop (n + 1) records) image other exchanged here differs leads.1),
+)
+
+pub kept_redone : (records : List Kept) (image other : List (List ℕ)) (n : ℕ) (patch exchanged : Kept) → n < length records
+    → patch ≡ get_or records n patch → other ≡ back image patch → back other exchanged ≡ image
+    → images_of (set records n exchanged) other (n + 1) ≡ images_of records image n
+unfolding images_of past
+kept_redone records image other n patch exchanged h is there here =
+    let earlier : reverse (along other (past (set records n exchanged) (n + 1))) ≡ reverse (along image (past records n)) ++ image ∷ [] =
+    ap (λ (xs : List Kept). reverse (along other (reverse xs))) (take_more_set records n exchanged h)
+    ∙ ap (λ (ps : List Kept). reverse (along other ps)) (reverse-push (take n records) exchanged)
+    ∙ before-more (past records n) image other exchanged here in
+    let later : along image (drop n records) ≡ other ∷ along other (drop (n + 1) records) =
+    ap (along image) (rest-more records n patch h is) ∙ along-one (drop (n + 1) records) image other patch (sym there) in
+    ap₂ (λ (xs : List (List (List ℕ))) (ps : List Kept). xs ++ other ∷ along other ps) earlier (drop-set-lt (n + 1) records n exchanged (omega arith))
+    ∙ append_assoc (reverse (along image (past records n))) (image ∷ []) (other ∷ along other (drop (n + 1) records))
+    ∙ ap (λ (ys : List (List (List ℕ))). reverse (along image (past records n)) ++ image ∷ ys) (sym later)
+
+pub records_redone : (records : List Kept) (image other : List (List ℕ)) (n : ℕ) (patch exchanged : Kept) → n < length records
+    → patch ≡ get_or records n patch → other ≡ back image patch → back other exchanged ≡ image → exchanged ≡ changed image other
+    → AreRecords records image n → AreRecords (set records n exchanged) other (n + 1)
+unfolding AreRecords past
+records_redone records image other n patch exchanged h is there here differs leads = (
+  subst (LeadAlong other) (sym (ap reverse (take_more_set records n exchanged h) ∙ reverse-push (take n records) exchanged))
+      (lead-more (past records n) image other exchanged here differs leads.0),
+  subst (LeadAlong other) (sym (drop-set-lt (n + 1) records n exchanged (omega arith)))
+      (subst (λ (x : List (List ℕ)). LeadAlong x (drop (n + 1) records)) (sym there)
+      (lead-tail (drop (n + 1) records) image patch (subst (LeadAlong image) (rest-more records n patch h is) leads.1))),
+)
+
+-- an image that was put back is as long as the one before it
+same_length : (patches : List Kept) (image : List (List ℕ)) (k : ℕ) → k < length patches
+    → length (get_or (along image patches) k []) ≡ length (get_or (image ∷ along image patches) k [])
+unfolding along
+same_length [] image k h = absurd (omega arith)
+same_length (patch ∷ patches) image zero h = length-back patch image
+same_length (patch ∷ patches) image (suc k) h = same_length patches (back image patch) k (omega arith)
+
+-- each record is the difference to the next image
+difference_at : (patches : List Kept) (image : List (List ℕ)) (k : ℕ) → k < length patches → LeadAlong image patches
+    → get_or patches k [] ≡ changed (get_or (along image patches) k []) (get_or (image ∷ along image patches) k [])
+unfolding along LeadAlong
+difference_at [] image k h leads = absurd (omega arith)
+difference_at (patch ∷ patches) image zero h leads = leads.0
+difference_at (patch ∷ patches) image (suc k) h leads = difference_at patches (back image patch) k (omega arith) leads.1
+
+-- the elements after the first
+get_or-after : {X : Type 0} (x d : X) (xs : List X) (k : ℕ) → get_or (x ∷ xs) (k + 1) d ≡ get_or xs k d
+get_or-after x d xs k = let e : k + 1 ≡ suc k = omega arith in ap (λ (i : ℕ). get_or (x ∷ xs) i d) e
+
+-- images from the present one on
+image-on : (records : List Kept) (image : List (List ℕ)) (done k n : ℕ) → done ≤ length records → done + k ≡ n
+    → get_or (images_of records image done) n [] ≡ get_or (image ∷ along image (drop done records)) k []
+unfolding images_of before past
+image-on records image done k n within e =
+    let front = before records image done in
+    let long = length-before records image done within in
+    let at : n ≡ length front + k = omega arith in
+    ap (λ (i : ℕ). get_or (front ++ image ∷ along image (drop done records)) i []) at
+    ∙ get_or-append-add front (image ∷ along image (drop done records)) k []
+
+-- images from the present one back
+image-back : (records : List Kept) (image : List (List ℕ)) (done k n : ℕ) → done ≤ length records → n + k ≡ done
+    → get_or (images_of records image done) n [] ≡ get_or (image ∷ along image (past records done)) k []
+unfolding images_of before past
+image-back records image done k n within e =
+    let rest = along image (drop done records) in
+    let ending = image ∷ along image (past records done) in
+    let long : length ending ≡ done + 1 =
+    let l = length-along (past records done) image in
+    let m = length-reverse (take done records) in
+    let t = length-take-le done records within in omega arith in
+    let turned : reverse ending ++ rest ≡ before records image done ++ image ∷ rest =
+    ap (λ (xs : List (List (List ℕ))). xs ++ rest) (reverse-cons image (along image (past records done)))
+    ∙ append_assoc (before records image done) (image ∷ []) rest in
+    let far : n < length (reverse ending) = let l = length-reverse ending in omega arith in
+    ap (λ (xs : List (List (List ℕ))). get_or xs n []) (sym turned)
+    ∙ get_or_append_left (reverse ending) rest [] n far
+    ∙ get_or-reverse ending n [] (omega arith)
+    ∙ (let same : length ending - 1 - n ≡ k = omega arith in ap (λ (i : ℕ). get_or ending i []) same)
+
+-- a record that is done holds what its command changed, with the bytes from before
+pub record-done : (records : List Kept) (image : List (List ℕ)) (done n : ℕ) → done ≤ length records → n < done → AreRecords records image done
+    → get_or records n [] ≡ changed (get_or (images_of records image done) n []) (get_or (images_of records image done) (n + 1) [])
+unfolding AreRecords past
+record-done records image done n within h leads =
+    let k : ℕ = done - (n + 1) in
+    let long = length-take-le done records within in
+    let turned = length-reverse (take done records) in
+    let read : get_or (past records done) k [] ≡ get_or records n [] =
+    get_or-reverse (take done records) k [] (omega arith)
+    ∙ (let same : length (take done records) - 1 - k ≡ n = omega arith in ap (λ (i : ℕ). get_or (take done records) i []) same)
+    ∙ get_or-take done records n [] (omega arith) in
+    sym read ∙ difference_at (past records done) image k (omega arith) leads.0
+    ∙ ap₂ changed (sym (image-back records image done (k + 1) n within (omega arith) ∙ get_or-after image [] (along image (past records done)) k)) (sym (image-back records image done k (n + 1) within (omega arith)))
+
+-- a record that is undone holds what its command changed, with the bytes from after
+pub record-undone : (records : List Kept) (image : List (List ℕ)) (done n : ℕ) → done ≤ n → n < length records → AreRecords records image done
+    → get_or records n [] ≡ changed (get_or (images_of records image done) (n + 1) []) (get_or (images_of records image done) n [])
+unfolding AreRecords
+record-undone records image done n h within leads =
+    let k : ℕ = n - done in
+    let long = length-drop done records in
+    let same : done + k ≡ n = omega arith in
+    let read : get_or (drop done records) k [] ≡ get_or records n [] =
+    get_or-drop done records k [] ∙ ap (λ (i : ℕ). get_or records i []) same in
+    sym read ∙ difference_at (drop done records) image k (omega arith) leads.1
+    ∙ ap₂ changed (sym (image-on records image done (k + 1) (n + 1) (omega arith) (omega arith) ∙ get_or-after image [] (along image (drop done records)) k)) (sym (image-on records image done k n (omega arith) same))
+
+-- the image after a record is as long as the one before
+pub lengths-undone : (records : List Kept) (image : List (List ℕ)) (done n : ℕ) → done ≤ n → n < length records
+    → length (get_or (images_of records image done) (n + 1) []) ≡ length (get_or (images_of records image done) n [])
+lengths-undone records image done n h within =
+    let k : ℕ = n - done in
+    let long = length-drop done records in
+    let same : done + k ≡ n = omega arith in
+    ap length (image-on records image done (k + 1) (n + 1) (omega arith) (omega arith) ∙ get_or-after image [] (along image (drop done records)) k)
+    ∙ same_length (drop done records) image k (omega arith)
+    ∙ sym (ap length (image-on records image done k n (omega arith) same))
+
+-- as many blocks differ as are in the patch between two images
+pub length-changed : (image other : List (List ℕ)) → length (changed image other) ≡ length (differences image other)
+unfolding changed
+length-changed image other = length-map (differences image other) (λ (block : ℕ). (block, sector_at image block))
+
+-- and as many the other way
+pub length-changed_back : (image other : List (List ℕ)) → length image ≡ length other → length (changed other image) ≡ length (differences image other)
+unfolding taken
+length-changed_back image other long =
+    ap length (sym (taken-changed image other long))
+    ∙ length-map (changed image other) (λ (entry : ℕ × List ℕ). (entry.0, sector_at other entry.0))
+    ∙ length-changed image other

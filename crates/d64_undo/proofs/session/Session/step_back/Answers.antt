@@ -1,0 +1,40 @@
+use Rattle.std.proofs.Common.{◌≡◌, ◌+◌, ◌-◌, ◌<◌, length, sym, ap, ◌∙◌, subst, arith}
+use Rattle.std.proofs.lemmas.List.{length-set}
+use Rattle.d64_image.specs.Patch.{changed}
+use Rattle.d64_undo.specs.Records.{AreRecords}
+use Rattle.d64_undo.proofs.Records.{last_done, records_undone}
+use Rattle.d64_undo.proofs.Sessions.{image_count, history-undone}
+use Rattle.d64_undo.proofs.session.Session.step_back.Goals as goal
+
+-- the record before the cursor leads on now
+pub invariant_of-self : goal.invariant_of-self
+invariant_of-self c =
+    let s = c.self.inside in
+    let n = s.done - 1 in
+    let within = c.self.invariant.0 in
+    let cursor = (image_count s.records.items s.image s.done c.args.self.now within c.self.view_is).0 in
+    let some = c.requires in
+    let one : s.done ≡ n + 1 = omega arith in
+    let h : n < length s.records.items = omega arith in
+    let leads = subst (AreRecords s.records.items s.image) one c.self.invariant.1 in
+    let is = c.index_mut.ensures.value in
+    let here = c.swap.ensures.back in
+    let there = c.swap.ensures.image in
+    let differs : c.index_mut.result.now ≡ changed c.swap.new.image s.image =
+    last_done s.records.items s.image n c.index_mut.result.now h is leads ∙ ap (λ i. changed i s.image) (sym there) in (
+      let long = length-set s.records.items n c.swap.new.self in omega arith,
+      records_undone s.records.items s.image c.swap.new.image n c.index_mut.result.now c.swap.new.self h is there here (c.swap.ensures.changed differs) leads,
+    )
+
+-- the images are the same, and the cursor is one back
+pub returns : goal.returns
+returns c =
+    let s = c.self.inside in
+    let n = s.done - 1 in
+    let within = c.self.invariant.0 in
+    let cursor = (image_count s.records.items s.image s.done c.args.self.now within c.self.view_is).0 in
+    let some = c.requires in
+    let one : s.done ≡ n + 1 = omega arith in
+    let h : n < length s.records.items = omega arith in
+    history-undone s.records.items s.image c.swap.new.image s.done n c.index_mut.result.now c.swap.new.self c.args.self.now h one c.self.view_is
+    c.index_mut.ensures.value c.swap.ensures.image c.swap.ensures.back

@@ -1,0 +1,153 @@
+//! Directories: their slots, the files in them, and whether they are sound.
+
+use crate::damage::put;
+use d64_files::{DirFault, Kind, Pattern, SlotNo, Slots, check, content, find, owned, slot_blocks};
+use d64_image::{BLOCKS, BlockNo, BlockSet, Image, Patch};
+use d64_map::{map_block, put_map};
+use std::test::Fail;
+
+/// An image with a directory of two blocks and three entries.
+fn example(rt: &HostRuntime) -> Result<Image, Fail> {
+    let mut image = Image::zeroed(rt.alloc())?;
+    let first = BlockNo::of(18, 1).ok_or("no 18/1")?;
+    let second = BlockNo::of(18, 4).ok_or("no 18/4")?;
+    put(
+        rt,
+        &mut image,
+        first,
+        0,
+        b"\x12\x04\x82\x11\x00AB\xA0C\xA0\xA0\xA0\xA0\xA0\xA0\xA0\xA0\xA0\xA0\xA0\xA0",
+    )?;
+    put(rt, &mut image, first, 30, b"\x02\x01")?;
+    put(
+        rt,
+        &mut image,
+        first,
+        66,
+        b"\xC4\x24\x00SIXTEEN LETTERS!\x11\x0A",
+    )?;
+    put(rt, &mut image, second, 0, b"\x00\xFF\x01\x11\x01AB\xA0")?;
+    Ok(image)
+}
+
+/// All slots of an image.
+fn walk(image: &Image) -> Result<Slots<'_>, Fail> {
+    Ok(Slots::of(image).map_err(|_| "no directory")?)
+}
+
+#[test]
+fn walks_two_blocks(rt: HostRuntime) -> Result<(), Fail> {
+    let image = example(&rt)?;
+    assert!(rt; walk(&image)?.nth(15).is_some());
+    assert!(rt; walk(&image)?.nth(16).is_none());
+    let first = walk(&image)?.nth(0).ok_or("no slot")?;
+    assert_eq!(rt; first.slot().place(), 0);
+    assert!(rt; first.used() && first.closed() && !first.locked());
+    assert_eq!(rt; first.kind(), Kind::Prg);
+    assert_eq!(rt; first.name(), &b"AB"[..]);
+    assert_eq!(rt; first.field().len(), 16);
+    assert_eq!(rt; first.start().map(|block| block.index()), Some(336));
+    assert_eq!(rt; first.side_pair(), None);
+    assert_eq!(rt; first.blocks(), 258);
+    let third = walk(&image)?.nth(2).ok_or("no slot")?;
+    assert!(rt; third.closed() && third.locked());
+    assert_eq!(rt; third.kind(), Kind::Rel);
+    assert_eq!(rt; third.name(), &b"SIXTEEN LETTERS!"[..]);
+    assert!(rt; third.start().is_none());
+    assert_eq!(rt; third.first_pair(), (36, 0));
+    assert_eq!(rt; third.side_pair(), Some((17, 10)));
+    let ninth = walk(&image)?.nth(8).ok_or("no slot")?;
+    assert_eq!(rt; ninth.slot(), SlotNo::at(8));
+    assert!(rt; ninth.used() && !ninth.closed());
+    assert_eq!(rt; ninth.kind(), Kind::Seq);
+    Ok(())
+}
+
+#[test]
+fn finds_used_slots(rt: HostRuntime) -> Result<(), Fail> {
+    let image = example(&rt)?;
+    let cases = [
+        (&b"A*"[..], Some(0)),
+        (&b"S*"[..], Some(2)),
+        (&b"X"[..], None),
+    ];
+    for (bytes, place) in cases {
+        let pattern = Pattern::new(bytes).map_err(|_| "no pattern")?;
+        let slot = find(&image, &pattern).map_err(|_| "no directory")?;
+        assert_eq!(rt; slot.map(|slot| slot.place()), place);
+    }
+    Ok(())
+}
+
+#[test]
+fn refuses_damaged_directories(rt: HostRuntime) -> Result<(), Fail> {
+    let mut image = example(&rt)?;
+    let second = BlockNo::of(18, 4).ok_or("no 18/4")?;
+    put(&rt, &mut image, second, 34, b"\x85")?;
+    match Slots::of(&image) {
+        Ok(_) => assert!(rt; false, "a type of 5 was accepted"),
+        Err(fault) => {
+            assert_eq!(rt; fault.number(), 3);
+            assert_eq!(rt;
+                fault.to_string(rt.alloc())?.as_str(),
+                "a directory entry has a file type that there isn't: set its type byte to one of $80 to $84, or to $00 to free it"
+            );
+        }
+    }
+    put(&rt, &mut image, second, 0, b"\x12\x01")?;
+    match Slots::of(&image) {
+        Ok(_) => assert!(rt; false, "a loop was accepted"),
+        Err(fault) => assert_eq!(rt; fault, DirFault::NoDirectory),
+    }
+    Ok(())
+}
+
+/// A disk with a REL file: its data in 17/0, its side sector in 17/1, its entry in the first slot of 18/1. The map
+/// marks all blocks free but those of track 18, sectors 0 and 1.
+fn rel_disk(rt: &HostRuntime) -> Result<Image, Fail> {
+    let mut image = Image::zeroed(rt.alloc())?;
+    let mut free = BlockSet::empty();
+    for index in 0..BLOCKS {
+        free.add(BlockNo::at(index).ok_or("no such block")?);
+    }
+    let directory = BlockNo::of(18, 1).ok_or("no 18/1")?;
+    free.remove(map_block());
+    free.remove(directory);
+    put_map(&mut image, &mut Patch::new(rt.alloc()), &free)?;
+    let data = BlockNo::of(17, 0).ok_or("no 17/0")?;
+    put(rt, &mut image, data, 1, &[0x0B])?;
+    put(rt, &mut image, data, 2, &[7; 10])?;
+    let side = BlockNo::of(17, 1).ok_or("no 17/1")?;
+    put(rt, &mut image, side, 1, &[0x11])?;
+    put(rt, &mut image, directory, 1, b"\xFF\x84\x11\x00R")?;
+    put(rt, &mut image, directory, 6, &[0xA0; 15])?;
+    put(rt, &mut image, directory, 0x15, &[0x11, 1, 0x0A])?;
+    put(rt, &mut image, directory, 0x1E, &[2])?;
+    Ok(image)
+}
+
+#[test]
+fn a_rel_file_owns_its_side_sector(rt: HostRuntime) -> Result<(), Fail> {
+    let mut image = rel_disk(&rt)?;
+    let fault = check(&image).err().ok_or("accepted")?;
+    assert_eq!(rt; fault.number(), 6);
+    let blocks = owned(&image).map_err(|_| "refused")?;
+    assert_eq!(rt; blocks.count(), 4);
+    assert!(rt; blocks.has(BlockNo::of(17, 1).ok_or("no 17/1")?));
+    let bytes = content(rt.alloc(), &image, SlotNo::at(0)).map_err(|_| "unreadable")?;
+    assert!(rt; bytes.as_slice() == [7; 10].as_slice());
+    put_map(&mut image, &mut Patch::new(rt.alloc()), &BlockSet::empty())?;
+    assert_eq!(rt; check(&image).map_err(|_| "refused")?.count(), 4);
+    assert_eq!(rt; slot_blocks(&image, SlotNo::at(0)).count(), 2);
+    Ok(())
+}
+
+#[test]
+fn two_files_with_one_block_are_cross_linked(rt: HostRuntime) -> Result<(), Fail> {
+    let mut image = rel_disk(&rt)?;
+    let directory = BlockNo::of(18, 1).ok_or("no 18/1")?;
+    put(&rt, &mut image, directory, 0x22, &[0x82, 0x11])?;
+    let fault = check(&image).err().ok_or("accepted")?;
+    assert_eq!(rt; fault.number(), 5);
+    Ok(())
+}

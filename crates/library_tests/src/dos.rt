@@ -1,0 +1,99 @@
+//! Commands on images, and the texts of their refusals.
+
+use d64_dos::{Command, Refusal, Reply, apply};
+use d64_files::{DirFault, Kind, Name};
+use d64_image::{BlockNo, Image, Patch};
+use std::test::Fail;
+
+/// The place of track 17, sector 0.
+const DATA: usize = 336;
+
+/// The place of track 18, sector 0.
+const MAP: usize = 357;
+
+/// The command that makes an empty disk.
+fn format() -> Result<Command, Fail> {
+    Ok(Command::Format {
+        name: Name::new(b"D")?,
+        id: *b"01",
+    })
+}
+
+/// Applies a command, and forgets what was there before.
+fn run(rt: &HostRuntime, image: &mut Image, command: &Command) -> Result<Reply, Fail> {
+    Ok(apply(image, &mut Patch::new(rt.alloc()), command)?)
+}
+
+/// An empty disk.
+fn fresh(rt: &HostRuntime) -> Result<Image, Fail> {
+    let mut image = Image::zeroed(rt.alloc())?;
+    run(rt, &mut image, &format()?)?;
+    Ok(image)
+}
+
+#[test]
+fn a_command_that_changes_nothing_leaves_an_empty_patch(rt: HostRuntime) -> Result<(), Fail> {
+    let mut image = fresh(&rt)?;
+    let mut patch = Patch::new(rt.alloc());
+    let reply = apply(&mut image, &mut patch, &format()?)?;
+    assert_eq!(rt; reply, Reply::Done);
+    assert_eq!(rt; patch.len(), 0);
+    Ok(())
+}
+
+#[test]
+fn a_write_leaves_the_blocks_from_before(rt: HostRuntime) -> Result<(), Fail> {
+    let mut image = fresh(&rt)?;
+    let before = image.try_clone(rt.alloc())?;
+    let mut patch = Patch::new(rt.alloc());
+    let write = Command::Write {
+        name: Name::new(b"X")?,
+        kind: Kind::Prg,
+        bytes: Vec::from_slice(rt.alloc(), &[0x51])?,
+    };
+    apply(&mut image, &mut patch, &write)?;
+    let after = image.try_clone(rt.alloc())?;
+    assert_eq!(rt; patch.len(), 3);
+    for (kept, place) in patch.blocks().iter().zip([DATA, MAP, MAP + 1]) {
+        assert_eq!(rt; kept.0.index(), place);
+    }
+    let data = patch.blocks().first().ok_or("no block")?;
+    assert_eq!(rt; data.1.as_slice(), [0; 256].as_slice());
+    patch.swap(&mut image);
+    assert!(rt; image.bytes() == before.bytes());
+    patch.swap(&mut image);
+    assert!(rt; image.bytes() == after.bytes());
+    Ok(())
+}
+
+#[test]
+fn refusals_say_what_is_wrong(rt: HostRuntime) -> Result<(), Fail> {
+    let texts = [
+        (
+            Refusal::NotClosed,
+            "the file was not closed after it was written",
+        ),
+        (Refusal::NotFound, "there is no such file on the disk"),
+        (
+            Refusal::Exists,
+            "there is a file of this name on the disk already",
+        ),
+        (
+            Refusal::WrongType,
+            "files of this type can't be written or read",
+        ),
+        (
+            Refusal::Directory(DirFault::UnknownKind),
+            "a directory entry has a file type that there isn't: set its type byte to one of $80 to $84, or to $00 to free it",
+        ),
+        (
+            Refusal::DiskFull,
+            "there is no room on the disk or in its directory",
+        ),
+        (Refusal::Memory, "out of memory"),
+    ];
+    for (refusal, text) in texts {
+        assert_eq!(rt; refusal.to_string(rt.alloc())?.as_str(), text);
+    }
+    Ok(())
+}

@@ -1,0 +1,191 @@
+//! The text of scripts and of their answers.
+
+use arrayvec::ArrayVec;
+use d64_script::dump::dump;
+use d64_script::number::number;
+use d64_script::output::write_answer;
+use d64_script::raw_lines::{RawLines, before_end, is_ended, is_skipped, is_too_long, text};
+use d64_script::script::read_script;
+use d64_script::status::Status;
+use d64_script::words::{NoWords, words};
+use std::process::Abort;
+use std::test::Fail;
+
+#[test]
+fn shows_sixteen_lines(rt: HostRuntime) {
+    let lines = dump(&[1; 256]);
+    let shown = lines.as_slice();
+    assert_eq!(rt; shown.len(), 832);
+    assert!(rt; shown.starts_with(b"00: 01 01 01 01 01 01 01 01 01 01 01 01 01 01 01 01\n10: 01"));
+    assert!(rt; shown.ends_with(b"\nf0: 01 01 01 01 01 01 01 01 01 01 01 01 01 01 01 01\n"));
+}
+
+fn expect_words(rt: &impl Abort, line: &[u8], expected: &[&[u8]]) {
+    let mut found = ArrayVec::new();
+    found.push(&b"left"[..]);
+    match words(line, &mut found) {
+        Ok(()) => {
+            assert_eq!(rt; found.len(), expected.len());
+            for (word, wanted) in found.as_slice().iter().zip(expected) {
+                assert_eq!(rt; *word, *wanted);
+            }
+        }
+        Err(NoWords) => assert!(rt; false, "no words"),
+    }
+}
+
+#[test]
+fn splits_lines(rt: HostRuntime) {
+    expect_words(&rt, b"", &[]);
+    expect_words(&rt, b"   ", &[]);
+    expect_words(&rt, b"\"\"", &[b""]);
+    expect_words(&rt, b"  undo ", &[b"undo"]);
+    expect_words(&rt, b"block 17  0", &[b"block", b"17", b"0"]);
+    expect_words(
+        &rt,
+        b"bread \"my block\" 1 0",
+        &[b"bread", b"my block", b"1", b"0"],
+    );
+}
+
+#[test]
+fn refuses_misplaced_quotes_and_other_bytes(rt: HostRuntime) {
+    for line in [
+        &b"save \"a"[..],
+        &b"a\"b"[..],
+        &b"\"a\"b"[..],
+        &b"\"a\"\"b\""[..],
+        &b"a\x7f"[..],
+        &b"a\tb"[..],
+    ] {
+        assert_eq!(rt; words(line, &mut ArrayVec::new()), Err(NoWords));
+    }
+}
+
+#[test]
+fn refuses_lines_of_more_than_1024_bytes(rt: HostRuntime) {
+    expect_words(&rt, &[b' '; 1024], &[]);
+    assert_eq!(rt; words(&[b' '; 1025], &mut ArrayVec::new()), Err(NoWords));
+}
+
+#[test]
+fn shows_each_status(rt: HostRuntime) {
+    let lines = [
+        (Status::Done, "00, OK,00,00\n"),
+        (
+            Status::FilesScratched { count: 2 },
+            "01,FILES SCRATCHED,02,00\n",
+        ),
+        (
+            Status::FilesScratched { count: 144 },
+            "01,FILES SCRATCHED,144,00\n",
+        ),
+        (Status::SyntaxError, "30,SYNTAX ERROR,00,00\n"),
+        (Status::UnknownCommand, "31,SYNTAX ERROR,00,00\n"),
+        (Status::LongLine, "32,SYNTAX ERROR,00,00\n"),
+        (Status::BadName, "33,SYNTAX ERROR,00,00\n"),
+        (Status::MissingWord, "34,SYNTAX ERROR,00,00\n"),
+        (Status::WriteFileOpen, "60,WRITE FILE OPEN,00,00\n"),
+        (Status::FileNotFound, "62,FILE NOT FOUND,00,00\n"),
+        (Status::FileExists, "63,FILE EXISTS,00,00\n"),
+        (Status::FileTypeMismatch, "64,FILE TYPE MISMATCH,00,00\n"),
+        (
+            Status::IllegalBlock {
+                track: 36,
+                sector: 0,
+            },
+            "66,ILLEGAL TRACK AND SECTOR,36,00\n",
+        ),
+        (
+            Status::IllegalBlock {
+                track: 1,
+                sector: 21,
+            },
+            "66,ILLEGAL TRACK AND SECTOR,01,21\n",
+        ),
+        (
+            Status::DirectoryError { condition: 2 },
+            "71,DIR ERROR,02,00\n",
+        ),
+        (Status::DiskFull, "72,DISK FULL,00,00\n"),
+        (Status::HostFile { fault: 2 }, "80,HOST FILE,02,00\n"),
+        (Status::NothingToUndo, "81,NOTHING TO UNDO,00,00\n"),
+        (Status::NothingToRedo, "82,NOTHING TO REDO,00,00\n"),
+        (Status::NotOneBlock, "83,NOT ONE BLOCK,00,00\n"),
+        (
+            Status::BasicText { fault: 1, line: 1 },
+            "84,BASIC TEXT,01,01\n",
+        ),
+        (Status::NotBasic { fault: 1 }, "85,NOT BASIC,01,00\n"),
+        (Status::OutOfMemory, "90,OUT OF MEMORY,00,00\n"),
+    ];
+    for (status, line) in lines {
+        let shown = status.line();
+        assert_eq!(rt; shown.as_slice(), line.as_bytes());
+        assert_eq!(rt; status.is_accepted(), status.number() < 2);
+    }
+}
+
+#[test]
+fn reads_one_to_three_digits_of_a_byte(rt: HostRuntime) {
+    assert_eq!(rt; number(b"0"), Some(0));
+    assert_eq!(rt; number(b"036"), Some(36));
+    assert_eq!(rt; number(b"255"), Some(255));
+    for word in [&b""[..], &b"256"[..], &b"0001"[..], &b"+1"[..], &b"x"[..]] {
+        assert_eq!(rt; number(word), None);
+    }
+}
+
+#[test]
+fn lines_end_with_a_line_feed(rt: HostRuntime) {
+    let mut lines = RawLines(b"a\r\n\n;\rb\nc\r");
+    assert_eq!(rt; lines.next(), Some(b"a\r\n".as_slice()));
+    assert_eq!(rt; lines.next(), Some(b"\n".as_slice()));
+    assert_eq!(rt; lines.next(), Some(b";\rb\n".as_slice()));
+    assert_eq!(rt; lines.next(), Some(b"c\r".as_slice()));
+    assert_eq!(rt; lines.next(), None);
+}
+
+#[test]
+fn only_the_end_of_a_line_is_no_text(rt: HostRuntime) {
+    assert_eq!(rt; text(b"a\r\r\n"), b"a\r".as_slice());
+    assert_eq!(rt; text(b"\n"), b"".as_slice());
+    assert_eq!(rt; text(b"c\r"), b"c\r".as_slice());
+    assert_eq!(rt; before_end(b"a\r\n"), b"a\r".as_slice());
+    assert!(rt; is_ended(b"a\n") && !is_ended(b"a\r"));
+}
+
+#[test]
+fn a_carriage_return_counts_for_the_length(rt: HostRuntime) {
+    let mut line = [b'a'; 1026];
+    line[1025] = b'\n';
+    assert!(rt; is_too_long(&line) && !is_too_long(&line[1..]));
+    line[1024] = b'\r';
+    assert!(rt; is_too_long(&line) && !is_too_long(&line[1..]));
+}
+
+#[test]
+fn blanks_and_comments_are_skipped(rt: HostRuntime) {
+    assert!(rt;
+        is_skipped(b"") && is_skipped(b"  ") && is_skipped(b";quit") && is_skipped(b"  ; quit")
+    );
+    assert!(rt; !is_skipped(b" quit ;") && !is_skipped(b"\t"));
+}
+
+#[test]
+fn reads_and_writes_whole_scripts(rt: HostRuntime) -> Result<(), Fail> {
+    let mut reader = b"undo\nredo".as_slice();
+    let script = read_script(rt.alloc(), &mut reader)?;
+    assert!(rt; script.whole);
+    assert_eq!(rt; script.bytes.as_slice(), b"undo\nredo".as_slice());
+
+    let mut answers = Vec::new(rt.alloc());
+    write_answer(&mut answers, b"00, OK,00,00\n")?;
+    assert_eq!(rt; answers.as_slice(), b"00, OK,00,00\n".as_slice());
+
+    let mut room = [0; 5];
+    let mut writer = room.as_mut_slice();
+    assert!(rt; write_answer(&mut writer, b"00, OK").is_err());
+    assert_eq!(rt; room, *b"00, O");
+    Ok(())
+}
