@@ -3,36 +3,22 @@ use Rattle.std.proofs.Common.{◌≡◌, ◌≢◌, ℕ, ◌<◌, ◌≤◌, len
 use Rattle.std.proofs.lemmas.List.{append-nil, take_all, drop_all, drop_more}
 use Rattle.std.proofs.lemmas.Bool.{eqb-true}
 use Rattle.std.specs.Prelude.{◌==◌}
-use Rattle.cbm_text.specs.Listing.{expanded_from, shown}
 use Rattle.cbm_text.specs.declared.mode.Mode.{Mode}
 use Rattle.cbm_text.specs.declared.mode.Mode.TheVariants.{Free, Quoted, Remark, Data, QuotedData}
 use Rattle.std.specs.Option.{option_map_or}
 use Rattle.cbm_text.specs.Keywords.{keywords, token_from}
-use Rattle.cbm_text.proofs.Keywords.{token_shrinks}
-use Rattle.cbm_text.specs.Crunching.{single_code, free_code, first_code, CrunchedFrom, Crunched}
-use Rattle.cbm_text.specs.Modes.{after}
+use Rattle.cbm_text.proofs.Keywords.{found, code_in, rest_in, token_shrinks}
+use Rattle.cbm_text.specs.Modes.{after, single_code, free_code, first_code, CrunchedFrom, expanded_from, shown}
 
 -- what has been crunched of a text, and what is left, read in this mode: what the rest crunches to follows, and every
 -- crunched form of the whole comes so
 pub record CrunchedSoFar (text codes : List ℕ) (mode : Mode) (left : List ℕ) : Type 0 where
-  pub completes : (more : List ℕ) → CrunchedFrom mode left more → Crunched text (codes ++ more)
-  pub only : (all : List ℕ) → Crunched text all → (more : List ℕ) × CrunchedFrom mode left more
+  pub completes : (more : List ℕ) → CrunchedFrom mode left more → CrunchedFrom Free text (codes ++ more)
+  pub only : (all : List ℕ) → CrunchedFrom Free text all → (more : List ℕ) × CrunchedFrom mode left more
 
 -- before the first byte
 pub crunched_nothing : (text : List ℕ) → CrunchedSoFar text [] Free text
 crunched_nothing text = record { completes = λ more crunched. crunched; only = λ all crunched. (all, crunched) }
-
--- a crunched byte, and what follows
-abbrev found : ℕ → List ℕ → Option (ℕ × List ℕ)
-found code rest = Some (code, rest)
-
-abbrev code_of : Option (ℕ × List ℕ) → ℕ
-code_of None = 0
-code_of (Some it) = it.0
-
-abbrev rest_of : Option (ℕ × List ℕ) → List ℕ
-rest_of None = []
-rest_of (Some it) = it.1
 
 -- what is found by a single byte, and by a keyword
 abbrev after_single : List ℕ → Option ℕ → Option (ℕ × List ℕ)
@@ -52,20 +38,20 @@ unfolding CrunchedFrom
 crunched_inverted mode left code rest [] some first nothing = absurd (some nothing)
 crunched_inverted mode left code rest (other ∷ more) some first (behind, is, crunched) =
     let same : found other behind ≡ found code rest = sym is ∙ first in
-    let codes : other ≡ code = ap code_of same in
-    let rests : behind ≡ rest = ap rest_of same in
+    let codes : other ≡ code = ap code_in same in
+    let rests : behind ≡ rest = ap rest_in same in
     (more, subst (λ (c : ℕ). CrunchedFrom (after mode c) rest more) codes (subst (λ (w : List ℕ). CrunchedFrom (after mode other) w more) rests crunched))
 
 pub crunched_more : (text codes : List ℕ) (mode : Mode) (left : List ℕ) (code : ℕ) (rest : List ℕ) → CrunchedSoFar text codes mode left → left ≢ [] → first_code mode left ≡ Some (code, rest) → CrunchedSoFar text (codes ++ code ∷ []) (after mode code) rest
 crunched_more text codes mode left code rest so_far some first = record {
-  completes = λ more crunched. subst (λ (w : List ℕ). Crunched text w) (sym (append_assoc codes (code ∷ []) more)) (so_far.completes (code ∷ more) (crunched_one mode left code rest more first crunched));
+  completes = λ more crunched. subst (λ (w : List ℕ). CrunchedFrom Free text w) (sym (append_assoc codes (code ∷ []) more)) (so_far.completes (code ∷ more) (crunched_one mode left code rest more first crunched));
   only = λ all crunched. let before = so_far.only all crunched in crunched_inverted mode left code rest before.0 some first before.1;
 }
 
 -- nothing is left
-pub crunched_whole : (text codes : List ℕ) (mode : Mode) (left : List ℕ) → CrunchedSoFar text codes mode left → left ≡ [] → Crunched text codes
+pub crunched_whole : (text codes : List ℕ) (mode : Mode) (left : List ℕ) → CrunchedSoFar text codes mode left → left ≡ [] → CrunchedFrom Free text codes
 unfolding CrunchedFrom
-crunched_whole text codes mode left so_far none = subst (λ (w : List ℕ). Crunched text w) (append-nil codes) (so_far.completes [] none)
+crunched_whole text codes mode left so_far none = subst (λ (w : List ℕ). CrunchedFrom Free text w) (append-nil codes) (so_far.completes [] none)
 
 -- what is left begins with no crunched byte
 not_crunched : (mode : Mode) (left more : List ℕ) → left ≢ [] → first_code mode left ≡ None → ¬ (CrunchedFrom mode left more)
@@ -73,7 +59,7 @@ unfolding CrunchedFrom
 not_crunched mode left [] some first nothing = some nothing
 not_crunched mode left (code ∷ more) some first (rest, is, crunched) = let same : found code rest ≡ None = sym is ∙ first in absurd cc
 
-pub crunched_never : (text codes : List ℕ) (mode : Mode) (left : List ℕ) → CrunchedSoFar text codes mode left → left ≢ [] → first_code mode left ≡ None → (all : List ℕ) → ¬ (Crunched text all)
+pub crunched_never : (text codes : List ℕ) (mode : Mode) (left : List ℕ) → CrunchedSoFar text codes mode left → left ≢ [] → first_code mode left ≡ None → (all : List ℕ) → ¬ (CrunchedFrom Free text all)
 crunched_never text codes mode left so_far some first all crunched = let before = so_far.only all crunched in not_crunched mode left before.0 some first before.1
 
 -- where a place is not free the first byte is kept
@@ -114,15 +100,15 @@ first_shrinks Free (byte ∷ others) code rest some is = by_token (token_from 12
   where
     by_single : (single : Option ℕ) → after_single others single ≡ Some (code, rest) → length rest < length (byte ∷ others)
     by_single None none = absurd cc
-    by_single (Some c) here = let same : others ≡ rest = ap rest_of here in omega (arith, ap length same)
+    by_single (Some c) here = let same : others ≡ rest = ap rest_in here in omega (arith, ap length same)
 
     by_token : (token : Option (ℕ × List ℕ)) → token_from 128 keywords (byte ∷ others) ≡ token → option_map_or it_is token (after_single others (single_code byte)) ≡ Some (code, rest) → length rest < length (byte ∷ others)
     by_token None none here = by_single (single_code byte) here
     by_token (Some it) at here = token_shrinks (byte ∷ others) code rest (at ∙ here) (omega arith)
-first_shrinks Quoted (byte ∷ others) code rest some is = let same : others ≡ rest = ap rest_of is in omega (arith, ap length same)
-first_shrinks Remark (byte ∷ others) code rest some is = let same : others ≡ rest = ap rest_of is in omega (arith, ap length same)
-first_shrinks Data (byte ∷ others) code rest some is = let same : others ≡ rest = ap rest_of is in omega (arith, ap length same)
-first_shrinks QuotedData (byte ∷ others) code rest some is = let same : others ≡ rest = ap rest_of is in omega (arith, ap length same)
+first_shrinks Quoted (byte ∷ others) code rest some is = let same : others ≡ rest = ap rest_in is in omega (arith, ap length same)
+first_shrinks Remark (byte ∷ others) code rest some is = let same : others ≡ rest = ap rest_in is in omega (arith, ap length same)
+first_shrinks Data (byte ∷ others) code rest some is = let same : others ≡ rest = ap rest_in is in omega (arith, ap length same)
+first_shrinks QuotedData (byte ∷ others) code rest some is = let same : others ≡ rest = ap rest_in is in omega (arith, ap length same)
 
 -- the same of a text
 pub single_at : (mode : Mode) (text : List ℕ) (code : Option ℕ) → mode ≡ Free → 1 ≤ length text → token_from 128 keywords text ≡ None → code ≡ single_code (get_or text 0 0)
@@ -151,3 +137,26 @@ expanded_one mode codes i within = ap (λ (w : List ℕ). expanded_from mode w) 
 pub expanded_none : (mode : Mode) (codes : List ℕ) (i : ℕ) → length codes ≤ i → expanded_from mode (drop i codes) ≡ []
 unfolding expanded_from
 expanded_none mode codes i past = ap (λ (w : List ℕ). expanded_from mode w) (drop_all i codes past)
+
+-- ---- one way to crunch
+
+-- an empty text begins with no crunched byte
+none_first : (mode : Mode) (code : ℕ) (rest : List ℕ) → first_code mode [] ≢ Some (code, rest)
+unfolding free_code
+none_first Free code rest is = absurd cc
+none_first Quoted code rest is = absurd cc
+none_first Remark code rest is = absurd cc
+none_first Data code rest is = absurd cc
+none_first QuotedData code rest is = absurd cc
+
+pub crunched_once : (mode : Mode) (text codes other : List ℕ) → CrunchedFrom mode text codes → CrunchedFrom mode text other → codes ≡ other
+unfolding CrunchedFrom
+crunched_once mode text [] [] none nothing = refl
+crunched_once mode text [] (code ∷ other) none (rest, is, crunched) = absurd (none_first mode code rest (subst (λ (w : List ℕ). first_code mode w ≡ Some (code, rest)) none is))
+crunched_once mode text (code ∷ codes) [] (rest, is, crunched) none = absurd (none_first mode code rest (subst (λ (w : List ℕ). first_code mode w ≡ Some (code, rest)) none is))
+crunched_once mode text (code ∷ codes) (code' ∷ other) (rest, is, crunched) (rest', is', crunched') =
+    let same : found code' rest' ≡ found code rest = sym is' ∙ is in
+    let codes_same : code' ≡ code = ap code_in same in
+    let rests_same : rest' ≡ rest = ap rest_in same in
+    let moved : CrunchedFrom (after mode code) rest other = subst (λ (c : ℕ). CrunchedFrom (after mode c) rest other) codes_same (subst (λ (w : List ℕ). CrunchedFrom (after mode code') w other) rests_same crunched') in
+    ap (λ (w : List ℕ). code ∷ w) (crunched_once (after mode code) rest codes other crunched moved) ∙ ap (λ (c : ℕ). c ∷ other) (sym codes_same)

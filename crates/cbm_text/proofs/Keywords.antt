@@ -1,8 +1,10 @@
 -- The table of keywords, row by row.
-use Rattle.std.proofs.Common.{◌≡◌, ◌≢◌, ℕ, ◌+◌, ◌-◌, ◌<◌, ◌≤◌, Bool, true, false, cond, List, [], ◌∷◌, length, drop, get_or, Option, Some, None, length-drop, refl, sym, ◌∙◌, ap, subst, arith}
+use Rattle.std.proofs.Common.{◌≡◌, ◌≢◌, ℕ, suc, ◌+◌, ◌-◌, ◌<◌, ◌≤◌, Bool, true, false, cond, List, [], ◌∷◌, ◌++◌, length, drop, get_or, Option, Some, None, length-drop, refl, sym, ◌∙◌, ap, subst, arith}
 use Rattle.std.proofs.lemmas.List.{drop_more}
 use Rattle.std.proofs.lemmas.Option.{slice_get_within, get_or_from_slice_get, slice_get_past, slice_get-get_or}
 use Rattle.std.proofs.lemmas.Bool.{leb-true, leb-false, ltb-true, and_parts}
+use Rattle.std.proofs.lemmas.Bool.Decides.{Decides-eqb}
+use Rattle.std.proofs.lemmas.Slice.Eq.{starts_is}
 use Rattle.std.specs.Prelude.{slice_get, nat_le, nat_lt, nat_eq}
 use Rattle.std.specs.List.{starts_with, list_all}
 use Rattle.cbm_text.specs.Keywords.{keywords, keyword, token_from}
@@ -11,10 +13,13 @@ use Rattle.cbm_text.specs.Keywords.{keywords, keyword, token_from}
 abbrev pub found : ℕ → List ℕ → Option (ℕ × List ℕ)
 found token rest = Some (token, rest)
 
--- what follows a token
-abbrev behind : Option (ℕ × List ℕ) → List ℕ
-behind None = []
-behind (Some it) = it.1
+abbrev pub code_in : Option (ℕ × List ℕ) → ℕ
+code_in None = 0
+code_in (Some it) = it.0
+
+abbrev pub rest_in : Option (ℕ × List ℕ) → List ℕ
+rest_in None = []
+rest_in (Some it) = it.1
 
 -- a row of a table is the first of what is left there
 row_first : (words : List (List ℕ)) (k : ℕ) (word : List ℕ) → slice_get words k ≡ Some word → drop k words ≡ word ∷ drop (k + 1) words
@@ -91,9 +96,64 @@ shrinks_from (word ∷ words) token text code rest somes found some =
         → length rest < length text
     of_test true later here =
         let long : 0 < length word = ltb-true 0 (length word) (and_parts _ _ somes).0 in
-        let is : drop (length word) text ≡ rest = ap behind here in
+        let is : drop (length word) text ≡ rest = ap rest_in here in
         omega (arith, length-drop (length word) text, ap length is)
     of_test false later there = later there
 
 pub token_shrinks : (text : List ℕ) (code : ℕ) (rest : List ℕ) → token_from 128 keywords text ≡ Some (code, rest) → 0 < length text → length rest < length text
 token_shrinks text code rest found some = shrinks_from keywords 128 text code rest some_bytes found some
+
+-- ---- the word of a token
+
+-- the text begins with the word of a row of the table
+pub record BeginsWithRow (words : List (List ℕ)) (token code : ℕ) (text rest : List ℕ) : Type 0 where
+  pub row : ℕ
+  pub word : List ℕ
+  pub at : code ≡ token + row
+  pub is : slice_get words row ≡ Some word
+  pub joined : text ≡ word ++ rest
+
+-- one row further down
+next_row : (first : List ℕ) (words : List (List ℕ)) (token code : ℕ) (text rest : List ℕ) → BeginsWithRow words (token + 1) code text rest → BeginsWithRow (first ∷ words) token code text rest
+next_row first words token code text rest begins = record {
+  row = begins.row + 1;
+  word = begins.word;
+  at = omega (arith, begins.at);
+  is = further words begins.row begins.word begins.is;
+  joined = begins.joined;
+}
+  where
+    further : (ws : List (List ℕ)) (k : ℕ) (w : List ℕ) → slice_get ws k ≡ Some w → slice_get (first ∷ ws) (k + 1) ≡ Some w
+    further ws k w is = let one : suc k ≡ k + 1 = omega arith in subst (λ (n : ℕ). slice_get (first ∷ ws) n ≡ Some w) one is
+
+-- a token that was found is that of a row
+pub row_of : (words : List (List ℕ)) (token : ℕ) (text : List ℕ) (code : ℕ) (rest : List ℕ) → token_from token words text ≡ Some (code, rest) → BeginsWithRow words token code text rest
+row_of [] token text code rest is = absurd cc
+row_of (word ∷ words) token text code rest is =
+    of_test (starts_with nat_eq text word) refl (λ later. row_of words (token + 1) text code rest later) is
+  where
+    of_test : (b : Bool) → starts_with nat_eq text word ≡ b → (token_from (token + 1) words text ≡ Some (code, rest) → BeginsWithRow words (token + 1) code text rest)
+        → cond b (Some (token, drop (length word) text)) (token_from (token + 1) words text) ≡ Some (code, rest) → BeginsWithRow (word ∷ words) token code text rest
+    of_test true at later here = record {
+      row = 0;
+      word = word;
+      at = omega (arith, ap code_in here);
+      is = refl;
+      joined = (starts_is Decides-eqb text word true (sym at)).0 refl ∙ ap (λ (w : List ℕ). word ++ w) (ap rest_in here);
+    }
+    of_test false at later there = next_row word words token code text rest (later there)
+
+-- and stands for its keyword
+pub token_shown : (text : List ℕ) (code : ℕ) (rest : List ℕ) → token_from 128 keywords text ≡ Some (code, rest) → (word : List ℕ) × (keyword code ≡ Some word) × (text ≡ word ++ rest)
+unfolding keyword
+token_shown text code rest is =
+    let begins = row_of keywords 128 text code rest is in
+    let at : code - 128 ≡ begins.row = omega (arith, begins.at) in
+    let high : 128 ≤ code = omega (arith, begins.at) in
+    let row : slice_get keywords (code - 128) ≡ Some begins.word = ap (λ (k : ℕ). slice_get keywords k) at ∙ begins.is in
+    let known : keyword code ≡ Some begins.word = of_test (nat_le 128 code) refl high begins.word row in
+    (begins.word, known, begins.joined)
+  where
+    of_test : (b : Bool) → nat_le 128 code ≡ b → 128 ≤ code → (word : List ℕ) → slice_get keywords (code - 128) ≡ Some word → cond b (slice_get keywords (code - 128)) None ≡ Some word
+    of_test true at high word row = row
+    of_test false at high word row = let low : code < 128 = leb-false 128 code at in absurd (omega arith)

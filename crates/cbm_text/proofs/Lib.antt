@@ -1,6 +1,10 @@
 pub mod Keywords
 pub mod CodesSoFar
+pub mod KeptRuns
+pub mod LinePieces
 pub mod TextLines
 pub mod ProgramFiles
 pub mod TextPrograms
-pub mod CodesBack
+pub mod LinesBack
+pub mod NormalLines
+pub mod WholeTexts

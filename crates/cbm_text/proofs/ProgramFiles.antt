@@ -7,7 +7,9 @@ use Rattle.std.proofs.lemmas.Bool.{eqb-true, eqb-false, ltb-false}
 use Rattle.std.proofs.lemmas.List.Sums.{fails_before_first}
 use Rattle.std.specs.List.{position_or_len}
 use Rattle.cbm_text.specs.Program.{Line, Program, BeginsLine, LinesRead, Reads, word}
-use Rattle.cbm_text.specs.Listing.{listing, line_listing}
+use Rattle.cbm_text.specs.Listing.{IsListing, Lists}
+use Rattle.cbm_text.specs.Modes.{expanded, listing, line_listing}
+use Rattle.cbm_text.proofs.LinePieces.{listed_by_modes}
 
 -- ---- bytes without $00
 
@@ -99,13 +101,13 @@ line_begins bytes rest line behind low high a b small_low small_high is link end
 }
 
 -- what is left behind a line is one thing
-rest_once : (bytes : List ℕ) (x y : Line) (rest other : List ℕ) → BeginsLine bytes x rest → BeginsLine bytes y other → rest ≡ other
+pub rest_once : (bytes : List ℕ) (x y : Line) (rest other : List ℕ) → BeginsLine bytes x rest → BeginsLine bytes y other → rest ≡ other
 rest_once bytes x y rest other begins begins_y =
     let same : begins.low ∷ begins.high ∷ (x.number % 256) ∷ (x.number / 256) ∷ (x.bytes ++ 0 ∷ rest) ≡ begins_y.low ∷ begins_y.high ∷ (y.number % 256) ∷ (y.number / 256) ∷ (y.bytes ++ 0 ∷ other) = sym begins.joined ∙ begins_y.joined in
     zero_once x.bytes y.bytes rest other begins.no_zero begins_y.no_zero (ap (λ (w : List ℕ). drop 4 w) same)
 
 -- no line begins at the end mark
-no_line : (bytes : List ℕ) (line : Line) (rest behind : List ℕ) → BeginsLine bytes line rest → bytes ≢ 0 ∷ 0 ∷ behind
+pub no_line : (bytes : List ℕ) (line : Line) (rest behind : List ℕ) → BeginsLine bytes line rest → bytes ≢ 0 ∷ 0 ∷ behind
 no_line bytes line rest behind begins is =
     let same : begins.low ∷ begins.high ∷ (word line.number ++ line.bytes ++ 0 ∷ rest) ≡ 0 ∷ 0 ∷ behind = sym begins.joined ∙ is in
     begins.link (ap (λ (w : List ℕ). get_or w 0 0) same, ap (λ (w : List ℕ). get_or w 1 0) same)
@@ -213,3 +215,14 @@ file_never (a ∷ []) long never program read = absurd (omega arith)
 file_never (a ∷ b ∷ lines) long never program (low, high, rest, is, read) =
     let same : lines ≡ rest = ap (λ (w : List ℕ). drop 2 w) is in
     never program (subst (λ (w : List ℕ). LinesRead w program) (sym same ∙ sym (take_all (length (a ∷ b ∷ lines) - 2) lines (omega arith))) read)
+
+-- ---- the listing
+
+pub listing_of_program : (program : Program) → IsListing program (listing program)
+unfolding IsListing listing
+listing_of_program [] = refl
+listing_of_program (line ∷ lines) = (expanded line.bytes, listing lines, listed_by_modes line.bytes, listing_of_program lines, refl)
+
+pub lists_program : (file text : List ℕ) (program : Program) → Reads file program → text ≡ listing program → Lists file text
+unfolding Lists
+lists_program file text program read is = (program, read, subst (λ (w : List ℕ). IsListing program w) (sym is) (listing_of_program program))

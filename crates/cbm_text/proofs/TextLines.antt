@@ -41,7 +41,7 @@ digits_ascii digits all =
     IsAscii-from_all digits
     (All-weaker (λ b. is_ascii_digit b ≡ true) (λ b. b < 128) (λ b digit. grind (arith, nat_tests)) digits (AllPass-from_list_all is_ascii_digit digits all))
 
-digits_model : IsNumeralModel (λ ds. list_all is_ascii_digit ds ≡ true) (digits_value 10)
+pub digits_model : IsNumeralModel (λ ds. list_all is_ascii_digit ds ≡ true) (digits_value 10)
 digits_model = numerals_by_value (λ ds. list_all is_ascii_digit ds ≡ true) (search rules)
 
 -- the value of digits, as far as two bytes hold it

@@ -1,12 +1,14 @@
 -- Texts of programs, line by line.
-use Rattle.std.proofs.Common.{◌≡◌, ℕ, ◌+◌, List, [], ◌∷◌, ◌++◌, length, true, false, Contains, refl, sym, ◌∙◌, ap, subst, inl, inr, append_assoc, arith}
+use Rattle.std.proofs.Common.{◌≡◌, ℕ, ◌+◌, ◌≤◌, ◌⊎◌, List, [], ◌∷◌, ◌++◌, length, true, false, Contains, refl, sym, ◌∙◌, ap, subst, inl, inr, append_assoc, arith}
 use Rattle.std.specs.Prelude.{nat_eq, suc, zero}
 use Rattle.std.specs.List.{list_any}
 use Rattle.std.proofs.lemmas.Bool.{eqb-false, or_parts}
 use Rattle.d64_script.specs.RawLines.{lines_of, text_of, is_skipped}
+use Rattle.d64_script.proofs.LineCuts.{length-lines_of}
 use Rattle.cbm_text.specs.declared.fault.BasicFault.{BasicFault}
+use Rattle.cbm_text.specs.declared.fault.BasicFault.TheVariants.{NoNumber, NumberTooLarge, Text, TokenByte, ZeroByte, TooLong, Memory}
 use Rattle.cbm_text.specs.Program.{Line, Program, word, line_layout, lines_layout, address_behind}
-use Rattle.cbm_text.specs.BasicText.{IsLine, HasFault, AreLines, FaultsFirst, IsFileOf, IsFirstFault}
+use Rattle.cbm_text.specs.BasicText.{IsLine, HasFault, AreLines, FaultsFirst, IsFileOf, IsFirstFault, IsOfMemory, TellsLine}
 
 -- what has been crunched of a text, and the raw lines that are left: what these give completes the file, and their first
 -- fault is the text's
@@ -94,6 +96,32 @@ pub so_far_fault : (start at place : ℕ) (text file raw : List ℕ) (old raws :
     → HasFault at (place + 1) (text_of raw) fault → IsFirstFault start text fault
 so_far_fault start at place text file raw old raws fault so_far cut kept here =
     so_far.faults fault (subst (λ (w : List (List ℕ)). FaultsFirst at (place + 1) w fault) (sym cut) (here_faults at (place + 1) raw raws fault kept here))
+
+-- a fault of the line at a place of the text tells this place
+pub tells_line : (at place : ℕ) (text line : List ℕ) (fault : BasicFault) → 1 ≤ place → place ≤ length (lines_of text) → IsOfMemory fault ⊎ HasFault at place line fault → TellsLine text fault
+tells_line at place text line fault low high (inl memory) = none fault memory
+  where
+    none : (fault : BasicFault) → IsOfMemory fault → TellsLine text fault
+    none (NoNumber told) memory = absurd memory
+    none (NumberTooLarge told) memory = absurd memory
+    none (Text told why) memory = absurd memory
+    none (TokenByte told) memory = absurd memory
+    none (ZeroByte told) memory = absurd memory
+    none (TooLong told) memory = absurd memory
+    none (Memory error) memory = memory
+tells_line at place text line fault low high (inr here) = it fault here
+  where
+    within : (told : ℕ) → told ≡ place → (1 ≤ told) × (told ≤ length (lines_of text)) × (told ≤ length text)
+    within told is = (omega arith, omega arith, omega (arith, length-lines_of text))
+
+    it : (fault : BasicFault) → HasFault at place line fault → TellsLine text fault
+    it (NoNumber told) here = within told here.0
+    it (NumberTooLarge told) here = within told here.0
+    it (Text told why) here = within told here.0
+    it (TokenByte told) here = within told here.0
+    it (ZeroByte told) here = within told here.0
+    it (TooLong told) here = within told here.0
+    it (Memory error) here = absurd here
 
 -- behind the last line
 no_lines : (at : ℕ) → AreLines at [] []

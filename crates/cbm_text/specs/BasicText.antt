@@ -1,5 +1,5 @@
 -- Which program a BASIC text stands for, and what is wrong with a text that stands for none.
-use Rattle.std.specs.Prelude.{◌≡◌, ◌≢◌, ℕ, ◌+◌, ◌^◌, ◌<◌, ◌≤◌, ◌⊎◌, true, false, List, [], ◌∷◌, length, Contains, Option, Some, None}
+use Rattle.std.specs.Prelude.{◌≡◌, ◌≢◌, ℕ, ◌+◌, ◌^◌, ◌<◌, ◌≤◌, ◌⊎◌, true, false, List, [], ◌∷◌, length, Contains, Option, Some, None, MatchOption}
 use Rattle.petscii.specs.TextForm.{IsTextOf}
 use Rattle.petscii.specs.TextFault as text_faults
 use Rattle.d64_script.specs.RawLines.{lines_of, text_of, is_skipped}
@@ -104,3 +104,8 @@ fault_line (TokenByte line) = Some line
 fault_line (ZeroByte line) = Some line
 fault_line (TooLong line) = Some line
 fault_line (Memory error) = None
+
+-- A fault tells one of the text's lines, the first of which is 1, and a text has no more lines than bytes. Want of memory
+-- tells none.
+abbrev pub TellsLine : List ℕ → BasicFault → Type 0
+TellsLine text fault = MatchOption (fault_line fault) (IsOfMemory fault) (λ line. (1 ≤ line) × (line ≤ length (lines_of text)) × (line ≤ length text))

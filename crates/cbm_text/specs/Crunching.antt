@@ -1,43 +1,35 @@
 -- What the bytes of a line crunch to.
-use Rattle.std.specs.Prelude.{◌≡◌, ℕ, ◌||◌, List, [], ◌∷◌, Option, Some, None, nat_lt, ◌==◌, if◌then◌else◌}
-use Rattle.std.specs.Option.{option_map_or}
-use Rattle.cbm_text.specs.declared.mode.Mode.{Mode}
-use Rattle.cbm_text.specs.declared.mode.Mode.TheVariants.{Free}
+use Rattle.std.specs.Prelude.{◌≡◌, ◌≢◌, ℕ, ◌<◌, ◌⊎◌, false, List, ◌∷◌, ◌++◌, Some, None, nat_eq}
+use Rattle.std.specs.List.{starts_with, flat_map}
 use Rattle.cbm_text.specs.Keywords.{keywords, token_from}
-use Rattle.cbm_text.specs.Modes.{after}
+use Rattle.cbm_text.specs.Kept.{Opener, opening, IsKept}
+use Rattle.cbm_text.specs.Pieces.{Piece, Kept, Token, Question, Single, AreCut, crunched}
 
--- `?`, and the token of `print` that it stands for
+-- `?`
 abbrev pub question : ℕ
 question = 63
-
-abbrev pub print_token : ℕ
-print_token = 0x99
 
 -- pi
 abbrev pub pi : ℕ
 pi = 0xff
 
--- A byte that is no keyword's start crunches to itself at a free place, but for `?` and the bytes that tokens are.
-abbrev pub single_code : ℕ → Option ℕ
-single_code byte = if byte == question then Some print_token else if nat_lt byte 128 || byte == pi then Some byte else None
+-- A text begins with no opener.
+abbrev pub HasNoOpener : List ℕ → Type 0
+HasNoOpener text = (opener : Opener) → starts_with nat_eq text (opening opener) ≡ false
 
--- The first crunched byte of a text at a free place, and what follows: the token of the first keyword in the table's
--- order that the text begins with, else that of its first byte.
-unfoldable pub free_code : List ℕ → Option (ℕ × List ℕ)
-free_code [] = None
-free_code (byte ∷ rest) = option_map_or (λ found. Some found) (token_from 128 keywords (byte ∷ rest)) (option_map_or (λ code. Some (code, rest)) (single_code byte) None)
+-- The first piece of a text, and what follows. Where an opener stands there, it and the run that is kept behind it; else the
+-- first keyword in the table's order; else a `?`; else one byte that is $FF or below $80. No piece begins with another byte.
+abbrev pub TextBegins : List ℕ → Piece → List ℕ → Type 0
+TextBegins text (Kept opener run) rest = (text ≡ opening opener ++ run ++ rest) × IsKept opener run rest
+TextBegins text (Token token) rest = HasNoOpener text × (token_from 128 keywords text ≡ Some (token, rest))
+TextBegins text Question rest = text ≡ question ∷ rest
+TextBegins text (Single byte) rest =
+    HasNoOpener text × (token_from 128 keywords text ≡ None) × (text ≡ byte ∷ rest) × (byte ≢ question) × ((byte ≡ pi) ⊎ (byte < 128))
 
--- The same at any place: where it is not free, the first byte is kept.
-abbrev pub first_code : Mode → List ℕ → Option (ℕ × List ℕ)
-first_code Free text = free_code text
-first_code kept [] = None
-first_code kept (byte ∷ rest) = Some (byte, rest)
-
--- A text that begins at such a place crunches to these bytes.
-unfoldable pub CrunchedFrom : Mode → List ℕ → List ℕ → Type 0
-CrunchedFrom mode text [] = text ≡ []
-CrunchedFrom mode text (code ∷ codes) = (rest : List ℕ) × (first_code mode text ≡ Some (code, rest)) × CrunchedFrom (after mode code) rest codes
+-- The pieces of a text.
+abbrev pub IsText : List ℕ → List Piece → Type 0
+IsText text pieces = AreCut TextBegins text pieces
 
 -- The bytes of a line crunch to these.
-abbrev pub Crunched : List ℕ → List ℕ → Type 0
-Crunched text codes = CrunchedFrom Free text codes
+unfoldable pub Crunched : List ℕ → List ℕ → Type 0
+Crunched text codes = (pieces : List Piece) × IsText text pieces × (codes ≡ flat_map crunched pieces)

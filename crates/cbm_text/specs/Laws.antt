@@ -1,29 +1,59 @@
 -- The statements of the laws.
-use Rattle.std.specs.Prelude.{◌≡◌, ◌≢◌, ℕ, List, [], ◌∷◌, Some, slice_index}
-use Rattle.cbm_text.specs.declared.mode.Mode.{Mode}
-use Rattle.cbm_text.specs.declared.mode.Mode.TheVariants.{Free}
-use Rattle.cbm_text.specs.Modes.{after}
-use Rattle.cbm_text.specs.Crunching.{question, first_code, Crunched}
-use Rattle.cbm_text.specs.Listing.{expanded}
+use Rattle.std.specs.Prelude.{◌≡◌, ℕ, false, List, All, Contains}
+use Rattle.petscii.specs.TextForm.{IsTextOf}
+use Rattle.d64_script.specs.RawLines.{lines_of, text_of, is_skipped}
+use Rattle.cbm_text.specs.declared.fault.BasicFault.{BasicFault}
+use Rattle.cbm_text.specs.Pieces.{Piece, Question}
+use Rattle.cbm_text.specs.Crunching.{IsText, Crunched}
+use Rattle.cbm_text.specs.Program.{Program, Reads}
+use Rattle.cbm_text.specs.Listing.{Listed, Lists}
+use Rattle.cbm_text.specs.TextLine.{rest_of}
+use Rattle.cbm_text.specs.BasicText.{IsProgramOf, IsFileOf, IsFirstFault}
+use Rattle.cbm_text.specs.NormalText.{IsNormalOf}
 
--- A text that begins at such a place crunches to these bytes, and no `?` stands at a free place of it.
-unfoldable pub HasNoQuestionFrom : Mode → List ℕ → List ℕ → Type 0
-HasNoQuestionFrom mode text [] = text ≡ []
-HasNoQuestionFrom mode text (code ∷ codes) =
-    (rest : List ℕ) × (first_code mode text ≡ Some (code, rest)) × (mode ≡ Free → slice_index text 0 ≢ question) × HasNoQuestionFrom (after mode code) rest codes
-
--- The bytes of a line crunch to these, and no `?` stands at a free place.
-abbrev pub HasNoFreeQuestion : List ℕ → List ℕ → Type 0
-HasNoFreeQuestion text codes = HasNoQuestionFrom Free text codes
-
--- What the bytes of a line without a free `?` crunch to stands for these bytes, and they crunch to it.
-pub record CrunchesBack (text codes : List ℕ) : Type 0 where
-  pub back : expanded codes ≡ text
-  pub again : Crunched (expanded codes) codes
-
-abbrev pub ComesBack : List ℕ → List ℕ → Type 0
-ComesBack text codes = HasNoFreeQuestion text codes → CrunchesBack text codes
+-- ---- lines
 
 -- The bytes of a line crunch to one thing at most.
 abbrev pub CrunchesOnce : List ℕ → Type 0
 CrunchesOnce text = (codes other : List ℕ) → Crunched text codes → Crunched text other → codes ≡ other
+
+-- The crunched bytes of a line stand for something, and for nothing else.
+pub record ListsOnce (codes : List ℕ) : Type 0 where
+  pub some : (bytes : List ℕ) × Listed codes bytes
+  pub once : (bytes other : List ℕ) → Listed codes bytes → Listed codes other → bytes ≡ other
+
+-- No `?` stands for `print` in the bytes of a line.
+abbrev pub HasNoFreeQuestion : List ℕ → Type 0
+HasNoFreeQuestion text = (pieces : List Piece) → IsText text pieces → ¬ (Contains pieces Question)
+
+-- What the bytes of a line without a free `?` crunch to stands for these bytes.
+abbrev pub ComesBack : List ℕ → List ℕ → Type 0
+ComesBack text codes = HasNoFreeQuestion text → Crunched text codes → Listed codes text
+
+-- ---- programs and texts
+
+-- A file reads as one program at most, and has one listing at most.
+pub record ReadsOnce (file : List ℕ) : Type 0 where
+  pub program : (program other : Program) → Reads file program → Reads file other → program ≡ other
+  pub listing : (text other : List ℕ) → Lists file text → Lists file other → text ≡ other
+
+-- A text stands for one program at most, has one file at most, and none where it has a fault.
+pub record StandsOnce (start : ℕ) (text : List ℕ) : Type 0 where
+  pub program : (program other : Program) → IsProgramOf start text program → IsProgramOf start text other → program ≡ other
+  pub file : (file other : List ℕ) → IsFileOf start text file → IsFileOf start text other → file ≡ other
+  pub no_fault : (file : List ℕ) (fault : BasicFault) → IsFileOf start text file → ¬ (IsFirstFault start text fault)
+
+-- No `?` stands for `print` in the lines of a text.
+abbrev pub LinesHaveNoFreeQuestion : List ℕ → Type 0
+LinesHaveNoFreeQuestion text =
+    All (λ raw. is_skipped (text_of raw) ≡ false → (bytes : List ℕ) → IsTextOf bytes (rest_of (text_of raw)) → HasNoFreeQuestion bytes) (lines_of text)
+
+-- The file of a text lists, and its listing is the normal spelling of the text and has this file again.
+pub record ComesBackWhole (start : ℕ) (text file : List ℕ) : Type 0 where
+  pub listed : (listing : List ℕ) × Lists file listing
+  pub normal : (listing : List ℕ) → Lists file listing → IsNormalOf text listing
+  pub again : (listing : List ℕ) → Lists file listing → IsFileOf start listing file
+
+-- Where no `?` stands for `print`.
+abbrev pub TextComesBack : ℕ → List ℕ → Type 0
+TextComesBack start text = (file : List ℕ) → LinesHaveNoFreeQuestion text → IsFileOf start text file → ComesBackWhole start text file

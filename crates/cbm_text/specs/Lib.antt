@@ -2,11 +2,14 @@ pub use Rattle.petscii.specs.TextForm
 pub use Rattle.petscii.specs.TextFault
 pub use Rattle.petscii.specs.Spelling
 pub mod Keywords
-pub mod Modes
+pub mod Kept
+pub mod Pieces
 pub mod Crunching
 pub mod Program
 pub mod Listing
+pub mod Modes
 pub mod ListFault
 pub mod TextLine
 pub mod BasicText
+pub mod NormalText
 pub mod Laws

@@ -1,32 +1,41 @@
 -- How programs are listed.
-use Rattle.std.specs.Prelude.{ℕ, List, [], ◌∷◌, ◌++◌, decimal, codes}
-use Rattle.std.specs.Option.{option_map_or}
+use Rattle.std.specs.Prelude.{◌≡◌, ◌≢◌, ℕ, List, [], ◌∷◌, ◌++◌, None, decimal, codes}
 use Rattle.std.specs.List.{flat_map}
 use Rattle.petscii.specs.Spelling.{spelling}
-use Rattle.cbm_text.specs.declared.mode.Mode.{Mode}
-use Rattle.cbm_text.specs.declared.mode.Mode.TheVariants.{Free}
 use Rattle.cbm_text.specs.Keywords.{keyword}
-use Rattle.cbm_text.specs.Modes.{after}
-use Rattle.cbm_text.specs.Program.{Line, Program}
+use Rattle.cbm_text.specs.Kept.{Opener, code_of, IsKept}
+use Rattle.cbm_text.specs.Pieces.{Piece, Kept, Token, Question, Single, AreCut, written}
+use Rattle.cbm_text.specs.Program.{Program, Reads}
 
--- What a crunched byte stands for: at a free place the keyword of a token, else itself.
-abbrev pub shown : Mode → ℕ → List ℕ
-shown Free code = option_map_or (λ word. word) (keyword code) (code ∷ [])
-shown kept code = code ∷ []
+-- The crunched byte opens no run.
+abbrev pub IsNoOpener : ℕ → Type 0
+IsNoOpener code = (opener : Opener) → code ≢ code_of opener
 
--- What crunched bytes from such a place on stand for.
-unfoldable pub expanded_from : Mode → List ℕ → List ℕ
-expanded_from mode [] = []
-expanded_from mode (code ∷ rest) = shown mode code ++ expanded_from (after mode code) rest
+-- The first piece of crunched bytes, and what follows. Where an opener stands there, it and the run that is kept behind it;
+-- else the token of a keyword; else one byte.
+abbrev pub ProgramBegins : List ℕ → Piece → List ℕ → Type 0
+ProgramBegins codes (Kept opener run) rest = (codes ≡ code_of opener ∷ run ++ rest) × IsKept opener run rest
+ProgramBegins codes (Token token) rest = IsNoOpener token × (keyword token ≢ None) × (codes ≡ token ∷ rest)
+ProgramBegins codes Question rest = ⊥
+ProgramBegins codes (Single byte) rest = IsNoOpener byte × (keyword byte ≡ None) × (codes ≡ byte ∷ rest)
 
--- The bytes that a line's crunched bytes stand for.
-abbrev pub expanded : List ℕ → List ℕ
-expanded bytes = expanded_from Free bytes
+-- The pieces of crunched bytes.
+abbrev pub IsProgram : List ℕ → List Piece → Type 0
+IsProgram codes pieces = AreCut ProgramBegins codes pieces
 
--- A line as text: its number in decimal, a space, what its bytes stand for in text form, LF.
-abbrev pub line_listing : Line → List ℕ
-line_listing line = decimal line.number ++ codes " " ++ spelling (expanded line.bytes) ++ codes "\n"
+-- The crunched bytes of a line stand for these bytes.
+unfoldable pub Listed : List ℕ → List ℕ → Type 0
+Listed codes bytes = (pieces : List Piece) × IsProgram codes pieces × (bytes ≡ flat_map written pieces)
 
--- A program as text.
-unfoldable pub listing : Program → List ℕ
-listing program = flat_map line_listing program
+-- A line as text: its number in decimal, a space, the bytes that it stands for in text form, LF.
+abbrev pub line_text : ℕ → List ℕ → List ℕ
+line_text number bytes = decimal number ++ codes " " ++ spelling bytes ++ codes "\n"
+
+-- A program as text, line by line.
+unfoldable pub IsListing : Program → List ℕ → Type 0
+IsListing [] text = text ≡ []
+IsListing (line ∷ lines) text = (bytes rest : List ℕ) × Listed line.bytes bytes × IsListing lines rest × (text ≡ line_text line.number bytes ++ rest)
+
+-- The text lists the program that the file reads as.
+unfoldable pub Lists : List ℕ → List ℕ → Type 0
+Lists file text = (program : Program) × Reads file program × IsListing program text

@@ -1,22 +1,16 @@
--- How the places of a line are read: a line is free at its start, and each crunched byte says how the next place is read.
-use Rattle.std.specs.Prelude.{ℕ, ◌==◌, if◌then◌else◌}
+-- How a line is crunched and listed byte after byte: a line is free at its start, and each crunched byte says how the next
+-- place is read. Only private functions speak of this; `proofs` has that it agrees with the pieces of a line.
+use Rattle.std.specs.Prelude.{◌≡◌, ℕ, ◌||◌, List, [], ◌∷◌, ◌++◌, Option, Some, None, nat_lt, ◌==◌, if◌then◌else◌}
+use Rattle.std.specs.Option.{option_map_or}
+use Rattle.std.specs.List.{flat_map}
 use Rattle.cbm_text.specs.declared.mode.Mode.{Mode}
 use Rattle.cbm_text.specs.declared.mode.Mode.TheVariants.{Free, Quoted, Remark, Data, QuotedData}
-
--- `"`
-abbrev pub quote : ℕ
-quote = 34
-
--- `:`
-abbrev pub colon : ℕ
-colon = 58
-
--- the tokens of `data` and of `rem`
-abbrev pub data_token : ℕ
-data_token = 0x83
-
-abbrev pub rem_token : ℕ
-rem_token = 0x8f
+use Rattle.cbm_text.specs.Keywords.{keywords, keyword, token_from}
+use Rattle.cbm_text.specs.Kept.{quote, colon, data_token, rem_token}
+use Rattle.cbm_text.specs.Pieces.{print_token}
+use Rattle.cbm_text.specs.Crunching.{question, pi}
+use Rattle.cbm_text.specs.Listing.{line_text}
+use Rattle.cbm_text.specs.Program.{Line, Program}
 
 -- How the place behind a crunched byte is read. A quote is kept up to and with the next one, what follows `rem` to the
 -- line's end, and what follows `data` up to and with a colon outside quotes.
@@ -26,3 +20,49 @@ after Quoted code = if code == quote then Free else Quoted
 after Remark code = Remark
 after Data code = if code == quote then QuotedData else if code == colon then Free else Data
 after QuotedData code = if code == quote then Data else QuotedData
+
+-- ---- crunching
+
+-- A byte that is no keyword's start crunches to itself at a free place, but for `?` and the bytes that tokens are.
+abbrev pub single_code : ℕ → Option ℕ
+single_code byte = if byte == question then Some print_token else if nat_lt byte 128 || byte == pi then Some byte else None
+
+-- The first crunched byte of a text at a free place, and what follows: the token of the first keyword in the table's
+-- order that the text begins with, else that of its first byte.
+unfoldable pub free_code : List ℕ → Option (ℕ × List ℕ)
+free_code [] = None
+free_code (byte ∷ rest) = option_map_or (λ found. Some found) (token_from 128 keywords (byte ∷ rest)) (option_map_or (λ code. Some (code, rest)) (single_code byte) None)
+
+-- The same at any place: where it is not free, the first byte is kept.
+abbrev pub first_code : Mode → List ℕ → Option (ℕ × List ℕ)
+first_code Free text = free_code text
+first_code kept [] = None
+first_code kept (byte ∷ rest) = Some (byte, rest)
+
+-- A text that begins at such a place crunches to these bytes.
+unfoldable pub CrunchedFrom : Mode → List ℕ → List ℕ → Type 0
+CrunchedFrom mode text [] = text ≡ []
+CrunchedFrom mode text (code ∷ codes) = (rest : List ℕ) × (first_code mode text ≡ Some (code, rest)) × CrunchedFrom (after mode code) rest codes
+
+-- ---- listing
+
+-- What a crunched byte stands for: at a free place the keyword of a token, else itself.
+abbrev pub shown : Mode → ℕ → List ℕ
+shown Free code = option_map_or (λ word. word) (keyword code) (code ∷ [])
+shown kept code = code ∷ []
+
+-- What crunched bytes from such a place on stand for.
+unfoldable pub expanded_from : Mode → List ℕ → List ℕ
+expanded_from mode [] = []
+expanded_from mode (code ∷ rest) = shown mode code ++ expanded_from (after mode code) rest
+
+-- The bytes that a line's crunched bytes stand for.
+abbrev pub expanded : List ℕ → List ℕ
+expanded bytes = expanded_from Free bytes
+
+-- A line as text, and a program.
+abbrev pub line_listing : Line → List ℕ
+line_listing line = line_text line.number (expanded line.bytes)
+
+unfoldable pub listing : Program → List ℕ
+listing program = flat_map line_listing program

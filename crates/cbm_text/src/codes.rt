@@ -1,8 +1,8 @@
 //! The crunched bytes of a line, and what they stand for.
 
 ghost use Rattle.std.specs.Prelude.{◌≡◌, ℕ, List, ◌++◌, MatchOption, IfOk, OnOk};
-ghost use Rattle.cbm_text.specs.Crunching.{Crunched, first_code, free_code, single_code};
-ghost use Rattle.cbm_text.specs.Listing.{expanded, shown};
+ghost use Rattle.cbm_text.specs.Crunching.{Crunched};
+ghost use Rattle.cbm_text.specs.Modes.{expanded, first_code, free_code, shown, single_code};
 
 use crate::keyword::{first_token, keyword_of};
 use crate::mode::Mode;

@@ -1,7 +1,7 @@
 //! BASIC texts as program files.
 
 ghost use Rattle.std.specs.Prelude.{◌≡◌, ◌⊎◌, ◌++◌, ℕ, IfOk, IfErr, MatchResult, ◌<◌};
-ghost use Rattle.cbm_text.specs.BasicText.{IsFileOf, IsFirstFault, IsOfMemory, IsLine, HasFault};
+ghost use Rattle.cbm_text.specs.BasicText.{IsFileOf, IsFirstFault, IsOfMemory, IsLine, HasFault, TellsLine};
 ghost use Rattle.cbm_text.specs.Program.{Line, line_layout, address_behind};
 
 use crate::codes::crunch_bytes;
@@ -26,10 +26,12 @@ const AROUND_BYTES: usize = 5;
 /// text form (`from_text`), and keywords are found from left to right, in spaces or not, as the machine finds them:
 /// not between quotes, behind `rem`, or behind `data` up to a colon outside quotes.
 ///
-/// An `Err` is the first fault of the first faulty line, in the order of `BasicFault`; or there is no memory.
+/// An `Err` is the first fault of the first faulty line, in the order of `BasicFault`; or there is no memory. The line
+/// that it tells is one of the text's lines, so its number is at most the text's length.
 pub fn crunch(alloc: Global, start: u16, text: &[u8]) -> Result<Vec<u8>, BasicFault>
     ensures crunched { IfOk result (λ file. IsFileOf start text.now file.items) }
     ensures fault { IfErr result (λ fault. IsOfMemory fault ⊎ IsFirstFault start text.now fault) }
+    ensures place { IfErr result (TellsLine text.now) }
 {
     let mut file = Vec::with_capacity(alloc, text.len())?;
     push_word(&mut file, start)?;

@@ -15,11 +15,13 @@ mod listing;
 mod mode;
 mod program;
 #[cfg(test)]
+mod random_programs;
+#[cfg(test)]
 mod tests;
 mod text_line;
 
 pub use crunching::crunch;
 pub use fault::{BasicFault, ListFault};
-pub use laws::line_comes_back;
+pub use laws::{line_comes_back, one_program, text_comes_back};
 pub use listing::list;
 pub use petscii::{TextFault, from_text, one_outcome, spelling_reads_back, to_text};

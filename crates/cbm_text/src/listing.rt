@@ -1,8 +1,8 @@
 //! Program files as text.
 
 ghost use Rattle.std.specs.Prelude.{◌≡◌, ◌++◌, MatchResult, OnOk};
-ghost use Rattle.cbm_text.specs.Program.{Program, Reads};
-ghost use Rattle.cbm_text.specs.Listing.{listing, line_listing};
+ghost use Rattle.cbm_text.specs.Listing.{Lists};
+ghost use Rattle.cbm_text.specs.Modes.{line_listing};
 ghost use Rattle.cbm_text.specs.ListFault.{ListsNot};
 
 use crate::codes::expand;
@@ -18,9 +18,7 @@ use std::alloc::{AllocError, Global};
 ///
 /// `NoAddress` comes where there are fewer than two bytes, `Truncated` where others end before the program does.
 pub fn list(alloc: Global, file: &[u8]) -> Result<Vec<u8>, ListFault>
-    ensures { MatchResult result
-        (λ text. (program : Program) × Reads file.now program × (text.items ≡ listing program))
-        (ListsNot file.now) }
+    ensures { MatchResult result (λ text. Lists file.now text.items) (ListsNot file.now) }
 {
     let [_, _, lines @ ..] = file else {
         return Err(ListFault::NoAddress);

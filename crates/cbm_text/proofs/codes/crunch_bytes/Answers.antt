@@ -1,6 +1,7 @@
 use Rattle.std.proofs.Common.{[], ◌∷◌, ◌++◌, sym, subst}
 use Rattle.cbm_text.specs.declared.mode.Mode.{Mode}
 use Rattle.cbm_text.proofs.CodesSoFar.{CrunchedSoFar, crunched_nothing, crunched_more, crunched_whole, crunched_never, first_shrinks, not_empty, empty}
+use Rattle.cbm_text.proofs.LinePieces.{crunched_by_modes, modes_of_crunched}
 use Rattle.cbm_text.proofs.codes.crunch_bytes.Goals as goal
 
 pub loop-left-init : goal.loop-left-init
@@ -9,7 +10,8 @@ loop-left-init c = rw c.new-codes.ensures.items (crunched_nothing c.args.bytes.n
 pub returns-in_default : goal.returns-in_default
 returns-in_default c =
     let left = c.loop-left.left.now in
-    crunched_never c.args.bytes.now c.loop-left.codes.items c.loop-left.mode left c.loop-left.invariant (not_empty left c.loop-left-test.ensures) c.in_default.ensures
+    λ codes crunched. crunched_never c.args.bytes.now c.loop-left.codes.items c.loop-left.mode left c.loop-left.invariant (not_empty left c.loop-left-test.ensures) c.in_default.ensures codes
+    (modes_of_crunched c.args.bytes.now codes crunched)
 
 pub loop-left-smaller : goal.loop-left-smaller
 loop-left-smaller c =
@@ -26,4 +28,6 @@ loop-left-preserved c =
     (crunched_more text c.loop-left.codes.items c.loop-left.mode left c.in-Some.code rest c.loop-left.invariant (not_empty left c.loop-left-test.ensures) c.in-Some.ensures))
 
 pub returns : goal.returns
-returns c = crunched_whole c.args.bytes.now c.loop-left.codes.items c.loop-left.mode c.loop-left.left.now c.loop-left.invariant (empty c.loop-left.left.now c.loop-left-test.ensures)
+returns c =
+    crunched_by_modes c.args.bytes.now c.loop-left.codes.items
+    (crunched_whole c.args.bytes.now c.loop-left.codes.items c.loop-left.mode c.loop-left.left.now c.loop-left.invariant (empty c.loop-left.left.now c.loop-left-test.ensures))

@@ -1,8 +1,7 @@
 use Rattle.std.proofs.Common.{◌+◌, ℕ, List, ◌++◌, drop, get_or, sym, ◌∙◌, ap, append_assoc}
 use Rattle.std.proofs.lemmas.List.{append-nil}
 use Rattle.cbm_text.specs.declared.mode.Mode.{Mode}
-use Rattle.cbm_text.specs.Modes.{after}
-use Rattle.cbm_text.specs.Listing.{expanded_from, shown}
+use Rattle.cbm_text.specs.Modes.{after, expanded_from, shown}
 use Rattle.cbm_text.proofs.CodesSoFar.{expanded_one, expanded_none}
 use Rattle.cbm_text.proofs.codes.expand.Goals as goal
 

@@ -1,5 +1,5 @@
 use Rattle.std.proofs.Common.{◌≡◌, ◌++◌, drop}
-use Rattle.cbm_text.specs.Listing.{expanded, expanded_from}
+use Rattle.cbm_text.specs.Modes.{expanded, expanded_from}
 use Rattle.cbm_text.proofs.codes.expand.Given as goal
 
 -- what is left to expand follows

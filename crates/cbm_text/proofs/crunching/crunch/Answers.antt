@@ -1,10 +1,10 @@
-use Rattle.std.proofs.Common.{◌≡◌, ◌⊎◌, ℕ, ◌+◌, List, ◌++◌, length, true, false, sym, ◌∙◌, ap, subst, inl, inr, arith, rules}
+use Rattle.std.proofs.Common.{◌≡◌, ◌⊎◌, ℕ, ◌+◌, List, ◌++◌, ◌≤◌, length, true, false, sym, ◌∙◌, ap, subst, inl, inr, arith, rules}
 use Rattle.d64_script.specs.RawLines.{lines_of, text_of, is_skipped}
 use Rattle.d64_script.specs.declared.raw_lines.RawLines.{RawLines}
 use Rattle.d64_script.proofs.LineCuts.{length-lines_of}
 use Rattle.cbm_text.specs.Program.{word}
-use Rattle.cbm_text.specs.BasicText.{IsLine, HasFault, IsFileOf, IsFirstFault, IsOfMemory}
-use Rattle.cbm_text.proofs.TextPrograms.{ProgramSoFar, so_far_nothing, so_far_skipped, so_far_line, so_far_fault, so_far_whole}
+use Rattle.cbm_text.specs.BasicText.{IsLine, HasFault, IsFileOf, IsFirstFault, IsOfMemory, TellsLine}
+use Rattle.cbm_text.proofs.TextPrograms.{ProgramSoFar, so_far_nothing, so_far_skipped, so_far_line, so_far_fault, so_far_whole, tells_line}
 use Rattle.cbm_text.proofs.crunching.crunch.Goals as goal
 
 pub loop-raw-init : goal.loop-raw-init
@@ -39,6 +39,15 @@ returns-in_err-at-clause-fault c =
       | inr here ↦ inr (so_far_fault c.args.start c.loop-raw.at c.loop-raw.place text c.loop-raw.file.items raw _ _ fault c.loop-raw.invariant c.in-Some.ensures.steps kept
           (subst (λ (w : List ℕ). HasFault c.loop-raw.at (c.loop-raw.place + 1) w fault) c.text-line.ensures here))
     ] in
+    search rules
+
+pub returns-in_err-at-clause-place : goal.returns-in_err-at-clause-place
+returns-in_err-at-clause-place c =
+    let text = c.args.text.now in
+    let raw = c.in-Some.raw.now in
+    let fault = c.in_err-at.field-0.0 in
+    let within : c.loop-raw.place + 1 ≤ length (lines_of text) = omega (arith, c.loop-raw.invariant.few, ap length c.in-Some.ensures.steps) in
+    let told : TellsLine text fault = tells_line c.loop-raw.at (c.loop-raw.place + 1) text c.text-line.result.now fault (omega arith) within c.in_err-at.ensures.fault in
     search rules
 
 pub loop-raw-preserved : goal.loop-raw-preserved

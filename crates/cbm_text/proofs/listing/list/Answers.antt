@@ -1,6 +1,6 @@
 use Rattle.std.proofs.Common.{◌-◌, length, take, drop, arith}
 use Rattle.cbm_text.specs.Program.{Line}
-use Rattle.cbm_text.proofs.ProgramFiles.{listed_nothing, listed_more, listed_whole, listed_never, file_reads, file_never}
+use Rattle.cbm_text.proofs.ProgramFiles.{listed_nothing, listed_more, listed_whole, listed_never, file_reads, file_never, lists_program}
 use Rattle.cbm_text.proofs.listing.list.Goals as goal
 
 pub loop-left-init : goal.loop-left-init
@@ -24,4 +24,4 @@ pub returns : goal.returns
 returns c =
     let file = c.args.file.now in
     let whole = listed_whole (take (length file - 2) (drop 2 file)) c.loop-left.text.items c.loop-left.left.now c.loop-left.invariant c.loop-left-test.ensures in
-    (whole.0, file_reads file whole.0 (omega arith) whole.1, whole.2)
+    lists_program file c.loop-left.text.items whole.0 (file_reads file whole.0 (omega arith) whole.1) whole.2

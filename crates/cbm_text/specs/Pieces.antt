@@ -1,0 +1,36 @@
+-- The pieces that a line is made of.
+use Rattle.std.specs.Prelude.{◌≡◌, ℕ, List, [], ◌∷◌, ◌++◌, codes}
+use Rattle.std.specs.Option.{option_map_or}
+use Rattle.cbm_text.specs.Keywords.{keyword}
+use Rattle.cbm_text.specs.Kept.{Opener, opening, code_of}
+
+-- A piece: an opener and the run that is kept behind it; another keyword, by its token; a `?`, which is short for `print`;
+-- another byte.
+pub data Piece : Type 0 where
+  Kept : Opener → List ℕ → Piece
+  Token : ℕ → Piece
+  Question : Piece
+  Single : ℕ → Piece
+
+-- the token of `print`
+abbrev pub print_token : ℕ
+print_token = 0x99
+
+-- The bytes of a piece in a text.
+abbrev pub written : Piece → List ℕ
+written (Kept opener run) = opening opener ++ run
+written (Token token) = option_map_or (λ word. word) (keyword token) []
+written Question = codes "?"
+written (Single byte) = byte ∷ []
+
+-- The crunched bytes of a piece in a program.
+abbrev pub crunched : Piece → List ℕ
+crunched (Kept opener run) = code_of opener ∷ run
+crunched (Token token) = token ∷ []
+crunched Question = print_token ∷ []
+crunched (Single byte) = byte ∷ []
+
+-- Bytes are these pieces, one after the other, where a relation says which piece bytes begin with and what follows it.
+unfoldable pub AreCut : (List ℕ → Piece → List ℕ → Type 0) → List ℕ → List Piece → Type 0
+AreCut Begins bytes [] = bytes ≡ []
+AreCut Begins bytes (piece ∷ pieces) = (rest : List ℕ) × Begins bytes piece rest × AreCut Begins rest pieces
