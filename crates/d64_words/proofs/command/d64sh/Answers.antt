@@ -1,0 +1,19 @@
+use Rattle.std.proofs.Common.{rules, ap, ap₂, ◌∙◌}
+use Rattle.std.proofs.lemmas.Result.{IfOk-weaker}
+use Rattle.clap.specs.Words.{App, with_subcommand}
+use Rattle.d64_words.specs.Commands.{d64sh}
+use Rattle.d64_words.proofs.command.d64sh.Goals as goal
+
+pub returns-clause-app : goal.returns-clause-app
+unfolding d64sh
+returns-clause-app c =
+    let first = c.in_ok-subcommand.ensures.shape c.in_ok-shell.ensures.local
+    ∙ ap₂ with_subcommand c.bare.ensures.app (ap (λ (a : App). a.top) c.in_ok-shell.ensures.app) in
+    let second = c.in_ok-subcommand-2.ensures.shape c.in_ok-petcat.ensures.local
+    ∙ ap₂ with_subcommand first (ap (λ (a : App). a.top) c.in_ok-petcat.ensures.app) in
+    IfOk-weaker c.subcommand-3.result _ _ (λ command added. added.shape c.in_ok-crunch.ensures.local
+    ∙ ap₂ with_subcommand second (ap (λ (a : App). a.top) c.in_ok-crunch.ensures.app)) c.subcommand-3.ensures
+
+pub returns-clause-local : goal.returns-clause-local
+returns-clause-local c =
+    IfOk-weaker c.subcommand-3.result _ _ (λ command added. rw (added.globals, c.in_ok-subcommand-2.ensures.globals, c.in_ok-subcommand.ensures.globals, c.bare.ensures.local, c.in_ok-shell.ensures.local, c.in_ok-petcat.ensures.local, c.in_ok-crunch.ensures.local) (search rules)) c.subcommand-3.ensures

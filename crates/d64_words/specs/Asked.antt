@@ -1,0 +1,63 @@
+-- What the words of the program ask for.
+use Rattle.std.specs.Prelude.{◌≡◌, ◌≢◌, ◌⊎◌, List, [], codes, Option, option_map, IsSomeAnd, String, string_bytes, ⊤}
+use Rattle.clap.specs.Words.{Row, Text, IsAmong, fault_of, first_of, kind_of, subcommand_of}
+use Rattle.clap.specs.declared.error.Error.{Error}
+use Rattle.clap.specs.declared.error.kind.ErrorKind.TheVariants.{DisplayHelp, DisplayVersion, OutOfMemory}
+use Rattle.d64_words.specs.Commands.{d64sh}
+use Rattle.d64_words.specs.Start.{IsStartBy, HasNoAddress}
+use Rattle.d64_words.specs.declared.asked.Job.{Job}
+use Rattle.d64_words.specs.declared.asked.Job.TheVariants.{Shell, Petcat, Crunch}
+use Rattle.d64_words.specs.declared.asked.JobFault.{JobFault}
+use Rattle.d64_words.specs.declared.asked.JobFault.TheVariants.{Words, Start, Memory}
+
+-- a subcommand that the words name, and the values that they give to its arguments
+abbrev pub Met : Type 0
+Met = Text × List Row
+
+-- one of the three
+abbrev pub IsSubcommand : Text → Type 0
+IsSubcommand name = (name ≡ codes "shell") ⊎ ((name ≡ codes "petcat") ⊎ (name ≡ codes "crunch"))
+
+-- a name in a job is the value that the words give to an argument, where they give one
+abbrev pub IsGiven : {A : Type 0} → Met → Text → Option (String A) → Type 0
+IsGiven met id name = option_map string_bytes name ≡ first_of id met.1
+
+-- the subcommand asks for this job
+abbrev pub IsJobOf : Met → Job → Type 0
+IsJobOf met (Shell image) = (met.0 ≡ codes "shell") × IsGiven met (codes "image") image
+IsJobOf met (Petcat file) = (met.0 ≡ codes "petcat") × IsGiven met (codes "file") file
+IsJobOf met (Crunch start file) =
+    (met.0 ≡ codes "crunch") × IsGiven met (codes "file") file × IsStartBy (first_of (codes "start") met.1) start
+
+-- it asks for no job, since its start is no address; or there is no memory
+abbrev pub IsFaultOf : Met → JobFault → Type 0
+IsFaultOf met (Words error) = ⊥
+IsFaultOf met Start = (met.0 ≡ codes "crunch") × HasNoAddress (first_of (codes "start") met.1)
+IsFaultOf met Memory = ⊤
+
+-- the words are the program's, and ask neither for help nor for the version; and of the subcommand that they name this holds
+abbrev pub IsUse : List Text → (Met → Type 0) → Type 0
+IsUse words holds = (fault_of d64sh words ≡ []) × IsSomeAnd (subcommand_of d64sh words) holds
+
+-- the words ask for this job
+abbrev pub IsJob : List Text → Job → Type 0
+IsJob words job = IsUse words (λ met. IsJobOf met job)
+
+-- the words ask for no job, for this fault: an error of clap's, of one of the kinds that it has at these words; or a start
+-- that is no address
+abbrev pub IsFault : List Text → JobFault → Type 0
+IsFault words (Words error) = IsAmong (kind_of error) (fault_of d64sh words) × (kind_of error ≢ OutOfMemory)
+IsFault words Start = IsUse words (λ met. IsFaultOf met Start)
+IsFault words Memory = ⊤
+
+-- how clap's error is told: want of memory as that, and every other as it is
+abbrev pub IsToldAs : Error → JobFault → Type 0
+IsToldAs error (Words told) = (told ≡ error) × (kind_of error ≢ OutOfMemory)
+IsToldAs error Start = ⊥
+IsToldAs error Memory = kind_of error ≡ OutOfMemory
+
+-- the fault is the help or the version that the words asked for
+abbrev pub WasAskedFor : JobFault → Type 0
+WasAskedFor (Words error) = (kind_of error ≡ DisplayHelp) ⊎ (kind_of error ≡ DisplayVersion)
+WasAskedFor Start = ⊥
+WasAskedFor Memory = ⊥

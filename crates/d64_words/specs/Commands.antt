@@ -1,0 +1,40 @@
+-- The program's subcommands and their arguments, as `clap` reads them.
+use Rattle.std.specs.Prelude.{codes, Some, true}
+use Rattle.clap.specs.Words.{App, Rule, new_app, new_rule, with_rule, with_subcommand}
+
+-- `image`, `file` and `start`: two places, and an option with a value
+abbrev pub image_argument : Rule
+image_argument = record (new_rule (codes "image")) { value_names = 1 }
+
+abbrev pub file_argument : Rule
+file_argument = record (new_rule (codes "file")) { value_names = 1 }
+
+abbrev pub start_option : Rule
+start_option = record (new_rule (codes "start")) { long = Some (codes "start"); value_names = 1 }
+
+-- `shell [IMAGE]`
+abbrev pub shell : App
+shell = with_rule (new_app (codes "shell")) image_argument
+
+-- `petcat [FILE]`
+abbrev pub petcat : App
+petcat = with_rule (new_app (codes "petcat")) file_argument
+
+-- `crunch [--start HEX] [FILE]`
+abbrev pub crunch : App
+crunch = with_rule (with_rule (new_app (codes "crunch")) start_option) file_argument
+
+-- `d64sh` alone: it has a version, wants a subcommand, has none of the name `help`, and tells its help where it is given nothing
+abbrev pub bare : App
+bare = let named = new_app (codes "d64sh") in record named {
+  top = record named.top {
+    has_version = true;
+    disable_help_subcommand = true;
+    subcommand_required = true;
+    arg_required_else_help = true;
+  };
+}
+
+-- `d64sh` with its subcommands
+unfoldable pub d64sh : App
+d64sh = with_subcommand (with_subcommand (with_subcommand bare shell.top) petcat.top) crunch.top

@@ -1,0 +1,65 @@
+//! What words may ask for, and why they ask for nothing.
+
+ghost use Rattle.std.specs.Prelude.{◌≡◌, ◌↔◌, IsTrue};
+ghost use Rattle.d64_words.specs.Asked.{IsToldAs, WasAskedFor};
+ghost use Rattle.d64_words.specs.declared.asked.JobFault.TheVariants.{Memory};
+
+use clap::Error as WordsError;
+use clap::error::ErrorKind;
+use std::alloc::AllocError;
+use thiserror::Error;
+
+/// What the words ask for. The names are names of host files, as they stand in the words.
+#[derive(Debug, Drop)]
+pub enum Job {
+    /// Run a script on an image, or on a blank one where there is no name.
+    Shell { image: Option<String> },
+    /// List the BASIC program in a file, or in the standard input where there is no name.
+    Petcat { file: Option<String> },
+    /// Make a BASIC program, loaded at `start`, of the text in a file, or in the standard input.
+    Crunch { start: u16, file: Option<String> },
+}
+
+/// Why the words ask for no job.
+#[derive(Debug, Drop, Error)]
+pub enum JobFault {
+    /// The words are none of the program's, or ask for help or the version, which the error's text then is.
+    #[error("{0}")]
+    Words(WordsError),
+    /// What follows `--start` is other than one to four hexadecimal digits.
+    #[error("usage: --start takes one to four hexadecimal digits")]
+    Start,
+    #[error("out of memory")]
+    Memory,
+}
+
+impl JobFault {
+    /// Whether the fault is the help or the version that the words asked for.
+    pub fn was_asked_for(&self) -> bool
+        ensures { IsTrue result ↔ WasAskedFor self.now }
+    {
+        match self {
+            JobFault::Words(error) => !error.use_stderr(),
+            JobFault::Start | JobFault::Memory => false,
+        }
+    }
+}
+
+impl From<WordsError> for JobFault {
+    ghost from_gives = { λ error fault. IsToldAs error fault };
+
+    fn from(error: WordsError) -> JobFault {
+        match error.kind() {
+            ErrorKind::OutOfMemory => JobFault::Memory,
+            _ => JobFault::Words(error),
+        }
+    }
+}
+
+impl From<AllocError> for JobFault {
+    ghost from_gives = { λ _ fault. fault ≡ Memory };
+
+    fn from(_error: AllocError) -> JobFault {
+        JobFault::Memory
+    }
+}

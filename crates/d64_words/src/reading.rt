@@ -1,0 +1,103 @@
+//! From words to the job that they ask for.
+
+ghost use Rattle.std.specs.Prelude.{◌≡◌, IfOk, IfErr, MatchOption, codes, map, string_bytes, option_map};
+ghost use Rattle.std.specs.Char.{is_ascii_hexdigit};
+ghost use Rattle.std.specs.List.{list_all};
+ghost use Rattle.clap.specs.Words.{found_of, first_of, rows_of};
+ghost use Rattle.d64_words.specs.Asked.{IsSubcommand, IsJob, IsJobOf, IsFault, IsFaultOf};
+ghost use Rattle.d64_words.specs.Start.{IsAddress, address_of, IsStartBy, HasNoAddress};
+ghost use Rattle.d64_words.specs.declared.asked.JobFault.TheVariants.{Start};
+
+use crate::asked::{Job, JobFault};
+use crate::command;
+use clap::ArgMatches;
+use std::alloc::{AllocError, Global};
+
+/// The address at which programs are loaded, where the words say no other.
+const DEFAULT_START: u16 = 0x0801;
+
+/// The most digits of an address.
+const ADDRESS_DIGITS: usize = 4;
+
+/// The job that the words of the process ask for, of which the first is the program's name.
+///
+/// `Words` comes exactly where the words are none of the program's, or ask for help or the version; else `Start` exactly where
+/// what follows `--start` is other than one to four hexadecimal digits; and `Memory` in place of any answer.
+pub fn job(alloc: Global, words: &[&str]) -> Result<Job, JobFault>
+    ensures job { IfOk result (IsJob (map (λ word. word.now) words.now)) }
+    ensures fault { IfErr result (IsFault (map (λ word. word.now) words.now)) }
+{
+    let matches = command::d64sh(alloc)?.try_get_matches_from(words)?;
+    let Some((name, arguments)) = matches.subcommand() else {
+        unreachable!()
+    };
+    job_of(alloc, name, arguments)
+}
+
+/// The job that a subcommand with these matches asks for.
+fn job_of(alloc: Global, name: &str, arguments: &ArgMatches) -> Result<Job, JobFault>
+    requires { IsSubcommand name.now }
+    ensures job { IfOk result (IsJobOf (name.now, rows_of (found_of arguments.now))) }
+    ensures fault { IfErr result (IsFaultOf (name.now, rows_of (found_of arguments.now))) }
+{
+    match name {
+        "shell" => Ok(Job::Shell {
+            image: value(alloc, arguments, "image")?,
+        }),
+        "petcat" => Ok(Job::Petcat {
+            file: value(alloc, arguments, "file")?,
+        }),
+        _ => Ok(Job::Crunch {
+            start: start(arguments)?,
+            file: value(alloc, arguments, "file")?,
+        }),
+    }
+}
+
+/// The value that the words give to an argument, copied.
+fn value(alloc: Global, arguments: &ArgMatches, id: &str) -> Result<Option<String>, AllocError>
+    ensures { IfOk result (λ value. option_map string_bytes value ≡ first_of id.now (rows_of (found_of arguments.now))) }
+{
+    match given(arguments, id) {
+        Some(text) => Ok(Some(String::from_str(alloc, text)?)),
+        None => Ok(None),
+    }
+}
+
+/// The start that the words give, or the default one.
+fn start(arguments: &ArgMatches) -> Result<u16, JobFault>
+    ensures start { IfOk result (IsStartBy (first_of (codes "start") (rows_of (found_of arguments.now)))) }
+    ensures fault { IfErr result (λ fault. (fault ≡ Start) × HasNoAddress (first_of (codes "start") (rows_of (found_of arguments.now)))) }
+{
+    match given(arguments, "start") {
+        Some(hex) => address(hex).ok_or(JobFault::Start),
+        None => Ok(DEFAULT_START),
+    }
+}
+
+/// The value that the words give to an argument.
+fn given<'a>(arguments: &ArgMatches<'a>, id: &str) -> Option<&'a str>
+    ensures { option_map (λ text. text.now) result ≡ first_of id.now (rows_of (found_of arguments.now)) }
+{
+    arguments.get_str(id)
+}
+
+/// The address that one to four hexadecimal digits write; None where the text is anything else.
+fn address(hex: &str) -> Option<u16>
+    ensures { MatchOption result (¬ IsAddress hex.now) (λ address. IsAddress hex.now × (address ≡ address_of hex.now)) }
+{
+    if hex.len() > ADDRESS_DIGITS || !is_hexadecimal(hex) {
+        return None;
+    }
+    match u16::from_str_radix(hex, 16) {
+        Ok(address) => Some(address),
+        Err(_) => None,
+    }
+}
+
+/// Whether the text has hexadecimal digits alone.
+fn is_hexadecimal(text: &str) -> bool
+    ensures { result ≡ list_all is_ascii_hexdigit text.now }
+{
+    text.bytes().all(|byte| byte.is_ascii_hexdigit())
+}

@@ -1,0 +1,137 @@
+//! Which words `clap` takes and refuses, and its texts.
+
+use crate::{Job, JobFault, job};
+use std::test::Fail;
+
+/// Whether the words ask for this job, as `Debug` shows it.
+fn asks_for(rt: &HostRuntime, words: &[&str], wanted: &str) -> Result<bool, Fail> {
+    let job = job(rt.alloc(), words)?;
+    let shown = format!(in rt.alloc(); "{job:?}")?;
+    Ok(shown.as_str() == wanted)
+}
+
+#[test]
+fn takes_each_subcommand(rt: HostRuntime) -> Result<(), Fail> {
+    let rt = &rt;
+    assert!(rt; asks_for(rt, &["d64sh", "shell"], "Shell { image: None }")?);
+    assert!(rt;
+        asks_for(
+            rt,
+            &["d64sh", "shell", "my disk"],
+            "Shell { image: Some(\"my disk\") }"
+        )?
+    );
+    assert!(rt;
+        asks_for(
+            rt,
+            &["d64sh", "petcat", "h"],
+            "Petcat { file: Some(\"h\") }"
+        )?
+    );
+    assert!(rt;
+        asks_for(
+            rt,
+            &["d64sh", "petcat", "--", "--help"],
+            "Petcat { file: Some(\"--help\") }"
+        )?
+    );
+    assert!(rt;
+        asks_for(
+            rt,
+            &["d64sh", "crunch"],
+            "Crunch { start: 2049, file: None }"
+        )?
+    );
+    assert!(rt;
+        asks_for(
+            rt,
+            &["d64sh", "crunch", "h", "--start=1C01"],
+            "Crunch { start: 7169, file: Some(\"h\") }"
+        )?
+    );
+    Ok(())
+}
+
+#[test]
+fn refuses_other_starts(rt: HostRuntime) {
+    for start in ["10000", "00801", "", "+801", "0x8", "8 1"] {
+        let fault = job(rt.alloc(), &["d64sh", "crunch", "--start", start]);
+        assert!(rt; matches!(&fault, Err(JobFault::Start)));
+    }
+}
+
+/// Whether the words get a text of clap's that has this line, and whether they asked for it.
+fn is_told(
+    rt: &HostRuntime,
+    words: &[&str],
+    line: &str,
+    was_asked_for: bool,
+) -> Result<bool, Fail> {
+    let Err(fault) = job(rt.alloc(), words) else {
+        return Ok(false);
+    };
+    let text = format!(in rt.alloc(); "{fault}")?;
+    let has_line = text.as_str().lines().any(|told| told == line);
+    Ok(has_line && fault.was_asked_for() == was_asked_for)
+}
+
+#[test]
+fn tells_what_is_wrong(rt: HostRuntime) -> Result<(), Fail> {
+    let rt = &rt;
+    let usage = "Usage: d64sh <COMMAND>";
+    assert!(rt; is_told(rt, &[], usage, false)?);
+    assert!(rt; is_told(rt, &["d64sh"], usage, false)?);
+    assert!(rt; is_told(rt, &["d64sh", "help"], usage, false)?);
+    assert!(rt;
+        is_told(
+            rt,
+            &["d64sh", "frob"],
+            "error: unrecognized subcommand 'frob'",
+            false
+        )?
+    );
+    assert!(rt;
+        is_told(
+            rt,
+            &["d64sh", "shell", "a", "b"],
+            "Usage: d64sh shell [IMAGE]",
+            false
+        )?
+    );
+    assert!(rt;
+        is_told(
+            rt,
+            &["d64sh", "petcat", "--start", "c000"],
+            "Usage: d64sh petcat [FILE]",
+            false
+        )?
+    );
+    let usage = "Usage: d64sh crunch [--start HEX] [FILE]";
+    assert!(rt; is_told(rt, &["d64sh", "crunch", "a", "b"], usage, false)?);
+    assert!(rt;
+        is_told(
+            rt,
+            &["d64sh", "crunch", "--start=1", "--start=2"],
+            usage,
+            false
+        )?
+    );
+    Ok(())
+}
+
+#[test]
+fn shows_help_and_version(rt: HostRuntime) -> Result<(), Fail> {
+    let rt = &rt;
+    let petcat = "Example: d64sh petcat hello.prg >hello.bas";
+    assert!(rt;
+        is_told(
+            rt,
+            &["d64sh", "--help"],
+            "  petcat  Lists a BASIC program as text",
+            true
+        )?
+    );
+    assert!(rt; is_told(rt, &["d64sh", "petcat", "--help"], petcat, true)?);
+    assert!(rt; is_told(rt, &["d64sh", "-V"], "d64sh 0.1.0", true)?);
+    Ok(())
+}
