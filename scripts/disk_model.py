@@ -16,7 +16,7 @@ CONTROLS = {
 }
 
 TEXTS = {
-    0: " OK", 60: "WRITE FILE OPEN", 62: "FILE NOT FOUND", 63: "FILE EXISTS", 64: "FILE TYPE MISMATCH", 66: "ILLEGAL TRACK AND SECTOR",
+    0: " OK", 1: "FILES SCRATCHED", 60: "WRITE FILE OPEN", 62: "FILE NOT FOUND", 63: "FILE EXISTS", 64: "FILE TYPE MISMATCH", 66: "ILLEGAL TRACK AND SECTOR",
     71: "DIR ERROR", 72: "DISK FULL", 80: "HOST FILE", 81: "NOTHING TO UNDO", 82: "NOTHING TO REDO", 83: "NOT ONE BLOCK",
     **{number: "SYNTAX ERROR" for number in range(30, 35)},
 }
@@ -120,6 +120,11 @@ class Disk:
         start = BLOCK * PLACES[pair]
         return Disk(self.image[:start] + bytes(data) + self.image[start + BLOCK:])
 
+    def with_bytes(self, slot, place, data):
+        """The disk with other bytes in a slot, from a place in it on."""
+        block, start = self.block(slot.block), 32 * slot.place + place
+        return self.with_block(slot.block, block[:start] + data + block[start + len(data):])
+
     def chain(self, pair):
         """The chain from a block, or None."""
         blocks = []
@@ -157,10 +162,8 @@ class Disk:
         if any(slot.kind > REL for slot in self.slots()):
             raise Refused(71, 3)
 
-    def refuse_unsound(self):
-        free, counts = self.free(), self.block(MAP)
-        if any(counts[4 * track] != sum(pair[0] == track for pair in free) for track in SECTORS):
-            raise Refused(71, 1)
+    def owned(self):
+        """The blocks that the map, the directory and the files own."""
         self.refuse_directory()
         owned = [MAP] + self.chain(DIRECTORY)
         for slot in self.slots():
@@ -171,7 +174,13 @@ class Disk:
                 owned += blocks
         if len(set(owned)) < len(owned):
             raise Refused(71, 5)
-        if free & set(owned):
+        return set(owned)
+
+    def refuse_unsound(self):
+        free, counts = self.free(), self.block(MAP)
+        if any(counts[4 * track] != sum(pair[0] == track for pair in free) for track in SECTORS):
+            raise Refused(71, 1)
+        if free & self.owned():
             raise Refused(71, 6)
 
     def written(self, name, kind, data):
@@ -199,6 +208,32 @@ class Disk:
             link = bytes(blocks[number + 1]) if number + 1 < count else bytes([0, len(part) + 1])
             disk = disk.with_block(pair, (link + part).ljust(BLOCK, b"\x00"))
         return disk.with_free(free - set(blocks) - {grown})
+
+    def scratched(self, patterns):
+        """The disk without the files that one of the patterns matches or more, and how many they are."""
+        self.refuse_unsound()
+        slots = [slot for slot in self.slots() if slot.used and slot.closed and not slot.locked and any(matches(pattern, slot.name) for pattern in patterns)]
+        disk, free = self, self.free()
+        for slot in slots:
+            disk = disk.with_bytes(slot, 2, b"\x00")
+            free.update(pair for root in slot.roots() for pair in self.chain(root))
+        return disk.with_free(free) if slots else self, len(slots)
+
+    def renamed(self, old, new):
+        self.refuse_unsound()
+        slot = next((slot for slot in self.slots() if slot.used and slot.name == old), None)
+        if slot is None:
+            raise Refused(62)
+        if any(slot.used and slot.name == new for slot in self.slots()):
+            raise Refused(63)
+        return self.with_bytes(slot, 5, filled(new))
+
+    def validated(self):
+        owned, disk = self.owned(), self
+        for slot in self.slots():
+            if slot.used and not slot.closed:
+                disk = disk.with_bytes(slot, 2, b"\x00")
+        return disk.with_free(set(PAIRS) - owned)
 
     def read(self, pattern):
         self.refuse_directory()
@@ -281,8 +316,8 @@ def plan(free, count):
 
 # Lines
 
-FEWEST_AND_MOST = {"format": (1, 1), "list": (0, 0), "read": (1, 2), "write": (1, 2), "block": (2, 2), "bread": (3, 3), "bwrite": (3, 3),
-                   "undo": (0, 0), "redo": (0, 0), "history": (0, 0), "save": (0, 1), "quit": (0, 0)}
+FEWEST_AND_MOST = {"format": (1, 1), "list": (0, 0), "read": (1, 2), "write": (1, 2), "delete": (1, 1_024), "rename": (2, 2), "validate": (0, 0),
+                   "block": (2, 2), "bread": (3, 3), "bwrite": (3, 3), "undo": (0, 0), "redo": (0, 0), "history": (0, 0), "save": (0, 1), "quit": (0, 0)}
 
 
 def words_of(line):
@@ -349,7 +384,7 @@ class Shell:
         self.cursor += 1
 
     def answer(self, line):
-        """What a line prints before its status."""
+        """What an accepted line prints."""
         word, *arguments = words_of(line)
         if word not in FEWEST_AND_MOST:
             raise Refused(31)
@@ -358,7 +393,8 @@ class Shell:
             raise Refused(34)
         if len(arguments) > most:
             raise Refused(30)
-        return getattr(self, f"do_{word}")(self.images[self.cursor], *arguments) or ""
+        shown = getattr(self, f"do_{word}")(self.images[self.cursor], *arguments)
+        return status(1, shown) if isinstance(shown, int) else (shown or "") + status(0)
 
     def do_format(self, _, word):
         name, comma, disk_id = word.partition(",")
@@ -391,6 +427,19 @@ class Shell:
             raise Refused(30)
         name = name_in(name)
         self.add(disk.written(name, kinds[kind], self.fetch(host)))
+
+    def do_delete(self, disk, *words):
+        patterns = [name_in(word, b"*?") for word in words]
+        disk, count = disk.scratched(patterns)
+        self.add(disk)
+        return count
+
+    def do_rename(self, disk, old, new):
+        old, new = name_in(old), name_in(new)
+        self.add(disk.renamed(old, new))
+
+    def do_validate(self, disk):
+        self.add(disk.validated())
 
     def do_block(self, disk, track, sector):
         data = disk.block(block_in(track, sector))
@@ -440,7 +489,7 @@ class Shell:
             if text.lstrip(b" ")[:1] in (b"", b";"):
                 continue
             try:
-                answers += [self.answer(text), status(0)]
+                answers.append(self.answer(text))
                 self.accepted += 1
             except Refused as refused:
                 answers.append(refused.status)
