@@ -18,7 +18,7 @@ CONTROLS = {
 TEXTS = {
     0: " OK", 1: "FILES SCRATCHED", 60: "WRITE FILE OPEN", 62: "FILE NOT FOUND", 63: "FILE EXISTS", 64: "FILE TYPE MISMATCH", 66: "ILLEGAL TRACK AND SECTOR",
     71: "DIR ERROR", 72: "DISK FULL", 80: "HOST FILE", 81: "NOTHING TO UNDO", 82: "NOTHING TO REDO", 83: "NOT ONE BLOCK",
-    **{number: "SYNTAX ERROR" for number in range(30, 35)},
+    **{number: "SYNTAX ERROR" for number in range(30, 35)}, 90: "OUT OF MEMORY",
 }
 
 
