@@ -11,8 +11,8 @@ use Rattle.cbm_text.specs.declared.mode.Mode.TheVariants.{Free, Quoted, Remark, 
 use Rattle.cbm_text.specs.Keywords.{keywords, keyword, token_from}
 use Rattle.cbm_text.specs.Kept.{quote, rem_token, data_token, Opener, QuoteMark, RemWord, DataWord, opening, code_of, IsKept}
 use Rattle.cbm_text.specs.Pieces.{Piece, Kept, Token, Question, Single, print_token, written, crunched, AreCut}
-use Rattle.cbm_text.specs.Crunching.{question, pi, HasNoOpener, TextBegins, IsText, Crunched}
-use Rattle.cbm_text.specs.Listing.{IsNoOpener, ProgramBegins, IsProgram, Listed}
+use Rattle.cbm_text.specs.Crunching.{question, pi, HasNoOpener, TextBegins, AreTextPieces, Crunched}
+use Rattle.cbm_text.specs.Listing.{IsNoOpener, CodesBegin, AreCodePieces, Listed}
 use Rattle.cbm_text.specs.Modes.{after, single_code, free_code, first_code, CrunchedFrom, shown, expanded_from, expanded}
 use Rattle.cbm_text.proofs.Keywords.{found, code_in, rest_in, BeginsWithRow, row_of}
 use Rattle.cbm_text.proofs.CodesSoFar.{token_first, single_first}
@@ -188,8 +188,8 @@ first_piece (byte ∷ others) code rest is = of_opener (begins_with_opener (byte
 
 -- ---- a text, by pieces and byte after byte
 
-text_by_opener : (opener : Opener) (text run rest codes others : List ℕ) (pieces : List Piece) → text ≡ opening opener ++ (run ++ rest) → IsKept opener run rest → IsText rest pieces
-    → others ≡ flat_map crunched pieces → codes ≡ code_of opener ∷ (run ++ others) → (pieces : List Piece) × IsText text pieces × (codes ≡ flat_map crunched pieces)
+text_by_opener : (opener : Opener) (text run rest codes others : List ℕ) (pieces : List Piece) → text ≡ opening opener ++ (run ++ rest) → IsKept opener run rest → AreTextPieces rest pieces
+    → others ≡ flat_map crunched pieces → codes ≡ code_of opener ∷ (run ++ others) → (pieces : List Piece) × AreTextPieces text pieces × (codes ≡ flat_map crunched pieces)
 unfolding AreCut
 text_by_opener opener text run rest codes others pieces text_is kept cut is codes_is = (
   Kept opener run ∷ pieces,
@@ -197,7 +197,7 @@ text_by_opener opener text run rest codes others pieces text_is kept cut is code
   codes_is ∙ ap (λ (w : List ℕ). code_of opener ∷ (run ++ w)) is,
 )
 
-pieces_by_modes : (n : ℕ) (text codes : List ℕ) → length codes ≤ n → CrunchedFrom Free text codes → (pieces : List Piece) × IsText text pieces × (codes ≡ flat_map crunched pieces)
+pieces_by_modes : (n : ℕ) (text codes : List ℕ) → length codes ≤ n → CrunchedFrom Free text codes → (pieces : List Piece) × AreTextPieces text pieces × (codes ≡ flat_map crunched pieces)
 unfolding CrunchedFrom AreCut
 pieces_by_modes zero text [] short none = ([], none, refl)
 pieces_by_modes zero text (code ∷ codes) short more = absurd (omega arith)
@@ -205,8 +205,8 @@ pieces_by_modes (suc n) text [] short none = ([], none, refl)
 pieces_by_modes (suc n) text (code ∷ codes) short (rest, first, others) = of_first (first_piece text code rest first) (λ next left small more. pieces_by_modes n next left small more)
   where
     of_first : ((opener : Opener) × (code ≡ code_of opener) × (text ≡ opening opener ++ rest)) ⊎ FirstOther text code rest
-        → ((next left : List ℕ) → length left ≤ n → CrunchedFrom Free next left → (pieces : List Piece) × IsText next pieces × (left ≡ flat_map crunched pieces))
-        → (pieces : List Piece) × IsText text pieces × (code ∷ codes ≡ flat_map crunched pieces)
+        → ((next left : List ℕ) → length left ≤ n → CrunchedFrom Free next left → (pieces : List Piece) × AreTextPieces next pieces × (left ≡ flat_map crunched pieces))
+        → (pieces : List Piece) × AreTextPieces text pieces × (code ∷ codes ≡ flat_map crunched pieces)
     of_first (inl (opener, code_is, text_is)) later =
         let behind : CrunchedFrom (mode_in opener []) rest codes = subst (λ (m : Mode). CrunchedFrom m rest codes) (ap (λ (k : ℕ). after Free k) code_is ∙ mode_behind opener) others in
         let cut = cut_text (mode_in opener []) rest codes behind in
@@ -263,7 +263,7 @@ opener_more opener text run rest others text_is kept crunched =
       subst (λ (m : Mode). CrunchedFrom m (run ++ rest) (run ++ others)) (sym (mode_behind opener)) (crunched_along (mode_in opener []) run rest others runs crunched),
     )
 
-modes_of_pieces : (pieces : List Piece) (text : List ℕ) → IsText text pieces → CrunchedFrom Free text (flat_map crunched pieces)
+modes_of_pieces : (pieces : List Piece) (text : List ℕ) → AreTextPieces text pieces → CrunchedFrom Free text (flat_map crunched pieces)
 unfolding AreCut CrunchedFrom
 modes_of_pieces [] text none = none
 modes_of_pieces (Kept opener run ∷ pieces) text (rest, (text_is, kept), others) = opener_more opener text run rest (flat_map crunched pieces) text_is kept (modes_of_pieces pieces rest others)
@@ -284,10 +284,10 @@ modes_of_crunched text codes (pieces, cut, is) = subst (λ (w : List ℕ). Crunc
 -- ---- crunched bytes, by pieces and byte after byte
 
 -- what a crunched byte that opens nothing stands for
-plain_piece : (code : ℕ) (rest : List ℕ) → IsNoOpener code → (piece : Piece) × ProgramBegins (code ∷ rest) piece rest × (written piece ≡ shown Free code)
+plain_piece : (code : ℕ) (rest : List ℕ) → IsNoOpener code → (piece : Piece) × CodesBegin (code ∷ rest) piece rest × (written piece ≡ shown Free code)
 plain_piece code rest opens = of_word (keyword code) refl
   where
-    of_word : (word : Option (List ℕ)) → keyword code ≡ word → (piece : Piece) × ProgramBegins (code ∷ rest) piece rest × (written piece ≡ shown Free code)
+    of_word : (word : Option (List ℕ)) → keyword code ≡ word → (piece : Piece) × CodesBegin (code ∷ rest) piece rest × (written piece ≡ shown Free code)
     of_word None at = (Single code, (opens, at, refl), sym (ap (λ (o : Option (List ℕ)). option_map_or (λ w. w) o (code ∷ [])) at))
     of_word (Some word) at = (
       Token code,
@@ -311,8 +311,8 @@ opener_expanded opener run rest runs =
     ∙ ap (λ (w : List ℕ). shown Free (code_of opener) ++ w) (expanded_along (mode_in opener []) run rest runs)
     ∙ ap (λ (w : List ℕ). w ++ (run ++ expanded rest)) (opener_shown opener) ∙ sym (append_assoc (opening opener) run (expanded rest))
 
-codes_by_opener : (opener : Opener) (codes run rest : List ℕ) (pieces : List Piece) → codes ≡ code_of opener ∷ (run ++ rest) → IsKept opener run rest → RunsOn (mode_in opener []) run rest → IsProgram rest pieces
-    → expanded rest ≡ flat_map written pieces → (pieces : List Piece) × IsProgram codes pieces × (expanded codes ≡ flat_map written pieces)
+codes_by_opener : (opener : Opener) (codes run rest : List ℕ) (pieces : List Piece) → codes ≡ code_of opener ∷ (run ++ rest) → IsKept opener run rest → RunsOn (mode_in opener []) run rest → AreCodePieces rest pieces
+    → expanded rest ≡ flat_map written pieces → (pieces : List Piece) × AreCodePieces codes pieces × (expanded codes ≡ flat_map written pieces)
 unfolding AreCut
 codes_by_opener opener codes run rest pieces codes_is kept runs cut is = (
   Kept opener run ∷ pieces,
@@ -320,7 +320,7 @@ codes_by_opener opener codes run rest pieces codes_is kept runs cut is = (
   ap (λ (w : List ℕ). expanded w) codes_is ∙ opener_expanded opener run rest runs ∙ ap (λ (w : List ℕ). opening opener ++ run ++ w) is,
 )
 
-pieces_of_codes : (n : ℕ) (codes : List ℕ) → length codes ≤ n → (pieces : List Piece) × IsProgram codes pieces × (expanded codes ≡ flat_map written pieces)
+pieces_of_codes : (n : ℕ) (codes : List ℕ) → length codes ≤ n → (pieces : List Piece) × AreCodePieces codes pieces × (expanded codes ≡ flat_map written pieces)
 unfolding AreCut expanded_from
 pieces_of_codes zero [] short = ([], refl, refl)
 pieces_of_codes zero (code ∷ codes) short = absurd (omega arith)
@@ -328,8 +328,8 @@ pieces_of_codes (suc n) [] short = ([], refl, refl)
 pieces_of_codes (suc n) (code ∷ codes) short = of_opener (opens_or_not code) (λ left small. pieces_of_codes n left small)
   where
     of_opener : ((opener : Opener) × (code ≡ code_of opener)) ⊎ IsNoOpener code
-        → ((left : List ℕ) → length left ≤ n → (pieces : List Piece) × IsProgram left pieces × (expanded left ≡ flat_map written pieces))
-        → (pieces : List Piece) × IsProgram (code ∷ codes) pieces × (expanded (code ∷ codes) ≡ flat_map written pieces)
+        → ((left : List ℕ) → length left ≤ n → (pieces : List Piece) × AreCodePieces left pieces × (expanded left ≡ flat_map written pieces))
+        → (pieces : List Piece) × AreCodePieces (code ∷ codes) pieces × (expanded (code ∷ codes) ≡ flat_map written pieces)
     of_opener (inl (opener, code_is)) later =
         let cut = cut_bytes (mode_in opener []) codes in
         let kept : IsKept opener cut.run cut.rest = kept_by_modes opener [] cut.run cut.rest (no_end_nothing opener) cut.runs in
@@ -345,7 +345,7 @@ pub listed_by_modes : (codes : List ℕ) → Listed codes (expanded codes)
 unfolding Listed
 listed_by_modes codes = pieces_of_codes (length codes) codes (omega arith)
 
-modes_of_listed_pieces : (pieces : List Piece) (codes : List ℕ) → IsProgram codes pieces → flat_map written pieces ≡ expanded codes
+modes_of_listed_pieces : (pieces : List Piece) (codes : List ℕ) → AreCodePieces codes pieces → flat_map written pieces ≡ expanded codes
 unfolding AreCut expanded_from
 modes_of_listed_pieces [] codes none = sym (ap (λ (w : List ℕ). expanded w) none)
 modes_of_listed_pieces (Kept opener run ∷ pieces) codes (rest, (codes_is, kept), others) =

@@ -6,8 +6,8 @@ use Rattle.cbm_text.specs.declared.mode.Mode.TheVariants.{Free}
 use Rattle.cbm_text.specs.Keywords.{keywords, keyword}
 use Rattle.cbm_text.specs.Kept.{Opener, QuoteMark, RemWord, DataWord, opening, IsKept}
 use Rattle.cbm_text.specs.Pieces.{Piece, Kept, Token, Question, Single, written, crunched, AreCut}
-use Rattle.cbm_text.specs.Crunching.{pi, HasNoOpener, TextBegins, IsText, Crunched}
-use Rattle.cbm_text.specs.Listing.{IsProgram, Listed}
+use Rattle.cbm_text.specs.Crunching.{pi, HasNoOpener, TextBegins, AreTextPieces, Crunched}
+use Rattle.cbm_text.specs.Listing.{AreCodePieces, Listed}
 use Rattle.cbm_text.specs.Laws.{HasNoFreeQuestion, CrunchesOnce, ListsOnce}
 use Rattle.cbm_text.specs.Modes.{expanded}
 use Rattle.cbm_text.proofs.Keywords.{token_shown, keyword_below, keyword_past}
@@ -24,13 +24,13 @@ nothing_begins (Token token) rest (none, is) = absurd cc
 nothing_begins Question rest is = absurd cc
 nothing_begins (Single byte) rest (none, no_token, is, plain, kept) = absurd cc
 
-nothing_cut : (pieces : List Piece) (text : List ℕ) → text ≡ [] → IsText text pieces → pieces ≡ []
+nothing_cut : (pieces : List Piece) (text : List ℕ) → text ≡ [] → AreTextPieces text pieces → pieces ≡ []
 unfolding AreCut
 nothing_cut [] text none cut = refl
 nothing_cut (piece ∷ pieces) text none (rest, begins, others) = absurd (nothing_begins piece rest (subst (λ (w : List ℕ). TextBegins w piece rest) none begins))
 
 -- what is kept in a text is kept in its crunched bytes
-still_kept : (opener : Opener) (run rest : List ℕ) (pieces : List Piece) → IsText rest pieces → IsKept opener run rest → IsKept opener run (flat_map crunched pieces)
+still_kept : (opener : Opener) (run rest : List ℕ) (pieces : List Piece) → AreTextPieces rest pieces → IsKept opener run rest → IsKept opener run (flat_map crunched pieces)
 still_kept opener run rest pieces cut (inl ends) = inl ends
 still_kept opener run rest pieces cut (inr (none, empty)) = inr (none, ap (λ (ps : List Piece). flat_map crunched ps) (nothing_cut pieces rest empty cut))
 
@@ -47,7 +47,7 @@ later_in : (piece other : Piece) (pieces : List Piece) → Contains pieces other
 later_in piece other pieces (k, within, is) = (suc k, omega arith, is)
 
 -- the pieces of a text without a free `?` are those of its crunched bytes
-same_pieces : (pieces : List Piece) (text : List ℕ) → IsText text pieces → ¬ (Contains pieces Question) → IsProgram (flat_map crunched pieces) pieces × (text ≡ flat_map written pieces)
+same_pieces : (pieces : List Piece) (text : List ℕ) → AreTextPieces text pieces → ¬ (Contains pieces Question) → AreCodePieces (flat_map crunched pieces) pieces × (text ≡ flat_map written pieces)
 unfolding AreCut
 same_pieces [] text none plain = (refl, none)
 same_pieces (Kept opener run ∷ pieces) text (rest, (text_is, kept), others) plain =
@@ -71,7 +71,7 @@ pub comes_back : (text codes : List ℕ) → HasNoFreeQuestion text → Crunched
 unfolding Crunched Listed
 comes_back text codes plain (pieces, cut, is) =
     let (same, text_is) = same_pieces pieces text cut (plain pieces cut) in
-    (pieces, subst (λ (w : List ℕ). IsProgram w pieces) (sym is) same, text_is)
+    (pieces, subst (λ (w : List ℕ). AreCodePieces w pieces) (sym is) same, text_is)
 
 -- ---- one way to crunch, and one to list
 

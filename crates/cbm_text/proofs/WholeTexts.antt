@@ -16,7 +16,7 @@ use Rattle.cbm_text.specs.declared.fault.BasicFault.TheVariants.{NoNumber, Numbe
 use Rattle.cbm_text.specs.Kept.{Opener, QuoteMark, RemWord, DataWord, opening, code_of}
 use Rattle.cbm_text.specs.Pieces.{Piece, Kept, Token, Question, Single, print_token, crunched, AreCut}
 use Rattle.cbm_text.specs.Keywords.{keywords, token_from}
-use Rattle.cbm_text.specs.Crunching.{question, IsText, Crunched}
+use Rattle.cbm_text.specs.Crunching.{question, AreTextPieces, Crunched}
 use Rattle.cbm_text.specs.Program.{Line, Program, word, address_behind, line_layout, lines_layout, layout, BeginsLine, LinesRead, Reads}
 use Rattle.cbm_text.specs.Listing.{line_text, IsListing, Lists}
 use Rattle.cbm_text.specs.Modes.{listing}
@@ -59,7 +59,7 @@ opener_some QuoteMark run none = none
 opener_some RemWord run none = none
 opener_some DataWord run none = none
 
-pieces_no_zero : (pieces : List Piece) (text : List ℕ) → IsText text pieces → has_zero text ≡ false → has_zero (flat_map crunched pieces) ≡ false
+pieces_no_zero : (pieces : List Piece) (text : List ℕ) → AreTextPieces text pieces → has_zero text ≡ false → has_zero (flat_map crunched pieces) ≡ false
 unfolding AreCut
 pieces_no_zero [] text cut none = refl
 pieces_no_zero (Kept opener run ∷ pieces) text (rest, (text_is, kept), others) none =

@@ -18,7 +18,8 @@ abbrev pub HasNoOpener : List ℕ → Type 0
 HasNoOpener text = (opener : Opener) → starts_with nat_eq text (opening opener) ≡ false
 
 -- The first piece of a text, and what follows. Where an opener stands there, it and the run that is kept behind it; else the
--- first keyword in the table's order; else a `?`; else one byte that is $FF or below $80. No piece begins with another byte.
+-- first keyword in the table's order; else a `?`, with which no keyword begins; else one byte that is $FF or below $80. No
+-- piece begins with another byte.
 abbrev pub TextBegins : List ℕ → Piece → List ℕ → Type 0
 TextBegins text (Kept opener run) rest = (text ≡ opening opener ++ run ++ rest) × IsKept opener run rest
 TextBegins text (Token token) rest = HasNoOpener text × (token_from 128 keywords text ≡ Some (token, rest))
@@ -26,10 +27,10 @@ TextBegins text Question rest = text ≡ question ∷ rest
 TextBegins text (Single byte) rest =
     HasNoOpener text × (token_from 128 keywords text ≡ None) × (text ≡ byte ∷ rest) × (byte ≢ question) × ((byte ≡ pi) ⊎ (byte < 128))
 
--- The pieces of a text.
-abbrev pub IsText : List ℕ → List Piece → Type 0
-IsText text pieces = AreCut TextBegins text pieces
+-- The text is these pieces, one after the other.
+abbrev pub AreTextPieces : List ℕ → List Piece → Type 0
+AreTextPieces text pieces = AreCut TextBegins text pieces
 
 -- The bytes of a line crunch to these.
 unfoldable pub Crunched : List ℕ → List ℕ → Type 0
-Crunched text codes = (pieces : List Piece) × IsText text pieces × (codes ≡ flat_map crunched pieces)
+Crunched text codes = (pieces : List Piece) × AreTextPieces text pieces × (codes ≡ flat_map crunched pieces)
