@@ -115,10 +115,10 @@ fn names_and_clears_a_slot(rt: HostRuntime) -> Result<(), Fail> {
     let name = Name::new(b"X").map_err(|_| "no name")?;
     let slot = used_slot(&image)?;
     set_name(&mut image, &mut patch, slot, &name)?;
-    let entry = &image.sector(directory)[0x22..0x36];
-    assert_eq!(rt; &entry[..4], b"\xC2\x11\x00X".as_slice());
-    assert_eq!(rt; &entry[4..19], [0xA0; 15].as_slice());
-    assert_eq!(rt; entry[19], 1);
+    let sector = image.sector(directory);
+    assert_eq!(rt; &sector[0x22..0x26], b"\xC2\x11\x00X".as_slice());
+    assert_eq!(rt; &sector[0x26..0x35], [0xA0; 15].as_slice());
+    assert_eq!(rt; sector[0x35], 1);
     let slot = used_slot(&image)?;
     clear_slot(&mut image, &mut patch, slot)?;
     let entry = &image.sector(directory)[0x22..0x26];

@@ -1,4 +1,4 @@
-use Rattle.std.proofs.Common.{ℕ, List, [], sym, ◌∙◌}
+use Rattle.std.proofs.Common.{[], sym, ◌∙◌}
 use Rattle.std.proofs.lemmas.List.Quantifiers.{position-Some}
 use Rattle.d64_files.specs.Directory.{slots, is_named}
 use Rattle.library_tests.proofs.writers.used_slot.Goals as goal
