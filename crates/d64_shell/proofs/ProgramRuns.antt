@@ -7,7 +7,7 @@ use Rattle.d64_script.specs.RawLines.{lines_of, ended_lines}
 use Rattle.d64_script.specs.Script.{script_limit}
 use Rattle.d64_shell.specs.Act.{HostState}
 use Rattle.d64_undo.specs.History.{History, begun}
-use Rattle.d64_shell.specs.Program.{image_name_of, home_of, IsFirstImage, Outside, RanShell, StoppedBy, fault_of_run}
+use Rattle.d64_shell.specs.Program.{home_of, IsFirstImage, Outside, RanShell, StoppedBy, fault_of_run}
 use Rattle.d64_shell.specs.Runner.{Stand, RanLines, StoppedAt, Ran}
 use Rattle.d64_shell.specs.Transcript.{Progress}
 use Rattle.d64_shell.specs.declared.runner.Outcome.{Outcome}
@@ -85,29 +85,27 @@ Ran-flushed home reader left old new flushed (Err (Memory error)) ran kept = rec
 }
 
 -- a script has run on the first image, and then its output was flushed
-pub RanShell-flushed : (words : List (List ℕ)) (reader left : Option (List ℕ)) (old new : Outside) (ended : Result Outcome ShellFault)
+pub RanShell-flushed : (old new : Outside) (ended : Result Outcome ShellFault)
     (name : Option (List ℕ)) (image : List (List ℕ)) (home : List ℕ) (host : HostState) (first history : History) (writer : Option (List ℕ))
-    → image_name_of words ≡ Some name → IsFirstImage old.host name image host → home ≡ home_of name → first ≡ begun image
-    → Ran home reader left
+    → IsFirstImage old.host name image host → home ≡ home_of name → first ≡ begun image
+    → Ran home old.reader new.reader
     (record { writer = old.writer; world = record { host = host; history = first } })
     (record { writer = writer; world = record { host = new.host; history = history } }) ended
-    → Keeps writer new.writer → RanShell words reader left old new ended
-RanShell-flushed words reader left old new ended name image home host first history writer asked is_first at_home begins ran flushed = record {
-  name = name;
-  asked = asked;
+    → Keeps writer new.writer → RanShell name old new ended
+RanShell-flushed old new ended name image home host first history writer is_first at_home begins ran flushed = record {
   image = image;
   host = host;
   first = is_first;
   history = history;
-  ran = Ran-flushed (home_of name) reader left
+  ran = Ran-flushed (home_of name) old.reader new.reader
       (record { writer = old.writer; world = record { host = host; history = begun image } })
       (record { writer = writer; world = record { host = new.host; history = history } }) new.writer ended
       (rw (at_home, begins) at ran) flushed;
 }
 
 -- the fault of a run tells how the script ended
-pub StoppedBy-run : (words : List (List ℕ)) (reader left : Option (List ℕ)) (old new : Outside) (fault : ShellFault)
-    → RanShell words reader left old new (Err fault) → StoppedBy (fault_of_run fault) words reader left old new
-StoppedBy-run words reader left old new Read ran = ran
-StoppedBy-run words reader left old new Write ran = (Err Write, ran)
-StoppedBy-run words reader left old new (Memory error) ran = inr (error, ran)
+pub StoppedBy-run : (name : Option (List ℕ)) (old new : Outside) (fault : ShellFault)
+    → RanShell name old new (Err fault) → StoppedBy (fault_of_run fault) name old new
+StoppedBy-run name old new Read ran = ran
+StoppedBy-run name old new Write ran = (Err Write, ran)
+StoppedBy-run name old new (Memory error) ran = inr (error, ran)

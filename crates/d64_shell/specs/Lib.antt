@@ -27,3 +27,4 @@ pub mod Transcript
 pub mod ScriptLaws
 pub mod Runner
 pub mod Program
+pub mod Tools

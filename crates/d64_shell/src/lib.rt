@@ -9,9 +9,14 @@ mod history_text;
 pub mod laws;
 mod line;
 mod listing_text;
+mod program_fault;
 mod response;
 mod runner;
+mod shell_job;
 mod status_from;
+mod tool_job;
+mod tools;
+mod word_faults;
 
 pub use command_word::CommandWord;
 pub use d64_dos::{Command, Refusal, Reply};
@@ -20,5 +25,8 @@ pub use d64_undo::laws::{
     memory_alone_is_free, memory_for_acceptance, redo_after_undo, retraced, undo_after_command,
 };
 pub use d64_undo::{Answer, NothingToRedo, NothingToUndo, Request, Session, run_all};
-pub use entry::{ProgramFault, program};
+pub use d64_words::{Job, JobFault, job};
+pub use entry::program;
+pub use program_fault::ProgramFault;
 pub use runner::{Outcome, ShellFault, run};
+pub use tools::{ToolFault, crunch_run, petcat_run};

@@ -41,6 +41,6 @@ fn start(rt: &HostRuntime, faults: &mut Stderr) -> Result<u8, ProgramFault> {
 fn fault_of_words(error: io::Error) -> ProgramFault {
     match error.kind() {
         ErrorKind::OutOfMemory => ProgramFault::Memory,
-        _ => ProgramFault::Usage,
+        _ => ProgramFault::UnreadableWords,
     }
 }

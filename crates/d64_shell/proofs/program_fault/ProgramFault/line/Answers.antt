@@ -1,11 +1,15 @@
 -- The text of each fault is that of the table.
 use Rattle.std.proofs.Common.{rules, append_assoc}
 use Rattle.d64_shell.specs.Program.{fault_line}
-use Rattle.d64_shell.proofs.entry.ProgramFault.line.Goals as goal
+use Rattle.d64_shell.proofs.program_fault.ProgramFault.line.Goals as goal
 
-pub returns-in-Usage : goal.returns-in-Usage
+pub returns-in-UnreadableWords : goal.returns-in-UnreadableWords
 unfolding fault_line
-returns-in-Usage c = search (rules, append_assoc)
+returns-in-UnreadableWords c = search (rules, append_assoc)
+
+pub returns-in-Start : goal.returns-in-Start
+unfolding fault_line
+returns-in-Start c = search (rules, append_assoc)
 
 pub returns-in-WrongLength : goal.returns-in-WrongLength
 unfolding fault_line

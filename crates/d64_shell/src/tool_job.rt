@@ -1,0 +1,115 @@
+//! The tools' job: a tool on the input or on a file, and how its answer is told.
+ghost use Rattle.std.specs.Prelude.{◌≡◌, ◌<◌, ◌^◌, IfErr, IfSome, option_copied, unwrap_or};
+ghost use Rattle.cbm_text.specs.BasicText.{fault_line};
+ghost use Rattle.d64_script.specs.Output.{AppendsPart};
+ghost use Rattle.d64_script.specs.Status.{status_line};
+ghost use Rattle.d64_shell.specs.Program.{RanToolOn, TellsAnswer, outside_of};
+ghost use Rattle.d64_shell.specs.Tools.{TellsSmallLine};
+
+use crate::entry::{ALL_ACCEPTED, FILE_BYTES, SOME_REFUSED};
+use crate::program_fault::ProgramFault;
+use crate::tools::{Tool, ToolFault};
+use cbm_text::BasicFault;
+use d64_host::{Host, HostFault};
+use d64_script::output::write_answer;
+use d64_script::status::Status;
+use std::alloc::Global;
+use std::io::{Read, Write};
+
+/// Runs the tool on the file that the host has under this name, or on the input, and flushes the output.
+pub(crate) fn run_tool<R: Read, W: Write, H: Host>(
+    alloc: Global,
+    tool: Tool,
+    name: Option<&str>,
+    reader: &mut R,
+    writer: &mut W,
+    host: &mut H,
+) -> Result<(), ToolFault>
+    ensures ran { RanToolOn tool (option_copied name.entry)
+        (outside_of (R.remaining reader.old) (W.contents writer.old) (H.files host.old) (H.failure_count host.old))
+        (outside_of (R.remaining reader.new) (W.contents writer.new) (H.files host.new) (H.failure_count host.new)) result }
+    ensures line { IfErr result TellsSmallLine }
+{
+    match write_result(alloc, tool, name, reader, writer, host) {
+        Ok(()) => {}
+        Err(fault) => return Err(fault),
+    }
+    match writer.flush() {
+        Ok(()) => Ok(()),
+        Err(_) => Err(ToolFault::Write),
+    }
+}
+
+/// Writes what the tool makes of the file that the host has under this name, or of the input.
+fn write_result<R: Read, W: Write, H: Host>(
+    alloc: Global,
+    tool: Tool,
+    name: Option<&str>,
+    reader: &mut R,
+    writer: &mut W,
+    host: &mut H,
+) -> Result<(), ToolFault>
+    ensures ran { RanToolOn tool (option_copied name.entry)
+        (outside_of (R.remaining reader.old) (W.contents writer.old) (H.files host.old) (H.failure_count host.old))
+        (outside_of (R.remaining reader.new) (W.contents writer.new) (H.files host.new) (H.failure_count host.new)) result }
+    ensures line { IfErr result TellsSmallLine }
+{
+    let Some(name) = name else {
+        return tool.run(alloc, reader, writer);
+    };
+    match host.fetch(alloc, name, FILE_BYTES) {
+        Ok(input) => tool.write(alloc, &input, writer),
+        Err(HostFault::Memory(error)) => Err(ToolFault::Memory(error)),
+        Err(HostFault::Missing | HostFault::Device | HostFault::TooLong) => Err(ToolFault::Read),
+    }
+}
+
+/// Tells a tool's answer, and answers the exit status.
+pub(crate) fn tell_answer<F: Write>(answer: Result<(), ToolFault>, faults: &mut F) -> u8
+    requires { IfErr answer TellsSmallLine }
+    ensures told { TellsAnswer answer (F.contents faults.old) (F.contents faults.new) result }
+    ensures silent { result ≡ 0 → faults.new ≡ faults.old }
+{
+    match answer {
+        Ok(()) => ALL_ACCEPTED,
+        Err(ToolFault::Text(fault)) => {
+            let line = text_line(fault);
+            tell_refusal(
+                Status::BasicText {
+                    fault: fault.number(),
+                    line,
+                },
+                faults,
+            )
+        }
+        Err(ToolFault::NotBasic(fault)) => tell_refusal(
+            Status::NotBasic {
+                fault: fault.number(),
+            },
+            faults,
+        ),
+        Err(ToolFault::Read) => ProgramFault::Read.report(faults),
+        Err(ToolFault::Write) => ProgramFault::Write.report(faults),
+        Err(ToolFault::Memory(_)) => ProgramFault::Memory.report(faults),
+    }
+}
+
+/// The line of the text that a fault tells, or 0 where it tells none.
+fn text_line(fault: BasicFault) -> u32
+    requires { IfSome (fault_line fault) (λ line. line < 2 ^ 32) }
+    ensures { result ≡ unwrap_or (fault_line fault) 0 }
+{
+    match fault.line() {
+        Some(line) => line as u32,
+        None => 0,
+    }
+}
+
+/// Writes the status line of a refusal, and answers the exit status. Where a write fails, the rest of the line is dropped.
+fn tell_refusal<F: Write>(status: Status, faults: &mut F) -> u8
+    ensures status { result ≡ 1 }
+    ensures told { AppendsPart (F.contents faults.old) (F.contents faults.new) (status_line status) }
+{
+    let _ = write_answer(faults, status.line().as_slice());
+    SOME_REFUSED
+}
