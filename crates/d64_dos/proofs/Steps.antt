@@ -29,7 +29,7 @@ use Rattle.d64_dos.specs.FileRefusals.{validate_refusal}
 use Rattle.d64_dos.specs.Refusal.{refused_by}
 use Rattle.d64_dos.specs.Step.{FileCommandsKeepDisksSound, IsMade, Leaves}
 use Rattle.d64_dos.specs.declared.command.Reply.{Reply}
-use Rattle.d64_dos.specs.declared.command.Reply.TheVariants.{Done, Scratched}
+use Rattle.d64_dos.specs.declared.command.Reply.TheVariants.{Scratched}
 use Rattle.d64_dos.specs.WriteRefusal.{has_room, is_writable, write_refusal}
 use Rattle.d64_dos.specs.declared.refusal.Refusal.{Refusal}
 use Rattle.d64_dos.specs.declared.refusal.Refusal.TheVariants.{Exists, WrongType, Directory, DiskFull}

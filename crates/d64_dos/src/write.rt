@@ -14,7 +14,7 @@ use arrayvec::ArrayVec;
 use d64_files::{Directory, Kind, Name, blocks_for, checked, grow_after, put_chain, put_entry_at};
 use d64_image::{BLOCKS, BlockNo, BlockSet, Image, Patch};
 use d64_map::laws::plan_takes_free_blocks;
-use d64_map::{free_set, pick_dir, put_map, room};
+use d64_map::{free_set, pick_dir, put_map};
 use std::alloc::AllocError;
 
 /// Where the entry of a new file goes.
@@ -72,7 +72,7 @@ fn find_space(directory: &Directory, bytes: usize) -> Option<Space>
     plan_takes_free_blocks();
     let mut free = free_set(directory.image());
     let count = blocks_for(bytes);
-    if count > room(&free) as usize {
+    if count > BLOCKS {
         return None;
     }
     let place = find_place(directory, &free)?;

@@ -5,7 +5,6 @@ ghost use Rattle.std.specs.FinSet as set;
 ghost use Rattle.d64_image.specs.Block.{sectors_on, first_block};
 ghost use Rattle.d64_map.specs.Track.{blocks_on};
 ghost use Rattle.d64_map.specs.Search.{first_order, sector_after, rotated, next_order, dir_order};
-ghost use Rattle.d64_map.specs.Plan.{is_outside, room};
 ghost use Rattle.d64_map.specs.Side.{track_at, other_side, tracks_along, tracks_beyond};
 
 use crate::tracks::{DIRECTORY_TRACK, sector_count};
@@ -204,29 +203,4 @@ pub fn pick_dir(free: &BlockSet, last: BlockNo) -> Option<BlockNo>
     } else {
         pick_on(free, DIRECTORY_TRACK)
     }
-}
-
-/// Whether a file may take a block: it is free, and lies outside track 18.
-fn is_free_for_files(free: &BlockSet, block: BlockNo) -> bool
-    ensures { result ≡ (set.contains free.now block && is_outside block) }
-{
-    free.has(block) && block.track() != DIRECTORY_TRACK
-}
-
-/// How many blocks of a set files may take: those outside track 18.
-pub fn room(free: &BlockSet) -> u32
-    ensures { result ≡ room free.now }
-{
-    let mut count = 0;
-    for index in 0..BLOCKS {
-        match BlockNo::at(index) {
-            Some(block) => {
-                if is_free_for_files(free, block) {
-                    count += 1;
-                }
-            }
-            None => {}
-        }
-    }
-    count
 }

@@ -3,7 +3,7 @@
 use d64_image::{BLOCKS, BlockNo, BlockSet, Image, Patch};
 use d64_map::{
     blocks_free, counts_fit, free_count, free_set, is_free, pick_dir, pick_first, pick_next,
-    put_map, room,
+    put_map,
 };
 use std::test::Fail;
 
@@ -83,7 +83,6 @@ fn a_fresh_disk_has_the_map_of_the_manual(rt: HostRuntime) -> Result<(), Fail> {
     assert!(rt; map[..4].iter().all(|byte| *byte == 0));
     assert!(rt; map[144..].iter().all(|byte| *byte == 0));
     assert_eq!(rt; blocks_free(&image), 664);
-    assert_eq!(rt; room(&free), 664);
     assert_eq!(rt; free_count(&image, 18), 17);
     assert!(rt; counts_fit(&image));
     Ok(())

@@ -1,6 +1,6 @@
-use Rattle.std.proofs.Common.{◌≡◌, List, ℕ, ap, ◌∙◌}
+use Rattle.std.proofs.Common.{List, ℕ, ap, ◌∙◌}
 use Rattle.std.proofs.lemmas.Result.{on_ok_weaker}
-use Rattle.d64_image.specs.Patch.{back, changed}
+use Rattle.d64_image.specs.Patch.{changed}
 use Rattle.d64_dos.specs.Change.{said}
 use Rattle.d64_dos.proofs.Steps.{step_of, nothing_back, on_err}
 use Rattle.d64_dos.proofs.command.apply.Goals as goal

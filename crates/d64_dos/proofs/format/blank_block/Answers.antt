@@ -1,8 +1,8 @@
-use Rattle.std.proofs.Common.{◌≡◌, ℕ, List, [], sym, ap, ◌∙◌}
+use Rattle.std.proofs.Common.{◌≡◌, [], sym, ap, ◌∙◌}
 use Rattle.std.proofs.Math.ListN.{replicate}
 use Rattle.std.proofs.lemmas.List.{set-get_or}
 use Rattle.std.proofs.lemmas.Slice.Eq.{bytes_eq-Decides}
-use Rattle.d64_image.specs.Image.{sector_at, with_sector}
+use Rattle.d64_image.specs.Image.{with_sector}
 use Rattle.d64_dos.proofs.format.blank_block.Goals as goal
 
 pub returns-then-eq-clause-blank : goal.returns-then-eq-clause-blank
