@@ -1,5 +1,5 @@
 """A plain model of BASIC V2 programs as text, written from the specification and not from the code."""
-from disk_model import UNITS, to_text
+from text_form import UNITS, to_text
 
 KEYWORDS = """end for next data input# input dim read let goto run if restore gosub return rem stop on wait load save verify def poke
 print# print cont list clr cmd sys open close get new tab( to fn spc( then not step + - * / ^ and or > = < sgn int abs usr fre pos sqr rnd

@@ -1,6 +1,9 @@
 """A plain model of disks and of the shell's lines, written from the specification and not from the code. It is slow and simple: an image is its
 bytes, a session a list of images, and each line is worked out anew.
 """
+import basic_model
+from text_form import from_text, to_text
+
 BLOCK = 256
 SECTORS = {track: 21 if track < 18 else 19 if track < 25 else 18 if track < 31 else 17 for track in range(1, 36)}
 PAIRS = [(track, sector) for track, count in SECTORS.items() for sector in range(count)]
@@ -9,16 +12,10 @@ MAP, DIRECTORY = (18, 0), (18, 1)
 DEL, SEQ, PRG, USR, REL = range(5)
 FORBIDDEN = b'*?=:,"\x0d\xa0'
 
-CONTROLS = {
-    0x05: "wht", 0x0E: "swlc", 0x11: "down", 0x12: "rvon", 0x13: "home", 0x14: "del", 0x1C: "red", 0x1D: "rght", 0x1E: "grn", 0x1F: "blu",
-    0x81: "orng", 0x8E: "swuc", 0x90: "blk", 0x91: "up", 0x92: "rvof", 0x93: "clr", 0x94: "inst", 0x95: "brn", 0x96: "lred", 0x97: "gry1",
-    0x98: "gry2", 0x99: "lgrn", 0x9A: "lblu", 0x9B: "gry3", 0x9C: "pur", 0x9D: "left", 0x9E: "yel", 0x9F: "cyn",
-}
-
 TEXTS = {
     0: " OK", 1: "FILES SCRATCHED", 60: "WRITE FILE OPEN", 62: "FILE NOT FOUND", 63: "FILE EXISTS", 64: "FILE TYPE MISMATCH", 66: "ILLEGAL TRACK AND SECTOR",
     71: "DIR ERROR", 72: "DISK FULL", 80: "HOST FILE", 81: "NOTHING TO UNDO", 82: "NOTHING TO REDO", 83: "NOT ONE BLOCK",
-    **{number: "SYNTAX ERROR" for number in range(30, 35)}, 90: "OUT OF MEMORY",
+    84: "BASIC TEXT", 85: "NOT BASIC", **{number: "SYNTAX ERROR" for number in range(30, 35)}, 90: "OUT OF MEMORY",
 }
 
 
@@ -32,40 +29,6 @@ class Refused(Exception):
 
 def status(number, first=0, second=0):
     return f"{number:02},{TEXTS[number]},{first:02},{second:02}\n"
-
-
-# Text form
-
-def spell(byte):
-    if 0x41 <= byte <= 0x5A:
-        return chr(byte + 0x20)
-    if 0x20 <= byte <= 0x40 or 0x5B <= byte <= 0x5F:
-        return chr(byte)
-    if 0xC1 <= byte <= 0xDA:
-        return chr(byte - 0x80)
-    if byte == 0xFF:
-        return "~"
-    return "{" + CONTROLS.get(byte, f"${byte:02x}") + "}"
-
-
-def to_text(data):
-    return "".join(map(spell, data))
-
-
-UNITS = {**{f"{{${byte:02x}}}": byte for byte in range(256)}, **{spell(byte): byte for byte in range(256)}}
-
-
-def from_text(text):
-    """The bytes of a text, or None where it has a fault."""
-    data = bytearray()
-    while text:
-        length = text.find("}") + 1 if text[0] == "{" else 1
-        unit = text[:length].lower() if length > 1 else text[:length]
-        if unit not in UNITS:
-            return None
-        data.append(UNITS[unit])
-        text = text[length:]
-    return bytes(data)
 
 
 def name_in(text, allowed=b""):
@@ -316,7 +279,7 @@ def plan(free, count):
 
 # Lines
 
-FEWEST_AND_MOST = {"format": (1, 1), "list": (0, 0), "read": (1, 2), "write": (1, 2), "delete": (1, 1_024), "rename": (2, 2), "validate": (0, 0),
+FEWEST_AND_MOST = {"format": (1, 1), "list": (0, 0), "read": (1, 2), "write": (1, 2), "crunch": (1, 2), "petcat": (1, 1), "delete": (1, 1_024), "rename": (2, 2), "validate": (0, 0),
                    "block": (2, 2), "bread": (3, 3), "bwrite": (3, 3), "undo": (0, 0), "redo": (0, 0), "history": (0, 0), "save": (0, 1), "quit": (0, 0)}
 
 
@@ -427,6 +390,23 @@ class Shell:
             raise Refused(30)
         name = name_in(name)
         self.add(disk.written(name, kinds[kind], self.fetch(host)))
+
+    def do_crunch(self, disk, host, word=None):
+        host_in(host)
+        name = name_in(host.rpartition("/")[2] if word is None else word)
+        text = self.fetch(host)
+        try:
+            file = basic_model.crunch(0x0801, text)
+        except basic_model.Fault as fault:
+            raise Refused(84, fault.number, fault.line) from fault
+        self.add(disk.written(name, PRG, file))
+
+    def do_petcat(self, disk, pattern):
+        _, data = disk.read(name_in(pattern, b"*?"))
+        try:
+            return basic_model.listing(data)
+        except basic_model.Fault as fault:
+            raise Refused(85, fault.number) from fault
 
     def do_delete(self, disk, *words):
         patterns = [name_in(word, b"*?") for word in words]

@@ -1,4 +1,5 @@
 pub mod Acts
+pub mod BasicActs
 pub mod ScriptRuns
 pub mod Transcripts
 pub mod TextArguments

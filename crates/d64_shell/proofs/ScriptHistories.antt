@@ -3,6 +3,7 @@ use Rattle.std.proofs.Common.{◌≡◌, ℕ, ◌<◌, List, [], ◌∷◌, ◌+
 use Rattle.std.specs.Prelude.{MatchBool, MatchOption, MatchResult, IfSome, nat_lt, nat_le, ok_or, drop}
 use Rattle.std.proofs.lemmas.Bool.Decides.{nat_tests}
 use Rattle.d64_files.specs.Pattern.{is_pattern}
+use Rattle.d64_files.specs.declared.kind.Kind.TheVariants.{Prg}
 use Rattle.d64_dos.specs.Change.{Change}
 use Rattle.d64_dos.specs.Change as changes
 use Rattle.d64_dos.specs.Command.{after, reply_to, refusal_of}
@@ -25,7 +26,7 @@ use Rattle.d64_shell.specs.Transcript.{Progress, Line, Transcript, IsSilent, pri
 use Rattle.d64_script.specs.declared.status.Status.{Status}
 use Rattle.d64_script.specs.declared.status.Status.TheVariants.{LongLine}
 use Rattle.d64_shell.specs.declared.command_word.CommandWord.{CommandWord}
-use Rattle.d64_shell.specs.declared.command_word.CommandWord.TheVariants.{Block, BlockRead, BlockWrite, Delete, Format, ListHistory, ListDirectory, Quit, Read, Redo, Rename, Save, Undo as UndoWord, Validate, Write}
+use Rattle.d64_shell.specs.declared.command_word.CommandWord.TheVariants.{Block, BlockRead, BlockWrite, Crunch, Delete, Format, ListHistory, ListDirectory, Petcat, Quit, Read, Redo, Rename, Save, Undo as UndoWord, Validate, Write}
 
 -- one request at most leads from one history to another
 abbrev IsStepFrom : History → History → Type 0
@@ -98,6 +99,9 @@ act-leads home history BlockWrite words =
     after_any history (valid (host_in (word_at words 0))) _
     (λ name. after_any history (valid (block_in (word_at words 1) (word_at words 2))) _
     (λ block bytes. after_any history (need (length bytes == 256) _) _ (λ _. run-leads history (changes.BlockWrite block bytes))))
+act-leads home history Crunch words =
+    after_any history (valid (host_in (word_at words 0))) _
+    (λ source name text file. run-leads history (changes.Write name Prg file))
 act-leads home history Delete words =
     after_any history (each_text is_pattern words) _ (λ patterns. run-leads history (changes.Delete patterns))
 act-leads home history Format words =
@@ -105,6 +109,8 @@ act-leads home history Format words =
     (λ parts name id. run-leads history (changes.Format name id))
 act-leads home history ListHistory words = λ bytes. inl refl
 act-leads home history ListDirectory words = after_any history (allowed (directory_refusal (present history))) _ (λ _ bytes. inl refl)
+act-leads home history Petcat words =
+    λ pattern. after_any history (allowed (read_refusal (present history) pattern)) _ (λ _ listing. inl refl)
 act-leads home history Quit words = inl refl
 act-leads home history Read words = λ pattern. read-leads history pattern (drop 1 words)
 act-leads home history Redo words = redo-leads history

@@ -6,6 +6,7 @@ use Rattle.d64_host.specs.Host.{fault_number, Fetches, Stores, CountsDevice}
 use Rattle.d64_undo.specs.History.{History}
 use Rattle.d64_host.specs.declared.host.HostFault.{HostFault}
 use Rattle.d64_host.specs.declared.host.HostFault.TheVariants.{Missing, Device, TooLong, Memory}
+use Rattle.d64_shell.specs.BasicFiles.{Crunches, Expands}
 use Rattle.d64_script.specs.declared.status.Status.{Status}
 use Rattle.d64_script.specs.declared.status.Status.TheVariants.{BadName, HostFile, OutOfMemory}
 
@@ -41,6 +42,10 @@ pub data Call : Type 0 where
   Fetch : List ℕ → ℕ → Call
   -- bytes stored under a name of the host; what it gives is no matter
   Store : List ℕ → List ℕ → Call
+  -- the program file of a BASIC text
+  Crunch : List ℕ → Call
+  -- the text of a program file
+  Expand : List ℕ → Call
   -- room for what comes next; it gives no bytes
   Room : Call
 
@@ -88,6 +93,12 @@ fetch name limit = Then (Fetch name limit) Give
 abbrev pub store : List ℕ → List ℕ → Act (List ℕ)
 store name bytes = Then (Store name bytes) Give
 
+abbrev pub crunch : List ℕ → Act (List ℕ)
+crunch text = Then (Crunch text) Give
+
+abbrev pub expand : List ℕ → Act (List ℕ)
+expand file = Then (Expand file) Give
+
 abbrev pub room : Act (List ℕ)
 room = Then Room Give
 
@@ -131,6 +142,8 @@ Gives (Fetch name limit) old given new =
     (fetched : Result (List ℕ) HostFault) × FetchesFile old name limit fetched new × (given ≡ given_by (λ bytes. bytes) fetched)
 Gives (Store name bytes) old given new =
     (stored : Result (Unit {0}) HostFault) × StoresFile old name bytes stored new × (given ≡ given_by (λ _. []) stored)
+Gives (Crunch text) old given new = Crunches text given × (new ≡ old)
+Gives (Expand file) old given new = Expands file given × (new ≡ old)
 Gives Room old given new = (given ≡ Ok []) × (new ≡ old)
 
 -- an act of a line is done: from a world, with an answer, to a world. Before each call memory may be wanting

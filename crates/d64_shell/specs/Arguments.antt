@@ -67,6 +67,11 @@ name_and_kind_in word = with_kind word (at_comma word)
 unfoldable pub after_slash : List ℕ → List ℕ
 after_slash word = after_last (λ byte. byte == 47) word
 
+-- the word that names a new file; by default the name of its host file without folders
+abbrev pub name_word : List ℕ → List (List ℕ) → List ℕ
+name_word host [] = after_slash host
+name_word host (word ∷ more) = word
+
 -- the name and the kind of a new file, from the words after that of its host file; by default the host file's own name, and PRG
 abbrev pub name_and_kind_of : List ℕ → List (List ℕ) → Result (List ℕ × Kind) Status
 name_and_kind_of host [] = Ok (after_slash host, Prg)

@@ -3,7 +3,7 @@ use Rattle.std.specs.Option.{option_map}
 use Rattle.std.specs.Str.{bytes_eq}
 use Rattle.d64_script.specs.declared.words.TheConstants.{MAX_WORDS}
 use Rattle.d64_shell.specs.declared.command_word.CommandWord.{CommandWord}
-use Rattle.d64_shell.specs.declared.command_word.CommandWord.TheVariants.{Block, BlockRead, BlockWrite, Delete, Format, ListHistory, ListDirectory, Quit, Read, Redo, Rename, Save, Undo, Validate, Write}
+use Rattle.d64_shell.specs.declared.command_word.CommandWord.TheVariants.{Block, BlockRead, BlockWrite, Crunch, Delete, Format, ListHistory, ListDirectory, Petcat, Quit, Read, Redo, Rename, Save, Undo, Validate, Write}
 
 -- the words that begin a line, and what each stands for
 abbrev pub command_words : List (List ℕ × CommandWord)
@@ -11,10 +11,12 @@ command_words =
     (codes "block", Block)
     ∷ (codes "bread", BlockRead)
     ∷ (codes "bwrite", BlockWrite)
+    ∷ (codes "crunch", Crunch)
     ∷ (codes "delete", Delete)
     ∷ (codes "format", Format)
     ∷ (codes "history", ListHistory)
     ∷ (codes "list", ListDirectory)
+    ∷ (codes "petcat", Petcat)
     ∷ (codes "quit", Quit)
     ∷ (codes "read", Read)
     ∷ (codes "redo", Redo)
@@ -34,10 +36,12 @@ abbrev pub fewest : List ℕ → CommandWord → ℕ
 fewest home Block = 2
 fewest home BlockRead = 3
 fewest home BlockWrite = 3
+fewest home Crunch = 1
 fewest home Delete = 1
 fewest home Format = 1
 fewest home ListHistory = 0
 fewest home ListDirectory = 0
+fewest home Petcat = 1
 fewest home Quit = 0
 fewest home Read = 1
 fewest home Redo = 0
@@ -53,10 +57,12 @@ abbrev pub most : CommandWord → ℕ
 most Block = 2
 most BlockRead = 3
 most BlockWrite = 3
+most Crunch = 2
 most Delete = MAX_WORDS
 most Format = 1
 most ListHistory = 0
 most ListDirectory = 0
+most Petcat = 1
 most Quit = 0
 most Read = 2
 most Redo = 0

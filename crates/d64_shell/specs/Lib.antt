@@ -7,6 +7,9 @@ pub use Rattle.d64_dos.specs.Reading
 pub use Rattle.d64_dos.specs.Listing
 pub use Rattle.d64_files.specs.Name
 pub use Rattle.petscii.specs.TextForm
+pub use Rattle.cbm_text.specs.BasicText
+pub use Rattle.cbm_text.specs.Listing as ProgramListing
+pub use Rattle.cbm_text.specs.ListFault
 pub use Rattle.d64_undo.specs.History
 pub use Rattle.d64_host.specs.Files
 pub use Rattle.d64_host.specs.Host
@@ -20,6 +23,7 @@ pub mod ArgumentTexts
 pub mod ListingText
 pub mod HistoryText
 pub mod FoundFile
+pub mod BasicFiles
 pub mod Act
 pub mod Response
 pub mod Line

@@ -8,16 +8,17 @@ use Rattle.d64_dos.specs.Listing.{listing_of}
 use Rattle.d64_dos.specs.Reading.{directory_refusal, read_refusal}
 use Rattle.d64_files.specs.Directory.{number_of}
 use Rattle.d64_files.specs.Pattern.{is_pattern}
+use Rattle.d64_files.specs.declared.kind.Kind.TheVariants.{Prg}
 use Rattle.d64_script.specs.Words.{words_of}
 use Rattle.petscii.specs.Spelling.{spelling}
-use Rattle.d64_shell.specs.Arguments.{host_in, block_in, at_comma, can_be_id, name_and_kind_of}
+use Rattle.d64_shell.specs.Arguments.{host_in, block_in, at_comma, can_be_id, name_word, name_and_kind_of}
 use Rattle.d64_shell.specs.FoundFile.{found_name, found_content, is_file_name}
 use Rattle.d64_shell.specs.HistoryText.{history_text}
 use Rattle.d64_shell.specs.ListingText.{listing_text}
 use Rattle.d64_script.specs.RawLines.{text_of, is_too_long, is_skipped}
 use Rattle.d64_script.specs.Dump.{dump}
 use Rattle.d64_shell.specs.CommandWord.{command_word_of, fewest, most}
-use Rattle.d64_shell.specs.Act.{Act, Give, Refuse, ◌>>=◌, ◌>>◌, valid, need, text, each_text, fetch, store, room, Ending, plain, World, LineAnswer, Does}
+use Rattle.d64_shell.specs.Act.{Act, Give, Refuse, ◌>>=◌, ◌>>◌, valid, need, text, each_text, fetch, store, crunch, expand, room, Ending, plain, World, LineAnswer, Does}
 use Rattle.d64_dos.specs.Change.{Change}
 use Rattle.d64_dos.specs.Change as changes
 use Rattle.d64_dos.specs.declared.command.Reply.{Reply}
@@ -27,7 +28,7 @@ use Rattle.d64_dos.specs.declared.refusal.Refusal.TheVariants as refusals
 use Rattle.d64_script.specs.declared.status.Status.{Status}
 use Rattle.d64_script.specs.declared.status.Status.TheVariants.{Done, FilesScratched, SyntaxError, UnknownCommand, LongLine, BadName, MissingWord, WriteFileOpen, FileNotFound, FileExists, FileTypeMismatch, DirectoryError, DiskFull, NothingToUndo, NothingToRedo, NotOneBlock, OutOfMemory}
 use Rattle.d64_shell.specs.declared.command_word.CommandWord.{CommandWord}
-use Rattle.d64_shell.specs.declared.command_word.CommandWord.TheVariants.{Block, BlockRead, BlockWrite, Delete, Format, ListHistory, ListDirectory, Quit, Read, Redo, Rename, Save, Undo, Validate, Write}
+use Rattle.d64_shell.specs.declared.command_word.CommandWord.TheVariants.{Block, BlockRead, BlockWrite, Crunch, Delete, Format, ListHistory, ListDirectory, Petcat, Quit, Read, Redo, Rename, Save, Undo, Validate, Write}
 
 -- one of the words that follow the first
 abbrev pub word_at : List (List ℕ) → ℕ → List ℕ
@@ -105,6 +106,20 @@ block_write_act history host track sector = do
   bytes ← fetch name host_file_limit
   write_one_block history block bytes
 
+-- the program that a BASIC text stands for is written to the disk, as PRG
+abbrev pub write_program : History → List ℕ → List ℕ → Act Ending
+write_program history name text = do
+  file ← crunch text
+  run history (changes.Write name Prg file)
+
+-- `crunch`: a BASIC text of the host is written to the disk as a program, under the name of a word, or by default under its own
+abbrev pub crunch_act : History → List ℕ → List (List ℕ) → Act Ending
+crunch_act history host words = do
+  source ← valid (host_in host)
+  name ← text is_name (name_word host words)
+  basic ← fetch source host_file_limit
+  write_program history name basic
+
 -- `delete`: the files that patterns match are deleted
 abbrev pub delete_act : History → List (List ℕ) → Act Ending
 delete_act history words = do
@@ -131,6 +146,19 @@ list_act history = do
   allowed (directory_refusal (present history))
   room
   show (listing_text (listing_of (present history))) history
+
+-- the file that a pattern finds is shown as a BASIC program
+abbrev pub show_program : History → List ℕ → Act Ending
+show_program history pattern = do
+  allowed (read_refusal (present history) pattern)
+  listing ← expand (found_content (present history) pattern)
+  show listing history
+
+-- `petcat`: a BASIC program of the disk is shown as text
+abbrev pub petcat_act : History → List ℕ → Act Ending
+petcat_act history name = do
+  pattern ← text is_pattern name
+  show_program history pattern
 
 -- `quit`: the run ends
 abbrev pub quit_act : History → Act Ending
@@ -198,10 +226,12 @@ abbrev pub act_of : List ℕ → History → CommandWord → List (List ℕ) →
 act_of home history Block words = block_act history (word_at words 0) (word_at words 1)
 act_of home history BlockRead words = block_read_act history (word_at words 0) (word_at words 1) (word_at words 2)
 act_of home history BlockWrite words = block_write_act history (word_at words 0) (word_at words 1) (word_at words 2)
+act_of home history Crunch words = crunch_act history (word_at words 0) (drop 1 words)
 act_of home history Delete words = delete_act history words
 act_of home history Format words = format_act history (word_at words 0)
 act_of home history ListHistory words = history_act history
 act_of home history ListDirectory words = list_act history
+act_of home history Petcat words = petcat_act history (word_at words 0)
 act_of home history Quit words = quit_act history
 act_of home history Read words = read_act history (word_at words 0) (drop 1 words)
 act_of home history Redo words = redo_act history

@@ -2,7 +2,7 @@
 #![tactic(auto, unfolding(crate::specs::Arguments::host_in, crate::specs::Arguments::number_in, crate::specs::Arguments::block_in, crate::specs::Arguments::at_comma, crate::specs::Arguments::after_slash))]
 
 ghost use Rattle.std.specs.Prelude.{◌≡◌, ◌<◌, All, Result, ◌==◌, true, map, option_map, position};
-ghost use Rattle.d64_shell.specs.Arguments.{host_in, number_in, block_in, can_be_id, at_comma, kind_of_letter, name_and_kind_in, after_slash, name_and_kind_of};
+ghost use Rattle.d64_shell.specs.Arguments.{host_in, number_in, block_in, can_be_id, at_comma, kind_of_letter, name_and_kind_in, after_slash, name_word, name_and_kind_of};
 ghost use Rattle.d64_script.specs.Words.{IsPrintable};
 ghost use Rattle.d64_shell.specs.ArgumentTexts.{texts, named, items, Reads, ReadsEach};
 ghost use Rattle.petscii.specs.TextForm.{HasOneReading};
@@ -160,6 +160,17 @@ fn after_slash(word: &[u8]) -> &[u8]
     match word.rsplit(|byte| *byte == b'/').next() {
         Some(part) => part,
         None => word,
+    }
+}
+
+/// The word that names a new file, among those that follow the one of its host file. Where there is none, it is the name
+/// of the host file without its folders.
+pub(crate) fn name_word<'a>(host: &'a [u8], words: &[&'a [u8]]) -> &'a [u8]
+    ensures { result.now ≡ name_word host.now (map (λ word. word.now) words.now) }
+{
+    match words.first() {
+        Some(word) => word,
+        None => after_slash(host),
     }
 }
 

@@ -13,6 +13,8 @@ pub enum CommandWord {
     BlockRead,
     /// `bwrite host t s`: replaces a block by a host file.
     BlockWrite,
+    /// `crunch host [name]`: writes the program that a BASIC text of the host stands for.
+    Crunch,
     /// `delete pattern ..`: deletes the files that the patterns match.
     Delete,
     /// `format name,id`: makes the disk an empty one.
@@ -21,6 +23,8 @@ pub enum CommandWord {
     ListHistory,
     /// `list`: shows the directory.
     ListDirectory,
+    /// `petcat name`: shows a BASIC program of the disk as text.
+    Petcat,
     /// `quit`: ends the run.
     Quit,
     /// `read name [host]`: stores a file in a host file.
@@ -48,10 +52,12 @@ impl CommandWord {
             b"block" => Some(CommandWord::Block),
             b"bread" => Some(CommandWord::BlockRead),
             b"bwrite" => Some(CommandWord::BlockWrite),
+            b"crunch" => Some(CommandWord::Crunch),
             b"delete" => Some(CommandWord::Delete),
             b"format" => Some(CommandWord::Format),
             b"history" => Some(CommandWord::ListHistory),
             b"list" => Some(CommandWord::ListDirectory),
+            b"petcat" => Some(CommandWord::Petcat),
             b"quit" => Some(CommandWord::Quit),
             b"read" => Some(CommandWord::Read),
             b"redo" => Some(CommandWord::Redo),
@@ -76,7 +82,12 @@ impl CommandWord {
             | CommandWord::Undo
             | CommandWord::Validate => 0,
             CommandWord::Save => usize::from(home.is_empty()),
-            CommandWord::Delete | CommandWord::Format | CommandWord::Read | CommandWord::Write => 1,
+            CommandWord::Crunch
+            | CommandWord::Delete
+            | CommandWord::Format
+            | CommandWord::Petcat
+            | CommandWord::Read
+            | CommandWord::Write => 1,
             CommandWord::Block | CommandWord::Rename => 2,
             CommandWord::BlockRead | CommandWord::BlockWrite => 3,
         }
@@ -93,8 +104,12 @@ impl CommandWord {
             | CommandWord::Redo
             | CommandWord::Undo
             | CommandWord::Validate => 0,
-            CommandWord::Format | CommandWord::Save => 1,
-            CommandWord::Block | CommandWord::Read | CommandWord::Rename | CommandWord::Write => 2,
+            CommandWord::Format | CommandWord::Petcat | CommandWord::Save => 1,
+            CommandWord::Block
+            | CommandWord::Crunch
+            | CommandWord::Read
+            | CommandWord::Rename
+            | CommandWord::Write => 2,
             CommandWord::BlockRead | CommandWord::BlockWrite => 3,
             CommandWord::Delete => MAX_WORDS,
         }

@@ -1,7 +1,7 @@
 //! What each command word does: a handler a word.
 #![tactic(auto, unfolding(crate::specs::Act::Does))]
 
-ghost use Rattle.std.specs.Prelude.{◌≡◌, ◌<◌, [], ◌∷◌, All, map};
+ghost use Rattle.std.specs.Prelude.{◌≡◌, ◌<◌, ◌≤◌, [], ◌∷◌, All, map, length};
 ghost use Rattle.d64_script.specs.Words.{IsPrintable};
 ghost use Rattle.d64_dos.specs.Change.{said};
 ghost use Rattle.d64_shell.specs.Act.{world_of};
@@ -9,18 +9,22 @@ ghost use Rattle.d64_shell.specs.Response.{Responds, RespondsAlone};
 ghost use Rattle.petscii.specs.Spelling.{spelling};
 ghost use Rattle.d64_shell.specs.FoundFile.{is_file_name};
 ghost use Rattle.d64_undo.specs.History.{History};
-ghost use Rattle.d64_shell.specs.Line.{put, block_act, block_read_act, block_write_act, delete_act, format_act, history_act, list_act, quit_act, read_act, read_to, redo_act, rename_act, save_act, undo_act, validate_act, write_act, run, write_one_block};
+ghost use Rattle.d64_shell.specs.Line.{put, host_file_limit, block_act, block_read_act, block_write_act, crunch_act, write_program, delete_act, format_act, history_act, list_act, petcat_act, show_program, quit_act, read_act, read_to, redo_act, rename_act, save_act, undo_act, validate_act, write_act, run, write_one_block};
 
 use crate::arguments::{
-    at_comma, block_in, host_in, id_in, name_and_kind_of, name_in, pattern_in, patterns_in,
+    at_comma, block_in, host_in, id_in, name_and_kind_of, name_in, name_word, pattern_in,
+    patterns_in,
 };
 use crate::history_text::history_text;
 use crate::listing_text::listing_text;
 use crate::response::{Output, Response};
-use crate::status_from::{of_fault, of_nothing_to_redo, of_nothing_to_undo, of_refusal, of_reply};
+use crate::status_from::{
+    of_basic_fault, of_fault, of_list_fault, of_nothing_to_redo, of_nothing_to_undo, of_refusal,
+    of_reply,
+};
 use cbm_text::to_text;
 use d64_dos::Command;
-use d64_files::Pattern;
+use d64_files::{Kind, Name, Pattern};
 use d64_host::Host;
 use d64_image::BlockNo;
 use d64_script::status::Status;
@@ -30,6 +34,9 @@ use std::str;
 
 /// The most bytes that a command takes of a host file.
 pub const HOST_FILE_BYTES: usize = 1_048_576;
+
+/// Where a BASIC program stands in the machine's memory.
+const PROGRAM_START: u16 = 0x0801;
 
 /// `block`: the sixteen lines that show a block.
 pub(crate) fn block(session: &Session, track: &[u8], sector: &[u8]) -> Result<Response, Status>
@@ -106,6 +113,51 @@ fn run_command(session: &mut Session, command: &Command) -> Result<Response, Sta
     }
 }
 
+/// `crunch`: a BASIC text of the host written to the disk as a program, by default under its own name.
+pub(crate) fn crunch<H: Host>(
+    alloc: Global,
+    host: &mut H,
+    session: &mut Session,
+    name: &[u8],
+    words: &[&[u8]],
+) -> Result<Response, Status>
+    requires { All IsPrintable name.now }
+    ensures { Responds (crunch_act session.old name.now (map (λ word. word.now) words.now))
+        (world_of (H.files host.old) (H.failure_count host.old) session.old)
+        result
+        (world_of (H.files host.new) (H.failure_count host.new) session.new) }
+{
+    let source = host_in(name)?;
+    let name = name_in(alloc, name_word(name, words))?;
+    match host.fetch(alloc, source, HOST_FILE_BYTES) {
+        Ok(text) => write_program(alloc, session, name, text.as_slice()),
+        Err(fault) => Err(of_fault(fault)),
+    }
+}
+
+/// The program that a BASIC text stands for, written to the disk as PRG.
+fn write_program(
+    alloc: Global,
+    session: &mut Session,
+    name: Name,
+    text: &[u8],
+) -> Result<Response, Status>
+    requires { length text.now ≤ host_file_limit }
+    ensures { RespondsAlone (write_program session.old name text.now) session.old result session.new }
+{
+    match cbm_text::crunch(alloc, PROGRAM_START, text) {
+        Ok(bytes) => run_command(
+            session,
+            &Command::Write {
+                name,
+                kind: Kind::Prg,
+                bytes,
+            },
+        ),
+        Err(fault) => Err(of_basic_fault(fault)),
+    }
+}
+
 /// `delete`: the files deleted that one of the patterns matches or more, a pattern a word.
 pub(crate) fn delete(
     alloc: Global,
@@ -163,6 +215,34 @@ pub(crate) fn list(alloc: Global, session: &Session) -> Result<Response, Status>
             closes: false,
         }),
         Err(_) => Err(Status::OutOfMemory),
+    }
+}
+
+/// `petcat`: the text of a BASIC program of the disk.
+pub(crate) fn petcat(alloc: Global, session: &Session, name: &[u8]) -> Result<Response, Status>
+    ensures { RespondsAlone (petcat_act session.now name.now) session.now result session.now }
+{
+    match pattern_in(alloc, name) {
+        Ok(pattern) => show_program(alloc, session, &pattern),
+        Err(status) => Err(status),
+    }
+}
+
+/// The text of the BASIC program that a pattern finds.
+fn show_program(alloc: Global, session: &Session, pattern: &Pattern) -> Result<Response, Status>
+    ensures { RespondsAlone (show_program session.now pattern.now) session.now result session.now }
+{
+    let file = match d64_dos::read(alloc, session.image(), pattern) {
+        Ok(file) => file,
+        Err(refusal) => return Err(of_refusal(refusal)),
+    };
+    match cbm_text::list(alloc, file.bytes.as_slice()) {
+        Ok(text) => Ok(Response {
+            output: Output::Text(text),
+            status: Status::Done,
+            closes: false,
+        }),
+        Err(fault) => Err(of_list_fault(fault)),
     }
 }
 

@@ -106,10 +106,12 @@ fn answer_command<H: Host>(
         CommandWord::BlockWrite => handlers::block_write(
             alloc, host, session, words[0], words[1], words[2],
         ),
+        CommandWord::Crunch => handlers::crunch(alloc, host, session, words[0], &words[1..]),
         CommandWord::Delete => handlers::delete(alloc, session, words),
         CommandWord::Format => handlers::format(alloc, session, words[0]),
         CommandWord::ListHistory => handlers::history(alloc, session),
         CommandWord::ListDirectory => handlers::list(alloc, session),
+        CommandWord::Petcat => handlers::petcat(alloc, session, words[0]),
         CommandWord::Quit => handlers::quit(session),
         CommandWord::Read => handlers::read(alloc, host, session, words[0], &words[1..]),
         CommandWord::Redo => handlers::redo(session),

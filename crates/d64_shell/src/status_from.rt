@@ -1,11 +1,13 @@
 //! How faults, refusals and replies are answered: each has its status.
-ghost use Rattle.std.specs.Prelude.{◌≡◌};
+ghost use Rattle.std.specs.Prelude.{◌≡◌, ◌<◌, ◌^◌, IfSome};
+ghost use Rattle.cbm_text.specs.BasicText.{fault_line};
+ghost use Rattle.d64_shell.specs.BasicFiles.{status_of_basic, status_of_listing};
 ghost use Rattle.d64_shell.specs.Act.{status_of_fault};
 ghost use Rattle.d64_shell.specs.Arguments.{status_of_text};
 ghost use Rattle.d64_shell.specs.Line.{status_of_refusal, status_of_reply};
 ghost use Rattle.d64_script.specs.declared.status.Status.TheVariants.{NothingToUndo, NothingToRedo};
 
-use cbm_text::TextFault;
+use cbm_text::{BasicFault, ListFault, TextFault};
 use d64_dos::{Refusal, Reply};
 use d64_host::HostFault;
 use d64_script::status::Status;
@@ -31,6 +33,32 @@ pub(crate) fn of_text_fault(fault: TextFault) -> Status
         TextFault::UnknownName { .. } | TextFault::OpenBrace { .. } | TextFault::BadByte { .. } => {
             Status::BadName
         }
+    }
+}
+
+/// The status of a fault of a BASIC text.
+pub(crate) fn of_basic_fault(fault: BasicFault) -> Status
+    requires { IfSome (fault_line fault) (λ line. line < 2 ^ 32) }
+    ensures { result ≡ status_of_basic fault }
+{
+    match fault.line() {
+        Some(line) => Status::BasicText {
+            fault: fault.number(),
+            line: line as u32,
+        },
+        None => Status::OutOfMemory,
+    }
+}
+
+/// The status of a fault of a program that was to be listed.
+pub(crate) fn of_list_fault(fault: ListFault) -> Status
+    ensures { result ≡ status_of_listing fault }
+{
+    match fault {
+        ListFault::Memory(_) => Status::OutOfMemory,
+        fault => Status::NotBasic {
+            fault: fault.number(),
+        },
     }
 }
 

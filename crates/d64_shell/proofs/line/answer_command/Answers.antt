@@ -1,6 +1,6 @@
 use Rattle.std.proofs.Common.{ℕ, ◌≤◌, List, [], ◌∷◌, length, map, get_or, Bor, arith}
 use Rattle.d64_shell.specs.Act.{HostState}
-use Rattle.d64_shell.specs.Line.{word_at, block_act, format_act, rename_act}
+use Rattle.d64_shell.specs.Line.{word_at, block_act, format_act, petcat_act, rename_act}
 use Rattle.d64_shell.specs.Response.{RespondsAlone}
 use Rattle.d64_shell.proofs.Acts.{Does-counted}
 use Rattle.d64_shell.proofs.line.answer_command.Goals as goal
@@ -44,6 +44,16 @@ returns-in-Format g c =
     (rw c.in-Format.is
     (one_word c.args.words.now _ (λ word. RespondsAlone (format_act c.args.session.now word) c.args.session.now c.format.result c.format.new.session)
     enough c.format.ensures host))
+
+pub returns-in-Petcat : goal.returns-in-Petcat
+returns-in-Petcat g c =
+    let host : HostState = record { files = g.H.Host.files c.args.host.now; failures = g.H.Host.failure_count c.args.host.now } in
+    let enough : 1 ≤ length c.args.words.now = omega (arith, c.if-words-fewest.false, rw c.in-Petcat.is at c.fewest.ensures) in
+    Does-counted c.args.home.now c.args.session.now c.args.command c.args.words.now _ _ _ _ _ c.fewest.ensures c.most.ensures
+    c.if-words-fewest.false c.if-most-words.false
+    (rw c.in-Petcat.is
+    (one_word c.args.words.now _ (λ word. RespondsAlone (petcat_act c.args.session.now word) c.args.session.now c.petcat.result c.args.session.now)
+    enough c.petcat.ensures host))
 
 -- the first two words, as the bytes that they are
 two_words : (words : List (Bor (List ℕ))) (first second : Bor (List ℕ)) (P : List ℕ → List ℕ → Type 0) → 2 ≤ length words

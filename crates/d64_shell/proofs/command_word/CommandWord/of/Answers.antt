@@ -11,6 +11,9 @@ returns-in-bread c = let word : c.args.word.now ≡ codes "bread" = text_from_re
 pub returns-in-bwrite : goal.returns-in-bwrite
 returns-in-bwrite c = let word : c.args.word.now ≡ codes "bwrite" = text_from_reads _ _ (omega arith) (search (rules, arith)) in rw word refl
 
+pub returns-in-crunch : goal.returns-in-crunch
+returns-in-crunch c = let word : c.args.word.now ≡ codes "crunch" = text_from_reads _ _ (omega arith) (search (rules, arith)) in rw word refl
+
 pub returns-in-delete : goal.returns-in-delete
 returns-in-delete c = let word : c.args.word.now ≡ codes "delete" = text_from_reads _ _ (omega arith) (search (rules, arith)) in rw word refl
 
@@ -22,6 +25,9 @@ returns-in-history c = let word : c.args.word.now ≡ codes "history" = text_fro
 
 pub returns-in-list : goal.returns-in-list
 returns-in-list c = let word : c.args.word.now ≡ codes "list" = text_from_reads _ _ (omega arith) (search (rules, arith)) in rw word refl
+
+pub returns-in-petcat : goal.returns-in-petcat
+returns-in-petcat c = let word : c.args.word.now ≡ codes "petcat" = text_from_reads _ _ (omega arith) (search (rules, arith)) in rw word refl
 
 pub returns-in-quit : goal.returns-in-quit
 returns-in-quit c = let word : c.args.word.now ≡ codes "quit" = text_from_reads _ _ (omega arith) (search (rules, arith)) in rw word refl
