@@ -6,3 +6,4 @@ pub mod ScriptReads
 pub mod Splitting
 pub mod TwoDigits
 pub mod WordRule
+pub mod OpenLines

@@ -228,7 +228,7 @@ open_line-open (byte ∷ rest) =
     ⊎_elim (λ some. ap after some ∙ others) (λ none. ap after none ∙ none) (cases_Bool (list_any is_line_feed script))
 
 -- bytes that end with an LF have one
-list_any-ended : (script : List ℕ) → is_ended script ≡ true → list_any is_line_feed script ≡ true
+pub list_any-ended : (script : List ℕ) → is_ended script ≡ true → list_any is_line_feed script ≡ true
 list_any-ended [] ended = absurd (false≢true ended)
 list_any-ended (byte ∷ []) ended = or_left (eqb byte 10) false ended
 list_any-ended (byte ∷ next ∷ rest) ended =

@@ -5,3 +5,4 @@ pub mod RawLines
 pub mod Script
 pub mod Status
 pub mod Words
+pub mod HeldLine

@@ -4,6 +4,7 @@
 #![tactic(auto)]
 
 pub mod dump;
+pub mod held_line;
 pub mod number;
 pub mod output;
 pub mod raw_lines;

@@ -8,3 +8,7 @@ pub mod AsciiTexts
 pub mod FoundFiles
 pub mod ProgramRuns
 pub mod ScriptHistories
+pub mod LinesSoFar
+pub mod HeldAnswers
+pub mod PieceSteps
+pub mod RunEnds

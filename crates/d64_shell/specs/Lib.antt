@@ -30,5 +30,6 @@ pub mod Line
 pub mod Transcript
 pub mod ScriptLaws
 pub mod Runner
+pub mod LineByLine
 pub mod Program
 pub mod Tools

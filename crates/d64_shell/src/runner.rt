@@ -1,17 +1,23 @@
-//! A script, from its bytes to the bytes of its answers.
-ghost use Rattle.std.specs.Prelude.{◌≡◌, ◌≤◌, length, IfOk, OnErr};
-ghost use Rattle.d64_script.specs.RawLines.{lines_of, ended_lines};
+//! A script, from its bytes to the bytes of its answers, line by line.
+ghost use Rattle.std.specs.Prelude.{◌≡◌, ◌≤◌, ◌<◌, ◌^◌, ◌+◌, ◌++◌, true, false, ℕ, List, length, MatchOption, IfOk, OnOk, OnErr};
+ghost use Rattle.std.specs.Io.KnownBytes.{Keeps};
+ghost use Rattle.d64_script.specs.HeldLine.{Says};
+ghost use Rattle.d64_script.specs.RawLines.{lines_of};
 ghost use Rattle.d64_shell.specs.Act.{world_of};
-ghost use Rattle.d64_shell.specs.Transcript.{Progress};
-ghost use Rattle.d64_shell.specs.Runner.{stand_of, Ran, RanLines, Counts, StoppedAt};
-ghost use Rattle.d64_script.specs.Script.{script_limit};
+ghost use Rattle.d64_shell.specs.Line.{IsSkipped, IsAnswered};
+ghost use Rattle.d64_shell.specs.Response.{shown};
+ghost use Rattle.d64_shell.specs.Runner.{Stand, stand_of, Ran, StoppedAt};
+ghost use Rattle.d64_shell.specs.LineByLine.{HasCome, ComesTo, EndsRun, RunsLine, StopsInLine};
+ghost use Rattle.d64_undo.specs.History.{present};
 
 use crate::line::answer_line;
+use crate::response::Response;
 use arrayvec::ArrayVec;
 use d64_host::Host;
+use d64_script::held_line::HeldLine;
 use d64_script::output::WriteFault;
-use d64_script::raw_lines::RawLines;
-use d64_script::script::read_script;
+use d64_script::raw_lines::{RawLines, before_end, is_ended};
+use d64_script::script::{READ_BYTES, SCRIPT_BYTES, SCRIPT_READS};
 use d64_script::status::Status;
 use d64_undo::Session;
 use std::alloc::{AllocError, Global};
@@ -23,23 +29,6 @@ use thiserror::Error;
 pub struct Outcome {
     pub accepted: u64,
     pub refused: u64,
-}
-
-impl Outcome {
-    ghost use Rattle.std.specs.Prelude.{◌+◌, ◌<◌, ◌^◌, if◌then◌else◌};
-    ghost use Rattle.d64_shell.specs.Transcript.{is_accepted};
-
-    fn count(&mut self, status: Status)
-        requires { self.old.accepted + self.old.refused < 2 ^ 63 }
-        ensures accepted { self.new.accepted ≡ self.old.accepted + (if is_accepted status then 1 else 0) }
-        ensures refused { self.new.refused ≡ self.old.refused + (if is_accepted status then 0 else 1) }
-    {
-        if status.is_accepted() {
-            self.accepted += 1;
-        } else {
-            self.refused += 1;
-        }
-    }
 }
 
 /// Why a script did not run to its end.
@@ -64,9 +53,52 @@ struct Tally {
     closed: bool,
 }
 
+impl Tally {
+    ghost use Rattle.std.specs.Prelude.{if◌then◌else◌};
+    ghost use Rattle.d64_shell.specs.Transcript.{is_accepted};
+
+    /// No line was answered.
+    fn new() -> Tally
+        ensures { result ≡ record { outcome = record { accepted = 0; refused = 0 }; closed = false } }
+    {
+        Tally {
+            outcome: Outcome {
+                accepted: 0,
+                refused: 0,
+            },
+            closed: false,
+        }
+    }
+
+    /// How many lines were answered.
+    fn answers(&self) -> u64
+        requires { self.now.outcome.accepted + self.now.outcome.refused < 2 ^ 63 }
+        ensures { result ≡ self.now.outcome.accepted + self.now.outcome.refused }
+    {
+        self.outcome.accepted + self.outcome.refused
+    }
+
+    /// Counts an answer.
+    fn count(&mut self, response: &Response)
+        requires { self.old.outcome.accepted + self.old.outcome.refused < 2 ^ 63 }
+        ensures accepted { self.new.outcome.accepted ≡ self.old.outcome.accepted + (if is_accepted response.now.status then 1 else 0) }
+        ensures refused { self.new.outcome.refused ≡ self.old.outcome.refused + (if is_accepted response.now.status then 0 else 1) }
+        ensures closed { self.new.closed ≡ response.now.closes }
+    {
+        if response.status.is_accepted() {
+            self.outcome.accepted += 1;
+        } else {
+            self.outcome.refused += 1;
+        }
+        self.closed = response.closes;
+    }
+}
+
 /// Runs a script. `home` is the name of the host file that the session's image came from, or empty.
 ///
-/// The answers are those of the transcript, however the script is cut into reads.
+/// The answers are those of the transcript, however the script is cut into reads. A line is answered, and the writer
+/// flushed, before the next read, so that a person at a terminal sees an answer before typing on. After an accepted `quit`
+/// nothing more is read. Reading takes no memory: one line is held, and what one read gave.
 pub fn run<R: Read, W: Write, H: Host>(
     alloc: Global,
     reader: &mut R,
@@ -80,81 +112,173 @@ pub fn run<R: Read, W: Write, H: Host>(
         (stand_of (W.contents writer.new) (world_of (H.files host.new) (H.failure_count host.new) session.new))
         result }
 {
-    let script = match read_script(alloc, reader) {
-        Ok(script) => script,
-        Err(error) => return Err(ShellFault::Memory(error)),
-    };
-    let bytes = script.bytes.as_slice();
-    if script.whole {
-        match run_lines(alloc, writer, host, home, session, bytes) {
-            Ok(tally) => return Ok(tally.outcome),
-            Err(_) => return Err(ShellFault::Write),
+    let mut tally = Tally::new();
+    let mut line = HeldLine::new();
+    let mut room = SCRIPT_BYTES;
+    let mut flushed = 0;
+    let mut buffer = [0; READ_BYTES];
+    for _ in 0..SCRIPT_READS {
+        let answers = tally.answers();
+        let Ok(()) = flush_answers(writer, flushed < answers) else {
+            return Err(ShellFault::Write);
+        };
+        flushed = answers;
+        let count = match reader.read(&mut buffer) {
+            Ok(0) => return run_last(alloc, writer, host, home, session, &line, &mut tally),
+            Ok(count) => count,
+            Err(_) => return Err(ShellFault::Read),
+        };
+        let piece = &buffer[..count.min(room)];
+        let Ok(()) = run_piece(
+            alloc, writer, host, home, session, &mut line, &mut tally, piece,
+        ) else {
+            return Err(ShellFault::Write);
+        };
+        if tally.closed {
+            return Ok(tally.outcome);
         }
+        if count > room {
+            return Err(ShellFault::Read);
+        }
+        room -= count;
     }
-    match run_lines(alloc, writer, host, home, session, ended_part(bytes)) {
-        Ok(tally) if tally.closed => Ok(tally.outcome),
-        Ok(_) => Err(ShellFault::Read),
-        Err(_) => Err(ShellFault::Write),
-    }
+    Err(ShellFault::Read)
 }
 
-/// Runs the lines of a script up to the first accepted `quit`.
-fn run_lines<W: Write, H: Host>(
+/// Flushes the writer, where it is needed.
+fn flush_answers<W: Write>(writer: &mut W, needed: bool) -> Result<(), WriteFault>
+    ensures kept { Keeps (W.contents writer.old) (W.contents writer.new) }
+    ensures failed { OnErr result (needed ≡ true) }
+{
+    if needed && writer.flush().is_err() {
+        return Err(WriteFault);
+    }
+    Ok(())
+}
+
+/// Runs the line that the script's end ends, if bytes of one have come.
+fn run_last<W: Write, H: Host>(
     alloc: Global,
     writer: &mut W,
     host: &mut H,
     home: &str,
     session: &mut Session,
-    lines: &[u8],
-) -> Result<Tally, WriteFault>
-    requires { length lines.now ≤ script_limit }
-    ensures ran { IfOk result (λ tally. (after : Progress) × Counts tally after × RanLines home.now
+    line: &HeldLine,
+    tally: &mut Tally,
+) -> Result<Outcome, ShellFault>
+    requires { tally.old.outcome.accepted + tally.old.outcome.refused ≤ 2 ^ 32 }
+    ensures { (first : Stand) (script : List ℕ)
+        → HasCome home.now first
         (stand_of (W.contents writer.old) (world_of (H.files host.old) (H.failure_count host.old) session.old))
+        tally.old line.now script
+        → EndsRun home.now first
         (stand_of (W.contents writer.new) (world_of (H.files host.new) (H.failure_count host.new) session.new))
-        (lines_of lines.now) after) }
-    ensures stopped { OnErr result (StoppedAt home.now
-        (stand_of (W.contents writer.old) (world_of (H.files host.old) (H.failure_count host.old) session.old))
-        (stand_of (W.contents writer.new) (world_of (H.files host.new) (H.failure_count host.new) session.new))
-        (lines_of lines.now)) }
+        script result }
 {
-    let mut outcome = Outcome {
-        accepted: 0,
-        refused: 0,
-    };
-    let mut words = ArrayVec::new();
-    for line in RawLines(lines) {
-        let Some(response) = answer_line(alloc, host, home, session, &mut words, line) else {
+    if line.is_empty() {
+        return Ok(tally.outcome);
+    }
+    line.end_with_script();
+    match run_line(alloc, writer, host, home, session, line, tally) {
+        Ok(()) => Ok(tally.outcome),
+        Err(_) => Err(ShellFault::Write),
+    }
+}
+
+/// Runs the lines that end in the next piece of the script, up to an accepted `quit`, and holds what comes after the last.
+fn run_piece<W: Write, H: Host>(
+    alloc: Global,
+    writer: &mut W,
+    host: &mut H,
+    home: &str,
+    session: &mut Session,
+    line: &mut HeldLine,
+    tally: &mut Tally,
+    piece: &[u8],
+) -> Result<(), WriteFault>
+    requires { tally.old.outcome.accepted + tally.old.outcome.refused + length piece.now ≤ 2 ^ 32 }
+    ensures few { tally.new.outcome.accepted + tally.new.outcome.refused ≤ tally.old.outcome.accepted + tally.old.outcome.refused + length piece.now }
+    ensures came { (first : Stand) (before : List ℕ)
+        → HasCome home.now first
+        (stand_of (W.contents writer.old) (world_of (H.files host.old) (H.failure_count host.old) session.old))
+        tally.old line.old before
+        → OnOk result (ComesTo home.now first
+        (stand_of (W.contents writer.new) (world_of (H.files host.new) (H.failure_count host.new) session.new))
+        tally.new line.new (before ++ piece.now)) }
+    ensures stopped { (first : Stand) (before : List ℕ)
+        → HasCome home.now first
+        (stand_of (W.contents writer.old) (world_of (H.files host.old) (H.failure_count host.old) session.old))
+        tally.old line.old before
+        → OnErr result ((more : List ℕ) → StoppedAt home.now first
+        (stand_of (W.contents writer.new) (world_of (H.files host.new) (H.failure_count host.new) session.new))
+        (lines_of ((before ++ piece.now) ++ more))) }
+{
+    for part in RawLines(piece) {
+        line.push(before_end(part));
+        if !is_ended(part) {
             continue;
-        };
-        outcome.count(response.status);
-        match response.write(writer, session.image()) {
+        }
+        line.end_with_line_feed();
+        match run_line(alloc, writer, host, home, session, line, tally) {
             Ok(()) => {}
             Err(fault) => return Err(fault),
         }
-        if response.closes {
-            return Ok(Tally {
-                outcome,
-                closed: true,
-            });
+        if tally.closed {
+            return Ok(());
         }
+        line.clear();
     }
-    Ok(Tally {
-        outcome,
-        closed: false,
-    })
+    Ok(())
 }
 
-/// The script up to and with its last LF.
-fn ended_part(script: &[u8]) -> &[u8]
-    ensures lines { lines_of result.now ≡ ended_lines script.now }
-    ensures short { length result.now ≤ length script.now }
+/// Runs a line that has come to its end, and writes its answer.
+fn run_line<W: Write, H: Host>(
+    alloc: Global,
+    writer: &mut W,
+    host: &mut H,
+    home: &str,
+    session: &mut Session,
+    line: &HeldLine,
+    tally: &mut Tally,
+) -> Result<(), WriteFault>
+    requires { tally.old.outcome.accepted + tally.old.outcome.refused < 2 ^ 63 }
+    ensures few { tally.new.outcome.accepted + tally.new.outcome.refused ≤ tally.old.outcome.accepted + tally.old.outcome.refused + 1 }
+    ensures ran { (raw : List ℕ) → Says line.now raw → tally.old.closed ≡ false → OnOk result (RunsLine home.now raw
+        (stand_of (W.contents writer.old) (world_of (H.files host.old) (H.failure_count host.old) session.old))
+        (stand_of (W.contents writer.new) (world_of (H.files host.new) (H.failure_count host.new) session.new))
+        tally.old tally.new) }
+    ensures stopped { (raw : List ℕ) → Says line.now raw → tally.old.closed ≡ false → OnErr result (StopsInLine home.now raw
+        (stand_of (W.contents writer.old) (world_of (H.files host.old) (H.failure_count host.old) session.old))
+        (stand_of (W.contents writer.new) (world_of (H.files host.new) (H.failure_count host.new) session.new))
+        tally.old) }
 {
-    let mut ended = script;
-    while let [front @ .., last] = ended {
-        if *last == b'\n' {
-            break;
-        }
-        ended = front;
-    }
-    ended
+    let Some(response) = answer_held(alloc, host, home, session, line) else {
+        return Ok(());
+    };
+    tally.count(&response);
+    response.write(writer, session.image())
+}
+
+/// The response to a line that has come to its end, or None where it is skipped.
+fn answer_held<H: Host>(
+    alloc: Global,
+    host: &mut H,
+    home: &str,
+    session: &mut Session,
+    line: &HeldLine,
+) -> Option<Response>
+    ensures { (raw : List ℕ) → Says line.now raw → MatchOption result
+        (IsSkipped home.now session.old raw
+        (world_of (H.files host.old) (H.failure_count host.old) session.old)
+        (world_of (H.files host.new) (H.failure_count host.new) session.new))
+        (λ response. IsAnswered home.now session.old raw
+        (world_of (H.files host.old) (H.failure_count host.old) session.old)
+        (shown (present session.new) response)
+        (world_of (H.files host.new) (H.failure_count host.new) session.new)) }
+{
+    let Some(text) = line.text() else {
+        return Some(Response::plain(Status::LongLine));
+    };
+    let mut words = ArrayVec::new();
+    answer_line(alloc, host, home, session, &mut words, text)
 }
