@@ -1,5 +1,5 @@
 -- What the program does with its words, its streams and a host.
-use Rattle.std.specs.Prelude.{◌≡◌, ◌≢◌, ℕ, ◌*◌, ◌==◌, if◌then◌else◌, List, [], ◌∷◌, ◌++◌, length, replicate, codes, string_bytes, Option, Some, None, option_map, unwrap_or, Result, Ok, Err, ◌⊎◌}
+use Rattle.std.specs.Prelude.{◌≡◌, ◌≢◌, ℕ, ◌*◌, ◌==◌, if◌then◌else◌, List, [], ◌∷◌, ◌++◌, length, replicate, codes, string_bytes, Option, Some, None, option_map, unwrap_or, Result, Ok, Err, ◌⊎◌, ⊤}
 use Rattle.std.specs.declared.alloc.AllocError.{AllocError}
 use Rattle.std.specs.Fmt.{decimal}
 use Rattle.std.specs.Io.KnownBytes.{Appends, Keeps}
@@ -208,6 +208,16 @@ AnswersWords words.Memory old new faults told status = (new ≡ old) × Reports 
 -- the words with the program's name before them
 abbrev pub named : List (List ℕ) → List (List ℕ)
 named after = codes "d64sh" ∷ after
+
+-- the job is the shell's, which tells nothing where its script runs to its end
+abbrev pub IsShell : Job → Type 0
+IsShell (Shell image) = ⊤
+IsShell (Petcat file) = ⊥
+IsShell (Crunch start file) = ⊥
+
+-- the words ask for the shell
+abbrev pub AsksForShell : List (List ℕ) → Type 0
+AsksForShell after = (job : Job) × IsJob (named after) job × IsShell job
 
 -- what the program has done, and its status: the job that the words ask for has ended; or they ask for none, and were
 -- answered so, with nothing read and no file touched

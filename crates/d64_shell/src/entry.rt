@@ -1,6 +1,6 @@
 //! The program `d64sh`, from its words to its exit status.
-ghost use Rattle.std.specs.Prelude.{◌≡◌, ◌≤◌, map};
-ghost use Rattle.d64_shell.specs.Program.{Ended, outside_of};
+ghost use Rattle.std.specs.Prelude.{◌≡◌, ◌≢◌, ◌≤◌, map};
+ghost use Rattle.d64_shell.specs.Program.{AsksForShell, Ended, EndedJob, IsShell, outside_of};
 
 use crate::shell_job::{exit_status, shell};
 use crate::tool_job::{run_tool, tell_answer};
@@ -45,11 +45,31 @@ pub fn program<R: Read, W: Write, F: Write, H: Host>(
         (outside_of (R.remaining reader.new) (W.contents writer.new) (H.files host.new) (H.failure_count host.new))
         (F.contents faults.old) (F.contents faults.new) result }
     ensures silent { result ≡ 0 → faults.new ≡ faults.old }
+    ensures script { AsksForShell (map (λ word. word.now) words.now) → result ≢ 2 → faults.new ≡ faults.old }
 {
-    let job = match asked(alloc, words) {
-        Ok(job) => job,
-        Err(fault) => return answer_words(alloc, fault, writer, faults),
-    };
+    match asked(alloc, words) {
+        Ok(job) => do_job(alloc, job, reader, writer, faults, host),
+        Err(fault) => answer_words(alloc, fault, writer, faults),
+    }
+}
+
+/// Does a job, and answers the exit status.
+fn do_job<R: Read, W: Write, F: Write, H: Host>(
+    alloc: Global,
+    job: Job,
+    reader: &mut R,
+    writer: &mut W,
+    faults: &mut F,
+    host: &mut H,
+) -> u8
+    ensures ended { EndedJob job
+        (outside_of (R.remaining reader.old) (W.contents writer.old) (H.files host.old) (H.failure_count host.old))
+        (outside_of (R.remaining reader.new) (W.contents writer.new) (H.files host.new) (H.failure_count host.new))
+        (F.contents faults.old) (F.contents faults.new) result }
+    ensures status { result ≤ 2 }
+    ensures silent { result ≡ 0 → faults.new ≡ faults.old }
+    ensures script { IsShell job → result ≢ 2 → faults.new ≡ faults.old }
+{
     match job {
         Job::Shell { image } => match shell(alloc, image.as_deref(), reader, writer, host) {
             Ok(outcome) => exit_status(outcome),
