@@ -8,10 +8,8 @@ use Rattle.std.specs.FinSet.{contains-empty, contains-from_list_nat, contains-in
 use Rattle.std.proofs.lemmas.Bool.{cases_lt, cases_Bool, eqb-true, ltb-true, lt-ltb, eq-eqb, ne_eqb}
 use Rattle.d64_image.specs.declared.block.TheConstants.{BLOCKS}
 use Rattle.d64_image.specs.BlockSet.{MembersAreBlocks}
-use Rattle.std.proofs.lemmas.Bool.Decides.{nat_tests}
-use Rattle.d64_map.specs.Map.{blocks}
-use Rattle.d64_map.proofs.FreeBlocks.{all_blocks}
-use Rattle.d64_map.proofs.Ranges.{any-range}
+use Rattle.d64_map.specs.Map.{all_of}
+use Rattle.d64_map.proofs.FreeBlocks.{any-below}
 use Rattle.d64_effects.specs.Clear.{with_freed}
 use Rattle.d64_effects.specs.Validate.{all_but}
 use Rattle.d64_effects.proofs.TakenBlocks.{contains-without}
@@ -138,23 +136,20 @@ no_other members others n so member q =
         ap (λ (b : Bool). ltb q n && b) gone ∙ none (ltb q n) ∙ sym gone
     by_number false e = refl
 
--- the disk has the blocks below their number
-contains-blocks : (n q : ℕ) → n ≡ BLOCKS → set.contains (set.from_list {R = nat_cmp} blocks) q ≡ ltb q n
-contains-blocks n q all =
-    ap (λ (list : List ℕ). set.contains (set.from_list {R = nat_cmp} list) q) (sym (all_blocks n all))
-    ∙ contains-from_list_nat (range_with_len 0 n) q
-    ∙ any-range 0 n q
-    ∙ grind (arith, nat_tests)
+-- a disk has the blocks below their number
+contains-all_of : (n q : ℕ) → set.contains (all_of n) q ≡ ltb q n
+contains-all_of n q = contains-from_list_nat (range_with_len 0 n) q ∙ any-below n q
 
 -- at last all others
-pub all_others : (members others : set.FinSet nat_cmp) (n : ℕ) (owned : List ℕ) → n ≡ BLOCKS → members ≡ set.from_list owned
-    → OthersBelow members others n → others ≡ all_but owned
-all_others members others n owned all listed so = same_set nat_cmp_total nat_cmp-IsAntisymmetric others (all_but owned) (λ q.
+pub all_others : (members others : set.FinSet nat_cmp) (n count : ℕ) (owned : List ℕ) → n ≡ count → members ≡ set.from_list owned
+    → OthersBelow members others n → others ≡ all_but count owned
+all_others members others n count owned all listed so = same_set nat_cmp_total nat_cmp-IsAntisymmetric others (all_but count owned) (λ q.
     so q
+    ∙ ap (λ (end : ℕ). ltb q end && not (set.contains members q)) all
     ∙ ap₂ (λ (a b : Bool). a && not b)
-    (sym (contains-blocks n q all)) (ap (λ (one : set.FinSet nat_cmp). set.contains one q) listed ∙ contains-listed owned q)
-    ∙ swapped (set.contains (set.from_list {R = nat_cmp} blocks) q) (not (list_any (nat_eq q) owned))
-    ∙ sym (contains-without (set.from_list blocks) owned q))
+    (sym (contains-all_of count q)) (ap (λ (one : set.FinSet nat_cmp). set.contains one q) listed ∙ contains-listed owned q)
+    ∙ swapped (set.contains (all_of count) q) (not (list_any (nat_eq q) owned))
+    ∙ sym (contains-without (all_of count) owned q))
   where
     swapped : (a b : Bool) → (a && b) ≡ (b && a)
     swapped true true = refl

@@ -5,7 +5,7 @@ use Rattle.std.proofs.lemmas.Bool.{ne_eqb}
 use Rattle.std.proofs.lemmas.List.{drop_at, length-append, length-set, get_or-set_same, get_or-set_other}
 use Rattle.std.proofs.lemmas.List.Sums.{take_while-cons}
 use Rattle.std.proofs.lemmas.List.Elements.{All-head, All-tail, All-get_or, All-contains_itself}
-use Rattle.d64_image.specs.Image.{sector_at, with_sector}
+use Rattle.d64_image.specs.Image.{IsSize, sector_at, with_sector}
 use Rattle.d64_map.specs.Map.{map_block, map_for}
 use Rattle.d64_map.proofs.Maps.{sector_at-with_map}
 use Rattle.d64_files.specs.Directory.{slots}
@@ -41,13 +41,13 @@ cut_at_fill (byte ∷ name) count allowed =
     ∙ ap (λ (bytes : List ℕ). byte ∷ bytes) (cut_at_fill name count (All-tail (λ b. ¬ (Contains forbidden_in_names b)) byte name allowed))
 
 -- what the view of a formatted disk says of its name and its id
-name_field : (name id : List ℕ) → IsName name → AreTwoBytes id → disk_field (formatted name id) ≡ filled name
+name_field : (count : ℕ) (size : IsSize count) (name id : List ℕ) → IsName name → AreTwoBytes id → disk_field (formatted count name id) ≡ filled name
 unfolding view formatted_view
-name_field name id named two = ap (λ (shown : View). shown.name) (view-formatted name id named two)
+name_field count size name id named two = ap (λ (shown : View). shown.name) (view-formatted count size name id named two)
 
-id_field : (name id : List ℕ) → IsName name → AreTwoBytes id → disk_id (formatted name id) ≡ id
+id_field : (count : ℕ) (size : IsSize count) (name id : List ℕ) → IsName name → AreTwoBytes id → disk_id (formatted count name id) ≡ id
 unfolding view formatted_view
-id_field name id named two = ap (λ (shown : View). shown.id) (view-formatted name id named two)
+id_field count size name id named two = ap (λ (shown : View). shown.id) (view-formatted count size name id named two)
 
 -- no slot is used
 none_used : (cells : List (List ℕ)) → All (λ cell. is_used cell ≡ false) cells → filter is_used cells ≡ []
@@ -57,17 +57,17 @@ none_used (cell ∷ cells) unused =
     ∙ none_used cells (All-tail (λ c. is_used c ≡ false) cell cells unused)
 
 -- the map's block is the header with the map
-header_of : (name id : List ℕ) → sector_at (formatted name id) map_block ≡ map_for (header name id) free_when_formatted
+header_of : (count : ℕ) (size : IsSize count) (name id : List ℕ) → sector_at (formatted count name id) map_block ≡ map_for (header name id) (free_when_formatted count)
 unfolding formatted
-header_of name id =
-    let labelled : List (List ℕ) = with_sector blank map_block (header name id) in
-    let p = length-parts name id in
+header_of count size name id =
+    let labelled : List (List ℕ) = with_sector (blank count) map_block (header name id) in
+    let p = length-parts count size name id in
     let a = length-set labelled directory_start empty_directory in
-    let b = length-set blank map_block (header name id) in
-    sector_at-with_map (with_sector labelled directory_start empty_directory) free_when_formatted (omega arith)
-    ∙ ap (λ (bytes : List ℕ). map_for bytes free_when_formatted)
+    let b = length-set (blank count) map_block (header name id) in
+    sector_at-with_map (with_sector labelled directory_start empty_directory) (free_when_formatted count) (omega arith)
+    ∙ ap (λ (bytes : List ℕ). map_for bytes (free_when_formatted count))
     (get_or-set_other labelled directory_start map_block empty_directory [] (λ e. omega arith)
-    ∙ get_or-set_same blank map_block (header name id) [] (omega arith))
+    ∙ get_or-set_same (blank count) map_block (header name id) [] (omega arith))
 
 -- the version stands behind the id
 version_at : (before version fill back : List ℕ) → length before ≡ 165 → length version ≡ 2
@@ -92,19 +92,19 @@ version_in name id named two =
     let short = two.0 in
     version_at w4 (0x32 ∷ 0x41 ∷ []) (replicate 4 0xA0) (replicate 85 0) (omega arith) refl
 
-version : (name id : List ℕ) → IsName name → AreTwoBytes id → slice_range (sector_at (formatted name id) map_block) 0xA5 0xA7 ≡ 0x32 ∷ 0x41 ∷ []
-version name id named two =
+version : (count : ℕ) (size : IsSize count) (name id : List ℕ) → IsName name → AreTwoBytes id → slice_range (sector_at (formatted count name id) map_block) 0xA5 0xA7 ≡ 0x32 ∷ 0x41 ∷ []
+version count size name id named two =
     let block = IsBlock-header name id named two in
-    ap (λ (bytes : List ℕ). slice_range bytes 0xA5 0xA7) (header_of name id)
-    ∙ ap (take 2) (drop-map_for (header name id) free_when_formatted 0xA5 block.0 (omega arith))
+    ap (λ (bytes : List ℕ). slice_range bytes 0xA5 0xA7) (header_of count size name id)
+    ∙ ap (take 2) (drop-map_for (header name id) (free_when_formatted count) 0xA5 block.0 (omega arith))
     ∙ version_in name id named two
 
 -- a formatted disk lists its name, its id, the version, no file, and 664 free blocks
 pub listed : FormattedDiskLists
-listed name id named two =
-    sym (listing_by_fields (formatted name id) name id (0x32 ∷ 0x41 ∷ []) [] 664
-    (sym (ap (take_while (λ byte. not (byte == 0xA0))) (name_field name id named two) ∙ cut_at_fill name (16 - length name) named.allowed))
-    (sym (id_field name id named two))
-    (sym (version name id named two))
-    (sym (ap (map row_of) (none_used (slots (formatted name id)) (unused-formatted name id))))
-    (sym (blocks_free-formatted name id)))
+listed count name id size named two =
+    sym (listing_by_fields (formatted count name id) name id (0x32 ∷ 0x41 ∷ []) [] 664
+    (sym (ap (take_while (λ byte. not (byte == 0xA0))) (name_field count size name id named two) ∙ cut_at_fill name (16 - length name) named.allowed))
+    (sym (id_field count size name id named two))
+    (sym (version count size name id named two))
+    (sym (ap (map row_of) (none_used (slots (formatted count name id)) (unused-formatted count size name id))))
+    (sym (blocks_free-formatted count size name id)))

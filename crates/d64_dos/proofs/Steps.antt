@@ -13,8 +13,11 @@ use Rattle.d64_files.specs.Writing.{blocks_for, first_unused, dir_last}
 use Rattle.d64_files.specs.declared.dir_fault.DirFault.{DirFault}
 use Rattle.d64_files.specs.declared.kind.Kind.{Kind}
 use Rattle.d64_files.specs.declared.kind.Kind.TheVariants.{Del, Seq, Prg, Usr, Rel}
-use Rattle.d64_effects.specs.Laws.{HasRoom, IsWritable}
-use Rattle.d64_effects.specs.View.{IsSound}
+use Rattle.d64_files.specs.Name.{IsName}
+use Rattle.d64_effects.specs.Format.{formatted}
+use Rattle.d64_effects.specs.Laws.{AreTwoBytes, HasRoom, IsWritable}
+use Rattle.d64_effects.specs.View.{IsSound, view}
+use Rattle.d64_effects.specs.ViewAfter.{formatted_view}
 use Rattle.d64_effects.specs.Write.{next_of_directory}
 use Rattle.d64_effects.proofs.FormattedDisks.{holds-formatted, view-formatted}
 use Rattle.d64_effects.proofs.RenamedDisks.{renamed-is_sound, renamed-shows}
@@ -89,10 +92,16 @@ none_found (Some fault) h = absurd (cc)
 owning_conditions-hold : (image : List (List ℕ)) → validate_refusal image ≡ None → AllHold image 2 5
 owning_conditions-hold image h = (owning_tells image).0.0 (none_found (first_fault image owning_conditions) h)
 
+-- a formatted disk has as many blocks as before
+formatted-shows : (image : List (List ℕ)) (name id : List ℕ) → IsImage image → IsName name → AreTwoBytes id
+    → view (formatted (length image) name id) ≡ formatted_view (view image).count name id
+unfolding view
+formatted-shows image name id is named two = view-formatted (length image) is.0 name id named two
+
 -- each accepted file command leaves a sound disk, which shows its change
 pub keeps_sound : FileCommandsKeepDisksSound
 keeps_sound image (Format name id) is made none from =
-    record { sound = λ fault first last. holds-formatted name id fault; shows = (refl, view-formatted name id made.0 made.1) }
+    record { sound = λ fault first last. holds-formatted (length image) is.0 name id fault; shows = (refl, formatted-shows image name id is made.0 made.1) }
 keeps_sound image (Write name kind bytes) is made none from =
     let passes = accepted image name kind (length bytes) none in
     let kinds = writable kind passes.0 in

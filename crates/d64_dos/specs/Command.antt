@@ -44,9 +44,9 @@ scratched_of shown patterns = length (filter (is_scratched_row patterns) (names_
 abbrev pub row : Change → Row
 row (Format name id) = record {
   refusal = λ image. None;
-  effect = λ image. formatted name id;
+  effect = λ image. formatted (length image) name id;
   reply = λ image. Done;
-  promise = Some (record { start = AnyDisk; reply = λ old. Done; shows = λ old. formatted_view name id });
+  promise = Some (record { start = AnyDisk; reply = λ old. Done; shows = λ old. formatted_view old.count name id });
 }
 row (Write name kind bytes) = record {
   refusal = λ image. write_refusal image name kind (length bytes);

@@ -1,6 +1,6 @@
 -- What the directory of a disk lists.
 use Rattle.std.specs.Prelude.{◌≡◌, ℕ, ◌==◌, not, Bool, List, [], ◌∷◌, map, filter, take_while, slice_range}
-use Rattle.d64_image.specs.Image.{sector_at}
+use Rattle.d64_image.specs.Image.{IsSize, sector_at}
 use Rattle.d64_map.specs.Map.{map_block, blocks_free}
 use Rattle.d64_files.specs.Directory.{slots}
 use Rattle.d64_files.specs.Name.{IsName}
@@ -63,5 +63,5 @@ shown_listing listing = record {
 -- a formatted disk lists its name, its id, the DOS version `2A`, no file, and 664 free blocks
 abbrev pub FormattedDiskLists : Type 0
 FormattedDiskLists =
-    (name id : List ℕ) → IsName name → AreTwoBytes id
-    → listing_of (formatted name id) ≡ record { name = name; id = id; dos = 0x32 ∷ 0x41 ∷ []; rows = []; free = 664 }
+    (count : ℕ) (name id : List ℕ) → IsSize count → IsName name → AreTwoBytes id
+    → listing_of (formatted count name id) ≡ record { name = name; id = id; dos = 0x32 ∷ 0x41 ∷ []; rows = []; free = 664 }

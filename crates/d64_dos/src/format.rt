@@ -1,10 +1,9 @@
 //! An empty disk, made block by block.
-ghost use Rattle.std.specs.Prelude.{◌≡◌, replicate, OnOk};
-ghost use Rattle.d64_image.specs.declared.block.TheConstants.{BLOCKS};
+ghost use Rattle.std.specs.Prelude.{◌≡◌, length, replicate, OnOk};
 ghost use Rattle.d64_image.specs.declared.image.TheConstants.{BLOCK_BYTES};
 ghost use Rattle.d64_image.specs.Image.{with_sector};
 ghost use Rattle.d64_image.specs.Patch.{back};
-ghost use Rattle.d64_effects.specs.Format.{directory_start, header, free_when_formatted, formatted};
+ghost use Rattle.d64_effects.specs.Format.{directory_start, header, free_when_formatted, blank, formatted};
 
 use d64_files::{DIRECTORY_SECTOR, Name, empty_directory, write_at};
 use d64_image::{BLOCK_BYTES, BLOCKS, BlockNo, BlockSet, Image, Patch};
@@ -52,10 +51,11 @@ fn header(name: &Name, id: &[u8; 2]) -> [u8; BLOCK_BYTES]
     header
 }
 
-/// The free blocks of a formatted disk: all but those of the map and of the directory.
-fn free_when_formatted() -> BlockSet
-    ensures { result ≡ free_when_formatted }
+/// The free blocks of the disk when it is formatted: all but those of the map and of the directory.
+fn free_when_formatted(image: &Image) -> BlockSet
+    ensures { result ≡ free_when_formatted (length image.now) }
 {
+    let _ = image.bytes();
     let mut free = BlockSet::empty();
     for index in 0..BLOCKS {
         match BlockNo::at(index) {
@@ -82,7 +82,7 @@ fn blank_block(image: &mut Image, patch: &mut Patch, block: BlockNo) -> Result<(
 
 /// Writes zeros into all blocks.
 fn blank(image: &mut Image, patch: &mut Patch) -> Result<(), AllocError>
-    ensures blank { OnOk result (image.new ≡ replicate BLOCKS (replicate BLOCK_BYTES 0)) }
+    ensures blank { OnOk result (image.new ≡ blank (length image.old)) }
     ensures back { back image.new patch.new ≡ back image.old patch.old }
 {
     let _ = image.bytes();
@@ -103,11 +103,12 @@ pub(crate) fn format(
     name: &Name,
     id: &[u8; 2],
 ) -> Result<(), AllocError>
-    ensures formatted { OnOk result (image.new ≡ formatted name.now id.now) }
+    ensures formatted { OnOk result (image.new ≡ formatted (length image.old) name.now id.now) }
     ensures back { back image.new patch.new ≡ back image.old patch.old }
 {
+    let free = free_when_formatted(image);
     blank(image, patch)?;
     patch.write(image, map_block(), &header(name, id))?;
     patch.write(image, directory_start(), &empty_directory())?;
-    put_map(image, patch, &free_when_formatted())
+    put_map(image, patch, &free)
 }

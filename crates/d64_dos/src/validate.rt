@@ -1,5 +1,5 @@
 //! The validation of a disk: unclosed files are dropped, and free is what nobody owns.
-ghost use Rattle.std.specs.Prelude.{◌≡◌, ℕ, List, OnOk};
+ghost use Rattle.std.specs.Prelude.{◌≡◌, ℕ, List, length, OnOk};
 ghost use Rattle.std.specs.FinSet as set;
 ghost use Rattle.d64_image.specs.Patch.{back};
 ghost use Rattle.d64_effects.specs.Validate.{unclosed_slots, all_but, validated};
@@ -27,10 +27,11 @@ fn unclosed_slots(directory: &Directory) -> ArrayVec<usize, MOST_SLOTS>
     places
 }
 
-/// All blocks but these.
-fn all_but(owned: &BlockSet) -> BlockSet
-    ensures { (blocks : List ℕ) → owned.now ≡ set.from_list blocks → result ≡ all_but blocks }
+/// All blocks of the disk but these.
+fn all_but(image: &Image, owned: &BlockSet) -> BlockSet
+    ensures { (blocks : List ℕ) → owned.now ≡ set.from_list blocks → result ≡ all_but (length image.now) blocks }
 {
+    let _ = image.bytes();
     let mut others = BlockSet::empty();
     for index in 0..BLOCKS {
         match BlockNo::at(index) {
@@ -65,7 +66,8 @@ pub(crate) fn validate(image: &mut Image, patch: &mut Patch) -> Result<(), Refus
         Ok(directory) => unclosed_slots(&directory),
         Err(fault) => return Err(Refusal::Directory(fault)),
     };
+    let others = all_but(image, &owned);
     clear_slots(image, patch, unclosed.as_slice())?;
-    put_map(image, patch, &all_but(&owned))?;
+    put_map(image, patch, &others)?;
     Ok(())
 }

@@ -1,14 +1,15 @@
 -- disks whose slots and map are changed, and whose files lie where they lay
-use Rattle.std.proofs.Common.{◌≡◌, ◌≢◌, ℕ, ◌+◌, ◌*◌, ◌<◌, ◌≤◌, ◌==◌, true, false, eqb, eq-eqb, nat_eq, List, [], length, map, drop, take, get_or, refl, sym, ap, ◌∙◌, subst, arith}
+use Rattle.std.proofs.Common.{◌≡◌, ◌≢◌, ℕ, ◌+◌, ◌*◌, ◌<◌, ◌≤◌, ◌==◌, true, false, eqb, eq-eqb, nat_eq, List, [], length, map, drop, take, get_or, refl, sym, ap, ap₂, ◌∙◌, subst, arith}
 use Rattle.std.specs.Prelude.{All, filter}
-use Rattle.std.specs.List.{list_any, flat_map, IsDistinct}
+use Rattle.std.specs.List.{list_any, flat_map, range_with_len, IsDistinct}
 use Rattle.std.specs.Ordering.{nat_cmp}
 use Rattle.std.specs.FinSet as set
 use Rattle.std.proofs.lemmas.List.Elements.{All-weaker}
+use Rattle.d64_image.specs.declared.block.TheConstants.{BLOCKS}
 use Rattle.d64_image.specs.Block.{pair_at}
-use Rattle.d64_image.specs.BlockSet.{MembersAreBlocks}
+use Rattle.d64_image.specs.BlockSet.{MembersAreBelow}
 use Rattle.d64_image.specs.Image.{IsImage, sector_at}
-use Rattle.d64_map.specs.Map.{map_block, bit_in, is_free, blocks, free_blocks, map_for, with_map, CountsFit}
+use Rattle.d64_map.specs.Map.{map_block, bit_in, is_free, free_blocks, map_for, with_map, CountsFit}
 use Rattle.d64_map.specs.Track.{members_on}
 use Rattle.d64_map.proofs.Maps.{sector_at-with_map, sector_at-with_map-other, length-with_map, free_blocks-with_map, counts-with_map, IsImage-with_map}
 use Rattle.d64_files.specs.Directory.{directory, slots, slots_in, owned_blocks}
@@ -28,6 +29,7 @@ use Rattle.d64_effects.proofs.TakenBlocks.{occurs-owned}
 -- an image with other slots and another map, whose directory and files lie where they lay
 pub record Altered (image other cells : List (List ℕ)) (free : set.FinSet nat_cmp) : Type 0 where
   pub is_image : IsImage other
+  pub long : length other ≡ length image
   pub counts : CountsFit other
   pub marked : free_blocks other ≡ free
   pub blocks : directory other ≡ directory image
@@ -37,19 +39,21 @@ pub record Altered (image other cells : List (List ℕ)) (free : set.FinSet nat_
   pub id : disk_id other ≡ disk_id image
 
 -- the map's block decides which blocks are free
-free_blocks-same : (image other : List (List ℕ)) → sector_at other map_block ≡ sector_at image map_block → free_blocks other ≡ free_blocks image
+free_blocks-same : (image other : List (List ℕ)) → length other ≡ length image → sector_at other map_block ≡ sector_at image map_block
+    → free_blocks other ≡ free_blocks image
 unfolding free_blocks is_free
-free_blocks-same image other e =
-    ap (λ (bytes : List ℕ). set.from_list {R = nat_cmp} (filter (λ block. bit_in bytes (pair_at block).0 (pair_at block).1 == 1) blocks)) e
+free_blocks-same image other long e =
+    ap₂ (λ (n : ℕ) (bytes : List ℕ). set.from_list {R = nat_cmp} (filter (λ block. bit_in bytes (pair_at block).0 (pair_at block).1 == 1) (range_with_len 0 n))) long e
 
 -- the image with changed slots, where its map stays
 pub same_map : (image one cells : List (List ℕ)) → SlotsChanged image one cells → occurs map_block (directory image) ≡ 0 → CountsFit image
     → Altered image one cells (free_blocks image)
 same_map image one cells changed apart fit =
     let e : sector_at one map_block ≡ sector_at image map_block = changed.kept map_block apart in
-    let free = free_blocks-same image one e in
+    let free = free_blocks-same image one changed.long e in
     record {
       is_image = changed.is_image;
+      long = changed.long;
       counts = record {
         each = λ track from to.
             ap (λ (bytes : List ℕ). get_or bytes (4 * track) 0) e ∙ fit.each track from to
@@ -65,9 +69,15 @@ same_map image one cells changed apart fit =
 
 -- the image with changed slots and the map of a set
 module _ (image one cells : List (List ℕ)) (free : set.FinSet nat_cmp) (is : IsImage image) (some : directory image ≢ [])
-    (changed : SlotsChanged image one cells) (apart : occurs map_block (directory image) ≡ 0) (members : MembersAreBlocks free) where
+    (changed : SlotsChanged image one cells) (apart : occurs map_block (directory image) ≡ 0) (members : MembersAreBelow (length image) free) where
   has_map_block : map_block < length one
   has_map_block = let e = changed.is_image.0 in omega arith
+
+  few : length one ≤ BLOCKS
+  few = let e = changed.is_image.0 in omega arith
+
+  within : MembersAreBelow (length one) free
+  within = subst (λ (n : ℕ). MembersAreBelow n free) (sym changed.long) members
 
   listed_sector : (block : ℕ) → list_any (nat_eq block) (directory one) ≡ true → sector_at (with_map one free) block ≡ sector_at one block
   listed_sector block found =
@@ -91,8 +101,9 @@ module _ (image one cells : List (List ℕ)) (free : set.FinSet nat_cmp) (is : I
   pub remapped : Altered image (with_map one free) cells free
   remapped = record {
     is_image = IsImage-with_map one free changed.is_image;
-    counts = counts-with_map one free has_map_block members;
-    marked = free_blocks-with_map one free has_map_block members;
+    long = length-with_map one free ∙ changed.long;
+    counts = counts-with_map one free has_map_block few within;
+    marked = free_blocks-with_map one free has_map_block few within;
     blocks = same_directory ∙ changed.blocks;
     entries = same_slots ∙ changed.entries;
     kept = λ block other absent. sector_at-with_map-other one free block other ∙ changed.kept block absent;
@@ -127,7 +138,7 @@ module _ (image other cells : List (List ℕ)) (free : set.FinSet nat_cmp) (is :
   slots_framed = framed image other cells chains agree
 
   same_length : length other ≡ length image
-  same_length = left.is_image.0 ∙ sym is.0
+  same_length = left.long
 
   owned_as_before : map (owned_by other) cells ≡ map (owned_by image) cells
   owned_as_before =
@@ -174,6 +185,7 @@ module _ (image other cells : List (List ℕ)) (free : set.FinSet nat_cmp) (is :
 
   -- and shows what these slots show
   pub view_after : view other ≡ record {
+    count = length image;
     name = disk_field image;
     id = disk_id image;
     directory = directory image;
@@ -183,4 +195,4 @@ module _ (image other cells : List (List ℕ)) (free : set.FinSet nat_cmp) (is :
   unfolding view
   view_after =
       let shown = ap (map (slot_view other)) left.entries ∙ shown_as_before in
-      λ i. record { name = left.name i; id = left.id i; directory = left.blocks i; slots = shown i; free = left.marked i }
+      λ i. record { count = left.long i; name = left.name i; id = left.id i; directory = left.blocks i; slots = shown i; free = left.marked i }

@@ -42,7 +42,7 @@ rows_of slots = filter_map (option_map listed) slots
 
 pub formatted-lists_nothing : FormattedListsNothing
 unfolding formatted_view
-formatted-lists_nothing name id = refl
+formatted-lists_nothing count name id = refl
 
 -- a file in the first vacant slot
 rows-with : (slots : List (Option FileView)) (file : FileView) (place : Option ℕ) → position is_vacant slots ≡ place

@@ -1,5 +1,5 @@
 -- what an entry in a slot of the directory leaves
-use Rattle.std.proofs.Common.{◌≡◌, ◌≢◌, ℕ, ◌+◌, ◌-◌, ◌*◌, ◌/◌, ◌%◌, ◌<◌, ◌≤◌, ◌||◌, Bool, true, false, cond, eqb, ltb, List, [], ◌∷◌, ◌++◌, length, get_or, take, drop, set, Option, Some, None, refl, sym, ap, ap₂, ◌∙◌, inl, inr, arith}
+use Rattle.std.proofs.Common.{◌≡◌, ◌≢◌, ℕ, ◌+◌, ◌-◌, ◌*◌, ◌/◌, ◌%◌, ◌<◌, ◌≤◌, ◌||◌, Bool, true, false, cond, eqb, ltb, List, [], ◌∷◌, ◌++◌, length, get_or, take, drop, set, Option, Some, None, refl, sym, ap, ap₂, ◌∙◌, subst, inl, inr, arith}
 use Rattle.std.specs.Prelude.{All}
 use Rattle.std.specs.List.{list_any, IsDistinct}
 use Rattle.std.specs.Option.{option_and_then, option_map_or}
@@ -10,7 +10,7 @@ use Rattle.std.proofs.lemmas.List.Elements.{All-get_or, All-set, All-take, All-d
 use Rattle.std.proofs.lemmas.List.Folds.{list_any_at}
 use Rattle.std.proofs.lemmas.Map.Keys.{apart_from_distinct}
 use Rattle.d64_image.specs.declared.image.TheConstants.{BLOCK_BYTES}
-use Rattle.d64_image.specs.Image.{IsBlock, IsImage, sector_at}
+use Rattle.d64_image.specs.Image.{IsBlock, IsSize, IsImage, sector_at}
 use Rattle.d64_files.specs.Chain.{Chain, chain, chain_by, block_in, held, link_at, link_of}
 use Rattle.d64_files.specs.Directory.{directory, slots, slots_in}
 use Rattle.d64_files.specs.Slot.{cell, cells}
@@ -230,7 +230,7 @@ IsImage-with_entry image slot entry is there full bytes =
     let some = directory-of_slot image slot there in
     let b = block_at image (slot_block image slot) is (slot_block-within image slot some there) in
     let fits = slot_fits slot in (
-      length-set image (slot_block image slot) (written_at (sector_at image (slot_block image slot)) (slot_start slot) entry) ∙ is.0,
+      subst IsSize (sym (length-with_entry image slot entry)) is.0,
       All-set IsBlock image (slot_block image slot) (written_at (sector_at image (slot_block image slot)) (slot_start slot) entry)
           (IsBlock-written_at (sector_at image (slot_block image slot)) entry (slot_start slot) b (omega arith) bytes) is.1,
     )

@@ -11,7 +11,7 @@ use Rattle.std.proofs.lemmas.Grind.{flat_map-append}
 use Rattle.d64_image.specs.declared.block.TheConstants.{BLOCKS}
 use Rattle.d64_image.specs.declared.image.TheConstants.{BLOCK_BYTES}
 use Rattle.d64_image.specs.Block.{pair_at}
-use Rattle.d64_image.specs.Image.{IsBlock, IsImage, sector_at, with_sector}
+use Rattle.d64_image.specs.Image.{IsBlock, IsSize, IsImage, sector_at, with_sector}
 use Rattle.d64_files.specs.Chain.{Chain, held, led_by, link_at, link_of, link_to}
 use Rattle.d64_files.specs.Directory.{directory, slots, slots_in}
 use Rattle.d64_files.specs.Slot.{cell, cells}
@@ -111,22 +111,23 @@ pair_bytes-are_bytes block h =
     All-cons P (pair_at block).0 ((pair_at block).1 ∷ []) small.0 (All-cons P (pair_at block).1 [] small.1 (All-nil P))
 
 -- an image stays one
-pub IsImage-grown : (image : List (List ℕ)) (new : ℕ) (entry : List ℕ) → IsImage image → directory image ≢ [] → new < BLOCKS
+pub IsImage-grown : (image : List (List ℕ)) (new : ℕ) (entry : List ℕ) → IsImage image → directory image ≢ [] → new < length image
     → length entry ≡ 30 → All (λ byte. byte < 256) entry → IsImage (grown_with image new entry)
 unfolding with_growth
 IsImage-grown image new entry is some inside full bytes =
     let last : List ℕ = written_at (sector_at image (dir_last image)) 0 (pair_bytes new) in
     let linked : List (List ℕ) = with_sector image (dir_last image) last in
     let grown : List (List ℕ) = with_sector linked new empty_directory in
-    let l : length linked ≡ BLOCKS = length-set image (dir_last image) last ∙ is.0 in
-    let m : length grown ≡ BLOCKS = length-set linked new empty_directory ∙ l in
+    let l : length linked ≡ length image = length-set image (dir_last image) last in
+    let m : length grown ≡ length image = length-set linked new empty_directory ∙ l in
+    let small : new < BLOCKS = let z = is.0 in omega arith in
     let whole = block_at image (dir_last image) is (dir_last-within image some) in
     let first : All IsBlock linked =
     All-set IsBlock image (dir_last image) last
-    (IsBlock-written_at (sector_at image (dir_last image)) (pair_bytes new) 0 whole (omega arith) (pair_bytes-are_bytes new inside)) is.1 in
+    (IsBlock-written_at (sector_at image (dir_last image)) (pair_bytes new) 0 whole (omega arith) (pair_bytes-are_bytes new small)) is.1 in
     let second : All IsBlock grown = All-set IsBlock linked new empty_directory IsBlock-empty_directory first in
-    let here = block_at grown new (m, second) (omega arith) in (
-      length-set grown new (written_at (sector_at grown new) 2 entry) ∙ m,
+    let here = block_at grown new (subst IsSize (sym m) is.0, second) (omega arith) in (
+      subst IsSize (sym (length-set grown new (written_at (sector_at grown new) 2 entry) ∙ m)) is.0,
       All-set IsBlock grown new (written_at (sector_at grown new) 2 entry) (IsBlock-written_at (sector_at grown new) entry 2 here (omega arith) bytes) second,
     )
 
@@ -201,12 +202,11 @@ Chain-appended image other start new (block ∷ next ∷ rest) h long ends link 
     (chain_before other start next (rest ++ new ∷ []) (subst (λ (n : ℕ). start < n) (sym long) h.1) leads after apart)
 
 -- the directory has the new block at its end
-pub directory-grown : (image : List (List ℕ)) (new : ℕ) (entry : List ℕ) → IsImage image → directory image ≢ [] → new < BLOCKS
+pub directory-grown : (image : List (List ℕ)) (new : ℕ) (entry : List ℕ) → IsImage image → directory image ≢ [] → new < length image
     → list_any (eqb new) (directory image) ≡ false → length entry ≡ 30 → directory (grown_with image new entry) ≡ directory image ++ new ∷ []
-directory-grown image new entry is some small fresh full =
-    let l = is.0 in
+directory-grown image new entry is some inside fresh full =
+    let small : new < BLOCKS = let z = is.0 in omega arith in
     let m = length-grown image new entry in
-    let inside : new < length image = omega arith in
     let other = not_held (directory image) new (dir_last image) fresh (dir_last-is_held image some) in
     directory-from_Chain (grown_with image new entry) (directory image ++ new ∷ [])
     (Chain-appended image (grown_with image new entry) directory_start new (directory image) (Chain-directory image some) m
@@ -303,21 +303,20 @@ slots-grown_old image new entry is some fresh =
     ])
 
 -- the slots are those of the old blocks, and then those of the new one
-pub slots-grown_all : (image : List (List ℕ)) (new : ℕ) (entry : List ℕ) → IsImage image → directory image ≢ [] → new < BLOCKS
+pub slots-grown_all : (image : List (List ℕ)) (new : ℕ) (entry : List ℕ) → IsImage image → directory image ≢ [] → new < length image
     → list_any (eqb new) (directory image) ≡ false → length entry ≡ 30
     → slots (grown_with image new entry)
     ≡ slots_in (grown_with image new entry) (directory image) ++ ((0 ∷ 255 ∷ entry) ∷ replicate 7 (replicate 32 0))
-slots-grown_all image new entry is some small fresh full =
+slots-grown_all image new entry is some inside fresh full =
     let after : List (List ℕ) = grown_with image new entry in
-    let l = is.0 in
-    ap (slots_in after) (directory-grown image new entry is some small fresh full)
+    ap (slots_in after) (directory-grown image new entry is some inside fresh full)
     ∙ flat_map-append (λ (b : ℕ). cells (sector_at after b)) (directory image) (new ∷ [])
     ∙ ap (λ (xs : List (List ℕ)). slots_in after (directory image) ++ xs)
     (flat_map-cons (λ (b : ℕ). cells (sector_at after b)) new [] ∙ append-nil (cells (sector_at after new))
-    ∙ ap cells (sector_at-grown_new image new entry (omega arith) full) ∙ cells-first_entry entry full)
+    ∙ ap cells (sector_at-grown_new image new entry inside full) ∙ cells-first_entry entry full)
 
 -- beyond the link, the slots are as before, and then those of the new block: the entry and seven empty ones
-pub slots-grown : (image : List (List ℕ)) (new : ℕ) (entry : List ℕ) → IsImage image → directory image ≢ [] → new < BLOCKS
+pub slots-grown : (image : List (List ℕ)) (new : ℕ) (entry : List ℕ) → IsImage image → directory image ≢ [] → new < length image
     → list_any (eqb new) (directory image) ≡ false → length entry ≡ 30
     → map (drop 2) (slots (grown_with image new entry)) ≡ map (drop 2) (slots image) ++ (entry ∷ replicate 7 (replicate 30 0))
 slots-grown image new entry is some small fresh full =

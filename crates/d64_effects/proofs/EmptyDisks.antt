@@ -1,7 +1,7 @@
 -- what a formatted disk has
 use Rattle.std.proofs.Common.{◌≡◌, ◌≢◌, ℕ, zero, suc, ◌+◌, ◌-◌, ◌<◌, ◌≤◌, ◌&&◌, Bool, true, not, eqb, ltb, nat_eq, nat_le, nat_lt, List, [], ◌∷◌, ◌++◌, length, refl, sym, ap, ap₂, ◌∙◌, subst, arith}
 use Rattle.std.specs.Prelude.{All}
-use Rattle.std.specs.List.{range_with_len, sum_by, count_by, filter, list_any, list_all}
+use Rattle.std.specs.List.{range_with_len, sum_by, count_by, filter, list_all}
 use Rattle.std.specs.Ordering.{nat_cmp}
 use Rattle.std.specs.Cmp.{nat_cmp_total, unsigned_tied}
 use Rattle.std.specs.FinSet as set
@@ -11,17 +11,16 @@ use Rattle.std.proofs.lemmas.Bool.Decides.{nat_tests}
 use Rattle.std.proofs.lemmas.List.{length-append, length-replicate, length-set}
 use Rattle.std.proofs.lemmas.List.Elements.{All-head, All-tail, All-set, All-append, All-replicate, All-weaker}
 use Rattle.std.proofs.lemmas.List.Sums.{sum_by-cons, AllPass-from_list_all}
-use Rattle.d64_image.specs.declared.block.TheConstants.{BLOCKS}
 use Rattle.d64_image.specs.declared.image.TheConstants.{BLOCK_BYTES}
 use Rattle.d64_image.specs.Block.{sectors_on, first_block, pair_at}
-use Rattle.d64_image.specs.BlockSet.{MembersAreBlocks}
-use Rattle.d64_image.specs.Image.{IsBlock, IsImage, with_sector}
+use Rattle.d64_image.specs.BlockSet.{MembersAreBelow}
+use Rattle.d64_image.specs.Image.{IsBlock, IsSize, IsImage, with_sector}
 use Rattle.d64_image.proofs.Zones.{counted_below}
 use Rattle.d64_image.proofs.Pairs.{pair_at-counted}
 use Rattle.d64_map.specs.Track.{blocks_on, members_on}
-use Rattle.d64_map.specs.Map.{map_block, count_of, blocks, free_blocks, blocks_free, CountsFit, with_map}
-use Rattle.d64_map.proofs.Ranges.{range_push, any-range, count_more}
-use Rattle.d64_map.proofs.FreeBlocks.{all_blocks}
+use Rattle.d64_map.specs.Map.{map_block, count_of, all_of, free_blocks, blocks_free, CountsFit, with_map}
+use Rattle.d64_map.proofs.Ranges.{range_push, count_more}
+use Rattle.d64_map.proofs.FreeBlocks.{any-below}
 use Rattle.d64_map.proofs.Maps.{free_blocks-with_map, counts-with_map, IsImage-with_map}
 use Rattle.d64_files.specs.Name.{IsName}
 use Rattle.d64_effects.specs.Format.{directory_start, header, free_when_formatted, blank, formatted}
@@ -39,48 +38,46 @@ from_range_more n block s t so_far is more =
     ∙ sym (from_list_push nat_cmp_total nat_cmp-IsAntisymmetric (range_with_len 0 n) (0 + n))
     ∙ ap (λ (xs : List ℕ). set.from_list {R = nat_cmp} xs) (sym (range_push 0 n))
 
--- whether a number is a block of the disk
-any-block : (n q : ℕ) → n ≡ BLOCKS → list_any (λ y. nat_eq y q) blocks ≡ ltb q n
-any-block n q e = ap (list_any (λ y. nat_eq y q)) (sym (all_blocks n e)) ∙ any-range 0 n q ∙ grind (arith, nat_tests)
-
 -- the members are all blocks but the two
-pub contains-free : (q : ℕ) → set.contains free_when_formatted q ≡ (not (eqb q directory_start) && (not (eqb q map_block) && ltb q BLOCKS))
+pub contains-free : (count : ℕ) (size : IsSize count) (q : ℕ) → set.contains (free_when_formatted count) q ≡ (not (eqb q directory_start) && (not (eqb q map_block) && ltb q count))
 unfolding free_when_formatted
-contains-free q =
-    contains-remove nat_cmp_total (set.remove (set.from_list blocks) map_block) directory_start q
+contains-free count size q =
+    contains-remove nat_cmp_total (set.remove (all_of count) map_block) directory_start q
     ∙ ap₂ (λ (a b : Bool). not a && b) (unsigned_tied q directory_start)
-    (contains-remove nat_cmp_total (set.from_list blocks) map_block q
-    ∙ ap₂ (λ (a b : Bool). not a && b) (unsigned_tied q map_block) (contains-from_list_nat blocks q ∙ any-block BLOCKS q refl))
+    (contains-remove nat_cmp_total (all_of count) map_block q
+    ∙ ap₂ (λ (a b : Bool). not a && b) (unsigned_tied q map_block) (contains-from_list_nat (range_with_len 0 count) q ∙ any-below count q))
 
--- each member is a block
-pub members_are_blocks : MembersAreBlocks free_when_formatted
-members_are_blocks q member = let e = sym (contains-free q) ∙ member in grind (arith, nat_tests)
+-- each member is one of the disk's blocks
+pub members_are_below : (count : ℕ) (size : IsSize count) → MembersAreBelow count (free_when_formatted count)
+members_are_below count size q member = let e = sym (contains-free count size q) ∙ member in grind (arith, nat_tests)
 
 -- each other block is a member
-other_is_member : (q : ℕ) → q < BLOCKS → q ≢ map_block → q ≢ directory_start → set.contains free_when_formatted q ≡ true
-other_is_member q h m d = contains-free q ∙ grind (arith, nat_tests)
+other_is_member : (count : ℕ) (size : IsSize count) (q : ℕ) → q < count → q ≢ map_block → q ≢ directory_start → set.contains (free_when_formatted count) q ≡ true
+other_is_member count size q h m d = contains-free count size q ∙ grind (arith, nat_tests)
 
 -- a block of zeros
 abbrev zeros : List ℕ
 zeros = replicate 256 0
 
 -- the blank image has its blocks
-pub length-parts : (name id : List ℕ) → length (with_sector (with_sector blank map_block (header name id)) directory_start empty_directory) ≡ 683
+pub length-parts : (count : ℕ) (size : IsSize count) (name id : List ℕ) → length (with_sector (with_sector (blank count) map_block (header name id)) directory_start empty_directory) ≡ count
 unfolding blank
-length-parts name id =
-    length-set (with_sector blank map_block (header name id)) directory_start empty_directory ∙ length-set blank map_block (header name id) ∙ length-replicate BLOCKS zeros
+length-parts count size name id =
+    length-set (with_sector (blank count) map_block (header name id)) directory_start empty_directory ∙ length-set (blank count) map_block (header name id) ∙ length-replicate count zeros
 
-pub free_blocks-formatted : (name id : List ℕ) → free_blocks (formatted name id) ≡ free_when_formatted
+pub free_blocks-formatted : (count : ℕ) (size : IsSize count) (name id : List ℕ) → free_blocks (formatted count name id) ≡ free_when_formatted count
 unfolding formatted
-free_blocks-formatted name id =
-    free_blocks-with_map (with_sector (with_sector blank map_block (header name id)) directory_start empty_directory) free_when_formatted
-    (let l = length-parts name id in omega arith) members_are_blocks
+free_blocks-formatted count size name id =
+    free_blocks-with_map (with_sector (with_sector (blank count) map_block (header name id)) directory_start empty_directory) (free_when_formatted count)
+    (let l = length-parts count size name id in omega arith) (let l = length-parts count size name id in omega arith)
+    (subst (λ (n : ℕ). MembersAreBelow n (free_when_formatted count)) (sym (length-parts count size name id)) (members_are_below count size))
 
-pub counts-formatted : (name id : List ℕ) → CountsFit (formatted name id)
+pub counts-formatted : (count : ℕ) (size : IsSize count) (name id : List ℕ) → CountsFit (formatted count name id)
 unfolding formatted
-counts-formatted name id =
-    counts-with_map (with_sector (with_sector blank map_block (header name id)) directory_start empty_directory) free_when_formatted
-    (let l = length-parts name id in omega arith) members_are_blocks
+counts-formatted count size name id =
+    counts-with_map (with_sector (with_sector (blank count) map_block (header name id)) directory_start empty_directory) (free_when_formatted count)
+    (let l = length-parts count size name id in omega arith) (let l = length-parts count size name id in omega arith)
+    (subst (λ (n : ℕ). MembersAreBelow n (free_when_formatted count)) (sym (length-parts count size name id)) (members_are_below count size))
 
 -- a range of which each number passes
 count_all : (p : ℕ → Bool) (a n : ℕ) → ((i : ℕ) → i < n → p (a + i) ≡ true) → n ≡ count_by p (range_with_len a n)
@@ -106,12 +103,12 @@ unfolding first_block
 directory_start-pair = pair_at-counted 18 1 (omega arith) (omega arith) (omega arith)
 
 -- all blocks of a track other than 18 are free
-whole_track : (track : ℕ) → 1 ≤ track → track < 36 → track ≢ 18 → members_on free_when_formatted track ≡ sectors_on track
+whole_track : (count : ℕ) (size : IsSize count) (track : ℕ) → 1 ≤ track → track < 36 → track ≢ 18 → members_on (free_when_formatted count) track ≡ sectors_on track
 unfolding members_on blocks_on
-whole_track track one last other =
-    sym (count_all (set.contains free_when_formatted) (first_block track) (sectors_on track) (λ i h.
+whole_track count size track one last other =
+    sym (count_all (set.contains (free_when_formatted count)) (first_block track) (sectors_on track) (λ i h.
     let p = pair_at-counted track i one last h in
-    other_is_member (first_block track + i) (counted_below track i last h)
+    other_is_member count size (first_block track + i) (let b = counted_below track i last h in omega arith)
     (λ e. other (ap (λ (pair : ℕ × ℕ). pair.0) (sym p ∙ ap pair_at e ∙ map_block-pair)))
     (λ e. other (ap (λ (pair : ℕ × ℕ). pair.0) (sym p ∙ ap pair_at e ∙ directory_start-pair)))))
 
@@ -119,16 +116,16 @@ whole_track track one last other =
 abbrev is_counted : ℕ → Bool
 is_counted track = nat_le 1 track && (nat_lt track 36 && not (nat_eq track 18))
 
-pub blocks_free-formatted : (name id : List ℕ) → blocks_free (formatted name id) ≡ 664
+pub blocks_free-formatted : (count : ℕ) (size : IsSize count) (name id : List ℕ) → blocks_free (formatted count name id) ≡ 664
 unfolding blocks_free
-blocks_free-formatted name id =
-    sum_by-same (count_of (formatted name id)) sectors_on (filter (λ track. not (nat_eq track 18)) (range_with_len 1 35))
-    (All-weaker (λ t. is_counted t ≡ true) (λ t. count_of (formatted name id) t ≡ sectors_on t) (λ t h.
+blocks_free-formatted count size name id =
+    sum_by-same (count_of (formatted count name id)) sectors_on (filter (λ track. not (nat_eq track 18)) (range_with_len 1 35))
+    (All-weaker (λ t. is_counted t ≡ true) (λ t. count_of (formatted count name id) t ≡ sectors_on t) (λ t h.
     let one : 1 ≤ t = grind (arith, nat_tests) in
     let last : t < 36 = grind (arith, nat_tests) in
     let other : t ≢ 18 = grind (arith, nat_tests) in
-    let fits : CountsFit (formatted name id) = counts-formatted name id in
-    fits.each t one last ∙ ap (λ (s : set.FinSet nat_cmp). members_on s t) (free_blocks-formatted name id) ∙ whole_track t one last other)
+    let fits : CountsFit (formatted count name id) = counts-formatted count size name id in
+    fits.each t one last ∙ ap (λ (s : set.FinSet nat_cmp). members_on s t) (free_blocks-formatted count size name id) ∙ whole_track count size t one last other)
     (filter (λ track. not (nat_eq track 18)) (range_with_len 1 35))
     (AllPass-from_list_all is_counted (filter (λ track. not (nat_eq track 18)) (range_with_len 1 35)) refl))
 
@@ -184,26 +181,26 @@ pub IsBlock-empty_directory : IsBlock empty_directory
 unfolding empty_directory
 IsBlock-empty_directory = (refl, are_bytes (0x00 ∷ 0xFF ∷ replicate 254 0) refl)
 
-blank_blocks : All IsBlock blank
+blank_blocks : (count : ℕ) (size : IsSize count) → All IsBlock (blank count)
 unfolding blank
-blank_blocks = All-replicate IsBlock BLOCKS zeros (refl, are_bytes zeros refl)
+blank_blocks count size = All-replicate IsBlock count zeros (refl, are_bytes zeros refl)
 
-pub IsImage-formatted : (name id : List ℕ) → IsName name → AreTwoBytes id → IsImage (formatted name id)
+pub IsImage-formatted : (count : ℕ) (size : IsSize count) (name id : List ℕ) → IsName name → AreTwoBytes id → IsImage (formatted count name id)
 unfolding formatted
-IsImage-formatted name id named two =
-    IsImage-with_map (with_sector (with_sector blank map_block (header name id)) directory_start empty_directory) free_when_formatted (
-      length-parts name id,
-      All-set IsBlock (with_sector blank map_block (header name id)) directory_start empty_directory IsBlock-empty_directory
-          (All-set IsBlock blank map_block (header name id) (IsBlock-header name id named two) blank_blocks),
+IsImage-formatted count size name id named two =
+    IsImage-with_map (with_sector (with_sector (blank count) map_block (header name id)) directory_start empty_directory) (free_when_formatted count) (
+      subst IsSize (sym (length-parts count size name id)) size,
+      All-set IsBlock (with_sector (blank count) map_block (header name id)) directory_start empty_directory IsBlock-empty_directory
+          (All-set IsBlock (blank count) map_block (header name id) (IsBlock-header name id named two) (blank_blocks count size)),
     )
 
 -- the parts that the code puts together
-pub formatted_from_parts : (name id : List ℕ) (image made : List (List ℕ)) (place start : ℕ) (label directory : List ℕ) (free : set.FinSet nat_cmp)
-    → image ≡ replicate BLOCKS (replicate BLOCK_BYTES 0) → place ≡ map_block → label ≡ header name id → start ≡ directory_start
-    → directory ≡ empty_directory → free ≡ free_when_formatted → made ≡ with_map (with_sector (with_sector image place label) start directory) free
-    → made ≡ formatted name id
+pub formatted_from_parts : (count : ℕ) (name id : List ℕ) (image made : List (List ℕ)) (place start : ℕ) (label directory : List ℕ) (free : set.FinSet nat_cmp)
+    → image ≡ blank count → place ≡ map_block → label ≡ header name id → start ≡ directory_start
+    → directory ≡ empty_directory → free ≡ free_when_formatted count → made ≡ with_map (with_sector (with_sector image place label) start directory) free
+    → made ≡ formatted count name id
 unfolding formatted blank
-formatted_from_parts name id image made place start label directory free i p l s d f m =
+formatted_from_parts count name id image made place start label directory free i p l s d f m =
     m ∙ ap₂ with_map (ap (λ (x : List (List ℕ)). with_sector (with_sector x place label) start directory) i
-    ∙ ap₂ (λ (b : ℕ) (x : List ℕ). with_sector (with_sector (replicate BLOCKS (replicate BLOCK_BYTES 0)) b x) start directory) p l
-    ∙ ap₂ (λ (b : ℕ) (x : List ℕ). with_sector (with_sector (replicate BLOCKS (replicate BLOCK_BYTES 0)) map_block (header name id)) b x) s d) f
+    ∙ ap₂ (λ (b : ℕ) (x : List ℕ). with_sector (with_sector (replicate count (replicate BLOCK_BYTES 0)) b x) start directory) p l
+    ∙ ap₂ (λ (b : ℕ) (x : List ℕ). with_sector (with_sector (replicate count (replicate BLOCK_BYTES 0)) map_block (header name id)) b x) s d) f

@@ -10,7 +10,7 @@ use Rattle.std.proofs.lemmas.List.{append-nil, length-append, length-take, lengt
 use Rattle.std.proofs.lemmas.List.Elements.{All-cons, All-head, All-tail, All-set, All-append, All-replicate, All-take, All-drop}
 use Rattle.d64_image.specs.declared.block.TheConstants.{BLOCKS}
 use Rattle.d64_image.specs.Block.{pair_at, block_of}
-use Rattle.d64_image.specs.Image.{IsBlock, IsImage, sector_at, with_sector}
+use Rattle.d64_image.specs.Image.{IsBlock, IsSize, IsImage, sector_at, with_sector}
 use Rattle.d64_image.proofs.Pairs.{counted_apart, block_of-pair_at}
 use Rattle.d64_map.proofs.Maps.{sectors_few}
 use Rattle.d64_files.specs.Chain.{Chain, link_to, link_of, led_by, block_in, held}
@@ -21,11 +21,11 @@ use Rattle.d64_files.proofs.FileBlocks.{needs_one, fills_first, needs_less}
 use Rattle.d64_files.proofs.Repeats.{not_among}
 use Rattle.d64_effects.specs.Laws.{AreBytes}
 
--- blocks that a file's bytes fit: as many as it needs, different ones, each of the disk
-pub record Fits (taken bytes : List ℕ) : Type 0 where
+-- blocks that a file's bytes fit: as many as it needs, different ones, each one of so many in all
+pub record Fits (total : ℕ) (taken bytes : List ℕ) : Type 0 where
   pub count : length taken ≡ blocks_for (length bytes)
   pub distinct : IsDistinct nat_eq taken
-  pub within : All (λ block. block < BLOCKS) taken
+  pub within : All (λ block. block < total) taken
 
 -- its blocks hold its bytes
 pub blocks_for-enough : (n : ℕ) → n ≤ 254 * blocks_for n
@@ -139,28 +139,31 @@ IsBlock-last_block bytes bytes_are few =
 
 -- an image with a block replaced is an image
 IsImage-with_sector : (image : List (List ℕ)) (block : ℕ) (bytes : List ℕ) → IsImage image → IsBlock bytes → IsImage (with_sector image block bytes)
-IsImage-with_sector image block bytes is one = (length-set image block bytes ∙ is.0, All-set IsBlock image block bytes one is.1)
+IsImage-with_sector image block bytes is one = (subst IsSize (sym (length-set image block bytes)) is.0, All-set IsBlock image block bytes one is.1)
 
--- what is written along the blocks leaves an image
-IsImage-filled : (image : List (List ℕ)) (taken bytes : List ℕ) → IsImage image → AreBytes bytes → FilledBy taken (length bytes)
-    → All (λ block. block < BLOCKS) taken → IsImage (with_chain image taken bytes)
-unfolding with_chain
-IsImage-filled image [] bytes is bytes_are filled inside = is
-IsImage-filled image (block ∷ []) bytes is bytes_are filled inside =
-    IsImage-with_sector image block (last_block bytes) is (IsBlock-last_block bytes bytes_are (filled_last block bytes filled))
-IsImage-filled image (block ∷ next ∷ rest) bytes is bytes_are filled inside =
-    let P : ℕ → Type 0 = λ b. b < BLOCKS in
-    let others : All P (next ∷ rest) = All-tail P block (next ∷ rest) inside in
-    let one = IsBlock-linked_block next bytes (All-head P next rest others) bytes_are (filled_first block next rest bytes filled) in
-    IsImage-filled (with_sector image block (linked_block next bytes)) (next ∷ rest) (drop 254 bytes)
-    (IsImage-with_sector image block (linked_block next bytes) is one)
-    (All-drop (λ byte. byte < 256) 254 bytes bytes_are) (filled_rest block next rest bytes filled) others
+-- blocks of an image of so many
+module _ (total : ℕ) (most : total ≤ BLOCKS) where
+  -- what is written along the blocks leaves an image
+  IsImage-filled : (image : List (List ℕ)) (taken bytes : List ℕ) → IsImage image → AreBytes bytes → FilledBy taken (length bytes)
+      → All (λ block. block < total) taken → IsImage (with_chain image taken bytes)
+  unfolding with_chain
+  IsImage-filled image [] bytes is bytes_are filled inside = is
+  IsImage-filled image (block ∷ []) bytes is bytes_are filled inside =
+      IsImage-with_sector image block (last_block bytes) is (IsBlock-last_block bytes bytes_are (filled_last block bytes filled))
+  IsImage-filled image (block ∷ next ∷ rest) bytes is bytes_are filled inside =
+      let P : ℕ → Type 0 = λ b. b < total in
+      let others : All P (next ∷ rest) = All-tail P block (next ∷ rest) inside in
+      let inside_next = All-head P next rest others in
+      let one = IsBlock-linked_block next bytes (omega arith) bytes_are (filled_first block next rest bytes filled) in
+      IsImage-filled (with_sector image block (linked_block next bytes)) (next ∷ rest) (drop 254 bytes)
+      (IsImage-with_sector image block (linked_block next bytes) is one)
+      (All-drop (λ byte. byte < 256) 254 bytes bytes_are) (filled_rest block next rest bytes filled) others
 
--- the image with a file's bytes is an image
-pub IsImage-with_chain : (image : List (List ℕ)) (taken bytes : List ℕ) → IsImage image → AreBytes bytes → Fits taken bytes
-    → IsImage (with_chain image taken bytes)
-IsImage-with_chain image taken bytes is bytes_are fits =
-    IsImage-filled image taken bytes is bytes_are (filled_by_count taken (length bytes) fits.count) fits.within
+  -- the image with a file's bytes is an image
+  pub IsImage-with_chain : (image : List (List ℕ)) (taken bytes : List ℕ) → IsImage image → AreBytes bytes → Fits total taken bytes
+      → IsImage (with_chain image taken bytes)
+  IsImage-with_chain image taken bytes is bytes_are fits =
+      IsImage-filled image taken bytes is bytes_are (filled_by_count taken (length bytes) fits.count) fits.within
 
 -- the first of different blocks isn't among the other ones
 first_fresh : (block : ℕ) (others : List ℕ) → IsDistinct eqb (block ∷ others) → list_any (eqb block) others ≡ false
@@ -213,34 +216,36 @@ linked : (image : List (List ℕ)) (block next : ℕ) (rest : List ℕ) → next
 linked image block next rest inside there e =
     ap (λ (sector : List ℕ). led_by image (get_or sector 0 0, get_or sector 1 0)) e ∙ leads_to image next inside there
 
--- what is written along the blocks is a chain
-Chain-along : (image : List (List ℕ)) (block : ℕ) (others bytes : List ℕ) → length image ≡ BLOCKS → IsDistinct eqb (block ∷ others)
-    → All (λ b. b < BLOCKS) (block ∷ others) → Chain (with_chain image (block ∷ others) bytes) block (block ∷ others)
-Chain-along image block [] bytes long different inside =
-    let here : block < BLOCKS = All-head (λ b. b < BLOCKS) block [] inside in
-    let same = length-with_chain image (block ∷ []) bytes in
-    ends (with_chain image (block ∷ []) bytes) block (length bytes + 1) (bytes ++ replicate (254 - length bytes) 0) (omega arith)
-    (last_holds image block bytes (omega arith))
-Chain-along image block (next ∷ rest) bytes long different inside =
-    let P : ℕ → Type 0 = λ b. b < BLOCKS in
-    let here : block < BLOCKS = All-head P block (next ∷ rest) inside in
-    let others : All P (next ∷ rest) = All-tail P block (next ∷ rest) inside in
-    let there : next < BLOCKS = All-head P next rest others in
-    let fresh = first_fresh block (next ∷ rest) different in
-    let same = length-with_chain image (block ∷ next ∷ rest) bytes in
-    chain_before (with_chain image (block ∷ next ∷ rest) bytes) block next rest (omega arith)
-    (linked (with_chain image (block ∷ next ∷ rest) bytes) block next (take 254 bytes) there (omega arith)
-    (first_holds image block next rest bytes (omega arith) fresh))
-    (subst (λ (made : List (List ℕ)). Chain made next (next ∷ rest)) (sym (written_first image block next rest bytes))
-    (Chain-along (with_sector image block (linked_block next bytes)) next rest (drop 254 bytes)
-    (length-set image block (linked_block next bytes) ∙ long) (others_distinct block (next ∷ rest) different) others))
-    fresh
+-- blocks of an image of so many
+module _ (total : ℕ) (most : total ≤ BLOCKS) where
+  -- what is written along the blocks is a chain
+  Chain-along : (image : List (List ℕ)) (block : ℕ) (others bytes : List ℕ) → length image ≡ total → IsDistinct eqb (block ∷ others)
+      → All (λ b. b < total) (block ∷ others) → Chain (with_chain image (block ∷ others) bytes) block (block ∷ others)
+  Chain-along image block [] bytes long different inside =
+      let here : block < total = All-head (λ b. b < total) block [] inside in
+      let same = length-with_chain image (block ∷ []) bytes in
+      ends (with_chain image (block ∷ []) bytes) block (length bytes + 1) (bytes ++ replicate (254 - length bytes) 0) (omega arith)
+      (last_holds image block bytes (omega arith))
+  Chain-along image block (next ∷ rest) bytes long different inside =
+      let P : ℕ → Type 0 = λ b. b < total in
+      let here : block < total = All-head P block (next ∷ rest) inside in
+      let others : All P (next ∷ rest) = All-tail P block (next ∷ rest) inside in
+      let there : next < total = All-head P next rest others in
+      let fresh = first_fresh block (next ∷ rest) different in
+      let same = length-with_chain image (block ∷ next ∷ rest) bytes in
+      chain_before (with_chain image (block ∷ next ∷ rest) bytes) block next rest (omega arith)
+      (linked (with_chain image (block ∷ next ∷ rest) bytes) block next (take 254 bytes) (omega arith) (omega arith)
+      (first_holds image block next rest bytes (omega arith) fresh))
+      (subst (λ (made : List (List ℕ)). Chain made next (next ∷ rest)) (sym (written_first image block next rest bytes))
+      (Chain-along (with_sector image block (linked_block next bytes)) next rest (drop 254 bytes)
+      (length-set image block (linked_block next bytes) ∙ long) (others_distinct block (next ∷ rest) different) others))
+      fresh
 
--- the image with a file's bytes has the chain of its blocks
-pub Chain-with_chain : (image : List (List ℕ)) (taken bytes : List ℕ) → length image ≡ BLOCKS → Fits taken bytes
-    → Chain (with_chain image taken bytes) (slice_index taken 0) taken
-Chain-with_chain image [] bytes long fits = absurd (let some = needs_one (length bytes) in let e = fits.count in omega arith)
-Chain-with_chain image (block ∷ others) bytes long fits = Chain-along image block others bytes long fits.distinct fits.within
+  -- the image with a file's bytes has the chain of its blocks
+  pub Chain-with_chain : (image : List (List ℕ)) (taken bytes : List ℕ) → length image ≡ total → Fits total taken bytes
+      → Chain (with_chain image taken bytes) (slice_index taken 0) taken
+  Chain-with_chain image [] bytes long fits = absurd (let some = needs_one (length bytes) in let e = fits.count in omega arith)
+  Chain-with_chain image (block ∷ others) bytes long fits = Chain-along image block others bytes long fits.distinct fits.within
 
 -- the data of a block that is linked to another are its bytes from byte 2 on
 data_of-linked_block : (next : ℕ) (bytes : List ℕ) → next < BLOCKS → data_of (linked_block next bytes) ≡ take 254 bytes
@@ -262,28 +267,30 @@ data_along-same image other (block ∷ blocks) same =
     let P : ℕ → Type 0 = λ b. sector_at other b ≡ sector_at image b in
     ap₂ (λ (xs ys : List ℕ). xs ++ ys) (ap data_of (All-head P block blocks same)) (data_along-same image other blocks (All-tail P block blocks same))
 
--- the data along the blocks are what was written
-data_along-filled : (image : List (List ℕ)) (taken bytes : List ℕ) → length image ≡ BLOCKS → IsDistinct eqb taken → All (λ block. block < BLOCKS) taken
-    → FilledBy taken (length bytes) → data_along (with_chain image taken bytes) taken ≡ bytes
-unfolding FilledBy
-data_along-filled image [] bytes long different inside filled = absurd filled
-data_along-filled image (block ∷ []) bytes long different inside filled =
-    let here : block < BLOCKS = All-head (λ b. b < BLOCKS) block [] inside in
-    append-nil (data_of (sector_at (with_chain image (block ∷ []) bytes) block))
-    ∙ ap data_of (last_holds image block bytes (omega arith)) ∙ data_of-last_block bytes
-data_along-filled image (block ∷ next ∷ rest) bytes long different inside filled =
-    let P : ℕ → Type 0 = λ b. b < BLOCKS in
-    let here : block < BLOCKS = All-head P block (next ∷ rest) inside in
-    let others : All P (next ∷ rest) = All-tail P block (next ∷ rest) inside in
-    let first = first_holds image block next rest bytes (omega arith) (first_fresh block (next ∷ rest) different) in
-    ap₂ (λ (xs ys : List ℕ). xs ++ ys) (ap data_of first ∙ data_of-linked_block next bytes (All-head P next rest others))
-    (ap (λ (made : List (List ℕ)). data_along made (next ∷ rest)) (written_first image block next rest bytes)
-    ∙ data_along-filled (with_sector image block (linked_block next bytes)) (next ∷ rest) (drop 254 bytes)
-    (length-set image block (linked_block next bytes) ∙ long) (others_distinct block (next ∷ rest) different) others (filled_rest block next rest bytes filled))
-    ∙ take-append-drop 254 bytes
+-- blocks of an image of so many
+module _ (total : ℕ) (most : total ≤ BLOCKS) where
+  -- the data along the blocks are what was written
+  data_along-filled : (image : List (List ℕ)) (taken bytes : List ℕ) → length image ≡ total → IsDistinct eqb taken → All (λ block. block < total) taken
+      → FilledBy taken (length bytes) → data_along (with_chain image taken bytes) taken ≡ bytes
+  unfolding FilledBy
+  data_along-filled image [] bytes long different inside filled = absurd filled
+  data_along-filled image (block ∷ []) bytes long different inside filled =
+      let here : block < total = All-head (λ b. b < total) block [] inside in
+      append-nil (data_of (sector_at (with_chain image (block ∷ []) bytes) block))
+      ∙ ap data_of (last_holds image block bytes (omega arith)) ∙ data_of-last_block bytes
+  data_along-filled image (block ∷ next ∷ rest) bytes long different inside filled =
+      let P : ℕ → Type 0 = λ b. b < total in
+      let here : block < total = All-head P block (next ∷ rest) inside in
+      let others : All P (next ∷ rest) = All-tail P block (next ∷ rest) inside in
+      let first = first_holds image block next rest bytes (omega arith) (first_fresh block (next ∷ rest) different) in
+      ap₂ (λ (xs ys : List ℕ). xs ++ ys) (ap data_of first ∙ data_of-linked_block next bytes (let t = All-head P next rest others in omega arith))
+      (ap (λ (made : List (List ℕ)). data_along made (next ∷ rest)) (written_first image block next rest bytes)
+      ∙ data_along-filled (with_sector image block (linked_block next bytes)) (next ∷ rest) (drop 254 bytes)
+      (length-set image block (linked_block next bytes) ∙ long) (others_distinct block (next ∷ rest) different) others (filled_rest block next rest bytes filled))
+      ∙ take-append-drop 254 bytes
 
--- the data along a file's blocks are its bytes
-pub data_along-with_chain : (image : List (List ℕ)) (taken bytes : List ℕ) → length image ≡ BLOCKS → Fits taken bytes
-    → data_along (with_chain image taken bytes) taken ≡ bytes
-data_along-with_chain image taken bytes long fits =
-    data_along-filled image taken bytes long fits.distinct fits.within (filled_by_count taken (length bytes) fits.count)
+  -- the data along a file's blocks are its bytes
+  pub data_along-with_chain : (image : List (List ℕ)) (taken bytes : List ℕ) → length image ≡ total → Fits total taken bytes
+      → data_along (with_chain image taken bytes) taken ≡ bytes
+  data_along-with_chain image taken bytes long fits =
+      data_along-filled image taken bytes long fits.distinct fits.within (filled_by_count taken (length bytes) fits.count)

@@ -14,7 +14,7 @@ use Rattle.d64_effects.proofs.ValidatedDisks.{validated-shows}
 use Rattle.d64_effects.proofs.WrittenDisks.{written-shows}
 
 pub formatted-disk_lists : FormattedDiskLists
-formatted-disk_lists name id named two = ap names_and_contents (view-formatted name id named two) ∙ formatted-lists_nothing name id
+formatted-disk_lists count name id size named two = ap names_and_contents (view-formatted count size name id named two) ∙ formatted-lists_nothing count name id
 
 -- a file takes as many blocks as its bytes need
 pub written-disk_lists : WrittenDiskLists

@@ -5,7 +5,6 @@ use Rattle.std.specs.List.{list_any}
 use Rattle.std.specs.Option.{option_to_list}
 use Rattle.std.proofs.lemmas.List.{map-set, drop_at, length-take-le, append-nil}
 use Rattle.std.proofs.lemmas.List.Quantifiers.{position-Some}
-use Rattle.d64_image.specs.declared.block.TheConstants.{BLOCKS}
 use Rattle.d64_image.specs.Image.{IsImage, sector_at}
 use Rattle.d64_map.specs.Map.{free_blocks}
 use Rattle.d64_files.specs.Directory.{directory, slots}
@@ -18,15 +17,16 @@ use Rattle.d64_effects.specs.Format.{directory_start}
 use Rattle.d64_effects.specs.Laws.{HasRoom}
 use Rattle.d64_effects.specs.View.{IsSound}
 use Rattle.d64_effects.specs.Write.{next_of_directory, grown_by, directory_grown, with_entry_in, with_new_entry}
-use Rattle.d64_effects.proofs.DirectoryEntries.{slot_block-is_held, sector_at-with_entry, IsImage-with_entry, directory-with_entry, slots-with_entry, length-cell, Chain-directory}
-use Rattle.d64_effects.proofs.DirectoryGrowth.{grown_with, sector_at-grown, dir_last-is_held, IsImage-grown, directory-grown, slots-grown}
+use Rattle.d64_effects.proofs.DirectoryEntries.{slot_block-is_held, sector_at-with_entry, IsImage-with_entry, length-with_entry, directory-with_entry, slots-with_entry, length-cell, Chain-directory}
+use Rattle.d64_effects.proofs.DirectoryGrowth.{grown_with, sector_at-grown, dir_last-is_held, IsImage-grown, length-grown, directory-grown, slots-grown}
 use Rattle.d64_effects.proofs.Occurrences.{occurs, occurs-append, occurs-present, absent-from_occurs}
 use Rattle.d64_effects.proofs.Rows.{with_row}
-use Rattle.d64_effects.proofs.TakenBlocks.{growth_by, grown_free, free_not_owned, occurs-owned}
+use Rattle.d64_effects.proofs.TakenBlocks.{growth_by, grown_free, free_is_block, free_not_owned, occurs-owned}
 
 -- an image with one more entry: in a slot that is there, or in the first slot of one more block of the directory
 pub record NewEntry (image other : List (List ℕ)) (place : Option ℕ) (grown entry : List ℕ) : Type 0 where
   pub is_image : IsImage other
+  pub long : length other ≡ length image
   pub blocks : directory other ≡ directory image ++ grown
   pub entries : map (drop 2) (slots other) ≡ with_row (map (drop 2) (slots image)) place entry (replicate 30 0)
   pub kept : (block : ℕ) → occurs block (directory image ++ grown) ≡ 0 → sector_at other block ≡ sector_at image block
@@ -61,6 +61,7 @@ in_slot image slot entry is some within long bytes =
     let two : length (take 2 old) ≡ 2 = length-take-le 2 old (omega arith) in
     record {
       is_image = IsImage-with_entry image slot entry is within long bytes;
+      long = length-with_entry image slot entry;
       blocks = directory-with_entry image slot entry is some within long ∙ sym (append-nil (directory image));
       entries =
           ap (map (drop 2)) (slots-with_entry image slot entry is some within long)
@@ -73,13 +74,14 @@ in_slot image slot entry is some within long bytes =
     }
 
 -- an entry in a new block of the directory
-in_growth : (image : List (List ℕ)) (new : ℕ) (entry : List ℕ) → IsImage image → directory image ≢ [] → new < BLOCKS
+in_growth : (image : List (List ℕ)) (new : ℕ) (entry : List ℕ) → IsImage image → directory image ≢ [] → new < length image
     → occurs new (directory image) ≡ 0 → length entry ≡ 30 → All (λ byte. byte < 256) entry
     → NewEntry image (grown_with image new entry) None (new ∷ []) entry
 in_growth image new entry is some within fresh long bytes =
     let absent = absent-from_occurs new (directory image) fresh in
     record {
       is_image = IsImage-grown image new entry is some within long bytes;
+      long = length-grown image new entry;
       blocks = directory-grown image new entry is some within absent long;
       entries = slots-grown image new entry is some within absent long;
       kept = λ block none.
@@ -111,7 +113,7 @@ by_place image entry is sound long bytes None e fits = by_next (next_of_director
         let free = grown_free image (new ∷ []) (growth_by image (Some new) found) new there in
         let none = free_not_owned image sound new free.0 in
         let parts = occurs-owned image new in
-        in_growth image new entry is (has_directory image sound) free.1 (omega arith) long bytes
+        in_growth image new entry is (has_directory image sound) (free_is_block image new free.0) (omega arith) long bytes
 
 pub new_entry : (image : List (List ℕ)) (entry : List ℕ) (bytes : ℕ) → IsImage image → IsSound image → HasRoom image bytes → length entry ≡ 30
     → All (λ byte. byte < 256) entry

@@ -53,7 +53,7 @@ empty_shows image = slot_view-unused image empty_slot empty_is_unused
 -- the writing of a file of one of the kinds that own their chain
 module _ (image other : List (List ℕ)) (name : List ℕ) (kind : Kind) (bytes taken grown : List ℕ)
     (sound : IsSound image) (short : length name ≤ 16) (owner : kind ≢ Del)
-    (file : Takes image taken (length bytes)) (dir : Grows image grown) (is : length image ≡ BLOCKS)
+    (file : Takes image taken (length bytes)) (dir : Grows image grown)
     (left : LeftByWriting image other (first_unused (slots image)) taken grown (file_entry name kind taken) bytes) where
   is_new : IsNewEntry (new_slot name kind taken) name kind (get_or taken 0 0) (length taken)
   is_new = record { short = short; bytes = refl }
@@ -72,7 +72,7 @@ module _ (image other : List (List ℕ)) (name : List ℕ) (kind : Kind) (bytes 
   slots_framed = framed image other (slots image) (sound NoChain (omega arith) (omega arith)) files_agree
 
   same_length : length other ≡ length image
-  same_length = left.is_image.0 ∙ sym is
+  same_length = left.long
 
   owned_as_before : map (owned_by other) (slots image) ≡ map (owned_by image) (slots image)
   owned_as_before =
@@ -93,7 +93,7 @@ module _ (image other : List (List ℕ)) (name : List ℕ) (kind : Kind) (bytes 
       let first : ℕ = get_or taken 0 0 in
       let inside = starts_within other first taken left.chain in
       let size = left.is_image.0 in
-      let below : first < 683 = omega arith in
+      let below : first < BLOCKS = omega arith in
       ap (λ (block : Option ℕ). option_map_or (chain other) (option_and_then (held other) block) []) (block_of-pair_at first below)
       ∙ ap (λ (b : Bool). option_map_or (chain other) (cond b (Some first) None) []) (lt-ltb first (length other) inside)
       ∙ chain-is other first taken left.chain

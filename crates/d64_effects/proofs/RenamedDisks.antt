@@ -177,7 +177,7 @@ field_bytes name named =
 named_changed : (image : List (List ℕ)) (place : Option ℕ) (new : List ℕ) → IsImage image → IsName new
     → IfSome place (λ slot. slot < length (slots image)) → SlotsChanged image (with_name_in image place new) (named_in (slots image) place new)
 unfolding with_name
-named_changed image None new is good there = record { is_image = is; blocks = refl; entries = refl; kept = λ block absent. refl }
+named_changed image None new is good there = record { is_image = is; long = refl; blocks = refl; entries = refl; kept = λ block absent. refl }
 named_changed image (Some slot) new is good there =
     let e = length-filled new good.short in
     slot_changed image slot 5 (32 * (slot % 8) + 2 + 3) (filled new) is there (omega arith) (omega arith) (omega arith) (field_bytes new good)
@@ -261,7 +261,7 @@ module _ (image : List (List ℕ)) (old new : List ℕ) (is : IsImage image) (go
   renamed-views =
       view_after image (renamed image old new) (named_cells image old new) (free_blocks image) is
       (has_directory image sound) distinct left chains fewer
-      ∙ ap (λ (rows : List (Option FileView)). view_of (disk_field image) (disk_id image) (directory image) rows (free_blocks image))
+      ∙ ap (λ (rows : List (Option FileView)). view_of (length image) (disk_field image) (disk_id image) (directory image) rows (free_blocks image))
       (renamed-shown image (slots image) old new good.short sized)
 
   pub renamed-stays_image : IsImage (renamed image old new)

@@ -4,8 +4,7 @@ use Rattle.std.specs.Prelude.{All, filter, fold, option_map}
 use Rattle.std.specs.List.{list_any, flat_map, filter_map, cons_option, enumerate_from, IsDistinct}
 use Rattle.std.specs.FinSet as set
 use Rattle.std.proofs.lemmas.Bool.{or_cases, or_from}
-use Rattle.d64_image.specs.declared.block.TheConstants.{BLOCKS}
-use Rattle.d64_image.specs.BlockSet.{MembersAreBlocks}
+use Rattle.d64_image.specs.BlockSet.{MembersAreBelow}
 use Rattle.d64_image.specs.Image.{IsImage}
 use Rattle.d64_map.specs.Map.{free_blocks, CountsFit}
 use Rattle.d64_files.specs.Clearing.{with_cleared_slot}
@@ -36,7 +35,7 @@ given_by image numbers = flat_map (slot_owns image) numbers
 
 -- the image without the files of slots that were cleared
 altered : (image cells : List (List ℕ)) (numbers : List ℕ) → IsImage image → directory image ≢ [] → IsDistinct nat_eq (owned_blocks image)
-    → CountsFit image → MembersAreBlocks (with_freed (free_blocks image) (given_by image numbers))
+    → CountsFit image → MembersAreBelow (length image) (with_freed (free_blocks image) (given_by image numbers))
     → SlotsChanged image (fold with_cleared_slot image numbers) cells
     → Altered image (without_files image numbers) cells (with_freed (free_blocks image) (given_by image numbers))
 altered image cells [] is some distinct fit members changed = same_map image image cells changed (map_not_listed image distinct) fit
@@ -74,14 +73,13 @@ module _ (image patterns : List (List ℕ)) (is : IsImage image) (sound : IsSoun
       let f = ap (occurs q) same_given in
       omega arith
 
-  given_within : (q : ℕ) → 1 ≤ occurs q (given_back image patterns) → q < BLOCKS
+  given_within : (q : ℕ) → 1 ≤ occurs q (given_back image patterns) → q < length image
   given_within q there =
       let e = split q in
-      let f = is.0 in
       let g = owned_within image (slots image) q (omega arith) in
       omega arith
 
-  members : MembersAreBlocks (with_freed (free_blocks image) (given_back image patterns))
+  members : MembersAreBelow (length image) (with_freed (free_blocks image) (given_back image patterns))
   members q member =
       let given : List ℕ = given_back image patterns in
       elim (or_cases (list_any (nat_eq q) given) (set.contains (free_blocks image) q) (sym (contains-with_freed (free_blocks image) given q) ∙ member)) [
@@ -132,7 +130,7 @@ module _ (image patterns : List (List ℕ)) (is : IsImage image) (sound : IsSoun
       view_after image (scratched image patterns) (cells_left image patterns)
       (with_freed (free_blocks image) (given_back image patterns)) is some distinct left chains fewer
       ∙ ap₂ (λ (rows : List (Option FileView)) (given : List ℕ).
-      view_of (disk_field image) (disk_id image) (directory image) rows (with_freed (free_blocks image) given))
+      view_of (length image) (disk_field image) (disk_id image) (directory image) rows (with_freed (free_blocks image) given))
       (shown-cleared image (is_scratched_slot patterns) (is_scratched_file patterns) (λ cell. refl) (slots image) sized)
       (same_given ∙ sym (blocks-given image (is_scratched_slot patterns) (is_scratched_file patterns) (λ cell. refl) (slots image)))
 

@@ -13,7 +13,7 @@ use Rattle.d64_files.specs.Slot.{cell}
 use Rattle.d64_files.specs.Writing.{written_at, with_bytes, slot_block, with_entry}
 use Rattle.d64_files.proofs.SlotLists.{slot_at_place}
 use Rattle.d64_files.proofs.WrittenBytes.{length-written_at}
-use Rattle.d64_effects.proofs.DirectoryEntries.{get_or-written_before, get_or-written_within, get_or-written_past, All-written_at, length-cell, get_or-cell, directory-of_slot, slot_place, slot_block-is_held, slot_block-within, block_at, sector_at-with_entry, IsImage-with_entry, directory-with_entry, slots-with_entry}
+use Rattle.d64_effects.proofs.DirectoryEntries.{get_or-written_before, get_or-written_within, get_or-written_past, All-written_at, length-cell, get_or-cell, directory-of_slot, slot_place, slot_block-is_held, slot_block-within, block_at, sector_at-with_entry, IsImage-with_entry, length-with_entry, directory-with_entry, slots-with_entry}
 use Rattle.d64_effects.proofs.NewDirectory.{length-slot, other_block}
 use Rattle.d64_effects.proofs.Occurrences.{occurs}
 
@@ -24,6 +24,7 @@ slots_sized image is some = All-from_get_or (λ cell. length cell ≡ 32) (slots
 -- an image with other bytes in slots of its directory, whose blocks and links stay
 pub record SlotsChanged (image other cells : List (List ℕ)) : Type 0 where
   pub is_image : IsImage other
+  pub long : length other ≡ length image
   pub blocks : directory other ≡ directory image
   pub entries : slots other ≡ cells
   pub kept : (block : ℕ) → occurs block (directory image) ≡ 0 → sector_at other block ≡ sector_at image block
@@ -126,6 +127,7 @@ slot_changed image slot place start part is there at past fits small =
     subst (λ (other : List (List ℕ)). SlotsChanged image other (set (slots image) slot (written_at (get_or (slots image) slot []) place part))) written
     record {
       is_image = IsImage-with_entry image slot entry is there full bytes_are;
+      long = length-with_entry image slot entry;
       blocks = directory-with_entry image slot entry is some there full;
       entries =
           slots-with_entry image slot entry is some there full
@@ -140,6 +142,7 @@ slot_changed image slot place start part is there at past fits small =
 pub changed_again : (image one other cells others : List (List ℕ)) → SlotsChanged image one cells → SlotsChanged one other others → SlotsChanged image other others
 changed_again image one other cells others first second = record {
   is_image = second.is_image;
+  long = second.long ∙ first.long;
   blocks = second.blocks ∙ first.blocks;
   entries = second.entries;
   kept = λ block absent. second.kept block (ap (occurs block) first.blocks ∙ absent) ∙ first.kept block absent;
@@ -207,7 +210,7 @@ next_clears test old cells n later false image done is e count =
     (later image (done ++ old ∷ []) is (e ∙ sym (append_assoc done (old ∷ []) cells)) more)
 
 all_clears : (test : List ℕ → Bool) (cells : List (List ℕ)) (n : ℕ) → Clears test cells n
-all_clears test [] n image done is e count = record { is_image = is; blocks = refl; entries = e; kept = λ block absent. refl }
+all_clears test [] n image done is e count = record { is_image = is; long = refl; blocks = refl; entries = e; kept = λ block absent. refl }
 all_clears test (old ∷ cells) n image done is e count =
     next_clears test old cells n (all_clears test cells (n + 1)) (test old) image done is e count
 

@@ -10,7 +10,6 @@ use Rattle.std.specs.FinSet.{contains-remove}
 use Rattle.std.proofs.lemmas.Bool.{le-leb, cases_lt, and_parts, ltb-true}
 use Rattle.std.proofs.lemmas.Bool.Decides.{eqb_tells}
 use Rattle.std.proofs.lemmas.List.Elements.{All-nil, All-cons}
-use Rattle.d64_image.specs.declared.block.TheConstants.{BLOCKS}
 use Rattle.d64_map.specs.Laws.{IsFreeForFiles, IsFreeForDirectory}
 use Rattle.d64_map.specs.Map.{map_block, free_blocks, is_free}
 use Rattle.d64_map.specs.Plan.{plan, room}
@@ -124,10 +123,10 @@ pub grown_not_taken : (image : List (List ℕ)) (taken grown : List ℕ) (bytes 
 grown_not_taken image taken grown bytes file dir q h =
     occurs_not q taken (λ g. (taken_free image taken bytes file q g).2 (grown_free image grown dir q h).2)
 
--- a free block is one of the disk
-pub free_is_block : (image : List (List ℕ)) (q : ℕ) → set.contains (free_blocks image) q ≡ true → q < BLOCKS
+-- a free block is one of the image
+pub free_is_block : (image : List (List ℕ)) (q : ℕ) → set.contains (free_blocks image) q ≡ true → q < length image
 free_is_block image q member =
-    ltb-true q BLOCKS (and_parts (ltb q BLOCKS) (is_free image q) (sym (contains-free_blocks-both image q) ∙ member)).0
+    ltb-true q (length image) (and_parts (ltb q (length image)) (is_free image q) (sym (contains-free_blocks-both image q) ∙ member)).0
 
 -- the free blocks without those that were taken
 pub contains-without : (free : set.FinSet nat_cmp) (taken : List ℕ) (q : ℕ)

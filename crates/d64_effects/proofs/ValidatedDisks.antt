@@ -1,17 +1,14 @@
 -- what a validated disk is, and what it shows
-use Rattle.std.proofs.Common.{◌≡◌, ◌≢◌, ℕ, ◌<◌, ◌≤◌, ◌&&◌, true, false, not, leb, ltb, nat_eq, List, [], ◌∷◌, ◌++◌, length, map, Option, refl, sym, ap, ap₂, ◌∙◌, arith}
+use Rattle.std.proofs.Common.{◌≡◌, ◌≢◌, ℕ, ◌<◌, ◌≤◌, true, false, not, nat_eq, List, [], ◌∷◌, ◌++◌, length, map, Option, refl, sym, ap, ap₂, ◌∙◌, arith}
 use Rattle.std.specs.Prelude.{All}
 use Rattle.std.specs.List.{list_any, flat_map, range_with_len, IsDistinct}
-use Rattle.std.specs.Ordering.{nat_cmp}
 use Rattle.std.specs.FinSet as set
 use Rattle.std.specs.FinSet.{contains-from_list_nat}
 use Rattle.std.proofs.lemmas.Bool.{and_parts, and_left, ltb-true}
-use Rattle.d64_image.specs.declared.block.TheConstants.{BLOCKS}
-use Rattle.d64_image.specs.BlockSet.{MembersAreBlocks}
+use Rattle.d64_image.specs.BlockSet.{MembersAreBelow}
 use Rattle.d64_image.specs.Image.{IsImage}
-use Rattle.d64_map.specs.Map.{map_block, blocks}
-use Rattle.d64_map.proofs.FreeBlocks.{all_blocks}
-use Rattle.d64_map.proofs.Ranges.{any-range}
+use Rattle.d64_map.specs.Map.{map_block, all_of}
+use Rattle.d64_map.proofs.FreeBlocks.{any-below}
 use Rattle.d64_files.specs.Directory.{directory, slots, owned_blocks, AllHold}
 use Rattle.d64_files.specs.Ownership.{owned_by, HasItsChains}
 use Rattle.d64_files.specs.Slot.{HasKind}
@@ -30,19 +27,14 @@ use Rattle.d64_effects.proofs.SlotChanges.{cleared, cleared_if, slots_sized, slo
 use Rattle.d64_effects.proofs.TakenBlocks.{occurs-owned, contains-without}
 
 -- a member of all blocks is a block
-below_blocks : (n q : ℕ) → n ≡ BLOCKS → set.contains (set.from_list {R = nat_cmp} blocks) q ≡ true → q < n
-below_blocks n q e member =
-    let listed : list_any (λ y. nat_eq y q) (range_with_len 0 n) ≡ true =
-    sym (contains-from_list_nat (range_with_len 0 n) q) ∙ ap (λ (bs : List ℕ). set.contains (set.from_list {R = nat_cmp} bs) q) (all_blocks n e) ∙ member in
-    let within : ltb q n ≡ true = (and_parts (leb 0 q) (ltb q n) (sym (any-range 0 n q ∙ ap (λ (end : ℕ). leb 0 q && ltb q end) (omega arith)) ∙ listed)).1 in
-    ltb-true q n within
+below_all : (n q : ℕ) → set.contains (all_of n) q ≡ true → q < n
+below_all n q member = ltb-true q n (sym (contains-from_list_nat (range_with_len 0 n) q ∙ any-below n q) ∙ member)
 
 -- all blocks but some are blocks
-members-all_but : (owned : List ℕ) → MembersAreBlocks (all_but owned)
-members-all_but owned q member =
-    below_blocks BLOCKS q refl
-    (and_parts (not (list_any (nat_eq q) owned)) (set.contains (set.from_list {R = nat_cmp} blocks) q)
-    (sym (contains-without (set.from_list {R = nat_cmp} blocks) owned q) ∙ member)).1
+members-all_but : (count : ℕ) (owned : List ℕ) → MembersAreBelow count (all_but count owned)
+members-all_but count owned q member =
+    below_all count q
+    (and_parts (not (list_any (nat_eq q) owned)) (set.contains (all_of count) q) (sym (contains-without (all_of count) owned q) ∙ member)).1
 
 -- the slots after a validation
 abbrev cells_left : List (List ℕ) → List (List ℕ)
@@ -59,11 +51,11 @@ module _ (image : List (List ℕ)) (is : IsImage image) (accepted : AllHold imag
   sized : All (λ cell. length cell ≡ 32) (slots image)
   sized = slots_sized image is some
 
-  left : Altered image (validated image) (cells_left image) (all_but (owned_blocks image))
+  left : Altered image (validated image) (cells_left image) (all_but (length image) (owned_blocks image))
   unfolding validated
   left =
-      remapped image (with_cleared image (unclosed_slots image)) (cells_left image) (all_but (owned_blocks image)) is some
-      (slots_cleared is_unclosed image is) (map_not_listed image distinct) (members-all_but (owned_blocks image))
+      remapped image (with_cleared image (unclosed_slots image)) (cells_left image) (all_but (length image) (owned_blocks image)) is some
+      (slots_cleared is_unclosed image is) (map_not_listed image distinct) (members-all_but (length image) (owned_blocks image))
 
   chains : All (HasItsChains image) (cells_left image)
   chains =
@@ -78,17 +70,17 @@ module _ (image : List (List ℕ)) (is : IsImage image) (accepted : AllHold imag
   fewer : (q : ℕ) → occurs q (flat_map (owned_by image) (cells_left image)) ≤ occurs q (flat_map (owned_by image) (slots image))
   fewer q = let e = occurs-cleared image is_unclosed q (slots image) sized in omega arith
 
-  unfree : (q : ℕ) → 1 ≤ held_by image (cells_left image) q → set.contains (all_but (owned_blocks image)) q ≡ false
+  unfree : (q : ℕ) → 1 ≤ held_by image (cells_left image) q → set.contains (all_but (length image) (owned_blocks image)) q ≡ false
   unfree q held =
       let own = occurs-owned image q in
       let less = fewer q in
-      contains-without (set.from_list {R = nat_cmp} blocks) (owned_blocks image) q
-      ∙ and_left (not (list_any (nat_eq q) (owned_blocks image))) (set.contains (set.from_list {R = nat_cmp} blocks) q)
+      contains-without (all_of (length image)) (owned_blocks image) q
+      ∙ and_left (not (list_any (nat_eq q) (owned_blocks image))) (set.contains (all_of (length image)) q)
       (ap not (present-from_occurs q (owned_blocks image) (omega arith)))
 
   validated-keeps_sound : IsSound (validated image)
   validated-keeps_sound =
-      sound_after image (validated image) (cells_left image) (all_but (owned_blocks image)) is some distinct left chains fewer
+      sound_after image (validated image) (cells_left image) (all_but (length image) (owned_blocks image)) is some distinct left chains fewer
       kinds_known unfree
 
   same_owned : owned_blocks image ≡ blocks_owned (view image)
@@ -98,8 +90,8 @@ module _ (image : List (List ℕ)) (is : IsImage image) (accepted : AllHold imag
   validated-views : view (validated image) ≡ validated_view (view image)
   unfolding view validated_view
   validated-views =
-      view_after image (validated image) (cells_left image) (all_but (owned_blocks image)) is some distinct left chains fewer
-      ∙ ap₂ (λ (rows : List (Option FileView)) (owned : List ℕ). view_of (disk_field image) (disk_id image) (directory image) rows (all_but owned))
+      view_after image (validated image) (cells_left image) (all_but (length image) (owned_blocks image)) is some distinct left chains fewer
+      ∙ ap₂ (λ (rows : List (Option FileView)) (owned : List ℕ). view_of (length image) (disk_field image) (disk_id image) (directory image) rows (all_but (length image) owned))
       (shown-cleared image is_unclosed (λ file. not file.closed) (λ cell. refl) (slots image) sized) same_owned
 
   validated-stays_image : IsImage (validated image)

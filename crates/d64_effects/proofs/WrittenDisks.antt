@@ -22,7 +22,7 @@ written-is_image image name kind bytes is named small sound fits = let left = wr
 pub written-is_sound : WrittenIsSound
 written-is_sound image name kind bytes is named writable small sound fits =
     sound_after image (written image name kind bytes) name kind bytes (taken_for image bytes) (directory_grown image) sound named.short writable.0
-    (takes image (length bytes) fits) (grows image) is.0 (written_leaves image name kind bytes is named small sound fits)
+    (takes image (length bytes) fits) (grows image) (written_leaves image name kind bytes is named small sound fits)
 
 -- a slot is vacant in the view where it isn't used
 vacant_shown : (image : List (List ℕ)) (cell : List ℕ) → is_vacant (slot_view image cell) ≡ not (is_used cell)
@@ -52,7 +52,7 @@ written-shows image name kind bytes is named writable small sound fits =
     let rows : List (Option FileView) = map (slot_view image) (slots image) in
     let shown =
     shown_rows image (written image name kind bytes) name kind bytes taken (directory_grown image) sound named.short writable.0
-    (takes image (length bytes) fits) (grows image) is.0 left
+    (takes image (length bytes) fits) (grows image) left
     ∙ slots_with-rows rows (first_unused (slots image)) file in
-    (λ i. record { name = left.name i; id = left.id i; directory = left.blocks i; slots = shown i; free = left.free i })
+    (λ i. record { count = left.long i; name = left.name i; id = left.id i; directory = left.blocks i; slots = shown i; free = left.free i })
     ∙ ap (λ (place : Option ℕ). view_with (view image) place file taken (grown_by (free_blocks image) (dir_last image) place)) (sym (first_vacant_shown image))

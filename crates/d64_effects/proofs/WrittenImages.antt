@@ -1,5 +1,5 @@
 -- the image after the writing of a file: its blocks, its directory, its map
-use Rattle.std.proofs.Common.{◌≡◌, ◌≢◌, ℕ, ◌<◌, ◌≤◌, true, not, nat_eq, List, [], ◌∷◌, ◌++◌, length, map, take, drop, get_or, Option, refl, sym, ap, ◌∙◌, inl, inr, arith}
+use Rattle.std.proofs.Common.{◌≡◌, ◌≢◌, ℕ, ◌<◌, ◌≤◌, true, not, nat_eq, List, [], ◌∷◌, ◌++◌, length, map, take, drop, get_or, Option, refl, sym, ap, ◌∙◌, subst, inl, inr, arith}
 use Rattle.std.specs.Prelude.{replicate}
 use Rattle.std.specs.List.{list_any}
 use Rattle.std.specs.Ordering.{nat_cmp}
@@ -8,7 +8,7 @@ use Rattle.std.proofs.lemmas.Bool.{cases_lt, and_parts}
 use Rattle.std.proofs.lemmas.List.Elements.{All-weaker, All-get_or}
 use Rattle.std.proofs.lemmas.Map.Steps.{length-le_from_distinct_below}
 use Rattle.d64_image.specs.declared.block.TheConstants.{BLOCKS}
-use Rattle.d64_image.specs.BlockSet.{MembersAreBlocks}
+use Rattle.d64_image.specs.BlockSet.{MembersAreBelow}
 use Rattle.d64_image.specs.Image.{IsImage, sector_at}
 use Rattle.d64_map.specs.Laws.{IsFreeForFiles}
 use Rattle.d64_map.specs.Map.{map_block, free_blocks, map_for, with_map, CountsFit}
@@ -36,6 +36,7 @@ use Rattle.d64_effects.proofs.TakenBlocks.{free_is_block, Takes, takes, Grows, g
 -- what the writing of a file leaves
 pub record LeftByWriting (image other : List (List ℕ)) (place : Option ℕ) (taken grown entry bytes : List ℕ) : Type 0 where
   pub is_image : IsImage other
+  pub long : length other ≡ length image
   pub counts : CountsFit other
   pub free : free_blocks other ≡ without (free_blocks image) (taken ++ grown)
   pub blocks : directory other ≡ directory image ++ grown
@@ -72,8 +73,8 @@ apart image taken grown bytes sound file dir =
       ];
     }
 
--- the members that are left are blocks of the disk
-left_are_blocks : (image : List (List ℕ)) (taken : List ℕ) → MembersAreBlocks (without (free_blocks image) taken)
+-- the members that are left are blocks of the image
+left_are_blocks : (image : List (List ℕ)) (taken : List ℕ) → MembersAreBelow (length image) (without (free_blocks image) taken)
 left_are_blocks image taken q member =
     free_is_block image q
     (and_parts (not (list_any (nat_eq q) taken)) (set.contains (free_blocks image) q) (sym (contains-without (free_blocks image) taken q) ∙ member)).1
@@ -88,13 +89,19 @@ append_some [] ys some e = some refl
 append_some (x ∷ xs) ys some e = cc
 
 module _ (image listed : List (List ℕ)) (place : Option ℕ) (taken grown entry bytes : List ℕ) (free : set.FinSet nat_cmp) (some : directory image ≢ [])
-    (is : IsImage image) (new : NewEntry image listed place grown entry) (small : AreBytes bytes) (fits : Fits taken bytes) (separate : Apart image taken grown)
-    (members : MembersAreBlocks free) where
-  length_chained : length (with_chain listed taken bytes) ≡ BLOCKS
-  length_chained = length-with_chain listed taken bytes ∙ new.is_image.0
+    (is : IsImage image) (new : NewEntry image listed place grown entry) (small : AreBytes bytes) (fits : Fits (length image) taken bytes) (separate : Apart image taken grown)
+    (members : MembersAreBelow (length image) free) where
+  length_chained : length (with_chain listed taken bytes) ≡ length image
+  length_chained = length-with_chain listed taken bytes ∙ new.long
+
+  most : length image ≤ BLOCKS
+  most = let l = is.0 in omega arith
+
+  within : MembersAreBelow (length (with_chain listed taken bytes)) free
+  within = subst (λ (n : ℕ). MembersAreBelow n free) (sym length_chained) members
 
   has_map_block : map_block < length (with_chain listed taken bytes)
-  has_map_block = let e = length_chained in omega arith
+  has_map_block = let e = length_chained in let l = is.0 in omega arith
 
   length_filed : length (filed listed taken bytes free) ≡ length listed
   length_filed = length-with_map (with_chain listed taken bytes) free ∙ length-with_chain listed taken bytes
@@ -131,7 +138,7 @@ module _ (image listed : List (List ℕ)) (place : Option ℕ) (taken grown entr
 
   has_chain : Chain (filed listed taken bytes free) (get_or taken 0 0) taken
   has_chain =
-      kept (with_chain listed taken bytes) (filed listed taken bytes free) (get_or taken 0 0) taken (Chain-with_chain listed taken bytes new.is_image.0 fits)
+      kept (with_chain listed taken bytes) (filed listed taken bytes free) (get_or taken 0 0) taken (Chain-with_chain (length image) most listed taken bytes new.long fits)
       (length-with_map (with_chain listed taken bytes) free)
       (λ block found. link_same (with_chain listed taken bytes) (filed listed taken bytes free) block (taken_sector block (occurs-present block taken found)))
 
@@ -139,7 +146,7 @@ module _ (image listed : List (List ℕ)) (place : Option ℕ) (taken grown entr
   has_data =
       data_along-same (with_chain listed taken bytes) (filed listed taken bytes free) taken
       (All-from_occurs (λ block. sector_at (filed listed taken bytes free) block ≡ sector_at (with_chain listed taken bytes) block) taken taken_sector)
-      ∙ data_along-with_chain listed taken bytes new.is_image.0 fits
+      ∙ data_along-with_chain (length image) most listed taken bytes new.long fits
 
   -- the map's block before the map is written
   old_map : sector_at (with_chain listed taken bytes) map_block ≡ sector_at image map_block
@@ -156,9 +163,10 @@ module _ (image listed : List (List ℕ)) (place : Option ℕ) (taken grown entr
   -- what is left, where these blocks are marked free
   pub leaves : free ≡ without (free_blocks image) (taken ++ grown) → LeftByWriting image (filed listed taken bytes free) place taken grown entry bytes
   leaves left = record {
-    is_image = IsImage-with_map (with_chain listed taken bytes) free (IsImage-with_chain listed taken bytes new.is_image small fits);
-    counts = counts-with_map (with_chain listed taken bytes) free has_map_block members;
-    free = free_blocks-with_map (with_chain listed taken bytes) free has_map_block members ∙ left;
+    is_image = IsImage-with_map (with_chain listed taken bytes) free (IsImage-with_chain (length image) most listed taken bytes new.is_image small fits);
+    long = length_filed ∙ new.long;
+    counts = counts-with_map (with_chain listed taken bytes) free has_map_block (let l = length_chained in let m = most in omega arith) within;
+    free = free_blocks-with_map (with_chain listed taken bytes) free has_map_block (let l = length_chained in let m = most in omega arith) within ∙ left;
     blocks = same_directory ∙ new.blocks;
     entries = ap (map (drop 2)) same_slots ∙ new.entries;
     kept = λ block other absent apart. other_sector block other absent ∙ new.kept block apart;
@@ -169,22 +177,22 @@ module _ (image listed : List (List ℕ)) (place : Option ℕ) (taken grown entr
   }
 
 -- the blocks that a file takes fit its bytes
-pub taken_fit : (image : List (List ℕ)) (taken bytes : List ℕ) → Takes image taken (length bytes) → Fits taken bytes
+pub taken_fit : (image : List (List ℕ)) (taken bytes : List ℕ) → Takes image taken (length bytes) → Fits (length image) taken bytes
 taken_fit image taken bytes file = record {
   count = file.count;
   distinct = file.distinct;
-  within = All-weaker (IsFreeForFiles (free_blocks image)) (λ block. block < BLOCKS) (λ block h. h.1) taken file.each;
+  within = All-weaker (IsFreeForFiles (free_blocks image)) (λ block. block < length image) (λ block h. free_is_block image block h.0) taken file.each;
 }
 
 -- the first of them, and how many they are
-first_taken : (taken bytes : List ℕ) → Fits taken bytes → get_or taken 0 0 < BLOCKS
-first_taken taken bytes fits =
-    All-get_or (λ block. block < BLOCKS) taken 0 0 (let some = needs_one (length bytes) in let e = fits.count in omega arith) fits.within
+first_taken : (count : ℕ) (taken bytes : List ℕ) → Fits count taken bytes → get_or taken 0 0 < count
+first_taken count taken bytes fits =
+    All-get_or (λ block. block < count) taken 0 0 (let some = needs_one (length bytes) in let e = fits.count in omega arith) fits.within
 
-few_taken : (taken bytes : List ℕ) → Fits taken bytes → length taken ≤ BLOCKS
-few_taken taken bytes fits =
-    length-le_from_distinct_below taken BLOCKS fits.distinct
-    (λ q found. occurs-from_All (λ block. block < BLOCKS) taken q fits.within (occurs-present q taken found))
+few_taken : (count : ℕ) (taken bytes : List ℕ) → Fits count taken bytes → length taken ≤ count
+few_taken count taken bytes fits =
+    length-le_from_distinct_below taken count fits.distinct
+    (λ q found. occurs-from_All (λ block. block < count) taken q fits.within (occurs-present q taken found))
 
 -- the entry of a file in these blocks
 abbrev pub file_entry : List ℕ → Kind → List ℕ → List ℕ
@@ -198,10 +206,12 @@ file_leaves : (image : List (List ℕ)) (name : List ℕ) (kind : Kind) (bytes t
 unfolding with_file
 file_leaves image name kind bytes taken is named small sound fits file =
     let fit = taken_fit image taken bytes file in
-    let few = few_taken taken bytes fit in
+    let few = few_taken (length image) taken bytes fit in
+    let size = is.0 in
+    let first = first_taken (length image) taken bytes fit in
     let entry : List ℕ = file_entry name kind taken in
     let new = new_entry image entry (length bytes) is sound fits (length-entry_bytes name kind (get_or taken 0 0) (length taken) named.short)
-    (are_bytes-entry_bytes name kind (get_or taken 0 0) (length taken) named (first_taken taken bytes fit) (omega arith)) in
+    (are_bytes-entry_bytes name kind (get_or taken 0 0) (length taken) named (omega arith) (omega arith)) in
     leaves image (with_new_entry image entry) (first_unused (slots image)) taken (directory_grown image) entry bytes
     (without (free_blocks image) (taken ++ directory_grown image))
     (has_directory image sound) is new small fit (apart image taken (directory_grown image) (length bytes) sound file (grows image))

@@ -1,6 +1,6 @@
 -- What the commands make of the directory's list of names and contents: on disks, and on views, whose steps are these steps on that list.
 use Rattle.std.specs.Prelude.{◌≡◌, ℕ, not, List, [], length, filter}
-use Rattle.d64_image.specs.Image.{IsImage}
+use Rattle.d64_image.specs.Image.{IsSize, IsImage}
 use Rattle.d64_files.specs.Directory.{AllHold}
 use Rattle.d64_files.specs.Name.{IsName}
 use Rattle.d64_files.specs.Writing.{blocks_for}
@@ -18,7 +18,7 @@ use Rattle.d64_files.specs.declared.kind.Kind.{Kind}
 
 -- a formatted disk lists nothing
 abbrev pub FormattedListsNothing : Type 0
-FormattedListsNothing = (name id : List ℕ) → names_and_contents (formatted_view name id) ≡ []
+FormattedListsNothing = (count : ℕ) (name id : List ℕ) → names_and_contents (formatted_view count name id) ≡ []
 
 -- the writing of a file puts that file into the list
 abbrev pub WrittenListsTheFile : Type 0
@@ -51,7 +51,8 @@ files_of image = names_and_contents (view image)
 
 -- so a formatted disk lists nothing
 abbrev pub FormattedDiskLists : Type 0
-FormattedDiskLists = (name id : List ℕ) → IsName name → AreTwoBytes id → files_of (formatted name id) ≡ []
+FormattedDiskLists =
+    (count : ℕ) (name id : List ℕ) → IsSize count → IsName name → AreTwoBytes id → files_of (formatted count name id) ≡ []
 
 -- a sound disk with a new file lists that file, of as many blocks as its bytes need, beside the others
 abbrev pub WrittenDiskLists : Type 0

@@ -2,10 +2,9 @@
 use Rattle.std.specs.Prelude.{ℕ, List, [], ◌∷◌, ◌++◌, replicate}
 use Rattle.std.specs.Ordering.{nat_cmp}
 use Rattle.std.specs.FinSet as set
-use Rattle.d64_image.specs.declared.block.TheConstants.{BLOCKS}
 use Rattle.d64_image.specs.declared.image.TheConstants.{BLOCK_BYTES}
 use Rattle.d64_image.specs.Image.{with_sector}
-use Rattle.d64_map.specs.Map.{map_block, blocks, with_map}
+use Rattle.d64_map.specs.Map.{map_block, all_of, with_map}
 use Rattle.d64_files.specs.Name.{filled}
 use Rattle.d64_files.specs.Writing.{empty_directory}
 
@@ -28,15 +27,15 @@ header name id =
     ++ replicate 4 0xA0
     ++ replicate 85 0x00
 
--- the free blocks: all but the map's block and the directory's first one
-unfoldable pub free_when_formatted : set.FinSet nat_cmp
-free_when_formatted = set.remove (set.remove (set.from_list blocks) map_block) directory_start
+-- the free blocks of a disk of so many: all but the map's block and the directory's first one
+unfoldable pub free_when_formatted : ℕ → set.FinSet nat_cmp
+free_when_formatted count = set.remove (set.remove (all_of count) map_block) directory_start
 
--- the blank image, all of whose bytes are 0
-unfoldable pub blank : List (List ℕ)
-blank = replicate BLOCKS (replicate BLOCK_BYTES 0)
+-- the blank image of so many blocks, all of whose bytes are 0
+unfoldable pub blank : ℕ → List (List ℕ)
+blank count = replicate count (replicate BLOCK_BYTES 0)
 
--- the blank image with the map's block and the directory's first one, and the map of the free blocks
-unfoldable pub formatted : List ℕ → List ℕ → List (List ℕ)
-formatted name id =
-    with_map (with_sector (with_sector blank map_block (header name id)) directory_start empty_directory) free_when_formatted
+-- the blank image of so many blocks with the map's block and the directory's first one, and the map of the free blocks
+unfoldable pub formatted : ℕ → List ℕ → List ℕ → List (List ℕ)
+formatted count name id =
+    with_map (with_sector (with_sector (blank count) map_block (header name id)) directory_start empty_directory) (free_when_formatted count)

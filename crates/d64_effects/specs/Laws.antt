@@ -3,7 +3,7 @@ use Rattle.std.specs.Prelude.{◌≡◌, ◌≢◌, ℕ, ◌<◌, ◌≤◌, Lis
 use Rattle.d64_files.specs.Name.{IsName}
 use Rattle.d64_files.specs.Directory.{slots, AllHold}
 use Rattle.d64_files.specs.Writing.{blocks_for, first_unused, dir_last}
-use Rattle.d64_image.specs.Image.{IsImage}
+use Rattle.d64_image.specs.Image.{IsSize, IsImage}
 use Rattle.d64_map.specs.Map.{free_blocks, blocks_free, CountsFit}
 use Rattle.d64_map.specs.Plan.{room}
 use Rattle.d64_effects.specs.Contents.{names_and_contents}
@@ -24,27 +24,27 @@ AreTwoBytes id = (length id ≡ 2) × All (λ byte. byte < 256) id
 
 -- a formatted disk is an image
 abbrev pub FormattedIsImage : Type 0
-FormattedIsImage = (name id : List ℕ) → IsName name → AreTwoBytes id → IsImage (formatted name id)
+FormattedIsImage = (count : ℕ) (name id : List ℕ) → IsSize count → IsName name → AreTwoBytes id → IsImage (formatted count name id)
 
 -- its map marks free all blocks but its own and the directory's first one, whatever its name and its id are
 abbrev pub FormattedIsFree : Type 0
-FormattedIsFree = (name id : List ℕ) → free_blocks (formatted name id) ≡ free_when_formatted
+FormattedIsFree = (count : ℕ) (name id : List ℕ) → IsSize count → free_blocks (formatted count name id) ≡ free_when_formatted count
 
 -- and the counts of its map fit
 abbrev pub FormattedCountsFit : Type 0
-FormattedCountsFit = (name id : List ℕ) → CountsFit (formatted name id)
+FormattedCountsFit = (count : ℕ) (name id : List ℕ) → IsSize count → CountsFit (formatted count name id)
 
 -- 664 blocks of it are free
 abbrev pub FormattedHas664Free : Type 0
-FormattedHas664Free = (name id : List ℕ) → blocks_free (formatted name id) ≡ 664
+FormattedHas664Free = (count : ℕ) (name id : List ℕ) → IsSize count → blocks_free (formatted count name id) ≡ 664
 
 -- a formatted disk is sound, whatever its name and its id are
 abbrev pub FormattedIsSound : Type 0
-FormattedIsSound = (name id : List ℕ) → IsSound (formatted name id)
+FormattedIsSound = (count : ℕ) (name id : List ℕ) → IsSize count → IsSound (formatted count name id)
 
 -- and shows what it should
 abbrev pub FormattedShows : Type 0
-FormattedShows = (name id : List ℕ) → IsName name → AreTwoBytes id → view (formatted name id) ≡ formatted_view name id
+FormattedShows = (count : ℕ) (name id : List ℕ) → IsSize count → IsName name → AreTwoBytes id → view (formatted count name id) ≡ formatted_view count name id
 
 -- there is room for a file of so many bytes and its entry
 pub record HasRoom (image : List (List ℕ)) (bytes : ℕ) : Type 0 where

@@ -1,8 +1,8 @@
 -- The image that a validation leaves, byte for byte.
-use Rattle.std.specs.Prelude.{ℕ, ◌&&◌, Bool, not, List}
+use Rattle.std.specs.Prelude.{ℕ, ◌&&◌, Bool, not, List, length}
 use Rattle.std.specs.Ordering.{nat_cmp}
 use Rattle.std.specs.FinSet as set
-use Rattle.d64_map.specs.Map.{blocks, with_map}
+use Rattle.d64_map.specs.Map.{all_of, with_map}
 use Rattle.d64_files.specs.Directory.{slots, owned_blocks}
 use Rattle.d64_files.specs.Slot.{is_used, is_closed}
 use Rattle.d64_effects.specs.Clear.{slots_where, with_cleared}
@@ -16,10 +16,10 @@ is_unclosed cell = is_used cell && not (is_closed cell)
 abbrev pub unclosed_slots : List (List ℕ) → List ℕ
 unclosed_slots image = slots_where is_unclosed (slots image)
 
--- all blocks but these
-abbrev pub all_but : List ℕ → set.FinSet nat_cmp
-all_but owned = without (set.from_list blocks) owned
+-- all of so many blocks but these
+abbrev pub all_but : ℕ → List ℕ → set.FinSet nat_cmp
+all_but count owned = without (all_of count) owned
 
 -- the image after a validation: without the unclosed files, and free is what nobody owns
 unfoldable pub validated : List (List ℕ) → List (List ℕ)
-validated image = with_map (with_cleared image (unclosed_slots image)) (all_but (owned_blocks image))
+validated image = with_map (with_cleared image (unclosed_slots image)) (all_but (length image) (owned_blocks image))

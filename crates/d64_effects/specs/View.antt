@@ -1,5 +1,5 @@
 -- What a disk shows: its view. The view of a sound image holds all that the image says of names, files and free blocks.
-use Rattle.std.specs.Prelude.{ℕ, Bool, if◌then◌else◌, List, [], map, slice_range, Option, Some, None}
+use Rattle.std.specs.Prelude.{ℕ, Bool, if◌then◌else◌, List, [], length, map, slice_range, Option, Some, None}
 use Rattle.std.specs.List.{slice_get}
 use Rattle.std.specs.Option.{option_map_or}
 use Rattle.std.specs.Ordering.{nat_cmp}
@@ -24,8 +24,9 @@ pub record FileView : Type 0 where
   pub side_blocks : List ℕ
   pub content : List ℕ
 
--- a disk: the 16 bytes of its name, its id, the directory's blocks in order, its slots with None for an unused one, and the free blocks
+-- a disk: how many blocks it has, the 16 bytes of its name, its id, the directory's blocks in order, its slots with None for an unused one, and the free blocks
 pub record View : Type 0 where
+  pub count : ℕ
   pub name : List ℕ
   pub id : List ℕ
   pub directory : List ℕ
@@ -63,6 +64,7 @@ disk_id image = slice_range (sector_at image map_block) 0xA2 0xA4
 -- the view of an image
 unfoldable pub view : List (List ℕ) → View
 view image = record {
+  count = length image;
   name = disk_field image;
   id = disk_id image;
   directory = directory image;

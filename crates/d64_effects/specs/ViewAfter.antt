@@ -12,14 +12,15 @@ use Rattle.d64_effects.specs.Validate.{all_but}
 use Rattle.d64_effects.specs.Write.{taken_by, grown_by, without}
 use Rattle.d64_files.specs.declared.kind.Kind.{Kind}
 
--- after a format: the name and the id, eight unused slots in one block, and all blocks free but two
-unfoldable pub formatted_view : List ℕ → List ℕ → View
-formatted_view name id = record {
+-- after a format of a disk of so many blocks: the name and the id, eight unused slots in one block, and all blocks free but two
+unfoldable pub formatted_view : ℕ → List ℕ → List ℕ → View
+formatted_view count name id = record {
+  count = count;
   name = filled name;
   id = id;
   directory = directory_start ∷ [];
   slots = replicate 8 None;
-  free = free_when_formatted;
+  free = free_when_formatted count;
 }
 
 -- a new file: closed, not locked, in the blocks that it took
@@ -48,6 +49,7 @@ slots_with slots None file = slots ++ (Some file ∷ replicate 7 None)
 -- after the writing of a file into these blocks, where the directory takes those: the first unused slot holds it
 abbrev pub view_with : View → Option ℕ → FileView → List ℕ → List ℕ → View
 view_with old vacant file taken grown = record {
+  count = old.count;
   name = old.name;
   id = old.id;
   directory = old.directory ++ grown;
@@ -86,6 +88,7 @@ is_scratched_file patterns file = is_scratched patterns file.closed file.locked 
 -- after the deleting of the files that patterns match: their slots are unused, and their blocks are free
 unfoldable pub scratched_view : View → List (List ℕ) → View
 scratched_view old patterns = record {
+  count = old.count;
   name = old.name;
   id = old.id;
   directory = old.directory;
@@ -116,6 +119,7 @@ renamed_slots (Some file ∷ slots) old new =
 -- after the renaming of the first file of a name
 unfoldable pub renamed_view : View → List ℕ → List ℕ → View
 renamed_view shown old new = record {
+  count = shown.count;
   name = shown.name;
   id = shown.id;
   directory = shown.directory;
@@ -130,9 +134,10 @@ blocks_owned shown = map_block ∷ (shown.directory ++ flat_map (blocks_if (λ f
 -- after a validation: the slots of unclosed files are unused, and free is what nobody owns
 unfoldable pub validated_view : View → View
 validated_view old = record {
+  count = old.count;
   name = old.name;
   id = old.id;
   directory = old.directory;
   slots = map (emptied_if (λ file. not file.closed)) old.slots;
-  free = all_but (blocks_owned old);
+  free = all_but old.count (blocks_owned old);
 }

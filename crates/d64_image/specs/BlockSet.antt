@@ -18,6 +18,10 @@ marks_of blocks = map (set.contains blocks) (range_with_len 0 BLOCKS)
 abbrev pub same_members : set.FinSet nat_cmp → set.FinSet nat_cmp → Bool
 same_members blocks others = set.is_subset blocks others && set.is_subset others blocks
 
--- each member is a block of the disk
+-- each member is one of so many blocks
+abbrev pub MembersAreBelow : ℕ → set.FinSet nat_cmp → Type 0
+MembersAreBelow count blocks = (block : ℕ) → set.contains blocks block ≡ true → block < count
+
+-- each member is a block of a disk
 abbrev pub MembersAreBlocks : set.FinSet nat_cmp → Type 0
-MembersAreBlocks blocks = (block : ℕ) → set.contains blocks block ≡ true → block < BLOCKS
+MembersAreBlocks blocks = MembersAreBelow BLOCKS blocks

@@ -1,16 +1,19 @@
 use Rattle.std.specs.Prelude.{◌≡◌, ℕ, ◌<◌, not, List, [], length, filter, All, slice_index_or, slice_set, nat_eq}
 use Rattle.std.specs.List.{flat_map, range_with_len}
 use Rattle.std.specs.Cmp.Lexicographic.{pointwise}
-use Rattle.d64_image.specs.declared.block.TheConstants.{BLOCKS}
 use Rattle.d64_image.specs.declared.image.TheConstants.{BLOCK_BYTES}
 
 -- a block's content: 256 bytes, and a byte is a number below 256
 abbrev pub IsBlock : List ℕ → Type 0
 IsBlock bytes = (length bytes ≡ BLOCK_BYTES) × All (λ byte. byte < 256) bytes
 
--- an image is a list of as many blocks as the disk has
+-- how many blocks an image has: those of 35 tracks
+abbrev pub IsSize : ℕ → Type 0
+IsSize count = count ≡ 683
+
+-- an image is a list of so many blocks
 abbrev pub IsImage : List (List ℕ) → Type 0
-IsImage image = (length image ≡ BLOCKS) × All IsBlock image
+IsImage image = IsSize (length image) × All IsBlock image
 
 -- the content of a block
 abbrev pub sector_at : List (List ℕ) → ℕ → List ℕ

@@ -1,5 +1,5 @@
 -- the blocks that a map marks free
-use Rattle.std.proofs.Common.{◌≡◌, ◌≢◌, ℕ, ◌+◌, ◌*◌, ◌/◌, ◌%◌, ◌^◌, ◌<◌, ◌≤◌, ◌&&◌, bit_and, get_or, Bool, true, false, ltb, nat_eq, List, refl, sym, ap, ap₂, ◌∙◌, subst, inl, inr, arith}
+use Rattle.std.proofs.Common.{◌≡◌, ◌≢◌, ℕ, ◌+◌, ◌*◌, ◌/◌, ◌%◌, ◌^◌, ◌<◌, ◌≤◌, ◌&&◌, bit_and, get_or, Bool, true, false, ltb, nat_eq, List, length, sym, ap, ap₂, ◌∙◌, subst, inl, inr, arith}
 use Rattle.std.specs.List.{range_with_len, list_any, filter}
 use Rattle.std.specs.Ordering.{nat_cmp}
 use Rattle.std.specs.Cmp.{nat_cmp_total}
@@ -11,7 +11,6 @@ use Rattle.std.specs.Int.{bit_at}
 use Rattle.std.proofs.lemmas.Nat.Bits.{shr_and_one}
 use Rattle.d64_image.specs.Block.{sectors_on, first_block, pair_at}
 use Rattle.d64_image.specs.Image.{sector_at}
-use Rattle.d64_image.proofs.Zones.{counted_below}
 use Rattle.d64_image.proofs.Pairs.{pair_at-counted}
 use Rattle.d64_map.specs.Map.{map_block, blocks, bit_in, is_free, free_blocks, NoneIsFreeBetween}
 use Rattle.d64_map.proofs.Ranges.{any-range, contains-filtered, filter_more, filter_same}
@@ -21,22 +20,28 @@ pub all_blocks : (n : ℕ) → n ≡ BLOCKS → range_with_len 0 n ≡ blocks
 unfolding blocks
 all_blocks n e = ap (range_with_len 0) e
 
-any-blocks : (n q : ℕ) → n ≡ BLOCKS → list_any (λ y. nat_eq y q) blocks ≡ ltb q n
-any-blocks n q e = ap (list_any (λ y. nat_eq y q)) (sym (all_blocks n e)) ∙ any-range 0 n q ∙ grind (arith, nat_tests)
+-- the numbers below n are those of n blocks
+pub any-below : (n q : ℕ) → list_any (λ y. nat_eq y q) (range_with_len 0 n) ≡ ltb q n
+any-below n q = any-range 0 n q ∙ grind (arith, nat_tests)
+
+-- a number is that of a free block where the image has it and its bit is 1
+pub contains-free_blocks-both : (image : List (List ℕ)) (block : ℕ) → set.contains (free_blocks image) block ≡ (ltb block (length image) && is_free image block)
+unfolding free_blocks
+contains-free_blocks-both image block =
+    contains-filtered (is_free image) (range_with_len 0 (length image)) block
+    ∙ ap (λ (b : Bool). b && is_free image block) (any-below (length image) block)
 
 -- a block is free where its bit is 1
-pub contains-free_blocks : (image : List (List ℕ)) (block : ℕ) → block < BLOCKS → set.contains (free_blocks image) block ≡ is_free image block
-unfolding free_blocks
+pub contains-free_blocks : (image : List (List ℕ)) (block : ℕ) → block < length image → set.contains (free_blocks image) block ≡ is_free image block
 contains-free_blocks image block h =
-    contains-filtered (is_free image) blocks block
-    ∙ ap (λ (b : Bool). b && is_free image block) (any-blocks BLOCKS block refl ∙ (let e : ltb block BLOCKS ≡ true = grind (arith, nat_tests) in e))
+    contains-free_blocks-both image block
+    ∙ ap (λ (b : Bool). b && is_free image block) (let e : ltb block (length image) ≡ true = grind (arith, nat_tests) in e)
 
 -- no number past the last block is free
-pub contains-free_blocks-past : (image : List (List ℕ)) (block : ℕ) → BLOCKS ≤ block → set.contains (free_blocks image) block ≡ false
-unfolding free_blocks
+pub contains-free_blocks-past : (image : List (List ℕ)) (block : ℕ) → length image ≤ block → set.contains (free_blocks image) block ≡ false
 contains-free_blocks-past image block h =
-    contains-filtered (is_free image) blocks block
-    ∙ ap (λ (b : Bool). b && is_free image block) (any-blocks BLOCKS block refl ∙ (let e : ltb block BLOCKS ≡ false = grind (arith, nat_tests) in e))
+    contains-free_blocks-both image block
+    ∙ ap (λ (b : Bool). b && is_free image block) (let e : ltb block (length image) ≡ false = grind (arith, nat_tests) in e)
 
 -- one step of the set of what passes
 pub set_more : (p : ℕ → Bool) (n block : ℕ) (s t : set.FinSet nat_cmp) → s ≡ set.from_list (filter p (range_with_len 0 n)) → block ≡ n → p block ≡ true
@@ -72,12 +77,12 @@ bit_tells image block track sector bytes e f g =
 
 -- the bit of a sector that the disk has tells whether its block is one of the free blocks
 pub bit_is_member : (image : List (List ℕ)) (track sector : ℕ) (bytes : List ℕ) → bytes ≡ sector_at image map_block
-    → 1 ≤ track → track < 36 → sector < sectors_on track
+    → 1 ≤ track → track < 36 → sector < sectors_on track → first_block track + sector < length image
     → nat_eq (bit_in bytes track sector) 1 ≡ set.contains (free_blocks image) (first_block track + sector)
-bit_is_member image track sector bytes e one last held =
+bit_is_member image track sector bytes e one last held there =
     let pair = pair_at-counted track sector one last held in
     bit_tells image (first_block track + sector) track sector bytes e (sym (ap (λ (p : ℕ × ℕ). p.0) pair)) (sym (ap (λ (p : ℕ × ℕ). p.1) pair))
-    ∙ sym (contains-free_blocks image (first_block track + sector) (counted_below track sector last held))
+    ∙ sym (contains-free_blocks image (first_block track + sector) there)
 
 -- one block more, which is no free member
 pub none_more : (image : List (List ℕ)) (members : set.FinSet nat_cmp) (first block end : ℕ) → block + 1 ≡ end → NoneIsFreeBetween image members first block
@@ -87,8 +92,3 @@ none_more image members first block end next none last other from to member =
       | inl same ↦ subst (λ (b : ℕ). set.contains (free_blocks image) b ≡ false) (sym same.1) (last (ap (set.contains members) (sym same.1) ∙ member))
       | inr apart ↦ none other from (let n : other ≢ block = apart.1 in omega arith) member
     ]
-
-pub contains-free_blocks-both : (image : List (List ℕ)) (block : ℕ) → set.contains (free_blocks image) block ≡ (ltb block BLOCKS && is_free image block)
-unfolding free_blocks
-contains-free_blocks-both image block =
-    contains-filtered (is_free image) blocks block ∙ ap (λ (b : Bool). b && is_free image block) (any-blocks BLOCKS block refl)

@@ -14,7 +14,7 @@ use Rattle.std.proofs.lemmas.List.FromFn.{fill_by_all, get_or-map-range_with_len
 use Rattle.std.proofs.lemmas.List.Sums.{count_by-le-length}
 use Rattle.d64_image.specs.declared.block.TheConstants.{BLOCKS}
 use Rattle.d64_image.specs.Block.{sectors_on, first_block, pair_at}
-use Rattle.d64_image.specs.BlockSet.{MembersAreBlocks}
+use Rattle.d64_image.specs.BlockSet.{MembersAreBelow}
 use Rattle.d64_image.specs.Image.{IsBlock, IsImage, sector_at}
 use Rattle.d64_image.proofs.Zones.{Placed, placed}
 use Rattle.d64_image.proofs.Pairs.{pair_at-counted}
@@ -154,23 +154,24 @@ is_free-with_map image free block there h =
     ∙ ap (has_sector free track) whole ∙ has_sector-legal free track sector p.from_one p.within p.held ∙ ap (set.contains free) p.counted
 
 -- the map that is written for a set marks free exactly that set
-pub free_blocks-with_map : (image : List (List ℕ)) (free : set.FinSet nat_cmp) → map_block < length image → MembersAreBlocks free → free_blocks (with_map image free) ≡ free
-free_blocks-with_map image free there legal =
+pub free_blocks-with_map : (image : List (List ℕ)) (free : set.FinSet nat_cmp) → map_block < length image → length image ≤ BLOCKS → MembersAreBelow (length image) free → free_blocks (with_map image free) ≡ free
+free_blocks-with_map image free there most legal =
+    let l = length-with_map image free in
     same_set nat_cmp_total nat_cmp-IsAntisymmetric _ _ (λ q.
-    elim (cases_lt q BLOCKS) [
-      | inl h ↦ contains-free_blocks (with_map image free) q h ∙ is_free-with_map image free q there h
-      | inr past ↦ contains-free_blocks-past (with_map image free) q past
+    elim (cases_lt q (length image)) [
+      | inl h ↦ contains-free_blocks (with_map image free) q (omega arith) ∙ is_free-with_map image free q there (omega arith)
+      | inr past ↦ contains-free_blocks-past (with_map image free) q (omega arith)
           ∙ elim (cases_Bool (set.contains free q)) [ inl member ↦ absurd (let h = legal q member in omega arith) | inr none ↦ sym none ]
     ])
 
 -- and its counts fit
-pub counts-with_map : (image : List (List ℕ)) (free : set.FinSet nat_cmp) → map_block < length image → MembersAreBlocks free → CountsFit (with_map image free)
-counts-with_map image free there legal = record {
+pub counts-with_map : (image : List (List ℕ)) (free : set.FinSet nat_cmp) → map_block < length image → length image ≤ BLOCKS → MembersAreBelow (length image) free → CountsFit (with_map image free)
+counts-with_map image free there most legal = record {
   each = λ track one last.
       ap (λ (x : List ℕ). get_or x (4 * track) 0) (sector_at-with_map image free there)
       ∙ at_entry (sector_at image map_block) free (4 * track) (omega arith) (omega arith)
       ∙ map_byte-count free track (4 * track) refl
-      ∙ ap (λ (s : set.FinSet nat_cmp). members_on s track) (sym (free_blocks-with_map image free there legal));
+      ∙ ap (λ (s : set.FinSet nat_cmp). members_on s track) (sym (free_blocks-with_map image free there most legal));
 }
 
 -- the bytes of the map's block are bytes

@@ -4,26 +4,26 @@ use Rattle.std.specs.List.{IsDistinct}
 use Rattle.std.specs.Ordering.{nat_cmp}
 use Rattle.std.specs.FinSet as set
 use Rattle.d64_image.specs.declared.block.TheConstants.{BLOCKS}
-use Rattle.d64_image.specs.BlockSet.{MembersAreBlocks}
+use Rattle.d64_image.specs.BlockSet.{MembersAreBelow}
 use Rattle.d64_image.specs.Image.{IsImage, sector_at}
 use Rattle.d64_image.specs.Block.{pair_at}
 use Rattle.d64_map.specs.Map.{map_block, is_free, free_blocks, CountsFit, is_entry, with_map}
 use Rattle.d64_map.specs.Search.{dir_order}
 use Rattle.d64_map.specs.Plan.{plan, room}
 
--- the free blocks are the blocks of the disk whose bit is 1
+-- the free blocks are the image's blocks whose bit is 1
 abbrev pub FreeBlocksHaveTheirBit : Type 0
-FreeBlocksHaveTheirBit = (image : List (List ℕ)) (block : ℕ) → set.contains (free_blocks image) block ≡ (nat_lt block BLOCKS && is_free image block)
+FreeBlocksHaveTheirBit = (image : List (List ℕ)) (block : ℕ) → set.contains (free_blocks image) block ≡ (nat_lt block (length image) && is_free image block)
 
 -- the map that is written for a set marks free exactly that set
 abbrev pub MapIsTheSet : Type 0
 MapIsTheSet =
-    (image : List (List ℕ)) (free : set.FinSet nat_cmp) → IsImage image → MembersAreBlocks free → free_blocks (with_map image free) ≡ free
+    (image : List (List ℕ)) (free : set.FinSet nat_cmp) → IsImage image → MembersAreBelow (length image) free → free_blocks (with_map image free) ≡ free
 
 -- the counts of a map that is written for a set fit
 abbrev pub WrittenCountsFit : Type 0
 WrittenCountsFit =
-    (image : List (List ℕ)) (free : set.FinSet nat_cmp) → IsImage image → MembersAreBlocks free → CountsFit (with_map image free)
+    (image : List (List ℕ)) (free : set.FinSet nat_cmp) → IsImage image → MembersAreBelow (length image) free → CountsFit (with_map image free)
 
 -- a written map leaves an image, with the same other blocks, and in the map's block the same bytes outside the entries
 abbrev pub OnlyEntriesChange : Type 0

@@ -1,4 +1,4 @@
-use Rattle.std.specs.Prelude.{◌≡◌, ℕ, ◌+◌, ◌-◌, ◌*◌, ◌/◌, ◌%◌, ◌^◌, ◌<◌, ◌≤◌, ◌==◌, ◌&&◌, nat_lt, nat_le, not, Bool, true, false, if◌then◌else◌, List, map, filter, sum_by, slice_index}
+use Rattle.std.specs.Prelude.{◌≡◌, ℕ, ◌+◌, ◌-◌, ◌*◌, ◌/◌, ◌%◌, ◌^◌, ◌<◌, ◌≤◌, ◌==◌, ◌&&◌, nat_lt, nat_le, not, Bool, true, false, if◌then◌else◌, List, length, map, filter, sum_by, slice_index}
 use Rattle.std.specs.List.{range_with_len}
 use Rattle.std.specs.Int.{bit_at}
 use Rattle.std.specs.Ordering.{nat_cmp}
@@ -29,17 +29,21 @@ bit_of image track sector = bit_in (sector_at image map_block) track sector
 unfoldable pub is_free : List (List ℕ) → ℕ → Bool
 is_free image block = bit_of image (pair_at block).0 (pair_at block).1 == 1
 
--- all blocks of the disk
+-- all blocks that a disk may have
 unfoldable pub blocks : List ℕ
 blocks = range_with_len 0 BLOCKS
+
+-- all blocks of a disk that has so many
+abbrev pub all_of : ℕ → set.FinSet nat_cmp
+all_of count = set.from_list (range_with_len 0 count)
 
 -- the set of the blocks below a number that the map marks free
 abbrev pub free_below : List (List ℕ) → ℕ → set.FinSet nat_cmp
 free_below image n = set.from_list (filter (is_free image) (range_with_len 0 n))
 
--- the set of the blocks that the map marks free
+-- the set of the image's blocks that the map marks free
 unfoldable pub free_blocks : List (List ℕ) → set.FinSet nat_cmp
-free_blocks image = set.from_list (filter (is_free image) blocks)
+free_blocks image = free_below image (length image)
 
 -- the map marks none of the members from one block up to another free
 abbrev pub NoneIsFreeBetween : List (List ℕ) → set.FinSet nat_cmp → ℕ → ℕ → Type 0

@@ -1,5 +1,5 @@
 //! The block allocation map, read and written.
-ghost use Rattle.std.specs.Prelude.{◌≡◌, ℕ, ◌+◌, ◌<◌, ◌≤◌, ◌==◌, ◌↔◌, true, false, IsTrue, OnOk};
+ghost use Rattle.std.specs.Prelude.{◌≡◌, ℕ, ◌+◌, ◌<◌, ◌≤◌, ◌==◌, ◌↔◌, true, false, length, IsTrue, OnOk};
 ghost use Rattle.std.specs.FinSet as set;
 ghost use Rattle.d64_image.specs.Block.{first_block};
 ghost use Rattle.d64_image.specs.BlockSet.{MembersAreBlocks};
@@ -25,10 +25,18 @@ pub fn map_block() -> BlockNo
     BlockNo::of(DIRECTORY_TRACK, 0).unwrap()
 }
 
-// A block is one of the disk's.
-fn known_block(block: BlockNo)
-    ensures { block < BLOCKS }
+// The image has as many blocks as a disk of 35 tracks.
+fn known_length(image: &Image)
+    ensures { length image.now ≡ BLOCKS }
 {
+    let _ = image.bytes();
+}
+
+// The image has each block.
+fn known_block(image: &Image, block: BlockNo)
+    ensures { block < length image.now }
+{
+    known_length(image);
     let _ = block.index();
 }
 
@@ -53,7 +61,7 @@ pub fn is_free(image: &Image, block: BlockNo) -> bool
     ensures bit { result ≡ is_free image.now block }
     ensures member { result ≡ set.contains (free_blocks image.now) block }
 {
-    known_block(block);
+    known_block(image, block);
     marks_free(image.sector(map_block()), block.track(), block.sector())
 }
 
@@ -99,6 +107,7 @@ fn add_free_on(free: &mut BlockSet, image: &Image, track: u8)
 pub fn free_set(image: &Image) -> BlockSet
     ensures { result ≡ free_blocks image.now }
 {
+    known_length(image);
     let mut free = BlockSet::empty();
     for track in 1..TRACKS + 1 {
         add_free_on(&mut free, image, track);
@@ -111,6 +120,7 @@ fn none_is_free_on(image: &Image, blocks: &BlockSet, track: u8) -> bool
     requires track { (1 ≤ track) × (track < 36) }
     ensures none { IsTrue result ↔ NoneIsFreeBetween image.now blocks.now (first_block track) (first_block (track + 1)) }
 {
+    known_length(image);
     let map = image.sector(map_block());
     for sector in 0..sector_count(track) {
         if marks_free(map, track, sector) {
@@ -140,6 +150,7 @@ fn free_on(image: &Image, track: u8) -> u8
     requires track { (1 ≤ track) × (track < 36) }
     ensures free { result ≡ members_on (free_blocks image.now) track }
 {
+    known_length(image);
     let map = image.sector(map_block());
     let mut count = 0;
     for sector in 0..sector_count(track) {
@@ -200,6 +211,7 @@ pub fn put_map(image: &mut Image, patch: &mut Patch, free: &BlockSet) -> Result<
     ensures counts { OnOk result (CountsFit image.new) }
     ensures back { back image.new patch.new ≡ back image.old patch.old }
 {
+    known_length(image);
     known_members(free);
     let mut map = *image.sector(map_block());
     for place in ENTRIES_START..ENTRIES_END {

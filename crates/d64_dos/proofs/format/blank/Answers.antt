@@ -1,7 +1,7 @@
 use Rattle.std.proofs.Common.{◌≡◌, ℕ, ◌<◌, ◌++◌, length, List, drop, ap, ap₂, ◌∙◌, arith}
 use Rattle.std.proofs.Math.ListN.{replicate}
-use Rattle.d64_image.specs.declared.block.TheConstants.{BLOCKS}
 use Rattle.d64_image.specs.Image.{with_sector}
+use Rattle.d64_effects.specs.Format.{blank}
 use Rattle.d64_dos.proofs.Blanks.{one_more, all_blank}
 use Rattle.d64_dos.proofs.format.blank.Goals as goal
 use Rattle.d64_dos.proofs.format.blank.Goals.{in-Some+in_ok-blank_block-in-Some, in-None}
@@ -23,9 +23,11 @@ loop-index-preserved c =
     ]
 
 pub returns-clause-blank : goal.returns-clause-blank
+unfolding blank
 returns-clause-blank c =
     let image = c.args.image.now in
-    let end : c.loop-index.index ≡ BLOCKS = let test = c.loop-index-test.false in let below = c.loop-index.auto.index-end in omega arith in
+    let long = c.bytes.ensures.image.0 in
+    let end : c.loop-index.index ≡ length image = let test = c.loop-index-test.false in let below = c.loop-index.auto.index-end in omega arith in
     c.loop-index.invariant.image
     ∙ ap (λ (index : ℕ). replicate index (replicate 256 0) ++ drop index image) end
-    ∙ all_blank BLOCKS image (replicate 256 0) (let long = c.bytes.ensures.image.0 in omega arith)
+    ∙ all_blank (length image) image (replicate 256 0) (omega arith)

@@ -1,7 +1,5 @@
-use Rattle.std.proofs.Common.{◌≡◌, ℕ, List, ap, ◌∙◌, arith}
-use Rattle.std.specs.Ordering.{nat_cmp}
-use Rattle.std.specs.FinSet as set
-use Rattle.d64_map.proofs.FreeBlocks.{all_blocks}
+use Rattle.std.proofs.Common.{◌≡◌, length, ap, ◌∙◌, arith}
+use Rattle.d64_map.specs.Map.{all_of}
 use Rattle.d64_effects.specs.Format.{free_when_formatted}
 use Rattle.d64_effects.proofs.EmptyDisks.{from_range_more}
 use Rattle.d64_dos.proofs.format.free_when_formatted.Goals as goal
@@ -17,5 +15,7 @@ loop-index-preserved c =
 pub returns : goal.returns
 unfolding free_when_formatted
 returns c =
-    let e : c.loop-index.free ≡ set.from_list _ = c.loop-index.invariant ∙ ap (λ (xs : List ℕ). set.from_list {R = nat_cmp} xs) (all_blocks c.loop-index.index (omega arith)) in
+    let long = c.bytes.ensures.image.0 in
+    let end : c.loop-index.index ≡ length c.args.image.now = omega arith in
+    let e : c.loop-index.free ≡ all_of (length c.args.image.now) = c.loop-index.invariant ∙ ap all_of end in
     let f = c.remove.ensures.value in let g = c.remove-2.ensures.value in let h = c.map_block.ensures in let d = c.directory_start.ensures in cc

@@ -1,4 +1,4 @@
-use Rattle.std.proofs.Common.{◌≡◌, ◌+◌, true, false, sym, ap, ◌∙◌, subst, arith}
+use Rattle.std.proofs.Common.{◌≡◌, ◌+◌, true, false, length, sym, ap, ◌∙◌, subst, arith}
 use Rattle.std.specs.Ordering.{nat_cmp}
 use Rattle.std.specs.FinSet as set
 use Rattle.d64_dos.proofs.BlockSets.{OthersBelow, no_others, one_other, no_other, all_others}
@@ -31,4 +31,5 @@ loop-index-preserved c =
 
 pub returns : goal.returns
 returns c =
-    λ blocks listed. all_others c.args.owned.now c.loop-index.others c.loop-index.index blocks (omega arith) listed c.loop-index.invariant
+    let long = c.bytes.ensures.image.0 in
+    λ blocks listed. all_others c.args.owned.now c.loop-index.others c.loop-index.index (length c.args.image.now) blocks (omega arith) listed c.loop-index.invariant

@@ -12,4 +12,4 @@ returns-clause-image c =
     let places : c.as_slice.result.now ≡ unclosed_slots image =
     c.as_slice.ensures.value ∙ c.unclosed_slots-unclosed.ensures ∙ ap (λ (one : List (List ℕ)). unclosed_slots one) c.in-Ok-of.ensures.image in
     c.in_ok-put_map.ensures.written
-    ∙ ap₂ with_map (c.in_ok-clear_slots.ensures.cleared ∙ ap (with_cleared image) places) (c.all_but.ensures (owned_blocks image) c.in-Ok.ensures.verdict.1)
+    ∙ ap₂ with_map (c.in_ok-clear_slots.ensures.cleared ∙ ap (with_cleared image) places) (c.all_but-others.ensures (owned_blocks image) c.in-Ok.ensures.verdict.1)

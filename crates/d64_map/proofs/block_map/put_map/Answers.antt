@@ -34,7 +34,7 @@ returns-clause-free c =
     let image = c.args.image.now in
     let long = ap length (sym (c.sector.ensures.value ∙ ap (sector_at image) c.map_block.ensures)) ∙ c.sector.ensures.block.0 in
     on_ok_weaker c.write.result
-    (λ written. ap free_blocks written ∙ free_blocks-with_map image c.args.free.now (has_map image long) c.known_members.ensures)
+    (λ written. ap free_blocks written ∙ free_blocks-with_map image c.args.free.now (has_map image long) (let l = c.known_length.ensures in omega arith) (λ b member. let w = c.known_members.ensures b member in let l = c.known_length.ensures in omega arith))
     (returns-clause-written c)
 
 pub returns-clause-counts : goal.returns-clause-counts
@@ -42,5 +42,5 @@ returns-clause-counts c =
     let image = c.args.image.now in
     let long = ap length (sym (c.sector.ensures.value ∙ ap (sector_at image) c.map_block.ensures)) ∙ c.sector.ensures.block.0 in
     on_ok_weaker c.write.result
-    (λ written. subst CountsFit (sym written) (counts-with_map image c.args.free.now (has_map image long) c.known_members.ensures))
+    (λ written. subst CountsFit (sym written) (counts-with_map image c.args.free.now (has_map image long) (let l = c.known_length.ensures in omega arith) (λ b member. let w = c.known_members.ensures b member in let l = c.known_length.ensures in omega arith)))
     (returns-clause-written c)

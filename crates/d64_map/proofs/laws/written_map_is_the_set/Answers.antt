@@ -1,4 +1,5 @@
-use Rattle.std.proofs.Common.{◌<◌, ℕ, List, [], length, get_or, ap, ◌∙◌, arith}
+use Rattle.std.proofs.Common.{◌<◌, ◌≤◌, ℕ, List, [], length, get_or, ap, ◌∙◌, arith}
+use Rattle.d64_image.specs.declared.block.TheConstants.{BLOCKS}
 use Rattle.d64_image.specs.Image.{IsImage, sector_at}
 use Rattle.d64_map.specs.Map.{map_block}
 use Rattle.d64_map.proofs.Maps.{free_blocks-with_map, counts-with_map, IsImage-with_map, sector_at-with_map, sector_at-with_map-other, elsewhere}
@@ -8,11 +9,15 @@ use Rattle.d64_map.proofs.laws.written_map_is_the_set.Goals as goal
 there : (image : List (List ℕ)) → IsImage image → map_block < length image
 there image is = let e = is.0 in omega arith
 
+-- and at most all blocks
+few : (image : List (List ℕ)) → IsImage image → length image ≤ BLOCKS
+few image is = let e = is.0 in omega arith
+
 pub returns-clause-set : goal.returns-clause-set
-returns-clause-set c = λ image free is legal. free_blocks-with_map image free (there image is) legal
+returns-clause-set c = λ image free is legal. free_blocks-with_map image free (there image is) (few image is) legal
 
 pub returns-clause-counts : goal.returns-clause-counts
-returns-clause-counts c = λ image free is legal. counts-with_map image free (there image is) legal
+returns-clause-counts c = λ image free is legal. counts-with_map image free (there image is) (few image is) legal
 
 pub returns-clause-others : goal.returns-clause-others
 returns-clause-others c = λ image free is. (
