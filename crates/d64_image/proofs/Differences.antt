@@ -1,12 +1,12 @@
 -- the blocks in which two images differ
-use Rattle.std.proofs.Common.{◌≡◌, ◌≢◌, ℕ, zero, suc, ◌+◌, ◌<◌, Bool, true, false, cond, not, List, [], ◌∷◌, length, get_or, nat_eq, refl, ap, ◌∙◌, inl, inr, ◌⊎◌, arith}
+use Rattle.std.proofs.Common.{◌≡◌, ◌≢◌, ℕ, zero, suc, ◌<◌, Bool, true, false, cond, not, List, [], ◌∷◌, length, get_or, nat_eq, refl, ap, ◌∙◌, inl, inr, ◌⊎◌, arith}
 use Rattle.std.specs.Bool.{Decides}
 use Rattle.std.specs.List.{All, Contains, filter, range_with_len}
 use Rattle.std.specs.Cmp.Lexicographic.{pointwise, bytes_decides, same_text, other_text}
 use Rattle.std.proofs.lemmas.Bool.Decides.{Decides-not}
-use Rattle.std.proofs.lemmas.List.{ext_get_or, map-id, length-append}
+use Rattle.std.proofs.lemmas.List.{ext_get_or}
 use Rattle.std.proofs.lemmas.List.Elements.{All-from_get_or, All-filter, All-contains, filter_passes}
-use Rattle.std.proofs.lemmas.List.FromFn.{length-range_with_len, get_or-range_with_len, filter_of_map_range_with_len_more}
+use Rattle.std.proofs.lemmas.List.FromFn.{length-range_with_len, get_or-range_with_len}
 use Rattle.d64_image.specs.Image.{sector_at, differences}
 
 -- an element is among those that a test keeps, where it passes
@@ -77,37 +77,3 @@ equal_images image other long none =
       | inl e ↦ e
       | inr n ↦ absurd (nowhere image other block none (differences-to image other block h n))
     ])
-
--- how many of the first blocks differ
-abbrev pub count_below : List (List ℕ) → List (List ℕ) → ℕ → ℕ
-count_below image other n = length (filter (λ block. not (pointwise nat_eq (sector_at image block) (sector_at other block))) (range_with_len 0 n))
-
--- one block more among those that are kept
-length-cond : (kept : Bool) (n : ℕ) → length (cond kept (n ∷ []) []) ≡ cond kept 1 0
-length-cond true n = refl
-length-cond false n = refl
-
--- the first blocks and one more
-counted : (image other : List (List ℕ)) (n : ℕ)
-    → count_below image other (n + 1) ≡ count_below image other n + cond (differ image other n) 1 0
-unfolding differ
-counted image other n =
-    let p : ℕ → Bool = λ (block : ℕ). not (pointwise nat_eq (sector_at image block) (sector_at other block)) in
-    let more = filter_of_map_range_with_len_more p (λ (block : ℕ). block) 0 n n (omega arith) in
-    let plain = simp map-id at more in
-    ap length plain ∙ length-append (filter p (range_with_len 0 n)) (cond (p n) (n ∷ []) []) ∙ ap (λ (k : ℕ). count_below image other n + k) (length-cond (p n) n)
-
--- a block that differs is one more
-pub count-different : (image other : List (List ℕ)) (n : ℕ) → pointwise nat_eq (sector_at image n) (sector_at other n) ≡ false
-    → count_below image other (n + 1) ≡ count_below image other n + 1
-unfolding differ
-count-different image other n e =
-    counted image other n ∙ ap (λ (alike : Bool). count_below image other n + cond (not alike) 1 0) e
-
--- a block that doesn't differ is none
-pub count-same : (image other : List (List ℕ)) (n : ℕ) → pointwise nat_eq (sector_at image n) (sector_at other n) ≡ true
-    → count_below image other (n + 1) ≡ count_below image other n
-unfolding differ
-count-same image other n e =
-    let one = counted image other n ∙ ap (λ (alike : Bool). count_below image other n + cond (not alike) 1 0) e in
-    omega arith

@@ -1,11 +1,10 @@
 //! Images of disks.
 ghost use Rattle.std.specs.Prelude.{◌≡◌, ◌<◌, ◌*◌, ◌==◌, if◌then◌else◌, Option, Some, None, IfOk, All, replicate, length};
 ghost use Rattle.std.specs.Borrow.{sem};
-ghost use Rattle.d64_image.specs.Image.{IsBlock, IsImage, bytes_of, sector_at, differences};
+ghost use Rattle.d64_image.specs.Image.{IsBlock, IsImage, bytes_of, sector_at};
 ghost use Rattle.d64_image.specs.declared.block.TheConstants.{BLOCKS};
 
 use crate::block::{BLOCKS, BlockNo};
-use crate::block_bytes::same_bytes;
 use std::alloc::{AllocError, AllocFailed, Global};
 use std::marker::Model;
 use thiserror::Error;
@@ -128,18 +127,5 @@ impl Image {
         ensures { length self.now ≡ BLOCKS }
     {
         let _ = &self.sectors;
-    }
-
-    /// In how many blocks another image differs from this one. Takes no memory.
-    pub fn difference_count(&self, other: &Image) -> usize
-        ensures { result ≡ length (differences self.now other.now) }
-    {
-        let mut count = 0;
-        for place in 0..self.sectors.len() {
-            if !same_bytes(&self.sectors[place], &other.sectors[place]) {
-                count += 1;
-            }
-        }
-        count
     }
 }
