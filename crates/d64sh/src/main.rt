@@ -10,7 +10,7 @@ use std::io::{self, BufWriter, ErrorKind, Stderr};
 use std::process::ExitCode;
 
 fn main(rt: HostRuntime) -> ExitCode {
-    let mut faults = rt.stderr();
+    let mut faults = Retrying(rt.stderr());
     let status = match start(&rt, &mut faults) {
         Ok(status) => status,
         Err(fault) => fault.report(&mut faults),
@@ -19,7 +19,7 @@ fn main(rt: HostRuntime) -> ExitCode {
 }
 
 /// Does what the words of the process ask for, and answers the exit status.
-fn start(rt: &HostRuntime, faults: &mut Stderr) -> Result<u8, ProgramFault> {
+fn start(rt: &HostRuntime, faults: &mut Retrying<Stderr>) -> Result<u8, ProgramFault> {
     let arguments = env::args(rt).map_err(fault_of_words)?;
     let arguments: Vec<String> = arguments.skip(1).collect(rt.alloc())?;
     let words: Vec<&str> = arguments
