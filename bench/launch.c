@@ -1,5 +1,5 @@
-/* Runs a program once on the standard input that it is given, and prints its seconds by the clock, its processor seconds, and its peak memory in
- * kilobytes, as the system counts them for the program alone.
+/* Runs a program once on the standard input that it is given, and prints its seconds by the clock, its processor seconds, its peak memory in
+ * kilobytes, and how many pages of memory it touched, as the system counts them for the program alone.
  *
  * A process that is made by fork begins with the memory of its parent, which the system counts as its own peak until it becomes another program, and
  * keeps. So the parent has to be small: of one that a Python program starts the peak is at least Python's.
@@ -43,6 +43,6 @@ int main(int count, char **words)
     }
     if (child < 0 || wait4(child, NULL, 0, &usage) < 0)
         return 2;
-    printf("%.6f %.6f %ld\n", now() - start, seconds_of(usage.ru_utime) + seconds_of(usage.ru_stime), usage.ru_maxrss);
+    printf("%.6f %.6f %ld %ld\n", now() - start, seconds_of(usage.ru_utime) + seconds_of(usage.ru_stime), usage.ru_maxrss, usage.ru_minflt);
     return 0;
 }
