@@ -8,7 +8,8 @@ use Rattle.std.proofs.lemmas.List.{append_cancel_right}
 use Rattle.std.proofs.lemmas.List.Elements.{All-tail}
 use Rattle.std.proofs.lemmas.List.Folds.{list_any-append}
 use Rattle.petscii.specs.TextForm.{IsTextOf}
-use Rattle.petscii.proofs.Readings.{one_reading, no_fault}
+use Rattle.petscii.proofs.Readings.{one_reading, no_fault, one_fault}
+use Rattle.petscii.specs.declared.fault.TextFault.{TextFault}
 use Rattle.d64_script.specs.RawLines.{lines_of, text_of, is_skipped}
 use Rattle.d64_script.proofs.LineCuts.{lines_of-nil}
 use Rattle.cbm_text.specs.declared.fault.BasicFault.{BasicFault}
@@ -21,7 +22,7 @@ use Rattle.cbm_text.specs.Program.{Line, Program, word, address_behind, line_lay
 use Rattle.cbm_text.specs.Listing.{line_text, IsListing, Lists}
 use Rattle.cbm_text.specs.Modes.{listing}
 use Rattle.cbm_text.specs.TextLine.{line_number, rest_of}
-use Rattle.cbm_text.specs.BasicText.{IsLine, IsTooLong, HasFault, AreLines, FaultsFirst, IsProgramOf, IsFileOf}
+use Rattle.cbm_text.specs.BasicText.{IsNumbered, IsRead, IsCrunched, IsLine, IsTooLong, HasFault, AreLines, FaultsFirst, IsProgramOf, IsFileOf}
 use Rattle.cbm_text.specs.NormalText.{AreNormal, IsNormalOf}
 use Rattle.cbm_text.specs.Laws.{HasNoFreeQuestion, ReadsOnce, StandsOnce, TextComesBack}
 use Rattle.cbm_text.proofs.Keywords.{row_of, token_shown}
@@ -196,6 +197,64 @@ line_no_fault at number text line (TooLong told) is_line (place, bytes, codes, c
     too_long codes same (inr far) = let linked = is_line.linked in omega (arith, ap length same)
 line_no_fault at number text line (Memory error) is_line never = never
 
+-- a number that fits is not too large
+fits_not : (text : List ℕ) → IsNumbered text → ¬ (2 ^ 16 ≤ line_number text)
+fits_not text numbered large = let small = numbered.small in omega arith
+
+-- bytes that crunch to nothing are not those of a line that crunches
+never_not : (text bytes other codes : List ℕ) → IsRead text bytes → ((all : List ℕ) → ¬ (Crunched bytes all)) → ¬ (IsCrunched text other codes)
+never_not text bytes other codes read never crunched_is =
+    let same : other ≡ bytes = one_reading (rest_of text) other bytes crunched_is.read.read read.read in
+    never codes (subst (λ (w : List ℕ). Crunched w codes) same crunched_is.crunched)
+
+-- a line with a $00 is none without
+zero_not : (text bytes other : List ℕ) → IsRead text bytes → Contains bytes 0 → IsRead text other → ¬ (¬ (Contains other 0))
+zero_not text bytes other read zero_in read' no_zero =
+    let same : bytes ≡ other = one_reading (rest_of text) bytes other read.read read'.read in
+    no_zero (subst (λ (w : List ℕ). Contains w 0) same zero_in)
+
+-- a text line has one least fault
+line_one_fault : (at number : ℕ) (text : List ℕ) (a b : BasicFault) → HasFault at number text a → HasFault at number text b → a ≡ b
+line_one_fault at number text (NoNumber x) (NoNumber y) p q = ap (λ (n : ℕ). NoNumber n) (p.0 ∙ sym q.0)
+line_one_fault at number text (NoNumber x) (NumberTooLarge y) (p, none) (q, some, _) = absurd (some none)
+line_one_fault at number text (NoNumber x) (Text y why) (p, none) (q, numbered, _) = absurd (numbered.some none)
+line_one_fault at number text (NoNumber x) (TokenByte y) (p, none) (q, _, read, _) = absurd (read.numbered.some none)
+line_one_fault at number text (NoNumber x) (ZeroByte y) (p, none) (q, _, _, is, _) = absurd (is.read.numbered.some none)
+line_one_fault at number text (NoNumber x) (TooLong y) (p, none) (q, _, _, is, _, _) = absurd (is.read.numbered.some none)
+line_one_fault at number text (NumberTooLarge x) (NoNumber y) (p, some, _) (q, none) = absurd (some none)
+line_one_fault at number text (NumberTooLarge x) (NumberTooLarge y) p q = ap (λ (n : ℕ). NumberTooLarge n) (p.0 ∙ sym q.0)
+line_one_fault at number text (NumberTooLarge x) (Text y why) (p, _, large) (q, numbered, _) = absurd (fits_not text numbered large)
+line_one_fault at number text (NumberTooLarge x) (TokenByte y) (p, _, large) (q, _, read, _) = absurd (fits_not text read.numbered large)
+line_one_fault at number text (NumberTooLarge x) (ZeroByte y) (p, _, large) (q, _, _, is, _) = absurd (fits_not text is.read.numbered large)
+line_one_fault at number text (NumberTooLarge x) (TooLong y) (p, _, large) (q, _, _, is, _, _) = absurd (fits_not text is.read.numbered large)
+line_one_fault at number text (Text x why) (NoNumber y) (p, numbered, _) (q, none) = absurd (numbered.some none)
+line_one_fault at number text (Text x why) (NumberTooLarge y) (p, numbered, _) (q, _, large) = absurd (fits_not text numbered large)
+line_one_fault at number text (Text x why) (Text y other) (p, _, first) (q, _, also) =
+    ap (λ (n : ℕ). Text n why) (p ∙ sym q) ∙ ap (λ (w : TextFault). Text y w) (one_fault (rest_of text) why other first also)
+line_one_fault at number text (Text x why) (TokenByte y) (p, _, first) (q, bytes, read, _) = absurd (no_fault (rest_of text) bytes why read.read first)
+line_one_fault at number text (Text x why) (ZeroByte y) (p, _, first) (q, bytes, _, is, _) = absurd (no_fault (rest_of text) bytes why is.read.read first)
+line_one_fault at number text (Text x why) (TooLong y) (p, _, first) (q, bytes, _, is, _, _) = absurd (no_fault (rest_of text) bytes why is.read.read first)
+line_one_fault at number text (TokenByte x) (NoNumber y) (p, _, read, _) (q, none) = absurd (read.numbered.some none)
+line_one_fault at number text (TokenByte x) (NumberTooLarge y) (p, _, read, _) (q, _, large) = absurd (fits_not text read.numbered large)
+line_one_fault at number text (TokenByte x) (Text y why) (p, bytes, read, _) (q, _, first) = absurd (no_fault (rest_of text) bytes why read.read first)
+line_one_fault at number text (TokenByte x) (TokenByte y) p q = ap (λ (n : ℕ). TokenByte n) (p.0 ∙ sym q.0)
+line_one_fault at number text (TokenByte x) (ZeroByte y) (p, bytes, read, never) (q, other, codes, is, _) = absurd (never_not text bytes other codes read never is)
+line_one_fault at number text (TokenByte x) (TooLong y) (p, bytes, read, never) (q, other, codes, is, _, _) = absurd (never_not text bytes other codes read never is)
+line_one_fault at number text (ZeroByte x) (NoNumber y) (p, _, _, is, _) (q, none) = absurd (is.read.numbered.some none)
+line_one_fault at number text (ZeroByte x) (NumberTooLarge y) (p, _, _, is, _) (q, _, large) = absurd (fits_not text is.read.numbered large)
+line_one_fault at number text (ZeroByte x) (Text y why) (p, bytes, _, is, _) (q, _, first) = absurd (no_fault (rest_of text) bytes why is.read.read first)
+line_one_fault at number text (ZeroByte x) (TokenByte y) (p, other, codes, is, _) (q, bytes, read, never) = absurd (never_not text bytes other codes read never is)
+line_one_fault at number text (ZeroByte x) (ZeroByte y) p q = ap (λ (n : ℕ). ZeroByte n) (p.0 ∙ sym q.0)
+line_one_fault at number text (ZeroByte x) (TooLong y) (p, bytes, _, is, zero_in) (q, other, _, also, no_zero, _) = absurd (zero_not text bytes other is.read zero_in also.read no_zero)
+line_one_fault at number text (TooLong x) (NoNumber y) (p, _, _, is, _, _) (q, none) = absurd (is.read.numbered.some none)
+line_one_fault at number text (TooLong x) (NumberTooLarge y) (p, _, _, is, _, _) (q, _, large) = absurd (fits_not text is.read.numbered large)
+line_one_fault at number text (TooLong x) (Text y why) (p, bytes, _, is, _, _) (q, _, first) = absurd (no_fault (rest_of text) bytes why is.read.read first)
+line_one_fault at number text (TooLong x) (TokenByte y) (p, other, codes, is, _, _) (q, bytes, read, never) = absurd (never_not text bytes other codes read never is)
+line_one_fault at number text (TooLong x) (ZeroByte y) (p, other, _, also, no_zero, _) (q, bytes, _, is, zero_in) = absurd (zero_not text bytes other is.read zero_in also.read no_zero)
+line_one_fault at number text (TooLong x) (TooLong y) p q = ap (λ (n : ℕ). TooLong n) (p.0 ∙ sym q.0)
+line_one_fault at number text (Memory x) b none other = absurd none
+line_one_fault at number text a (Memory y) one none = absurd none
+
 texts_once : (at : ℕ) (raws : List (List ℕ)) (program other : Program) → AreLines at raws program → AreLines at raws other → program ≡ other
 unfolding AreLines
 texts_once at [] program other none nothing = none ∙ sym nothing
@@ -218,12 +277,26 @@ text_no_fault at number (raw ∷ raws) program fault (inr (kept, line, more, is,
     let same : line' ≡ line = is_line_once at (text_of raw) line' line is_line' is_line in
     text_no_fault (address_behind at line.bytes) (number + 1) raws more fault lines (subst (λ (l : Line). FaultsFirst (address_behind at l.bytes) (number + 1) raws fault) same later)
 
+text_one_fault : (at number : ℕ) (raws : List (List ℕ)) (a b : BasicFault) → FaultsFirst at number raws a → FaultsFirst at number raws b → a ≡ b
+unfolding FaultsFirst
+text_one_fault at number [] a b one other = absurd one
+text_one_fault at number (raw ∷ raws) a b (inl (skipped, one)) (inl (again, other)) = text_one_fault at (number + 1) raws a b one other
+text_one_fault at number (raw ∷ raws) a b (inl (skipped, one)) (inr (kept, other)) = let never : true ≡ false = sym skipped ∙ kept in absurd cc
+text_one_fault at number (raw ∷ raws) a b (inr (kept, one)) (inl (skipped, other)) = let never : true ≡ false = sym skipped ∙ kept in absurd cc
+text_one_fault at number (raw ∷ raws) a b (inr (kept, inl one)) (inr (kept', inl other)) = line_one_fault at number (text_of raw) a b one other
+text_one_fault at number (raw ∷ raws) a b (inr (kept, inl one)) (inr (kept', inr (line, is_line, later))) = absurd (line_no_fault at number (text_of raw) line a is_line one)
+text_one_fault at number (raw ∷ raws) a b (inr (kept, inr (line, is_line, later))) (inr (kept', inl other)) = absurd (line_no_fault at number (text_of raw) line b is_line other)
+text_one_fault at number (raw ∷ raws) a b (inr (kept, inr (line, is_line, later))) (inr (kept', inr (line', is_line', later'))) =
+    let same : line' ≡ line = is_line_once at (text_of raw) line' line is_line' is_line in
+    text_one_fault (address_behind at line.bytes) (number + 1) raws a b later (subst (λ (l : Line). FaultsFirst (address_behind at l.bytes) (number + 1) raws b) same later')
+
 pub stands_once : (start : ℕ) (text : List ℕ) → StandsOnce start text
 unfolding IsFileOf
 stands_once start text = record {
   program = texts_once start (lines_of text);
   file = λ file other (program, lines, is) (program', lines', is'). is ∙ ap (λ (p : Program). layout start p) (texts_once start (lines_of text) program program' lines lines') ∙ sym is';
   no_fault = λ file fault (program, lines, is) first. text_no_fault start 1 (lines_of text) program fault lines first;
+  fault = text_one_fault start 1 (lines_of text);
 }
 
 -- ---- listings of texts

@@ -37,11 +37,12 @@ pub record ReadsOnce (file : List ℕ) : Type 0 where
   pub program : (program other : Program) → Reads file program → Reads file other → program ≡ other
   pub listing : (text other : List ℕ) → Lists file text → Lists file other → text ≡ other
 
--- A text stands for one program at most, has one file at most, and none where it has a fault.
+-- A text stands for one program at most, has one file at most, and none where it has a fault; and it has one first fault at most.
 pub record StandsOnce (start : ℕ) (text : List ℕ) : Type 0 where
   pub program : (program other : Program) → IsProgramOf start text program → IsProgramOf start text other → program ≡ other
   pub file : (file other : List ℕ) → IsFileOf start text file → IsFileOf start text other → file ≡ other
   pub no_fault : (file : List ℕ) (fault : BasicFault) → IsFileOf start text file → ¬ (IsFirstFault start text fault)
+  pub fault : (fault other : BasicFault) → IsFirstFault start text fault → IsFirstFault start text other → fault ≡ other
 
 -- No `?` stands for `print` in the lines of a text.
 abbrev pub LinesHaveNoFreeQuestion : List ℕ → Type 0

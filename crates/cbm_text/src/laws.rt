@@ -12,7 +12,8 @@ pub fn line_comes_back(bytes: &[u8], codes: &[u8])
 {}
 
 /// A file reads as one program at most and has one listing at most; and a text stands for one program at most, has one
-/// file at most, and no fault where it has a file.
+/// file at most, no fault where it has a file, and one first fault at most: unless memory runs out, what `crunch` and
+/// `list` answer is a function of what they are given.
 #[inline]
 pub fn one_program(start: u16, text: &[u8], file: &[u8])
     ensures of_file { ReadsOnce file.now }
