@@ -1,13 +1,10 @@
 -- What the program does with its words, its streams and a host.
-use Rattle.std.specs.Prelude.{◌≡◌, ◌≢◌, ℕ, ◌*◌, ◌==◌, if◌then◌else◌, List, [], ◌∷◌, ◌++◌, length, replicate, codes, string_bytes, Option, Some, None, option_map, unwrap_or, Result, Ok, Err, ◌⊎◌, ⊤}
+use Rattle.std.specs.Prelude.{◌≡◌, ◌≢◌, ℕ, ◌*◌, ◌==◌, if◌then◌else◌, List, [], ◌∷◌, ◌++◌, length, replicate, codes, string_bytes, Option, Some, None, option_map, Result, Ok, Err, ◌⊎◌, ⊤}
 use Rattle.std.specs.declared.alloc.AllocError.{AllocError}
 use Rattle.std.specs.Fmt.{decimal}
 use Rattle.std.specs.Io.KnownBytes.{Appends, Keeps}
-use Rattle.cbm_text.specs.BasicText as basic_text
-use Rattle.cbm_text.specs.ListFault.{list_fault_number}
 use Rattle.d64_script.specs.Output.{AppendsPart}
 use Rattle.d64_script.specs.Status.{status_line}
-use Rattle.d64_script.specs.declared.status.Status.TheVariants as statuses
 use Rattle.d64_host.specs.Files.{Files}
 use Rattle.d64_host.specs.declared.host.HostFault.{HostFault}
 use Rattle.d64_host.specs.declared.host.HostFault.TheVariants.{Missing, Device, TooLong}
@@ -23,6 +20,7 @@ use Rattle.d64_words.specs.declared.asked.Job.TheVariants.{Shell, Petcat, Crunch
 use Rattle.d64_words.specs.declared.asked.JobFault.{JobFault}
 use Rattle.d64_words.specs.declared.asked.JobFault.TheVariants as words
 use Rattle.d64_shell.specs.Act.{HostState, FetchesFile}
+use Rattle.d64_shell.specs.BasicFiles.{status_of_basic, status_of_listing}
 use Rattle.d64_undo.specs.History.{History, begun}
 use Rattle.d64_shell.specs.Runner.{Ran}
 use Rattle.d64_shell.specs.Tools.{HasWritten, RanTool}
@@ -170,8 +168,8 @@ RanToolOn tool (Some name) old new answer = (new.reader ≡ old.reader)
 abbrev pub TellsAnswer : {A : Type 0} → Result A ToolFault → Option (List ℕ) → Option (List ℕ) → ℕ → Type 0
 TellsAnswer (Ok done) faults told status = (status ≡ 0) × (told ≡ faults)
 TellsAnswer (Err (tool_faults.Text fault)) faults told status =
-    (status ≡ 1) × AppendsPart faults told (status_line (statuses.BasicText (basic_text.fault_number fault) (unwrap_or (basic_text.fault_line fault) 0)))
-TellsAnswer (Err (tool_faults.NotBasic fault)) faults told status = (status ≡ 1) × AppendsPart faults told (status_line (statuses.NotBasic (list_fault_number fault)))
+    (status ≡ 1) × AppendsPart faults told (status_line (status_of_basic fault))
+TellsAnswer (Err (tool_faults.NotBasic fault)) faults told status = (status ≡ 1) × AppendsPart faults told (status_line (status_of_listing fault))
 TellsAnswer (Err tool_faults.Read) faults told status = Reports Read faults told status
 TellsAnswer (Err tool_faults.Write) faults told status = Reports Write faults told status
 TellsAnswer (Err (tool_faults.Memory error)) faults told status = Reports Memory faults told status

@@ -1,6 +1,5 @@
 //! The tools' job: a tool on the input or on a file, and how its answer is told.
-ghost use Rattle.std.specs.Prelude.{◌≡◌, ◌<◌, ◌^◌, IfErr, IfSome, option_copied, unwrap_or};
-ghost use Rattle.cbm_text.specs.BasicText.{fault_line};
+ghost use Rattle.std.specs.Prelude.{◌≡◌, IfErr, option_copied};
 ghost use Rattle.d64_script.specs.Output.{AppendsPart};
 ghost use Rattle.d64_script.specs.Status.{status_line};
 ghost use Rattle.d64_shell.specs.Program.{RanToolOn, TellsAnswer, outside_of};
@@ -8,8 +7,8 @@ ghost use Rattle.d64_shell.specs.Tools.{TellsSmallLine};
 
 use crate::entry::{ALL_ACCEPTED, FILE_BYTES, SOME_REFUSED};
 use crate::program_fault::ProgramFault;
+use crate::status_from::{of_basic_fault, of_list_fault};
 use crate::tools::{Tool, ToolFault};
-use cbm_text::BasicFault;
 use d64_host::{Host, HostFault};
 use d64_script::output::write_answer;
 use d64_script::status::Status;
@@ -72,36 +71,11 @@ pub(crate) fn tell_answer<F: Write>(answer: Result<(), ToolFault>, faults: &mut 
 {
     match answer {
         Ok(()) => ALL_ACCEPTED,
-        Err(ToolFault::Text(fault)) => {
-            let line = text_line(fault);
-            tell_refusal(
-                Status::BasicText {
-                    fault: fault.number(),
-                    line,
-                },
-                faults,
-            )
-        }
-        Err(ToolFault::NotBasic(fault)) => tell_refusal(
-            Status::NotBasic {
-                fault: fault.number(),
-            },
-            faults,
-        ),
+        Err(ToolFault::Text(fault)) => tell_refusal(of_basic_fault(fault), faults),
+        Err(ToolFault::NotBasic(fault)) => tell_refusal(of_list_fault(fault), faults),
         Err(ToolFault::Read) => ProgramFault::Read.report(faults),
         Err(ToolFault::Write) => ProgramFault::Write.report(faults),
         Err(ToolFault::Memory(_)) => ProgramFault::Memory.report(faults),
-    }
-}
-
-/// The line of the text that a fault tells, or 0 where it tells none.
-fn text_line(fault: BasicFault) -> u32
-    requires { IfSome (fault_line fault) (λ line. line < 2 ^ 32) }
-    ensures { result ≡ unwrap_or (fault_line fault) 0 }
-{
-    match fault.line() {
-        Some(line) => line as u32,
-        None => 0,
     }
 }
 
