@@ -1,5 +1,5 @@
 # d64sh: `make` builds it, `make run` runs the main job, `make check` is the gate, `make wrong-bodies` tries the wrong bodies that the gate leaves out,
-# `make bench` measures; `make install` and `make uninstall` put it below PREFIX and take it away again.
+# `make bench` measures; `make install` and `make uninstall` put it below PREFIX and take it away again; `make dist` packs what others install.
 PREFIX ?= /usr/local
 # a ~ that the shell left as it is
 override PREFIX := $(patsubst ~/%,$(HOME)/%,$(PREFIX))
@@ -10,7 +10,7 @@ PROGRAM = crates/d64sh/out/d64sh
 # the program is there, and no source is newer
 IS_BUILT = [ -x $(PROGRAM) ] && [ -z "$$(find crates -name '*.rt' -newer $(PROGRAM))" ]
 
-.PHONY: all run check wrong-bodies bench install uninstall
+.PHONY: all run check wrong-bodies bench install uninstall dist
 
 all:
 	@$(NEEDS_RT)
@@ -41,3 +41,8 @@ install:
 
 uninstall:
 	@rm -f "$$DESTDIR$$PREFIX/bin/d64sh" "$$DESTDIR$$PREFIX/share/man/man1/d64sh.1"
+
+# into out/dist; `packaging/try-dist out/dist` then installs it in a clean root, which needs to be root and the network
+dist:
+	@$(IS_BUILT) || $(MAKE) --no-print-directory all
+	@packaging/dist $(PROGRAM) out/dist
