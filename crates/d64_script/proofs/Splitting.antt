@@ -1,16 +1,13 @@
 -- The words of a line, one after another.
-use Rattle.std.proofs.Common.{◌≡◌, ◌≢◌, ℕ, zero, suc, ◌+◌, ◌<◌, ◌≤◌, Bool, true, false, cond, not, eqb, List, [], ◌∷◌, ◌++◌, length, take, drop, map, position, Option, Some, None, option_map, option_and_then, refl, sym, ap, subst, ◌∙◌, arith, length-drop, append_assoc, append-nil}
+use Rattle.std.proofs.Common.{◌≡◌, ◌≢◌, ℕ, zero, suc, ◌+◌, ◌-◌, ◌<◌, ◌≤◌, Bool, true, false, cond, not, eqb, List, [], ◌∷◌, length, take, drop, position, Option, Some, None, option_map, option_and_then, unwrap_or, refl, sym, ap, subst, ◌∙◌, arith, length-drop}
 use Rattle.std.specs.List.{All, list_all, position_or_len, prefix_len}
 use Rattle.std.specs.Option.{IfSome}
-use Rattle.std.proofs.lemmas.Bool.{cond_both, cond-true, cond-false, eqb-true, eqb-false, ne_eqb, or_from, not_from_false}
+use Rattle.std.proofs.lemmas.Bool.{cond_both, cond-true, cond-false, eqb-true, eqb-false, eq-eqb, ne_eqb, or_from, not_from_false}
 use Rattle.std.proofs.lemmas.Bool.Decides.{nat_tests}
-use Rattle.std.proofs.lemmas.List.{get_or-map, length-map}
 use Rattle.std.proofs.lemmas.List.Elements.{All-nil, All-cons, All-tail, All-take, All-drop, All-weaker}
 use Rattle.std.proofs.lemmas.List.Sums.{AllPass-from_list_all}
-use Rattle.std.proofs.lemmas.Option.{IfSome_then}
-use Rattle.arrayvec.specs.ArrayVec.{ArrayVec}
-use denote.Ref.{Bor}
-use Rattle.d64_script.specs.Words.{space, quote, IsPrintable, is_printable, is_quote, ends_run, ends_word, word_before, quoted_word, bare_word, first_word, words_within, split_words, words_of}
+use Rattle.std.proofs.lemmas.Option.{IfSome_then, none-some}
+use Rattle.d64_script.specs.Words.{space, quote, IsPrintable, is_printable, is_quote, ends_run, ends_word, word_before, quoted_word, bare_word, first_word, words_within, split_words, words_left, words_of}
 
 -- what is known of a word with which a text begins, and of the rest of the line
 pub record IsFirstWord (text : List ℕ) (first : List ℕ × List ℕ) : Type 0 where
@@ -167,43 +164,84 @@ words_of-all_printable line =
     (All-weaker (λ b. is_printable b ≡ true) IsPrintable is_printable-true line (AllPass-from_list_all is_printable line printable)))
     (λ _. tt)
 
--- what holds of each value of a function
-All-from_map : {X Y : Type 0} (P : Y → Type 0) (f : X → Y) (xs : List X) → All P (map f xs) → All (λ x. P (f x)) xs
-All-from_map P f xs all k d inside = subst P (get_or-map f xs k d (f d) inside) (all k (f d) (omega (arith, length-map xs f)))
+-- a word and the words after it, counted
+count_with_first : (n : ℕ) (word : List ℕ) (more : Option (List (List ℕ))) → option_map (λ m. n + m) (option_map length (option_map (λ ws. word ∷ ws) more)) ≡ option_map (λ m. (n + 1) + m) (option_map length more)
+count_with_first n word None = refl
+count_with_first n word (Some ws) = ap Some (omega arith)
 
--- the same of what lends the words
-pub lent_words_printable : (words : List (Bor (List ℕ))) (line : List ℕ) → Some (map (λ (word : Bor (List ℕ)). word.now) words) ≡ words_of line
-    → All (λ word. All IsPrintable word.now) words
-lent_words_printable words line e =
-    All-from_map (All IsPrintable) (λ (word : Bor (List ℕ)). word.now) words (subst (λ o. IfSome o (All (All IsPrintable))) (sym e) (words_of-all_printable line))
-
--- a word onto words and the words after them
-onto_words : (words : List (List ℕ)) (word : List ℕ) (more : Option (List (List ℕ))) → option_map (λ ws. words ++ ws) (option_map (λ ws. word ∷ ws) more) ≡ option_map (λ ws. (words ++ word ∷ []) ++ ws) more
-onto_words words word None = refl
-onto_words words word (Some ws) = ap Some (sym (append_assoc words (word ∷ []) ws))
-
--- the words so far and those of the rest, when a space is passed over
-pub words_so_far-space : (words : List (List ℕ)) (all : Option (List (List ℕ))) (b : ℕ) (text after : List ℕ) → text ≡ b ∷ after → b ≡ space → option_map (λ ws. words ++ ws) (split_words text) ≡ all → option_map (λ ws. words ++ ws) (split_words after) ≡ all
-words_so_far-space words all b text after e is_space h =
-    ap (option_map (λ ws. words ++ ws)) (sym (ap split_words e ∙ split_words-space b after is_space)) ∙ h
+-- the words so far and those of the rest, counted, when a space is passed over
+pub count_so_far-space : (n : ℕ) (all : Option ℕ) (b : ℕ) (text after : List ℕ) → text ≡ b ∷ after → b ≡ space → option_map (λ m. n + m) (option_map length (split_words text)) ≡ all → option_map (λ m. n + m) (option_map length (split_words after)) ≡ all
+count_so_far-space n all b text after e is_space h =
+    ap (λ words. option_map (λ m. n + m) (option_map length words)) (sym (ap split_words e ∙ split_words-space b after is_space)) ∙ h
 
 -- the same when a word is taken
-pub words_so_far-first : (words : List (List ℕ)) (all : Option (List (List ℕ))) (b : ℕ) (text after word left : List ℕ) → text ≡ b ∷ after → b ≢ space → first_word text ≡ Some (word, left) → option_map (λ ws. words ++ ws) (split_words text) ≡ all → option_map (λ ws. (words ++ word ∷ []) ++ ws) (split_words left) ≡ all
-words_so_far-first words all b text after word left e not_space first h =
-    sym (onto_words words word (split_words left))
-    ∙ ap (option_map (λ ws. words ++ ws)) (sym (ap split_words e ∙ split_words-first b after word left not_space (ap first_word (sym e) ∙ first))) ∙ h
+pub count_so_far-first : (n : ℕ) (all : Option ℕ) (b : ℕ) (text after word left : List ℕ) → text ≡ b ∷ after → b ≢ space → first_word text ≡ Some (word, left) → option_map (λ m. n + m) (option_map length (split_words text)) ≡ all → option_map (λ m. (n + 1) + m) (option_map length (split_words left)) ≡ all
+count_so_far-first n all b text after word left e not_space first h =
+    sym (count_with_first n word (split_words left))
+    ∙ ap (λ words. option_map (λ m. n + m) (option_map length words)) (sym (ap split_words e ∙ split_words-first b after word left not_space (ap first_word (sym e) ∙ first))) ∙ h
 
 -- the same at a misplaced quote
-pub words_so_far-none : (words : List (List ℕ)) (all : Option (List (List ℕ))) (b : ℕ) (text after : List ℕ) → text ≡ b ∷ after → b ≢ space → first_word text ≡ None → option_map (λ ws. words ++ ws) (split_words text) ≡ all → None ≡ all
-words_so_far-none words all b text after e not_space first h =
-    ap (option_map (λ ws. words ++ ws)) (sym (ap split_words e ∙ split_words-none b after not_space (ap first_word (sym e) ∙ first))) ∙ h
+pub count_so_far-none : (n : ℕ) (all : Option ℕ) (b : ℕ) (text after : List ℕ) → text ≡ b ∷ after → b ≢ space → first_word text ≡ None → option_map (λ m. n + m) (option_map length (split_words text)) ≡ all → None ≡ all
+count_so_far-none n all b text after e not_space first h =
+    ap (λ words. option_map (λ m. n + m) (option_map length words)) (sym (ap split_words e ∙ split_words-none b after not_space (ap first_word (sym e) ∙ first))) ∙ h
 
 -- the same at the end
-pub words_so_far-nil : (words : List (List ℕ)) (all : Option (List (List ℕ))) (text : List ℕ) → text ≡ [] → option_map (λ ws. words ++ ws) (split_words text) ≡ all → Some words ≡ all
-words_so_far-nil words all text e h =
-    ap Some (sym (append-nil words)) ∙ ap (option_map (λ ws. words ++ ws)) (sym (ap split_words e ∙ split_words-nil)) ∙ h
+pub count_so_far-nil : (n : ℕ) (all : Option ℕ) (text : List ℕ) → text ≡ [] → option_map (λ m. n + m) (option_map length (split_words text)) ≡ all → Some n ≡ all
+count_so_far-nil n all text e h =
+    ap Some (omega arith) ∙ ap (λ words. option_map (λ m. n + m) (option_map length words)) (sym (ap split_words e ∙ split_words-nil)) ∙ h
+
+-- an option that has a length has a value
+counted : (words : Option (List (List ℕ))) (n : ℕ) → option_map length words ≡ Some n → words ≡ Some (unwrap_or words [])
+counted None n h = absurd (none-some n h)
+counted (Some ws) n h = refl
+
+-- the words of a text whose words were counted
+words_left-counted : (text : List ℕ) (n : ℕ) → option_map length (split_words text) ≡ Some n → split_words text ≡ Some (words_left text)
+words_left-counted text n h = counted (split_words text) n h
+
+-- the words of a line of printable bytes are those that are left of a walk along it
+pub line_words : (line : List ℕ) (n : ℕ) → list_all is_printable line ≡ true → option_map length (split_words line) ≡ Some n → Some (words_left line) ≡ words_of line
+line_words line n printable h = sym (words_of-printable line printable ∙ words_left-counted line n h)
+
+-- and their bytes are printable
+pub line_words-printable : (line : List ℕ) (words : List (List ℕ)) → Some words ≡ words_of line → All (All IsPrintable) words
+line_words-printable line words e = subst (λ o. IfSome o (All (All IsPrintable))) (sym e) (words_of-all_printable line)
 
 -- what is known of the first word, where it was found
 pub first_word_known : (b : ℕ) (text after word left : List ℕ) → text ≡ b ∷ after → b ≢ space → first_word text ≡ Some (word, left) → IsFirstWord text (word, left)
 first_word_known b text after word left e not_space first =
     subst (λ o. IfSome o (IsFirstWord text)) first (subst (λ t. IfSome (first_word t) (IsFirstWord t)) (sym e) (first_word_gives b after not_space))
+
+-- what a walk has at a text whose spaces were passed over: a word, and the words of the rest
+pub record IsWordThen (text : List ℕ) (n : ℕ) (word rest : List ℕ) : Type 0 where
+  pub words : words_left text ≡ word ∷ words_left rest
+  pub count : option_map length (split_words rest) ≡ Some (n - 1)
+  pub more : 0 < n
+
+-- a word onto words that were counted
+word_then : (words more : Option (List (List ℕ))) (word : List ℕ) (n : ℕ) → words ≡ option_map (λ ws. word ∷ ws) more → option_map length words ≡ Some n
+    → (unwrap_or words [] ≡ word ∷ unwrap_or more []) × (option_map length more ≡ Some (n - 1)) × (0 < n)
+word_then words None word n e h = absurd (none-some n (ap (option_map length) (sym e) ∙ h))
+word_then words (Some ws) word n e h =
+    let count : suc (length ws) ≡ n = ap (λ o. unwrap_or o 0) (ap (option_map length) (sym e) ∙ h) in
+    (ap (λ o. unwrap_or o []) e, ap Some (omega (arith, count)), omega (arith, count))
+
+-- a text that is over where a word may end does not begin with a space
+not_at_space : (b : ℕ) (after : List ℕ) → (ends_word (b ∷ after) ≡ true → b ∷ after ≡ []) → b ≢ space
+not_at_space b after begun e = omega (arith, ap length (begun (eq-eqb b space e)))
+
+pub next_word : (text after word rest : List ℕ) (n : ℕ) → split_words after ≡ split_words text → (ends_word after ≡ true → after ≡ []) → first_word after ≡ Some (word, rest)
+    → option_map length (split_words text) ≡ Some n → IsWordThen text n word rest
+next_word text [] word rest n same begun found h = absurd (none-some (word, rest) found)
+next_word text (b ∷ after) word rest n same begun found h =
+    let not_space : b ≢ space = not_at_space b after begun in
+    let then_words = word_then (split_words text) (split_words rest) word n (sym same ∙ split_words-first b after word rest not_space found) h in
+    record { words = then_words.0; count = then_words.1; more = then_words.2 }
+
+-- and no word, where there is none at the text's begin
+pub no_next_word : (text after : List ℕ) (n : ℕ) → split_words after ≡ split_words text → (ends_word after ≡ true → after ≡ []) → first_word after ≡ None
+    → option_map length (split_words text) ≡ Some n → words_left text ≡ []
+no_next_word text [] n same begun found h = ap (λ o. unwrap_or o []) (sym same ∙ split_words-nil)
+no_next_word text (b ∷ after) n same begun found h =
+    let not_space : b ≢ space = not_at_space b after begun in
+    absurd (none-some n (ap (option_map length) (sym (sym same ∙ split_words-none b after not_space found)) ∙ h))

@@ -1,5 +1,5 @@
 -- The words of a line of a script.
-use Rattle.std.specs.Prelude.{◌≡◌, ◌≢◌, ◌↔◌, ℕ, zero, suc, ◌+◌, ◌<◌, ◌≤◌, ◌==◌, ◌&&◌, ◌||◌, nat_lt, nat_le, Bool, true, if◌then◌else◌, List, [], ◌∷◌, ◌++◌, length, take, drop, position, All, Option, Some, None, option_and_then, option_map}
+use Rattle.std.specs.Prelude.{◌≡◌, ◌≢◌, ◌↔◌, ℕ, zero, suc, ◌+◌, ◌<◌, ◌≤◌, ◌==◌, ◌&&◌, ◌||◌, nat_lt, nat_le, Bool, true, if◌then◌else◌, List, [], ◌∷◌, ◌++◌, length, take, drop, position, All, Option, Some, None, option_and_then, option_map, unwrap_or}
 use Rattle.std.specs.List.{list_all, position_or_len}
 
 -- the bytes of a space and of a quote
@@ -58,6 +58,10 @@ words_within (suc size) (b ∷ rest) =
 -- the words of a text in order; none where a quote is misplaced
 unfoldable pub split_words : List ℕ → Option (List (List ℕ))
 split_words text = words_within (length text) text
+
+-- the words of a text in which no quote is misplaced
+abbrev pub words_left : List ℕ → List (List ℕ)
+words_left text = unwrap_or (split_words text) []
 
 -- the words of a line; none where a byte is not printable or a quote is misplaced
 unfoldable pub words_of : List ℕ → Option (List (List ℕ))

@@ -1,11 +1,12 @@
 //! The words of a line of a script.
-ghost use Rattle.std.specs.Prelude.{◌≡◌, ◌<◌, ◌≤◌, nat_le, if◌then◌else◌, [], length, map, position, All, Some, None, option_map, IfSome, OnOk, OnErr};
+ghost use Rattle.std.specs.Prelude.{◌≡◌, ◌<◌, ◌≤◌, nat_le, if◌then◌else◌, [], length, position, All, Some, None, true, option_map, IfSome, IfOk, OnErr};
+ghost use Rattle.std.specs.Iterator.{YieldsFirstRef, item_count};
 ghost use Rattle.std.specs.List.{list_all};
 ghost use Rattle.d64_script.specs.RawLines.{line_limit};
-ghost use Rattle.d64_script.specs.Words.{IsPrintable, is_printable, is_quote, ends_run, first_word, quoted_word, bare_word, word_before, split_words, words_of, HasWordsOfRule};
+ghost use Rattle.d64_script.specs.Words.{IsPrintable, is_printable, is_quote, ends_word, ends_run, first_word, quoted_word, bare_word, word_before, split_words, words_of, HasWordsOfRule};
 
 use crate::raw_lines::LINE_BYTES;
-use arrayvec::ArrayVec;
+use std::marker::Model;
 use thiserror::Error;
 
 /// The most words of a line, since a space stands between two words.
@@ -16,25 +17,72 @@ pub const MAX_WORDS: usize = 512;
 #[error("a byte or a quote stands where no line holds it")]
 pub struct NoWords;
 
-/// Makes `words` the words of a line, in order, without the quotes round a quoted word. Spaces separate words. It is
-/// refused where the line has more than `LINE_BYTES` bytes, where a byte is no printable ASCII character, or where a
-/// quote neither begins a word nor ends it; what `words` holds then is no matter. It takes no memory, and one list may
-/// serve one line after another.
-#[tactic(auto, unfolding(crate::specs::Words::words_of))]
-pub fn words<'a>(line: &'a [u8], words: &mut ArrayVec<&'a [u8], MAX_WORDS>) -> Result<(), NoWords>
-    ensures words { OnOk result (Some (map (λ word. word.now) words.new.items)
-        ≡ (if nat_le (length line.now) line_limit then words_of line.now else None)) }
-    ensures none { OnErr result (None ≡ (if nat_le (length line.now) line_limit then words_of line.now else None)) }
-    ensures printable { OnOk result (All (λ word. All IsPrintable word.now) words.new.items) }
-{
-    if line.len() > LINE_BYTES {
-        return Err(NoWords);
+/// The words that are left of a walk along those of a line, in order, without the quotes round a quoted word.
+#[derive(Drop)]
+pub struct Words<'a> {
+    rest: &'a [u8],
+    /// How many words are left.
+    left: usize,
+}
+
+impl<'a> Model for Words<'a> {
+    ghost use Rattle.std.specs.Prelude.{◌≡◌, List, ℕ, length, Some, option_map};
+    ghost use Rattle.d64_script.specs.Words.{split_words, words_left};
+
+    ghost Value = { List (List ℕ) };
+
+    ghost view = { λ walk. words_left walk.rest.now };
+
+    ghost invariant = { λ walk. option_map length (split_words walk.rest.now) ≡ Some walk.left };
+}
+
+impl<'a> Words<'a> {
+    /// The words of a line. Spaces separate words. It is refused where the line has more than `LINE_BYTES` bytes, where a
+    /// byte is no printable ASCII character, or where a quote neither begins a word nor ends it. It takes no memory.
+    #[tactic(auto, unfolding(crate::specs::Words::words_of))]
+    pub fn of(line: &'a [u8]) -> Result<Words<'a>, NoWords>
+        ensures words { IfOk result (λ words. Some words ≡ (if nat_le (length line.now) line_limit then words_of line.now else None)) }
+        ensures none { OnErr result (None ≡ (if nat_le (length line.now) line_limit then words_of line.now else None)) }
+        ensures printable { IfOk result (λ words. All (All IsPrintable) words) }
+        ensures len { IfOk result (λ words. length words ≤ MAX_WORDS) }
+    {
+        if line.len() > LINE_BYTES {
+            return Err(NoWords);
+        }
+        if !is_printable_line(line) {
+            return Err(NoWords);
+        }
+        match word_count(line) {
+            Some(left) => Ok(Words { rest: line, left }),
+            None => Err(NoWords),
+        }
     }
-    if !is_printable_line(line) {
-        return Err(NoWords);
+
+    /// How many words are left.
+    pub fn len(&self) -> usize
+        ensures { result ≡ length self.now }
+    {
+        self.left
     }
-    words.clear();
-    split_words(line, words)
+}
+
+impl<'a> Iterator for Words<'a> {
+    type Item = &'a [u8];
+
+    ghost next_gives = { YieldsFirstRef (λ left. left) };
+
+    ghost remaining = { item_count (λ left. left) };
+
+    fn next(&mut self) -> Option<&'a [u8]> {
+        match first_word(after_spaces(self.rest)) {
+            Some((word, rest)) => {
+                self.rest = rest;
+                self.left -= 1;
+                Some(word)
+            }
+            None => None,
+        }
+    }
 }
 
 /// The words of a line are those of the rule: runs of bytes other than spaces and quotes, and what stands between two
@@ -51,26 +99,41 @@ fn is_printable_line(line: &[u8]) -> bool
     line.iter().all(|byte| (b' '..=b'~').contains(byte))
 }
 
-/// Appends the words of a line of printable bytes to none.
-fn split_words<'a>(line: &'a [u8], words: &mut ArrayVec<&'a [u8], MAX_WORDS>) -> Result<(), NoWords>
+/// How many words a line has, or `None` where a quote is misplaced.
+fn word_count(line: &[u8]) -> Option<usize>
     requires short { length line.now ≤ 1024 }
-    requires empty { words.old.items ≡ [] }
-    ensures words { OnOk result (Some (map (λ word. word.now) words.new.items) ≡ split_words line.now) }
-    ensures none { OnErr result (None ≡ split_words line.now) }
+    ensures count { result ≡ option_map length (split_words line.now) }
+    ensures few { IfSome result (λ count. count ≤ MAX_WORDS) }
 {
     let mut rest = line;
+    let mut count = 0;
     while let Some((first, after)) = rest.split_first() {
         if *first == b' ' {
             rest = after;
         } else {
-            let Some((word, left)) = first_word(rest) else {
-                return Err(NoWords);
+            let Some((_, left)) = first_word(rest) else {
+                return None;
             };
-            words.push(word);
             rest = left;
+            count += 1;
         }
     }
-    Ok(())
+    Some(count)
+}
+
+/// What follows the spaces with which a text begins.
+fn after_spaces(text: &[u8]) -> &[u8]
+    ensures words { split_words result.now ≡ split_words text.now }
+    ensures begun { ends_word result.now ≡ true → result.now ≡ [] }
+{
+    let mut rest = text;
+    while let Some((first, after)) = rest.split_first() {
+        if *first != b' ' {
+            return rest;
+        }
+        rest = after;
+    }
+    rest
 }
 
 /// The word with which a text begins, and what follows it; `None` where a quote is misplaced.

@@ -6,7 +6,7 @@ ghost use Rattle.d64_script.specs.Words.{IsPrintable};
 ghost use Rattle.d64_shell.specs.Act.{world_of};
 ghost use Rattle.d64_undo.specs.History.{present};
 ghost use Rattle.d64_shell.specs.Response.{shown, Responds};
-ghost use Rattle.d64_shell.specs.Line.{act_of_command, act_of_text, act_of_line, IsSkipped, IsAnswered};
+ghost use Rattle.d64_shell.specs.Line.{act_of_command, act_of_words, act_of_text, act_of_line, IsSkipped, IsAnswered};
 
 use crate::command_word::CommandWord;
 use crate::handlers;
@@ -15,18 +15,21 @@ use arrayvec::ArrayVec;
 use d64_host::Host;
 use d64_script::raw_lines;
 use d64_script::status::Status;
-use d64_script::words::{MAX_WORDS, words};
+use d64_script::words::{MAX_WORDS, Words};
 use d64_undo::Session;
 use std::alloc::Global;
 
-/// The response to a raw line, or None where it is skipped. `found` is room for its words.
-pub(crate) fn answer_line<'a, H: Host>(
+/// The most words that a command takes, its own counted, but for `delete`. A room for so many is made sooner than one for
+/// all that a line may have.
+const FEW_WORDS: usize = 4;
+
+/// The response to a raw line, or None where it is skipped.
+pub(crate) fn answer_line<H: Host>(
     alloc: Global,
     host: &mut H,
     home: &str,
     session: &mut Session,
-    found: &mut ArrayVec<&'a [u8], MAX_WORDS>,
-    line: &'a [u8],
+    line: &[u8],
 ) -> Option<Response>
     ensures { MatchOption result
         (IsSkipped home.now session.old line.now
@@ -44,20 +47,19 @@ pub(crate) fn answer_line<'a, H: Host>(
     if raw_lines::is_skipped(text) {
         return None;
     }
-    Some(match answer_text(alloc, host, home, session, found, text) {
+    Some(match answer_text(alloc, host, home, session, text) {
         Ok(response) => response,
         Err(status) => Response::plain(status),
     })
 }
 
 /// The response to the text of a line that is not skipped.
-fn answer_text<'a, H: Host>(
+fn answer_text<H: Host>(
     alloc: Global,
     host: &mut H,
     home: &str,
     session: &mut Session,
-    found: &mut ArrayVec<&'a [u8], MAX_WORDS>,
-    text: &'a [u8],
+    text: &[u8],
 ) -> Result<Response, Status>
     requires { length text.now ≤ 1024 }
     ensures { Responds (act_of_text home.now session.old text.now)
@@ -65,10 +67,45 @@ fn answer_text<'a, H: Host>(
         result
         (world_of (H.files host.new) (H.failure_count host.new) session.new) }
 {
-    let Ok(()) = words(text, found) else {
+    let Ok(words) = Words::of(text) else {
         return Err(Status::SyntaxError);
     };
-    let Some((first, arguments)) = found.as_slice().split_first() else {
+    if words.len() <= FEW_WORDS {
+        let few = held::<FEW_WORDS>(words);
+        answer_words(alloc, host, home, session, few.as_slice())
+    } else {
+        let many = held::<MAX_WORDS>(words);
+        answer_words(alloc, host, home, session, many.as_slice())
+    }
+}
+
+/// The words in a row, in a room that is large enough.
+fn held<'a, const ROOM: usize>(words: Words<'a>) -> ArrayVec<&'a [u8], ROOM>
+    requires { length words ≤ ROOM }
+    ensures { map (λ word. word.now) result.items ≡ words.entry }
+{
+    let mut found = ArrayVec::new();
+    for word in words {
+        found.push(word);
+    }
+    found
+}
+
+/// The response to the words of a line.
+fn answer_words<H: Host>(
+    alloc: Global,
+    host: &mut H,
+    home: &str,
+    session: &mut Session,
+    words: &[&[u8]],
+) -> Result<Response, Status>
+    requires { All (λ word. All IsPrintable word.now) words.now }
+    ensures { Responds (act_of_words home.now session.old (map (λ word. word.now) words.now))
+        (world_of (H.files host.old) (H.failure_count host.old) session.old)
+        result
+        (world_of (H.files host.new) (H.failure_count host.new) session.new) }
+{
+    let Some((first, arguments)) = words.split_first() else {
         return Err(Status::UnknownCommand);
     };
     let Some(command) = CommandWord::of(first) else {

@@ -12,7 +12,6 @@ ghost use Rattle.d64_undo.specs.History.{present};
 
 use crate::line::answer_line;
 use crate::response::Response;
-use arrayvec::ArrayVec;
 use d64_host::Host;
 use d64_script::held_line::HeldLine;
 use d64_script::output::WriteFault;
@@ -279,6 +278,5 @@ fn answer_held<H: Host>(
     let Some(text) = line.text() else {
         return Some(Response::plain(Status::LongLine));
     };
-    let mut words = ArrayVec::new();
-    answer_line(alloc, host, home, session, &mut words, text)
+    answer_line(alloc, host, home, session, text)
 }

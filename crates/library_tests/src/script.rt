@@ -1,13 +1,12 @@
 //! The text of scripts and of their answers.
 
-use arrayvec::ArrayVec;
 use d64_script::dump::dump;
 use d64_script::number::number;
 use d64_script::output::write_answer;
 use d64_script::raw_lines::{RawLines, before_end, is_ended, is_skipped, is_too_long, text};
 use d64_script::script::read_script;
 use d64_script::status::Status;
-use d64_script::words::{NoWords, words};
+use d64_script::words::{NoWords, Words};
 use std::process::Abort;
 use std::test::Fail;
 
@@ -21,14 +20,13 @@ fn shows_sixteen_lines(rt: HostRuntime) {
 }
 
 fn expect_words(rt: &impl Abort, line: &[u8], expected: &[&[u8]]) {
-    let mut found = ArrayVec::new();
-    found.push(&b"left"[..]);
-    match words(line, &mut found) {
-        Ok(()) => {
+    match Words::of(line) {
+        Ok(mut found) => {
             assert_eq!(rt; found.len(), expected.len());
-            for (word, wanted) in found.as_slice().iter().zip(expected) {
-                assert_eq!(rt; *word, *wanted);
+            for wanted in expected {
+                assert_eq!(rt; found.next(), Some(*wanted));
             }
+            assert_eq!(rt; found.next(), None);
         }
         Err(NoWords) => assert!(rt; false, "no words"),
     }
@@ -58,14 +56,14 @@ fn refuses_misplaced_quotes_and_other_bytes(rt: HostRuntime) {
         &b"a\x7f"[..],
         &b"a\tb"[..],
     ] {
-        assert_eq!(rt; words(line, &mut ArrayVec::new()), Err(NoWords));
+        assert!(rt; matches!(Words::of(line), Err(NoWords)));
     }
 }
 
 #[test]
 fn refuses_lines_of_more_than_1024_bytes(rt: HostRuntime) {
     expect_words(&rt, &[b' '; 1024], &[]);
-    assert_eq!(rt; words(&[b' '; 1025], &mut ArrayVec::new()), Err(NoWords));
+    assert!(rt; matches!(Words::of(&[b' '; 1025]), Err(NoWords)));
 }
 
 #[test]
