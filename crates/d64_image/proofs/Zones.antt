@@ -1,9 +1,10 @@
 -- the first block of a track, zone by zone
-use Rattle.std.proofs.Common.{◌≡◌, ℕ, zero, suc, ◌+◌, ◌-◌, ◌*◌, ◌/◌, ◌%◌, ◌<◌, ◌≤◌, ◌==◌, ◌&&◌, Bool, true, cond, ltb, refl, sym, inl, inr, arith}
+use Rattle.std.proofs.Common.{◌≡◌, ℕ, zero, suc, ◌+◌, ◌-◌, ◌*◌, ◌/◌, ◌%◌, ◌<◌, ◌≤◌, ◌==◌, ◌&&◌, Bool, true, cond, ltb, get_or, refl, sym, ap, ◌∙◌, inl, inr, arith}
 use Rattle.std.proofs.lemmas.Bool.Decides.{Decides-below_and, Decides-eqb, nat_tests}
 use Rattle.std.proofs.lemmas.Bool.{cases_lt}
 use Rattle.d64_image.specs.Block.{sectors_on, first_block}
 use Rattle.d64_image.specs.Zone.{LiesIn}
+use Rattle.d64_image.specs.declared.block.TheConstants.{TRACK_STARTS}
 
 -- whether a test holds of each number below n
 abbrev all_below : (ℕ → Bool) → ℕ → Bool
@@ -116,6 +117,28 @@ counted_below t s h k =
         ]
       ]
     ]
+
+-- each track begins at a block of the disk
+pub first_block_below : (t : ℕ) → t < 36 → first_block t < 683
+first_block_below t h = let some : 0 < sectors_on t = grind (arith, nat_tests) in let b = counted_below t 0 h some in omega arith
+
+-- a track ends where the next one begins
+track_end : (t : ℕ) → 1 ≤ t → t < 36 → first_block (t + 1) ≡ first_block t + sectors_on t
+unfolding first_block
+track_end t l h =
+    let next : t + 1 ≡ t - 1 + 2 = omega arith in
+    let same : t - 1 + 1 ≡ t = omega arith in
+    ap first_block next ∙ equal_below (λ k. first_block (k + 2)) (λ k. first_block (k + 1) + sectors_on (k + 1)) 35 refl (t - 1) (omega arith)
+    ∙ ap (λ (n : ℕ). first_block n + sectors_on n) same
+
+-- the table tells where each track begins, and where it ends
+pub starts_at : (t place : ℕ) → place ≡ t → t < 37 → get_or TRACK_STARTS place 0 ≡ first_block t
+unfolding first_block
+starts_at t place e h =
+    ap (λ (k : ℕ). get_or TRACK_STARTS k 0) e ∙ equal_below (λ k. get_or TRACK_STARTS k 0) first_block 37 refl t h
+
+pub ends_at : (t place : ℕ) → place ≡ t → 1 ≤ t → t < 36 → get_or TRACK_STARTS (place + 1) 0 ≡ first_block t + sectors_on t
+ends_at t place e l h = starts_at (t + 1) (place + 1) (omega arith) (omega arith) ∙ track_end t l h
 
 -- each zone's tracks lie in it
 

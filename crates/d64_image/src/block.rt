@@ -40,28 +40,19 @@ const ZONES: [Zone; 4] = [
     },
 ];
 
+/// Where each track begins: its first block, by the track's number, which counts from 1. The last one is where the last
+/// track ends.
+const TRACK_STARTS: [u16; 37] = [
+    0, 0, 21, 42, 63, 84, 105, 126, 147, 168, 189, 210, 231, 252, 273, 294, 315, 336, 357, 376,
+    395, 414, 433, 452, 471, 490, 508, 526, 544, 562, 580, 598, 615, 632, 649, 666, 683,
+];
+
 /// How many tracks an image has.
 const TRACKS: u8 = 35;
 
 impl Zone {
     ghost use Rattle.std.specs.Prelude.{◌≡◌, ◌+◌, ◌-◌, ◌/◌, ◌<◌, ◌≤◌};
     ghost use Rattle.d64_image.specs.Zone.{LiesIn};
-
-    /// The zone of a track.
-    fn of_track(track: u8) -> Zone
-        requires track { (1 ≤ track) × (track < 36) }
-        ensures track { LiesIn result track }
-    {
-        if track < ZONES[1].first_track {
-            ZONES[0]
-        } else if track < ZONES[2].first_track {
-            ZONES[1]
-        } else if track < ZONES[3].first_track {
-            ZONES[2]
-        } else {
-            ZONES[3]
-        }
-    }
 
     /// The zone of a block.
     fn of_block(index: u16) -> Zone
@@ -115,13 +106,13 @@ impl BlockNo {
         if track < 1 || track > TRACKS {
             return None;
         }
-        let zone = Zone::of_track(track);
-        if sector >= zone.sectors {
-            return None;
+        let start = usize::from(track);
+        let index = TRACK_STARTS[start] + u16::from(sector);
+        if index < TRACK_STARTS[start + 1] {
+            Some(BlockNo { index })
+        } else {
+            None
         }
-        let tracks_before = u16::from(track - zone.first_track);
-        let index = zone.first_block + tracks_before * u16::from(zone.sectors) + u16::from(sector);
-        Some(BlockNo { index })
     }
 
     /// The block of that place in the image, from 0, or None from 683 on.
