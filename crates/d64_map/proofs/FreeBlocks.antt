@@ -1,5 +1,5 @@
 -- the blocks that a map marks free
-use Rattle.std.proofs.Common.{◌≡◌, ◌≢◌, ℕ, ◌+◌, ◌*◌, ◌/◌, ◌%◌, ◌^◌, ◌<◌, ◌≤◌, ◌&&◌, bit_and, get_or, Bool, true, false, ltb, nat_eq, List, length, sym, ap, ap₂, ◌∙◌, subst, inl, inr, arith}
+use Rattle.std.proofs.Common.{◌≡◌, ◌≢◌, ℕ, ◌+◌, ◌<◌, ◌≤◌, ◌&&◌, Bool, true, false, ltb, nat_eq, List, length, sym, ap, ◌∙◌, subst, inl, inr, arith}
 use Rattle.std.specs.List.{range_with_len, list_any, filter}
 use Rattle.std.specs.Ordering.{nat_cmp}
 use Rattle.std.specs.Cmp.{nat_cmp_total}
@@ -7,8 +7,6 @@ use Rattle.std.specs.FinSet as set
 use Rattle.std.specs.FinSet.{from_list_push, nat_cmp-IsAntisymmetric}
 use Rattle.std.proofs.lemmas.Bool.Decides.{nat_tests, eqb_tells}
 use Rattle.d64_image.specs.declared.block.TheConstants.{BLOCKS}
-use Rattle.std.specs.Int.{bit_at}
-use Rattle.std.proofs.lemmas.Nat.Bits.{shr_and_one}
 use Rattle.d64_image.specs.Block.{sectors_on, first_block, pair_at}
 use Rattle.d64_image.specs.Image.{sector_at}
 use Rattle.d64_image.proofs.Pairs.{pair_at-counted}
@@ -58,13 +56,6 @@ pub set_same : (p : ℕ → Bool) (n block : ℕ) (s t : set.FinSet nat_cmp) →
 set_same p n block s t so_far is fails same =
     let z : 0 + n ≡ n = omega arith in
     same ∙ so_far ∙ ap (λ (xs : List ℕ). set.from_list {R = nat_cmp} xs) (sym (filter_same p 0 n (ap p (z ∙ sym is) ∙ fails)))
-
--- the test that the code makes of a bit is that of the map
-pub bit_read : (bytes : List ℕ) (track sector entry part : ℕ) → entry ≡ track → part ≡ sector / 8
-    → nat_eq (bit_and (get_or bytes (4 * entry + 1 + part) 0 / 2 ^ (sector % 8)) 1) 1 ≡ nat_eq (bit_in bytes track sector) 1
-bit_read bytes track sector entry part e f =
-    ap (λ (n : ℕ). nat_eq n 1) (shr_and_one (get_or bytes (4 * entry + 1 + part) 0) (sector % 8))
-    ∙ ap₂ (λ (t k : ℕ). nat_eq (bit_at (get_or bytes (4 * t + 1 + k) 0) (sector % 8)) 1) e f
 
 -- the bit of a block's track and sector tells whether the block is free
 pub bit_tells : (image : List (List ℕ)) (block track sector : ℕ) (bytes : List ℕ) → bytes ≡ sector_at image map_block

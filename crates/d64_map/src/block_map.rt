@@ -1,5 +1,6 @@
 //! The block allocation map, read and written.
 ghost use Rattle.std.specs.Prelude.{◌≡◌, ℕ, ◌+◌, ◌<◌, ◌≤◌, ◌==◌, ◌↔◌, true, false, length, IsTrue, OnOk};
+ghost use Rattle.std.specs.Int.{bit_at};
 ghost use Rattle.std.specs.FinSet as set;
 ghost use Rattle.d64_image.specs.Block.{first_block};
 ghost use Rattle.d64_image.specs.BlockSet.{MembersAreBlocks};
@@ -47,13 +48,21 @@ fn known_members(blocks: &BlockSet)
     let _ = blocks.has(map_block());
 }
 
-/// Whether the map's block marks a sector of a track free.
-fn marks_free(map: &[u8; BLOCK_BYTES], track: u8, sector: u8) -> bool
-    requires sector { (track < 36) × (sector < 22) }
-    ensures { result ≡ (bit_in map.now track sector == 1) }
+/// The bits of a track's sectors in the map's block: bit s is that of sector s.
+fn bits_on(map: &[u8; BLOCK_BYTES], track: u8) -> u32
+    requires { track < 36 }
+    ensures { (sector : ℕ) → sector < 24 → bit_at result sector ≡ bit_in map.now track sector }
 {
-    let byte = map[4 * usize::from(track) + 1 + usize::from(sector / 8)];
-    (byte >> (sector % 8)) & 1 == 1
+    let entry = 4 * usize::from(track);
+    u32::from_le_bytes([map[entry + 1], map[entry + 2], map[entry + 3], 0])
+}
+
+/// Whether the bits of a track mark a sector free.
+fn marks_free(bits: u32, sector: u8) -> bool
+    requires { sector < 24 }
+    ensures { result ≡ (bit_at bits sector == 1) }
+{
+    (bits >> sector) & 1 == 1
 }
 
 /// Whether the map marks a block free.
@@ -62,7 +71,8 @@ pub fn is_free(image: &Image, block: BlockNo) -> bool
     ensures member { result ≡ set.contains (free_blocks image.now) block }
 {
     known_block(image, block);
-    marks_free(image.sector(map_block()), block.track(), block.sector())
+    let bits = bits_on(image.sector(map_block()), block.track());
+    marks_free(bits, block.sector())
 }
 
 /// The count byte of a track: how many of its sectors are free, as the map says.
@@ -92,9 +102,9 @@ fn add_free_on(free: &mut BlockSet, image: &Image, track: u8)
     requires before { free.old ≡ free_below image.now (first_block track) }
     ensures added { free.new ≡ free_below image.now (first_block (track + 1)) }
 {
-    let map = image.sector(map_block());
+    let bits = bits_on(image.sector(map_block()), track);
     for sector in 0..sector_count(track) {
-        if marks_free(map, track, sector) {
+        if marks_free(bits, sector) {
             match BlockNo::of(track, sector) {
                 Some(block) => free.add(block),
                 None => {}
@@ -121,9 +131,9 @@ fn none_is_free_on(image: &Image, blocks: &BlockSet, track: u8) -> bool
     ensures none { IsTrue result ↔ NoneIsFreeBetween image.now blocks.now (first_block track) (first_block (track + 1)) }
 {
     known_length(image);
-    let map = image.sector(map_block());
+    let bits = bits_on(image.sector(map_block()), track);
     for sector in 0..sector_count(track) {
-        if marks_free(map, track, sector) {
+        if marks_free(bits, sector) {
             if has_sector(blocks, track, sector) {
                 return false;
             }
@@ -151,14 +161,9 @@ fn free_on(image: &Image, track: u8) -> u8
     ensures free { result ≡ members_on (free_blocks image.now) track }
 {
     known_length(image);
-    let map = image.sector(map_block());
-    let mut count = 0;
-    for sector in 0..sector_count(track) {
-        if marks_free(map, track, sector) {
-            count += 1;
-        }
-    }
-    count
+    let sectors = (1 << sector_count(track)) - 1;
+    let free = bits_on(image.sector(map_block()), track) & sectors;
+    free.count_ones() as u8
 }
 
 /// Whether each track's count byte is the number of its sectors that the map marks free.

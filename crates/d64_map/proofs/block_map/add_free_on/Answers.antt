@@ -1,4 +1,4 @@
-use Rattle.std.proofs.Common.{◌≡◌, ℕ, ◌+◌, ◌<◌, refl, sym, ap, ◌∙◌, arith}
+use Rattle.std.proofs.Common.{◌≡◌, ℕ, nat_eq, ◌+◌, ◌<◌, refl, sym, ap, ◌∙◌, arith}
 use Rattle.std.proofs.lemmas.Option.{same_Some, none-some}
 use Rattle.d64_image.specs.Block.{sectors_on, first_block}
 use Rattle.d64_image.specs.Image.{sector_at}
@@ -16,11 +16,13 @@ loop-sector-preserved c =
     let sector = c.loop-sector.sector in
     let block : ℕ = first_block track + sector in
     let held : sector < sectors_on track = omega (arith, c.sector_count-sector-end.ensures.sectors) in
+    let short : sector < 24 = omega (arith, c.sector_count-sector-end.ensures.few) in
     let place = block_of-legal track sector c.requires.track.0 c.requires.track.1 held in
     let pair = pair_at-counted track sector c.requires.track.0 c.requires.track.1 held in
     let marked =
     c.marks_free.ensures
-    ∙ bit_tells image block track sector c.sector-map.result.now (c.sector-map.ensures.value ∙ ap (sector_at image) c.map_block.ensures)
+    ∙ ap (λ (n : ℕ). nat_eq n 1) (c.bits_on-bits.ensures sector short)
+    ∙ bit_tells image block track sector c.sector.result.now (c.sector.ensures.value ∙ ap (sector_at image) c.map_block.ensures)
     (sym (ap (λ (p : ℕ × ℕ). p.0) pair)) (sym (ap (λ (p : ℕ × ℕ). p.1) pair)) in
     let next = ap (free_below image) (let e : block + 1 ≡ first_block track + (sector + 1) = omega arith in e) in
     elim c.if-marks_free.branch [

@@ -1,4 +1,4 @@
-use Rattle.std.proofs.Common.{sym, ap, ◌∙◌}
+use Rattle.std.proofs.Common.{ℕ, nat_eq, sym, ap, ◌∙◌, arith}
 use Rattle.d64_image.specs.Image.{sector_at}
 use Rattle.d64_map.proofs.FreeBlocks.{contains-free_blocks, bit_tells}
 use Rattle.d64_map.proofs.block_map.is_free.Goals as goal
@@ -6,6 +6,7 @@ use Rattle.d64_map.proofs.block_map.is_free.Goals as goal
 pub returns-clause-bit : goal.returns-clause-bit
 returns-clause-bit c =
     c.marks_free.ensures
+    ∙ ap (λ (n : ℕ). nat_eq n 1) (c.bits_on-bits.ensures c.sector-2.result (omega arith))
     ∙ bit_tells c.args.image.now c.args.block c.track.result c.sector-2.result c.sector.result.now
     (c.sector.ensures.value ∙ ap (sector_at c.args.image.now) c.map_block.ensures) c.track.ensures.pair c.sector-2.ensures.pair
 

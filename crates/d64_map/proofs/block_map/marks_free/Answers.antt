@@ -1,5 +1,6 @@
-use Rattle.d64_map.proofs.FreeBlocks.{bit_read}
+use Rattle.std.proofs.Common.{ℕ, nat_eq, ap}
+use Rattle.std.proofs.lemmas.Nat.Bits.{shr_and_one}
 use Rattle.d64_map.proofs.block_map.marks_free.Goals as goal
 
 pub returns : goal.returns
-returns c = bit_read c.args.map.now c.args.track c.args.sector c.from.result c.from-2.result c.from.ensures c.from-2.ensures
+returns c = ap (λ (n : ℕ). nat_eq n 1) (shr_and_one c.args.bits c.args.sector)

@@ -1,4 +1,4 @@
-use Rattle.std.proofs.Common.{◌≡◌, ◌+◌, ◌<◌, true, false, length, refl, sym, ap, ◌∙◌, arith}
+use Rattle.std.proofs.Common.{◌≡◌, ℕ, nat_eq, ◌+◌, ◌<◌, true, false, length, refl, sym, ap, ◌∙◌, arith}
 use Rattle.d64_image.specs.Block.{sectors_on, first_block}
 use Rattle.d64_image.specs.Image.{sector_at}
 use Rattle.d64_image.proofs.Zones.{counted_below}
@@ -13,12 +13,14 @@ returns-then-has_sector c =
     let track = c.args.track in
     let sector = c.loop-sector.sector in
     let held : sector < sectors_on track = omega (arith, c.sector_count-sector-end.ensures.sectors) in
+    let short : sector < 24 = omega (arith, c.sector_count-sector-end.ensures.few) in
     let next = first_block-next track c.requires.track.0 in
     let there : first_block track + sector < length image = let b = counted_below track sector c.requires.track.1 held in let l = c.known_length.ensures in omega arith in
     let bit =
     c.marks_free.ensures
-    ∙ bit_is_member image track sector c.sector-map.result.now
-    (c.sector-map.ensures.value ∙ ap (sector_at image) c.map_block.ensures) c.requires.track.0 c.requires.track.1 held there in
+    ∙ ap (λ (n : ℕ). nat_eq n 1) (c.bits_on-bits.ensures sector short)
+    ∙ bit_is_member image track sector c.sector.result.now
+    (c.sector.ensures.value ∙ ap (sector_at image) c.map_block.ensures) c.requires.track.0 c.requires.track.1 held there in
     let has = c.has_sector.ensures ∙ has_sector-legal c.args.blocks.now track sector c.requires.track.0 c.requires.track.1 held in
     record {
       none = (
@@ -38,10 +40,12 @@ loop-sector-preserved c =
     let sector = c.loop-sector.sector in
     let held : sector < sectors_on track = omega (arith, c.sector_count-sector-end.ensures.sectors) in
     let there : first_block track + sector < length image = let b = counted_below track sector c.requires.track.1 held in let l = c.known_length.ensures in omega arith in
+    let short : sector < 24 = omega (arith, c.sector_count-sector-end.ensures.few) in
     let bit =
     c.marks_free.ensures
-    ∙ bit_is_member image track sector c.sector-map.result.now
-    (c.sector-map.ensures.value ∙ ap (sector_at image) c.map_block.ensures) c.requires.track.0 c.requires.track.1 held there in
+    ∙ ap (λ (n : ℕ). nat_eq n 1) (c.bits_on-bits.ensures sector short)
+    ∙ bit_is_member image track sector c.sector.result.now
+    (c.sector.ensures.value ∙ ap (sector_at image) c.map_block.ensures) c.requires.track.0 c.requires.track.1 held there in
     let end : first_block track + sector + 1 ≡ first_block track + (sector + 1) = omega arith in
     elim c.if-marks_free.branch [
       | then-marks_free+else-has_sector w ↦
