@@ -117,6 +117,8 @@ pub(crate) fn clear_slots(
 /// Refused with `Directory` and the first condition of a sound image that fails, and else with `Memory` where there is no
 /// memory to keep the bytes of a block. After a refusal some blocks may be written; the image with the patch put back
 /// stays the same in any case.
+// Apart, so that the room for the places of all slots is no part of the frames of its callers.
+#[inline(never)]
 pub(crate) fn scratch(
     image: &mut Image,
     patch: &mut Patch,
