@@ -14,10 +14,6 @@ mod laws;
 mod listing;
 mod mode;
 mod program;
-#[cfg(test)]
-mod random_programs;
-#[cfg(test)]
-mod tests;
 mod text_line;
 
 pub use crunching::crunch;

@@ -4,8 +4,6 @@
 mod asked;
 mod command;
 mod reading;
-#[cfg(test)]
-mod tests;
 
 pub use asked::{Job, JobFault};
 pub use reading::job;

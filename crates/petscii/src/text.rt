@@ -63,6 +63,3 @@ pub fn from_text(alloc: Global, text: &[u8]) -> Result<Vec<u8>, TextFault>
     }
     Ok(bytes)
 }
-
-#[cfg(test)]
-mod tests;

@@ -41,24 +41,36 @@ fn a_command_that_changes_nothing_leaves_an_empty_patch(rt: HostRuntime) -> Resu
     Ok(())
 }
 
-#[test]
-fn a_write_leaves_the_blocks_from_before(rt: HostRuntime) -> Result<(), Fail> {
-    let mut image = fresh(&rt)?;
-    let before = image.try_clone(rt.alloc())?;
-    let mut patch = Patch::new(rt.alloc());
-    let write = Command::Write {
+/// The command that writes a file of one byte as `X`.
+fn write_x(rt: &HostRuntime) -> Result<Command, Fail> {
+    Ok(Command::Write {
         name: Name::new(b"X")?,
         kind: Kind::Prg,
         bytes: Vec::from_slice(rt.alloc(), &[0x51])?,
-    };
-    apply(&mut image, &mut patch, &write)?;
-    let after = image.try_clone(rt.alloc())?;
+    })
+}
+
+#[test]
+fn a_write_keeps_the_blocks_that_it_changes(rt: HostRuntime) -> Result<(), Fail> {
+    let mut image = fresh(&rt)?;
+    let mut patch = Patch::new(rt.alloc());
+    apply(&mut image, &mut patch, &write_x(&rt)?)?;
     assert_eq!(rt; patch.len(), 3);
     for (kept, place) in patch.blocks().iter().zip([DATA, MAP, MAP + 1]) {
         assert_eq!(rt; kept.0.index(), place);
     }
     let data = patch.blocks().first().ok_or("no block")?;
     assert_eq!(rt; data.1.as_slice(), [0; 256].as_slice());
+    Ok(())
+}
+
+#[test]
+fn the_patch_of_a_write_leads_back_and_on(rt: HostRuntime) -> Result<(), Fail> {
+    let mut image = fresh(&rt)?;
+    let before = image.try_clone(rt.alloc())?;
+    let mut patch = Patch::new(rt.alloc());
+    apply(&mut image, &mut patch, &write_x(&rt)?)?;
+    let after = image.try_clone(rt.alloc())?;
     patch.swap(&mut image);
     assert!(rt; image.bytes() == before.bytes());
     patch.swap(&mut image);

@@ -1,5 +1,5 @@
-//! Tests of the libraries through their public calls: what no contract says, such as texts, and examples whose values
-//! come from outside.
+//! Tests of names, of directories and of files through the public calls of `d64_files`: what no contract says, such as texts,
+//! and examples whose values come from outside.
 //!
 //! They stand in a crate of their own, since a crate with tests is proved twice. What a script can reach is a worked
 //! example instead.
@@ -10,16 +10,6 @@ mod damage;
 #[cfg(test)]
 mod directories;
 #[cfg(test)]
-mod dos;
-#[cfg(test)]
-mod image;
-#[cfg(test)]
-mod map;
-#[cfg(test)]
 mod names;
-#[cfg(test)]
-mod script;
-#[cfg(test)]
-mod undo;
 #[cfg(test)]
 mod writers;

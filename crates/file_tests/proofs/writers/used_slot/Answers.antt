@@ -1,7 +1,7 @@
 use Rattle.std.proofs.Common.{[], sym, ◌∙◌}
 use Rattle.std.proofs.lemmas.List.Quantifiers.{position-Some}
 use Rattle.d64_files.specs.Directory.{slots, is_named}
-use Rattle.library_tests.proofs.writers.used_slot.Goals as goal
+use Rattle.file_tests.proofs.writers.used_slot.Goals as goal
 
 pub returns-in-Ok-Some : goal.returns-in-Ok-Some
 returns-in-Ok-Some c =

@@ -4,7 +4,7 @@ use Rattle.std.proofs.lemmas.List.Quantifiers.{position-Some}
 use Rattle.d64_files.specs.Slot.{is_used}
 use Rattle.d64_files.specs.Directory.{slots}
 use Rattle.d64_files.specs.declared.dir_fault.DirFault.TheVariants.{NoDirectory}
-use Rattle.library_tests.proofs.writers.empty_slot.Goals as goal
+use Rattle.file_tests.proofs.writers.empty_slot.Goals as goal
 
 pub returns-in-Ok-Some-clause-directory : goal.returns-in-Ok-Some-clause-directory
 returns-in-Ok-Some-clause-directory c = c.in-Ok-Some.ensures.conditions NoDirectory (omega arith) (omega arith)

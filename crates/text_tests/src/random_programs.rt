@@ -1,6 +1,6 @@
 //! Random programs: crunched from their text, and listed from their file.
 
-use crate::{crunch, list};
+use cbm_text::{crunch, list};
 use itoa::Buffer;
 use std::alloc::{AllocError, Global};
 use std::test::Fail;

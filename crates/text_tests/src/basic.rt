@@ -1,6 +1,6 @@
 //! Programs as the machine keeps them, and their texts.
 
-use crate::{BasicFault, ListFault, TextFault, crunch, list};
+use cbm_text::{BasicFault, ListFault, TextFault, crunch, list};
 use std::alloc::Global;
 use std::test::Fail;
 
@@ -152,32 +152,38 @@ fn lists_what_reads_as_a_program(rt: HostRuntime) -> Result<(), Fail> {
 }
 
 #[test]
-fn knows_each_keyword_alone_and_in_a_name(rt: HostRuntime) -> Result<(), Fail> {
+fn knows_each_keyword_alone(rt: HostRuntime) -> Result<(), Fail> {
     let mut token: u8 = 0x80;
     for keyword in KEYWORDS.split(' ') {
-        let mut text = Vec::from_slice(rt.alloc(), b"7 ")?;
-        text.extend_from_slice(keyword.as_bytes())?;
-        text.push(b'\n')?;
-        let file = crunch(rt.alloc(), 0x0801, &text)?;
-        let kept = [1, 8, 7, 8, 7, 0, token, 0, 0, 0];
-        assert_eq!(rt; file.as_slice(), kept.as_slice(), "of {keyword}");
-        let listed = list(rt.alloc(), &kept)?;
-        assert_eq!(rt; listed.as_slice(), text.as_slice(), "of {keyword}");
-        let mut named = Vec::from_slice(rt.alloc(), b"7 x")?;
-        named.extend_from_slice(keyword.as_bytes())?;
-        named.extend_from_slice(b"x\n")?;
-        let named_file = crunch(rt.alloc(), 0x0801, &named)?;
-        let named_kept = [1, 8, 9, 8, 7, 0, b'X', token, b'X', 0, 0, 0];
-        assert_eq!(rt;
-            named_file.as_slice(),
-            named_kept.as_slice(),
+        let text = format!(in rt.alloc(); "7 {keyword}\n")?;
+        let file = [1, 8, 7, 8, 7, 0, token, 0, 0, 0];
+        assert!(rt;
+            crunches_and_lists(rt.alloc(), text.as_str(), &file, text.as_str())?,
             "of {keyword}"
         );
-        let named_list = list(rt.alloc(), &named_kept)?;
-        assert_eq!(rt; named_list.as_slice(), named.as_slice(), "of {keyword}");
         token = token.wrapping_add(1);
     }
     assert_eq!(rt; token, 0xcc);
+    Ok(())
+}
+
+#[test]
+fn knows_each_keyword_in_a_name(rt: HostRuntime) -> Result<(), Fail> {
+    let mut token: u8 = 0x80;
+    for keyword in KEYWORDS.split(' ') {
+        let text = format!(in rt.alloc(); "7 x{keyword}x\n")?;
+        let file = [1, 8, 9, 8, 7, 0, b'X', token, b'X', 0, 0, 0];
+        assert!(rt;
+            crunches_and_lists(rt.alloc(), text.as_str(), &file, text.as_str())?,
+            "of {keyword}"
+        );
+        token = token.wrapping_add(1);
+    }
+    Ok(())
+}
+
+#[test]
+fn finds_keywords_without_spaces(rt: HostRuntime) -> Result<(), Fail> {
     let names = crunch(rt.alloc(), 0x0801, b"1 forest toto ifa")?;
     assert_eq!(rt;
         names.as_slice(),

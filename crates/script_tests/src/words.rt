@@ -1,6 +1,6 @@
-//! Which words `clap` takes and refuses, and its texts.
+//! The program's words: which `clap` takes and refuses, and its texts.
 
-use crate::{Job, JobFault, job};
+use d64_words::{JobFault, job};
 use std::test::Fail;
 
 /// Whether the words ask for this job, as `Debug` shows it.

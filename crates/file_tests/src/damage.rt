@@ -3,7 +3,7 @@ use d64_image::{BlockNo, Image, Patch};
 use std::test::Fail;
 
 /// Writes bytes into a block, from a place on.
-pub(crate) fn put(
+fn put(
     rt: &HostRuntime,
     image: &mut Image,
     block: BlockNo,
@@ -15,4 +15,17 @@ pub(crate) fn put(
         *at = *byte;
     }
     Ok(Patch::new(rt.alloc()).write(image, block, &content)?)
+}
+
+/// Writes the parts of an image: each has a track and a sector, a place in that block, and bytes.
+pub(crate) fn put_parts(
+    rt: &HostRuntime,
+    image: &mut Image,
+    parts: &[(u8, u8, usize, &[u8])],
+) -> Result<(), Fail> {
+    for (track, sector, start, bytes) in parts {
+        let block = BlockNo::of(*track, *sector).ok_or("no such block")?;
+        put(rt, image, block, *start, bytes)?;
+    }
+    Ok(())
 }

@@ -1,4 +1,7 @@
-use super::*;
+//! The text form of bytes.
+
+use cbm_text::{TextFault, from_text, to_text};
+use std::alloc::AllocError;
 use std::test::Fail;
 
 #[test]

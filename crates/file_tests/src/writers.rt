@@ -2,7 +2,7 @@
 ghost use Rattle.std.specs.Prelude.{◌≢◌, ◌<◌, [], length, IfOk};
 ghost use Rattle.d64_files.specs.Directory.{directory, slots};
 
-use crate::damage::put;
+use crate::damage::put_parts;
 use d64_files::{
     Kind, Name, Pattern, SlotNo, blocks_for, clear_slot, dir_last, empty_directory, find,
     first_empty, grow, is_taken, put_chain, put_entry, set_name,
@@ -35,22 +35,53 @@ fn empty_slot(image: &Image) -> Result<SlotNo, Fail>
 }
 
 #[test]
-fn puts_chains(rt: HostRuntime) -> Result<(), Fail> {
-    let mut image = disk(&rt)?;
-    let (first, second) = (block(17, 0)?, block(17, 10)?);
-    let mut patch = Patch::new(rt.alloc());
-    let sevens = [7; 256];
+fn counts_the_blocks_of_a_file(rt: HostRuntime) {
     assert_eq!(rt;
         [blocks_for(0), blocks_for(254), blocks_for(255)],
         [1, 1, 2]
     );
-    put_chain(&mut image, &mut patch, &[first], &sevens[..254])?;
+}
+
+/// Puts so many bytes of 7 as a file into these blocks.
+fn put_sevens(
+    rt: &HostRuntime,
+    image: &mut Image,
+    blocks: &[BlockNo],
+    count: usize,
+) -> Result<(), Fail> {
+    let sevens = vec![in rt.alloc(); 7u8; count]?;
+    if blocks.len() != blocks_for(sevens.len()) {
+        return Err(Fail::new("the file takes another number of blocks"));
+    }
+    Ok(put_chain(image, &mut Patch::new(rt.alloc()), blocks, &sevens)?)
+}
+
+#[test]
+fn puts_a_file_into_one_block(rt: HostRuntime) -> Result<(), Fail> {
+    let mut image = disk(&rt)?;
+    let first = block(17, 0)?;
+    put_sevens(&rt, &mut image, &[first], 254)?;
     assert_eq!(rt; &image.sector(first)[..3], [0x00, 0xFF, 7].as_slice());
-    put_chain(&mut image, &mut patch, &[first, second], &sevens[..255])?;
+    Ok(())
+}
+
+#[test]
+fn puts_a_file_into_two_blocks(rt: HostRuntime) -> Result<(), Fail> {
+    let mut image = disk(&rt)?;
+    let (first, second) = (block(17, 0)?, block(17, 10)?);
+    put_sevens(&rt, &mut image, &[first, second], 255)?;
     assert_eq!(rt; &image.sector(first)[..3], [0x11, 0x0A, 7].as_slice());
     assert_eq!(rt; &image.sector(second)[..4], [0x00, 0x02, 7, 0].as_slice());
-    put_chain(&mut image, &mut patch, &[second], b"")?;
-    assert_eq!(rt; &image.sector(second)[..3], [0x00, 0x01, 0].as_slice());
+    Ok(())
+}
+
+#[test]
+fn puts_an_empty_file(rt: HostRuntime) -> Result<(), Fail> {
+    let mut image = disk(&rt)?;
+    let first = block(17, 10)?;
+    put_sevens(&rt, &mut image, &[first], 1)?;
+    put_sevens(&rt, &mut image, &[first], 0)?;
+    assert_eq!(rt; &image.sector(first)[..3], [0x00, 0x01, 0].as_slice());
     Ok(())
 }
 
@@ -99,33 +130,57 @@ fn used_slot(image: &Image) -> Result<SlotNo, Fail>
     }
 }
 
-#[test]
-fn names_and_clears_a_slot(rt: HostRuntime) -> Result<(), Fail> {
+/// An image with one file, in the second slot of 18/1.
+fn one_file(rt: &HostRuntime) -> Result<Image, Fail> {
     let mut image = Image::zeroed(rt.alloc())?;
-    let mut patch = Patch::new(rt.alloc());
-    let directory = BlockNo::of(18, 1).ok_or("no 18/1")?;
-    put(&rt, &mut image, directory, 1, &[0xFF])?;
-    put(
-        &rt,
-        &mut image,
-        directory,
-        0x22,
-        b"\xC2\x11\x00SIXTEEN LETTERS!\x01",
-    )?;
-    let name = Name::new(b"X").map_err(|_| "no name")?;
+    let parts: [(u8, u8, usize, &[u8]); 2] = [
+        (18, 1, 1, b"\xFF"),
+        (18, 1, 0x22, b"\xC2\x11\x00SIXTEEN LETTERS!\x01"),
+    ];
+    put_parts(rt, &mut image, &parts)?;
+    Ok(image)
+}
+
+#[test]
+fn names_a_slot(rt: HostRuntime) -> Result<(), Fail> {
+    let mut image = one_file(&rt)?;
     let slot = used_slot(&image)?;
-    set_name(&mut image, &mut patch, slot, &name)?;
-    let sector = image.sector(directory);
+    let name = Name::new(b"X").map_err(|_| "no name")?;
+    set_name(&mut image, &mut Patch::new(rt.alloc()), slot, &name)?;
+    let sector = image.sector(block(18, 1)?);
     assert_eq!(rt; &sector[0x22..0x26], b"\xC2\x11\x00X".as_slice());
     assert_eq!(rt; &sector[0x26..0x35], [0xA0; 15].as_slice());
     assert_eq!(rt; sector[0x35], 1);
+    Ok(())
+}
+
+#[test]
+fn clears_a_slot(rt: HostRuntime) -> Result<(), Fail> {
+    let mut image = one_file(&rt)?;
+    let mut patch = Patch::new(rt.alloc());
     let slot = used_slot(&image)?;
     clear_slot(&mut image, &mut patch, slot)?;
+    let directory = block(18, 1)?;
     let entry = &image.sector(directory)[0x22..0x26];
-    assert_eq!(rt; entry, b"\x00\x11\x00X".as_slice());
+    assert_eq!(rt; entry, b"\x00\x11\x00S".as_slice());
     assert_eq!(rt; patch.len(), 1);
     patch.swap(&mut image);
     assert_eq!(rt; image.sector(directory)[0x22], 0xC2);
-    assert_eq!(rt; image.sector(directory)[0x25], b'S');
+    Ok(())
+}
+
+#[test]
+fn one_patch_takes_a_name_and_a_clearing_back(rt: HostRuntime) -> Result<(), Fail> {
+    let mut image = one_file(&rt)?;
+    let mut patch = Patch::new(rt.alloc());
+    let slot = used_slot(&image)?;
+    let name = Name::new(b"X").map_err(|_| "no name")?;
+    set_name(&mut image, &mut patch, slot, &name)?;
+    let slot = used_slot(&image)?;
+    clear_slot(&mut image, &mut patch, slot)?;
+    assert_eq!(rt; patch.len(), 1);
+    patch.swap(&mut image);
+    let old = &image.sector(block(18, 1)?)[0x22..0x26];
+    assert_eq!(rt; old, b"\xC2\x11\x00S".as_slice());
     Ok(())
 }

@@ -1,32 +1,28 @@
 //! Directories: their slots, the files in them, and whether they are sound.
 
-use crate::damage::put;
+use crate::damage::put_parts;
 use d64_files::{DirFault, Kind, Pattern, SlotNo, Slots, check, content, find, owned, slot_blocks};
 use d64_image::{BLOCKS, BlockNo, BlockSet, Image, Patch};
 use d64_map::{map_block, put_map};
 use std::test::Fail;
 
+/// The parts of a directory of two blocks and three entries.
+const EXAMPLE: [(u8, u8, usize, &[u8]); 4] = [
+    (
+        18,
+        1,
+        0,
+        b"\x12\x04\x82\x11\x00AB\xA0C\xA0\xA0\xA0\xA0\xA0\xA0\xA0\xA0\xA0\xA0\xA0\xA0",
+    ),
+    (18, 1, 30, b"\x02\x01"),
+    (18, 1, 66, b"\xC4\x24\x00SIXTEEN LETTERS!\x11\x0A"),
+    (18, 4, 0, b"\x00\xFF\x01\x11\x01AB\xA0"),
+];
+
 /// An image with a directory of two blocks and three entries.
 fn example(rt: &HostRuntime) -> Result<Image, Fail> {
     let mut image = Image::zeroed(rt.alloc())?;
-    let first = BlockNo::of(18, 1).ok_or("no 18/1")?;
-    let second = BlockNo::of(18, 4).ok_or("no 18/4")?;
-    put(
-        rt,
-        &mut image,
-        first,
-        0,
-        b"\x12\x04\x82\x11\x00AB\xA0C\xA0\xA0\xA0\xA0\xA0\xA0\xA0\xA0\xA0\xA0\xA0\xA0",
-    )?;
-    put(rt, &mut image, first, 30, b"\x02\x01")?;
-    put(
-        rt,
-        &mut image,
-        first,
-        66,
-        b"\xC4\x24\x00SIXTEEN LETTERS!\x11\x0A",
-    )?;
-    put(rt, &mut image, second, 0, b"\x00\xFF\x01\x11\x01AB\xA0")?;
+    put_parts(rt, &mut image, &EXAMPLE)?;
     Ok(image)
 }
 
@@ -40,22 +36,50 @@ fn walks_two_blocks(rt: HostRuntime) -> Result<(), Fail> {
     let image = example(&rt)?;
     assert!(rt; walk(&image)?.nth(15).is_some());
     assert!(rt; walk(&image)?.nth(16).is_none());
+    Ok(())
+}
+
+#[test]
+fn shows_a_closed_file(rt: HostRuntime) -> Result<(), Fail> {
+    let image = example(&rt)?;
     let first = walk(&image)?.nth(0).ok_or("no slot")?;
     assert_eq!(rt; first.slot().place(), 0);
     assert!(rt; first.used() && first.closed() && !first.locked());
     assert_eq!(rt; first.kind(), Kind::Prg);
-    assert_eq!(rt; first.name(), &b"AB"[..]);
-    assert_eq!(rt; first.field().len(), 16);
+    assert_eq!(rt; first.blocks(), 258);
+    Ok(())
+}
+
+#[test]
+fn shows_where_a_file_begins(rt: HostRuntime) -> Result<(), Fail> {
+    let image = example(&rt)?;
+    let first = walk(&image)?.nth(0).ok_or("no slot")?;
     assert_eq!(rt; first.start().map(|block| block.index()), Some(336));
     assert_eq!(rt; first.side_pair(), None);
-    assert_eq!(rt; first.blocks(), 258);
     let third = walk(&image)?.nth(2).ok_or("no slot")?;
-    assert!(rt; third.closed() && third.locked());
-    assert_eq!(rt; third.kind(), Kind::Rel);
-    assert_eq!(rt; third.name(), &b"SIXTEEN LETTERS!"[..]);
     assert!(rt; third.start().is_none());
     assert_eq!(rt; third.first_pair(), (36, 0));
     assert_eq!(rt; third.side_pair(), Some((17, 10)));
+    Ok(())
+}
+
+#[test]
+fn shows_names_up_to_their_first_shifted_space(rt: HostRuntime) -> Result<(), Fail> {
+    let image = example(&rt)?;
+    let first = walk(&image)?.nth(0).ok_or("no slot")?;
+    assert_eq!(rt; first.name(), &b"AB"[..]);
+    assert_eq!(rt; first.field().len(), 16);
+    let third = walk(&image)?.nth(2).ok_or("no slot")?;
+    assert_eq!(rt; third.name(), &b"SIXTEEN LETTERS!"[..]);
+    Ok(())
+}
+
+#[test]
+fn shows_locked_and_unclosed_files(rt: HostRuntime) -> Result<(), Fail> {
+    let image = example(&rt)?;
+    let third = walk(&image)?.nth(2).ok_or("no slot")?;
+    assert!(rt; third.closed() && third.locked());
+    assert_eq!(rt; third.kind(), Kind::Rel);
     let ninth = walk(&image)?.nth(8).ok_or("no slot")?;
     assert_eq!(rt; ninth.slot(), SlotNo::at(8));
     assert!(rt; ninth.used() && !ninth.closed());
@@ -82,8 +106,7 @@ fn finds_used_slots(rt: HostRuntime) -> Result<(), Fail> {
 #[test]
 fn refuses_damaged_directories(rt: HostRuntime) -> Result<(), Fail> {
     let mut image = example(&rt)?;
-    let second = BlockNo::of(18, 4).ok_or("no 18/4")?;
-    put(&rt, &mut image, second, 34, b"\x85")?;
+    put_parts(&rt, &mut image, &[(18, 4, 34, &b"\x85"[..])])?;
     match Slots::of(&image) {
         Ok(_) => assert!(rt; false, "a type of 5 was accepted"),
         Err(fault) => {
@@ -94,7 +117,7 @@ fn refuses_damaged_directories(rt: HostRuntime) -> Result<(), Fail> {
             );
         }
     }
-    put(&rt, &mut image, second, 0, b"\x12\x01")?;
+    put_parts(&rt, &mut image, &[(18, 4, 0, &b"\x12\x01"[..])])?;
     match Slots::of(&image) {
         Ok(_) => assert!(rt; false, "a loop was accepted"),
         Err(fault) => assert_eq!(rt; fault, DirFault::NoDirectory),
@@ -102,40 +125,56 @@ fn refuses_damaged_directories(rt: HostRuntime) -> Result<(), Fail> {
     Ok(())
 }
 
-/// A disk with a REL file: its data in 17/0, its side sector in 17/1, its entry in the first slot of 18/1. The map
-/// marks all blocks free but those of track 18, sectors 0 and 1.
-fn rel_disk(rt: &HostRuntime) -> Result<Image, Fail> {
-    let mut image = Image::zeroed(rt.alloc())?;
+/// All blocks of the disk but the map's and the directory's first.
+fn free_blocks(directory: BlockNo) -> BlockSet {
     let mut free = BlockSet::empty();
     for index in 0..BLOCKS {
-        free.add(BlockNo::at(index).ok_or("no such block")?);
+        if let Some(block) = BlockNo::at(index) {
+            free.add(block);
+        }
     }
-    let directory = BlockNo::of(18, 1).ok_or("no 18/1")?;
     free.remove(map_block());
     free.remove(directory);
+    free
+}
+
+/// The parts of a REL file: its data in 17/0, its side sector in 17/1, its entry in the first slot of 18/1.
+const REL_FILE: [(u8, u8, usize, &[u8]); 5] = [
+    (17, 0, 1, b"\x0B\x07\x07\x07\x07\x07\x07\x07\x07\x07\x07"),
+    (17, 1, 1, b"\x11"),
+    (18, 1, 1, b"\xFF\x84\x11\x00R"),
+    (
+        18,
+        1,
+        6,
+        b"\xA0\xA0\xA0\xA0\xA0\xA0\xA0\xA0\xA0\xA0\xA0\xA0\xA0\xA0\xA0\x11\x01\x0A",
+    ),
+    (18, 1, 0x1E, b"\x02"),
+];
+
+/// A disk with a REL file. The map marks all blocks free but those of track 18, sectors 0 and 1.
+fn rel_disk(rt: &HostRuntime) -> Result<Image, Fail> {
+    let mut image = Image::zeroed(rt.alloc())?;
+    let free = free_blocks(BlockNo::of(18, 1).ok_or("no 18/1")?);
     put_map(&mut image, &mut Patch::new(rt.alloc()), &free)?;
-    let data = BlockNo::of(17, 0).ok_or("no 17/0")?;
-    put(rt, &mut image, data, 1, &[0x0B])?;
-    put(rt, &mut image, data, 2, &[7; 10])?;
-    let side = BlockNo::of(17, 1).ok_or("no 17/1")?;
-    put(rt, &mut image, side, 1, &[0x11])?;
-    put(rt, &mut image, directory, 1, b"\xFF\x84\x11\x00R")?;
-    put(rt, &mut image, directory, 6, &[0xA0; 15])?;
-    put(rt, &mut image, directory, 0x15, &[0x11, 1, 0x0A])?;
-    put(rt, &mut image, directory, 0x1E, &[2])?;
+    put_parts(rt, &mut image, &REL_FILE)?;
     Ok(image)
 }
 
 #[test]
 fn a_rel_file_owns_its_side_sector(rt: HostRuntime) -> Result<(), Fail> {
-    let mut image = rel_disk(&rt)?;
+    let image = rel_disk(&rt)?;
     let fault = check(&image).err().ok_or("accepted")?;
     assert_eq!(rt; fault.number(), 6);
     let blocks = owned(&image).map_err(|_| "refused")?;
     assert_eq!(rt; blocks.count(), 4);
     assert!(rt; blocks.has(BlockNo::of(17, 1).ok_or("no 17/1")?));
-    let bytes = content(rt.alloc(), &image, SlotNo::at(0)).map_err(|_| "unreadable")?;
-    assert!(rt; bytes.as_slice() == [7; 10].as_slice());
+    Ok(())
+}
+
+#[test]
+fn a_rel_file_is_sound_once_its_blocks_are_used(rt: HostRuntime) -> Result<(), Fail> {
+    let mut image = rel_disk(&rt)?;
     put_map(&mut image, &mut Patch::new(rt.alloc()), &BlockSet::empty())?;
     assert_eq!(rt; check(&image).map_err(|_| "refused")?.count(), 4);
     assert_eq!(rt; slot_blocks(&image, SlotNo::at(0)).count(), 2);
@@ -143,10 +182,17 @@ fn a_rel_file_owns_its_side_sector(rt: HostRuntime) -> Result<(), Fail> {
 }
 
 #[test]
+fn the_content_of_a_rel_file_is_its_data(rt: HostRuntime) -> Result<(), Fail> {
+    let image = rel_disk(&rt)?;
+    let bytes = content(rt.alloc(), &image, SlotNo::at(0)).map_err(|_| "unreadable")?;
+    assert!(rt; bytes.as_slice() == [7; 10].as_slice());
+    Ok(())
+}
+
+#[test]
 fn two_files_with_one_block_are_cross_linked(rt: HostRuntime) -> Result<(), Fail> {
     let mut image = rel_disk(&rt)?;
-    let directory = BlockNo::of(18, 1).ok_or("no 18/1")?;
-    put(&rt, &mut image, directory, 0x22, &[0x82, 0x11])?;
+    put_parts(&rt, &mut image, &[(18, 1, 0x22, &b"\x82\x11"[..])])?;
     let fault = check(&image).err().ok_or("accepted")?;
     assert_eq!(rt; fault.number(), 5);
     Ok(())
