@@ -1,8 +1,6 @@
 //! Calls of the shell: what they are given, and what must come of them.
 
-use crate::case::{Manner, Place, Run};
-use crate::script::{Mark, Script, counts_of};
-use crate::streams::WhenFull;
+use case_files::{Manner, Mark, Place, Run, Script, WhenFull};
 use d64_shell::{Outcome, ShellFault};
 
 /// How a call ended.
@@ -173,4 +171,25 @@ fn ending_of(manner: &Manner, answers: &[u8]) -> Ending {
     } else {
         Ending::Counted(counts_of(answers))
     }
+}
+
+/// How many lines these answers accept and refuse: a status line begins with two digits and a comma, and accepts where
+/// they are 00 or 01.
+fn counts_of(answers: &[u8]) -> Outcome {
+    let mut outcome = Outcome {
+        accepted: 0,
+        refused: 0,
+    };
+    for line in answers.split(|byte| *byte == b'\n') {
+        match line {
+            [b'0', b'0' | b'1', b',', ..] => {
+                outcome.accepted = outcome.accepted.saturating_add(1);
+            }
+            [b'0'..=b'9', b'0'..=b'9', b',', ..] => {
+                outcome.refused = outcome.refused.saturating_add(1);
+            }
+            _ => {}
+        }
+    }
+    outcome
 }

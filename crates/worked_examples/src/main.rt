@@ -5,18 +5,11 @@
 #![tactic(auto)]
 
 mod call;
-mod case;
-mod deeds;
 mod differences;
-mod fault;
-mod manners;
-mod notation;
-mod reading;
 mod scene;
-mod script;
 mod streams;
 
-use reading::{Unread, steps_of};
+use case_files::{Unread, steps_of};
 use scene::play;
 use std::rt::Files;
 use std::{fs, io};

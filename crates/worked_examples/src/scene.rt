@@ -1,11 +1,9 @@
 //! Playing the steps of a case.
 
 use crate::call::{Call, Ending, place_count};
-use crate::case::{Deed, Run, Step};
 use crate::differences::Differences;
-use crate::fault::CaseFault;
-use crate::reading::Unread;
-use crate::streams::{Asked, Bounded, Pieces, WhenFull};
+use crate::streams::{Asked, Bounded, Pieces};
+use case_files::{CaseFault, Deed, Run, Step, Unread, WhenFull};
 use d64_image::{BlockNo, Image};
 use d64_shell::{FolderHost, Host, MemoryHost, Session, program, run};
 use std::alloc::{AllocError, Global};

@@ -1,5 +1,6 @@
 //! Readers and writers that fail, or that give and take little at a time.
 
+use case_files::WhenFull;
 use std::alloc::Global;
 use std::io::{self, ErrorKind, Read, Write};
 
@@ -63,13 +64,6 @@ impl<'a> Read for Pieces<'a> {
         let room = buffer.len().min(self.at_most);
         self.left.read(&mut buffer[..room])
     }
-}
-
-/// What a writer does once it has no room left.
-#[derive(Clone, Copy, Debug, PartialEq, Eq)]
-pub enum WhenFull {
-    Fails,
-    TakesNothing,
 }
 
 /// A writer with room for some bytes.

@@ -1,6 +1,5 @@
 //! Scripts with the answers that they must get.
 
-use d64_shell::Outcome;
 use std::alloc::{AllocError, Global};
 
 /// What a line of a case says of a script.
@@ -125,25 +124,4 @@ fn with_number(alloc: Global, line: &str, number: usize) -> Result<String, Alloc
         }
     }
     Ok(numbered)
-}
-
-/// How many lines these answers accept and refuse: a status line begins with two digits and a comma, and accepts where
-/// they are 00 or 01.
-pub fn counts_of(answers: &[u8]) -> Outcome {
-    let mut outcome = Outcome {
-        accepted: 0,
-        refused: 0,
-    };
-    for line in answers.split(|byte| *byte == b'\n') {
-        match line {
-            [b'0', b'0' | b'1', b',', ..] => {
-                outcome.accepted = outcome.accepted.saturating_add(1);
-            }
-            [b'0'..=b'9', b'0'..=b'9', b',', ..] => {
-                outcome.refused = outcome.refused.saturating_add(1);
-            }
-            _ => {}
-        }
-    }
-    outcome
 }

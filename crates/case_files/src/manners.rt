@@ -1,9 +1,8 @@
 //! The lines of a case that say how its next script is run.
 
-use crate::case::{Manner, Place};
+use crate::case::{Manner, Place, WhenFull};
 use crate::fault::CaseFault;
 use crate::notation::number_of;
-use crate::streams::WhenFull;
 use std::alloc::Global;
 
 /// Takes a line that says how the next script is run; false where its first word is of none.

@@ -1,7 +1,6 @@
 //! Cases: what is done, step by step, and what must come of it.
 
 use crate::script::Script;
-use crate::streams::WhenFull;
 use std::alloc::Global;
 
 /// Where a stream fails.
@@ -12,6 +11,13 @@ pub enum Place {
     After(usize),
     /// After any number of bytes below those that there are, one number after another.
     Anywhere,
+}
+
+/// What a writer does once it has no room left.
+#[derive(Clone, Copy, Debug, PartialEq, Eq)]
+pub enum WhenFull {
+    Fails,
+    TakesNothing,
 }
 
 /// How a script is run, and how the run must end.
