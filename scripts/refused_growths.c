@@ -1,9 +1,13 @@
-/* Counts the growths of memory that a process asks for, and refuses one of them. Preloaded by scripts/sweep-memory.
+/* Counts the growths of memory that a process asks for, and refuses one of them. Preloaded by scripts/growths.py.
  *
  * A growth is a call of malloc, calloc, realloc, aligned_alloc or posix_memalign after the process was set up; of these
  * d64sh calls malloc and realloc. GROWTHS names a file of four numbers of 8 bytes: how many growths were asked for, how many
  * were refused, the size of the first that was refused, and the size of the one that was asked for next. GROWTH_AT is the
- * number of the growth that is refused, from 1; 0 refuses none. Where GROWTH_ON is set, so are all that follow. */
+ * number of the growth that is refused, from 1; 0 refuses none. Where GROWTH_ON is set, so are all that follow. Where
+ * GROWTH_WITHIN is set, growths count only within a line of the standard output that is written in two pieces, between
+ * the one and the other. */
+#define _GNU_SOURCE
+#include <dlfcn.h>
 #include <errno.h>
 #include <fcntl.h>
 #include <stdint.h>
@@ -21,7 +25,8 @@ struct growths { uint64_t asked, refused, refused_size, next_size; };
 
 static struct growths before_start, *growths = &before_start;
 static uint64_t refused_at;
-static int goes_on;
+static int goes_on, counts = 1, is_within;
+static ssize_t (*next_write)(int file, const void *bytes, size_t size);
 
 __attribute__((constructor)) static void begin(void)
 {
@@ -33,11 +38,21 @@ __attribute__((constructor)) static void begin(void)
     growths = kept;
     refused_at = at ? strtoull(at, NULL, 10) : 0;
     goes_on = getenv("GROWTH_ON") != NULL;
+    is_within = getenv("GROWTH_WITHIN") != NULL;
+    counts = !is_within;
+    next_write = dlsym(RTLD_NEXT, "write");
+}
+
+ssize_t write(int file, const void *bytes, size_t size)
+{
+    if (is_within && file == STDOUT_FILENO) counts = !counts;
+    return next_write(file, bytes, size);
 }
 
 /* Counts a growth, and says whether it is refused. */
 static int is_refused(size_t size)
 {
+    if (!counts) return 0;
     uint64_t number = ++growths->asked;
     if (!refused_at || number < refused_at) return 0;
     if (number == refused_at) growths->refused_size = size;

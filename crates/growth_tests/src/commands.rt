@@ -1,0 +1,84 @@
+//! Calls that change an image as a command asks, or read from it.
+
+use crate::disk::{block, disk, format, same, ten_blocks, write};
+use crate::end::{Bench, End};
+use d64_dos::{Command, Refusal, Reply};
+use d64_files::{Name, Pattern, ReadFault, find};
+use d64_image::{Image, Patch};
+use std::alloc::Global;
+use std::test::Fail;
+
+/// The command of that name, which the disk accepts.
+pub fn command_of(alloc: Global, name: &str) -> Result<Command, Fail> {
+    match name {
+        "Format" => format(),
+        "Write" => write(alloc, b"Y", &ten_blocks(alloc)?),
+        "Delete" => Ok(Command::Delete {
+            patterns: vec![in alloc; Pattern::new(b"*")?]?,
+        }),
+        "Rename" => Ok(Command::Rename {
+            old: Name::new(b"A")?,
+            new: Name::new(b"Y")?,
+        }),
+        "Validate" => Ok(Command::Validate),
+        "BlockWrite" => Ok(Command::BlockWrite {
+            at: block(17, 0)?,
+            block: [1; 256],
+        }),
+        _ => Err(Fail::new("no such command")),
+    }
+}
+
+pub fn apply(bench: &Bench, command: &str) -> Result<End, Fail> {
+    let mut image = disk(bench.alloc())?;
+    let before = image.try_clone(bench.alloc())?;
+    let command = command_of(bench.alloc(), command)?;
+    let mut patch = Patch::new(bench.alloc());
+    bench.begin()?;
+    let answer = d64_dos::apply(&mut image, &mut patch, &command);
+    Ok(end_of(answer, &image, &patch, &before))
+}
+
+/// How a command ended, by its answer, what it was lent, and the image from before.
+fn end_of(answer: Result<Reply, Refusal>, image: &Image, patch: &Patch, before: &Image) -> End {
+    match answer {
+        Ok(_) => End::Changed(image.difference_count(before)),
+        Err(Refusal::Memory) => End::want_of_memory(
+            same(image, before) && patch.len() == 0,
+            "the image is not as it was, or the patch is not empty",
+        ),
+        Err(_) => End::Refused,
+    }
+}
+
+pub fn content(bench: &Bench) -> Result<End, Fail> {
+    let image = disk(bench.alloc())?;
+    let slot = find(&image, &Pattern::new(b"A")?)?.ok_or("there is no file")?;
+    bench.begin()?;
+    Ok(match d64_files::content(bench.alloc(), &image, slot) {
+        Ok(bytes) => End::Made(bytes.len()),
+        Err(ReadFault::Memory(_)) => End::WantOfMemory,
+        Err(_) => End::Refused,
+    })
+}
+
+pub fn read(bench: &Bench) -> Result<End, Fail> {
+    let image = disk(bench.alloc())?;
+    let pattern = Pattern::new(b"A")?;
+    bench.begin()?;
+    Ok(match d64_dos::read(bench.alloc(), &image, &pattern) {
+        Ok(back) => End::Made(back.bytes.len()),
+        Err(Refusal::Memory) => End::WantOfMemory,
+        Err(_) => End::Refused,
+    })
+}
+
+pub fn listing(bench: &Bench) -> Result<End, Fail> {
+    let image = disk(bench.alloc())?;
+    bench.begin()?;
+    Ok(match d64_dos::listing(bench.alloc(), &image) {
+        Ok(_) => End::Accepted,
+        Err(Refusal::Memory) => End::WantOfMemory,
+        Err(_) => End::Refused,
+    })
+}

@@ -1,0 +1,92 @@
+//! Where a call is made, and how it ends.
+
+use std::alloc::Global;
+use std::{fmt, io};
+
+/// Where a call is made: the runtime, and the name of the call.
+#[derive(Clone, Copy)]
+pub struct Bench<'a> {
+    rt: &'a HostRuntime,
+    name: &'a str,
+}
+
+impl<'a> Bench<'a> {
+    pub fn new(rt: &'a HostRuntime, name: &'a str) -> Bench<'a> {
+        Bench { rt, name }
+    }
+
+    pub fn rt(&self) -> &'a HostRuntime {
+        self.rt
+    }
+
+    pub fn alloc(&self) -> Global {
+        self.rt.alloc()
+    }
+
+    /// The call, and what it is given.
+    pub fn words(&self) -> (&'a str, &'a str) {
+        match self.name.split_once(' ') {
+            Some(words) => words,
+            None => (self.name, ""),
+        }
+    }
+
+    /// Prints the name of the call: all that it is lent was made.
+    pub fn begin(&self) -> io::Result<()> {
+        let name = self.name;
+        print!(self.rt; "{name}: ")
+    }
+}
+
+/// How a call ended.
+#[derive(Clone, Copy, Debug, PartialEq, Eq)]
+pub enum End {
+    /// It takes no memory, and answered what it should.
+    Answered,
+    /// It was accepted.
+    Accepted,
+    /// It made so many bytes.
+    Made(usize),
+    /// It changed so many blocks of an image.
+    Changed(usize),
+    /// It answered want of memory, and left all that it was lent as it should.
+    WantOfMemory,
+    /// It was refused for what it was given.
+    Refused,
+    /// Something is not as it should be after it.
+    Wrong(&'static str),
+}
+
+impl End {
+    /// The end of a call that takes no memory, by whether it answered what it should.
+    pub fn answered(is_right: bool) -> End {
+        if is_right {
+            End::Answered
+        } else {
+            End::Wrong("the answer")
+        }
+    }
+
+    /// The end of a call that answered want of memory, by whether all is left as it should be.
+    pub fn want_of_memory(is_left: bool, what: &'static str) -> End {
+        if is_left {
+            End::WantOfMemory
+        } else {
+            End::Wrong(what)
+        }
+    }
+}
+
+impl fmt::Display for End {
+    fn fmt<W: fmt::Write>(&self, f: &mut fmt::Formatter<W>) -> fmt::Result {
+        match self {
+            End::Answered => write!(f, "answered"),
+            End::Accepted => write!(f, "accepted"),
+            End::Made(bytes) => write!(f, "made {bytes} bytes"),
+            End::Changed(blocks) => write!(f, "changed {blocks} blocks"),
+            End::WantOfMemory => write!(f, "want of memory"),
+            End::Refused => write!(f, "refused"),
+            End::Wrong(what) => write!(f, "WRONG: {what}"),
+        }
+    }
+}

@@ -1,0 +1,93 @@
+//! Calls of sessions.
+
+use crate::commands::command_of;
+use crate::disk::{PROGRAM, disk, same, write};
+use crate::end::{Bench, End};
+use d64_dos::Refusal;
+use d64_image::Image;
+use d64_undo::Session;
+use std::alloc::Global;
+use std::test::Fail;
+
+/// A session with a record that is done and one that is undone, and copies of the three images of its history.
+#[derive(Drop)]
+pub struct Beside {
+    pub session: Session,
+    copies: Vec<Image>,
+}
+
+impl Beside {
+    /// The session begins with the disk; `P`, a BASIC program, was written, and then `X`, which was undone.
+    pub fn new(alloc: Global) -> Result<Beside, Fail> {
+        let mut session = Session::new(alloc, disk(alloc)?);
+        let mut copies = vec![in alloc; session.image().try_clone(alloc)?]?;
+        session.run(&write(alloc, b"P", PROGRAM)?)?;
+        copies.push(session.image().try_clone(alloc)?)?;
+        session.run(&write(alloc, b"X", &[7])?)?;
+        copies.push(session.image().try_clone(alloc)?)?;
+        session.undo()?;
+        Ok(Beside { session, copies })
+    }
+
+    /// Whether the image is that copy.
+    fn is_at(&self, place: usize) -> bool {
+        match self.copies.get(place) {
+            Some(copy) => same(self.session.image(), copy),
+            None => false,
+        }
+    }
+
+    /// Whether cursor, image and history are as they were at first. It goes through the history, from end to end.
+    pub fn is_as_it_was(&mut self) -> bool {
+        (self.session.done(), self.session.undone()) == (1, 1)
+            && self.is_at(1)
+            && self.session.undo().is_ok()
+            && self.is_at(0)
+            && self.session.redo().is_ok()
+            && self.session.redo().is_ok()
+            && self.is_at(2)
+    }
+
+    /// Whether one more record is done, and none is left that was undone.
+    pub fn has_one_more(&self) -> bool {
+        (self.session.done(), self.session.undone()) == (2, 0)
+    }
+
+    /// How many blocks of the image are others than at first.
+    pub fn changed(&self) -> usize {
+        match self.copies.get(1) {
+            Some(copy) => self.session.image().difference_count(copy),
+            None => 0,
+        }
+    }
+}
+
+pub fn run(bench: &Bench, command: &str) -> Result<End, Fail> {
+    let mut beside = Beside::new(bench.alloc())?;
+    let command = command_of(bench.alloc(), command)?;
+    bench.begin()?;
+    Ok(match beside.session.run(&command) {
+        Ok(_) if beside.has_one_more() => End::Changed(beside.changed()),
+        Ok(_) => End::Wrong("there is not one record more"),
+        Err(Refusal::Memory) => {
+            End::want_of_memory(beside.is_as_it_was(), "the session is not as it was")
+        }
+        Err(_) => End::Refused,
+    })
+}
+
+/// A block write on a session that was just made from a blank image.
+pub fn first_block_write(bench: &Bench) -> Result<End, Fail> {
+    let blank = Image::zeroed(bench.alloc())?;
+    let mut session = Session::new(bench.alloc(), blank.try_clone(bench.alloc())?);
+    let command = command_of(bench.alloc(), "BlockWrite")?;
+    bench.begin()?;
+    Ok(match session.run(&command) {
+        Ok(_) => End::Changed(session.image().difference_count(&blank)),
+        Err(Refusal::Memory) => End::want_of_memory(
+            same(session.image(), &blank) && session.done() == 0 && session.undone() == 0,
+            "the session is not as it was",
+        ),
+        Err(_) => End::Refused,
+    })
+}

@@ -1,0 +1,117 @@
+//! Calls of the writers of files and of the map.
+//!
+//! After want of memory some blocks may be written; the image with the patch put back is the one from before in any case.
+ghost use Rattle.std.specs.Prelude.{◌≢◌, ◌<◌, [], length, IfOk};
+ghost use Rattle.d64_files.specs.Directory.{directory, slots};
+
+use crate::disk::{block, disk, same};
+use crate::end::{Bench, End};
+use d64_files::{
+    Kind, Name, Pattern, SlotNo, clear_slot, find, grow, put_chain, put_entry, set_name,
+};
+use d64_image::{BlockSet, Image, Patch};
+use d64_map::put_map;
+use std::alloc::AllocError;
+use std::test::Fail;
+
+/// How a writer ended, by its answer, what it was lent, and the image from before.
+fn end_of(
+    answer: Result<(), AllocError>,
+    image: &mut Image,
+    patch: &mut Patch,
+    before: &Image,
+) -> End {
+    let changed = image.difference_count(before);
+    patch.swap(image);
+    if !same(image, before) {
+        return End::Wrong("the image with the patch put back is not as it was");
+    }
+    match answer {
+        Ok(()) => End::Changed(changed),
+        Err(_) => End::WantOfMemory,
+    }
+}
+
+/// The slot of the file `A`.
+fn slot_of_a(image: &Image) -> Result<SlotNo, Fail>
+    ensures directory { IfOk result (λ _. directory image.now ≢ []) }
+    ensures slot { IfOk result (λ slot. slot < length (slots image.now)) }
+{
+    let a = Pattern::new(b"A")?;
+    match find(image, &a) {
+        Ok(Some(slot)) => Ok(slot),
+        Ok(None) => Err(Fail::new("there is no file")),
+        Err(fault) => Err(Fail::new(fault)),
+    }
+}
+
+pub fn map(bench: &Bench) -> Result<End, Fail> {
+    let mut image = disk(bench.alloc())?;
+    let before = image.try_clone(bench.alloc())?;
+    let mut patch = Patch::new(bench.alloc());
+    bench.begin()?;
+    let answer = put_map(&mut image, &mut patch, &BlockSet::empty());
+    Ok(end_of(answer, &mut image, &mut patch, &before))
+}
+
+pub fn entry(bench: &Bench) -> Result<End, Fail> {
+    let mut image = disk(bench.alloc())?;
+    let before = image.try_clone(bench.alloc())?;
+    let mut patch = Patch::new(bench.alloc());
+    let slot = slot_of_a(&image)?;
+    let name = Name::new(b"Y")?;
+    let first = block(17, 0)?;
+    bench.begin()?;
+    let answer = put_entry(&mut image, &mut patch, slot, &name, Kind::Seq, first, 1);
+    Ok(end_of(answer, &mut image, &mut patch, &before))
+}
+
+pub fn cleared_slot(bench: &Bench) -> Result<End, Fail> {
+    let mut image = disk(bench.alloc())?;
+    let before = image.try_clone(bench.alloc())?;
+    let mut patch = Patch::new(bench.alloc());
+    let slot = slot_of_a(&image)?;
+    bench.begin()?;
+    let answer = clear_slot(&mut image, &mut patch, slot);
+    Ok(end_of(answer, &mut image, &mut patch, &before))
+}
+
+pub fn name(bench: &Bench) -> Result<End, Fail> {
+    let mut image = disk(bench.alloc())?;
+    let before = image.try_clone(bench.alloc())?;
+    let mut patch = Patch::new(bench.alloc());
+    let slot = slot_of_a(&image)?;
+    let name = Name::new(b"Y")?;
+    bench.begin()?;
+    let answer = set_name(&mut image, &mut patch, slot, &name);
+    Ok(end_of(answer, &mut image, &mut patch, &before))
+}
+
+/// The writing of a file of five blocks.
+pub fn chain(bench: &Bench) -> Result<End, Fail> {
+    let mut image = disk(bench.alloc())?;
+    let before = image.try_clone(bench.alloc())?;
+    let mut patch = Patch::new(bench.alloc());
+    let blocks = [
+        block(1, 0)?,
+        block(2, 0)?,
+        block(3, 0)?,
+        block(4, 0)?,
+        block(5, 0)?,
+    ];
+    let bytes = [1; 1270];
+    bench.begin()?;
+    let answer = put_chain(&mut image, &mut patch, &blocks, &bytes);
+    Ok(end_of(answer, &mut image, &mut patch, &before))
+}
+
+pub fn growth(bench: &Bench) -> Result<End, Fail> {
+    let mut image = disk(bench.alloc())?;
+    let before = image.try_clone(bench.alloc())?;
+    let mut patch = Patch::new(bench.alloc());
+    let _slot = slot_of_a(&image)?;
+    let new = block(18, 4)?;
+    bench.begin()?;
+    let answer = grow(&mut image, &mut patch, new);
+    Ok(end_of(answer, &mut image, &mut patch, &before))
+}
