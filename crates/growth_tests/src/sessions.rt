@@ -13,39 +13,38 @@ use std::test::Fail;
 #[derive(Drop)]
 pub struct Beside {
     pub session: Session,
-    copies: Vec<Image>,
+    first: Image,
+    present: Image,
+    last: Image,
 }
 
 impl Beside {
     /// The session begins with the disk; `P`, a BASIC program, was written, and then `X`, which was undone.
     pub fn new(alloc: Global) -> Result<Beside, Fail> {
         let mut session = Session::new(alloc, disk(alloc)?);
-        let mut copies = vec![in alloc; session.image().try_clone(alloc)?]?;
+        let first = session.image().try_clone(alloc)?;
         session.run(&write(alloc, b"P", PROGRAM)?)?;
-        copies.push(session.image().try_clone(alloc)?)?;
+        let present = session.image().try_clone(alloc)?;
         session.run(&write(alloc, b"X", &[7])?)?;
-        copies.push(session.image().try_clone(alloc)?)?;
+        let last = session.image().try_clone(alloc)?;
         session.undo()?;
-        Ok(Beside { session, copies })
-    }
-
-    /// Whether the image is that copy.
-    fn is_at(&self, place: usize) -> bool {
-        match self.copies.get(place) {
-            Some(copy) => same(self.session.image(), copy),
-            None => false,
-        }
+        Ok(Beside {
+            session,
+            first,
+            present,
+            last,
+        })
     }
 
     /// Whether cursor, image and history are as they were at first. It goes through the history, from end to end.
     pub fn is_as_it_was(&mut self) -> bool {
         (self.session.done(), self.session.undone()) == (1, 1)
-            && self.is_at(1)
+            && same(self.session.image(), &self.present)
             && self.session.undo().is_ok()
-            && self.is_at(0)
+            && same(self.session.image(), &self.first)
             && self.session.redo().is_ok()
             && self.session.redo().is_ok()
-            && self.is_at(2)
+            && same(self.session.image(), &self.last)
     }
 
     /// Whether one more record is done, and none is left that was undone.
@@ -55,10 +54,7 @@ impl Beside {
 
     /// How many blocks of the image are others than at first.
     pub fn changed(&self) -> usize {
-        match self.copies.get(1) {
-            Some(copy) => self.session.image().difference_count(copy),
-            None => 0,
-        }
+        self.session.image().difference_count(&self.present)
     }
 }
 
