@@ -8,6 +8,14 @@ use d64_image::{Image, Patch};
 use std::alloc::Global;
 use std::test::Fail;
 
+/// The command that writes the block of a track and a sector.
+pub fn block_write(track: u8, sector: u8) -> Result<Command, Fail> {
+    Ok(Command::BlockWrite {
+        at: block(track, sector)?,
+        block: [1; 256],
+    })
+}
+
 /// The command of that name, which the disk accepts.
 pub fn command_of(alloc: Global, name: &str) -> Result<Command, Fail> {
     match name {
@@ -21,10 +29,7 @@ pub fn command_of(alloc: Global, name: &str) -> Result<Command, Fail> {
             new: Name::new(b"Y")?,
         }),
         "Validate" => Ok(Command::Validate),
-        "BlockWrite" => Ok(Command::BlockWrite {
-            at: block(17, 0)?,
-            block: [1; 256],
-        }),
+        "BlockWrite" => block_write(17, 0),
         _ => Err(Fail::new("no such command")),
     }
 }

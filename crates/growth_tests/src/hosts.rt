@@ -31,12 +31,13 @@ fn want_of_memory(host: &MemoryHost) -> End {
     End::want_of_memory(is_as_it_was(host), "the files are not as they were")
 }
 
+/// The first file of a host.
 pub fn put(bench: &Bench) -> Result<End, Fail> {
-    let mut host = host(bench.alloc())?;
+    let mut host = MemoryHost::new(bench.alloc());
     bench.begin()?;
     Ok(match host.put("new", BLOCK) {
         Ok(()) => End::Accepted,
-        Err(_) => want_of_memory(&host),
+        Err(_) => End::want_of_memory(host.file("new").is_none(), "there is a file"),
     })
 }
 

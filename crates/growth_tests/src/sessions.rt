@@ -1,6 +1,6 @@
 //! Calls of sessions.
 
-use crate::commands::command_of;
+use crate::commands::{block_write, command_of};
 use crate::disk::{PROGRAM, disk, same, write};
 use crate::end::{Bench, End};
 use d64_dos::Refusal;
@@ -9,7 +9,7 @@ use d64_undo::Session;
 use std::alloc::Global;
 use std::test::Fail;
 
-/// A session with a record that is done and one that is undone, and copies of the three images of its history.
+/// A session with three records that are done and one that is undone, and copies of the last three images of its history.
 #[derive(Drop)]
 pub struct Beside {
     pub session: Session,
@@ -19,9 +19,12 @@ pub struct Beside {
 }
 
 impl Beside {
-    /// The session begins with the disk; `P`, a BASIC program, was written, and then `X`, which was undone.
+    /// The session begins with the disk; two blocks were written, then `P`, a BASIC program, and then `X`, which was undone.
+    /// For a fifth record its list has to grow.
     pub fn new(alloc: Global) -> Result<Beside, Fail> {
         let mut session = Session::new(alloc, disk(alloc)?);
+        session.run(&block_write(35, 0)?)?;
+        session.run(&block_write(35, 1)?)?;
         let first = session.image().try_clone(alloc)?;
         session.run(&write(alloc, b"P", PROGRAM)?)?;
         let present = session.image().try_clone(alloc)?;
@@ -36,9 +39,9 @@ impl Beside {
         })
     }
 
-    /// Whether cursor, image and history are as they were at first. It goes through the history, from end to end.
+    /// Whether cursor, image and history are as they were at first. It goes one record back, and then to the end.
     pub fn is_as_it_was(&mut self) -> bool {
-        (self.session.done(), self.session.undone()) == (1, 1)
+        (self.session.done(), self.session.undone()) == (3, 1)
             && same(self.session.image(), &self.present)
             && self.session.undo().is_ok()
             && same(self.session.image(), &self.first)
@@ -49,7 +52,7 @@ impl Beside {
 
     /// Whether one more record is done, and none is left that was undone.
     pub fn has_one_more(&self) -> bool {
-        (self.session.done(), self.session.undone()) == (2, 0)
+        (self.session.done(), self.session.undone()) == (4, 0)
     }
 
     /// How many blocks of the image are others than at first.

@@ -183,9 +183,9 @@ fn sessions(bench: &Bench) -> Result<End, Fail> {
     let mut beside = Beside::new(bench.alloc())?;
     bench.begin()?;
     Ok(End::answered(
-        beside.session.record_len(1) == Some(3)
-            && beside.session.record_at(1).is_some()
-            && beside.session.record_at(2).is_none()
+        beside.session.record_len(2) == Some(3)
+            && beside.session.record_at(2).is_some()
+            && beside.session.record_at(4).is_none()
             && beside.is_as_it_was(),
     ))
 }
