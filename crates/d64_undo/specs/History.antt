@@ -46,12 +46,14 @@ record_len history number =
     then Some (length (differences (image_at history number) (image_at history (number + 1))))
     else None
 
--- the blocks in which the images before and after a record differ, ascending, where the history has that record: with their bytes from
--- before it where it is done, and from after it where it is undone
-abbrev pub record_at : History → ℕ → Option Kept
-record_at history number =
-    if nat_lt (number + 1) (length history.images)
-    then Some (if nat_lt number history.cursor
+-- the blocks in which the images before and after a record differ, ascending: with their bytes from before it where it is done, and
+-- from after it where it is undone
+abbrev pub record_blocks : History → ℕ → Kept
+record_blocks history number =
+    if nat_lt number history.cursor
     then changed (image_at history number) (image_at history (number + 1))
-    else changed (image_at history (number + 1)) (image_at history number))
-    else None
+    else changed (image_at history (number + 1)) (image_at history number)
+
+-- these blocks of a record, where the history has that record
+abbrev pub record_at : History → ℕ → Option Kept
+record_at history number = if nat_lt (number + 1) (length history.images) then Some (record_blocks history number) else None

@@ -4,9 +4,12 @@
 //! that undo and redo restore exactly the image that stood there: the contract of `run_all` says so for whole runs.
 #![tactic(auto)]
 
+mod keeping;
 pub mod laws;
 mod request;
+mod resume_fault;
 mod session;
 
 pub use request::{Answer, Request, run_all};
+pub use resume_fault::ResumeFault;
 pub use session::{NothingToRedo, NothingToUndo, Session};

@@ -5,11 +5,13 @@ ghost use Rattle.d64_dos.specs.Command.{after, reply_to, refusal_of};
 ghost use Rattle.d64_dos.specs.Refusal.{refused_by};
 ghost use Rattle.d64_effects.specs.View.{IsSound};
 ghost use Rattle.d64_undo.specs.History.{IsHistory, present, begun, added, undone, redone, record_len, record_at};
+ghost use Rattle.d64_undo.specs.SessionFile.{file_of, IsSession};
 ghost use Rattle.d64_undo.specs.SoundHistory.{IsSoundHistory, KeepsSound};
 
+use crate::keeping::session_file;
 use d64_dos::{Command, Refusal, Reply, apply};
 use d64_image::{BLOCK_BYTES, BlockNo, Image, Patch};
-use std::alloc::Global;
+use std::alloc::{AllocError, Global};
 use std::marker::Model;
 use thiserror::Error;
 
@@ -103,6 +105,15 @@ impl Session {
         ensures { option_copied result ≡ record_at self.now number }
     {
         Some(self.records.get(number)?.blocks())
+    }
+
+    /// The session file: the present image, how many records are done, and all records, the oldest first, each with the blocks
+    /// that lead away from the present image. No other history has the same file. Takes memory for the file alone.
+    pub fn keep(&self, alloc: Global) -> Result<Vec<u8>, AllocError>
+        ensures file { IfOk result (λ file. file.items ≡ file_of self.now) }
+        ensures session { OnOk result (IsSession self.now) }
+    {
+        session_file(alloc, &self.image, self.done, &self.records)
     }
 
     /// Runs a command on the present image. Where it is accepted, the records after the cursor are dropped

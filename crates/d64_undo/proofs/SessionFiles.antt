@@ -1,0 +1,102 @@
+-- session files: what a session holds is what the file of its history says
+use Rattle.std.proofs.Common.{◌≡◌, ℕ, ◌+◌, ◌-◌, ◌<◌, ◌≤◌, ◌^◌, Bool, cond, nat_lt, true, false, List, [], ◌∷◌, ◌++◌, length, map, reverse, take, drop, get_or, set, ◌==◌, refl, sym, ap, ap₂, ◌∙◌, subst, inl, inr, arith}
+use Rattle.std.specs.Int.{w64, to_le_bytes}
+use Rattle.std.specs.List.{All, flat_map, range_with_len}
+use Rattle.std.proofs.lemmas.Bool.{cases_lt}
+use Rattle.std.proofs.lemmas.Bool.Decides.{nat_tests}
+use Rattle.std.proofs.lemmas.List.{ext_get_or, length-set}
+use Rattle.std.proofs.lemmas.List.Elements.{All-nil, All-cons, All-head, All-tail, All-append, All-take, All-drop, All-set}
+use Rattle.std.proofs.lemmas.List.FromFn.{length-map-range_with_len, get_or-map-range_with_len}
+use Rattle.d64_image.specs.declared.block.TheConstants.{BLOCKS}
+use Rattle.d64_image.specs.Image.{IsBlock, IsImage, bytes_of}
+use Rattle.d64_image.specs.Patch.{Kept, back, changed}
+use Rattle.d64_undo.specs.History.{History, record_blocks}
+use Rattle.d64_undo.specs.Records.{along, images_of, AreRecords}
+use Rattle.d64_undo.specs.SessionFile.{magic, tracks_of, record_file, records_of, file_with, file_of, HaveBlocks, IsSession}
+use Rattle.d64_undo.proofs.Leads.{All-turned}
+use Rattle.d64_undo.proofs.Records.{length-images, record-done, record-undone}
+use Rattle.d64_undo.proofs.Sessions.{history_of, present_is, stands, image_count}
+
+-- a record of the history is the one that the session holds
+record_blocks-held : (records : List Kept) (image : List (List ℕ)) (done n : ℕ) → done ≤ length records → n < length records
+    → AreRecords records image done → record_blocks (history_of records image done) n ≡ get_or records n []
+record_blocks-held records image done n within h leads =
+    let images = images_of records image done in
+    let first : Kept = changed (get_or images n []) (get_or images (n + 1) []) in
+    let second : Kept = changed (get_or images (n + 1) []) (get_or images n []) in
+    elim (cases_lt n done) [
+      | inl before ↦
+          let side : nat_lt n done ≡ true = grind (arith, nat_tests) in
+          ap (λ (t : Bool). cond t first second) side ∙ sym (record-done records image done n within before leads)
+      | inr after ↦
+          let side : nat_lt n done ≡ false = grind (arith, nat_tests) in
+          ap (λ (t : Bool). cond t first second) side ∙ sym (record-undone records image done n after h leads)
+    ]
+
+-- and so are all records
+pub records-held : (records : List Kept) (image : List (List ℕ)) (done : ℕ) → done ≤ length records
+    → AreRecords records image done → records_of (history_of records image done) ≡ records
+unfolding records_of
+records-held records image done within leads =
+    let history : History = history_of records image done in
+    let long = length-images records image done within in
+    let count : length (images_of records image done) - 1 ≡ length records = omega arith in
+    let listed = length-map-range_with_len (record_blocks history) 0 (length records) in
+    ap (λ (n : ℕ). map (record_blocks history) (range_with_len 0 n)) count
+    ∙ ext_get_or [] (map (record_blocks history) (range_with_len 0 (length records))) records listed
+    (λ k h.
+    let lt : k < length records = omega arith in
+    get_or-map-range_with_len (record_blocks history) 0 (length records) k k [] lt (omega arith)
+    ∙ record_blocks-held records image done k within lt leads)
+
+-- the parts of a file, added one after another
+pub added-parts : (image : List (List ℕ)) (done : ℕ) (records : List Kept) → length image ≡ BLOCKS
+    → ((((magic ++ 35 ∷ []) ++ bytes_of image) ++ to_le_bytes w64 done) ++ to_le_bytes w64 (length records)) ++ flat_map record_file records
+    ≡ file_with image done records
+unfolding file_with
+added-parts image done records long =
+    let tracks : tracks_of image ≡ 35 = ap (λ (n : ℕ). cond (n == 768) 40 35) long in
+    ap (λ (t : ℕ). magic ++ t ∷ bytes_of image ++ to_le_bytes w64 done ++ to_le_bytes w64 (length records) ++ flat_map record_file records) (sym tracks)
+
+-- the file of what a session holds is that of its history
+pub file-held : (records : List Kept) (image : List (List ℕ)) (done : ℕ) (history : History) → done ≤ length records
+    → AreRecords records image done → history_of records image done ≡ history → file_with image done records ≡ file_of history
+file-held records image done history within leads is =
+    ap₂ (λ (shown : List (List ℕ)) (rs : List Kept). file_with shown done rs)
+    (sym (present_is records image done (history_of records image done) within refl)) (sym (records-held records image done within leads))
+    ∙ ap file_of is
+
+-- an image with the bytes of blocks put back is an image
+back-image : (patch : Kept) (image : List (List ℕ)) → IsImage image → HaveBlocks patch → IsImage (back image patch)
+unfolding back
+back-image [] image is blocks = is
+back-image (entry ∷ patch) image is blocks =
+    back-image patch (set image entry.0 entry.1)
+    (length-set image entry.0 entry.1 ∙ is.0, All-set IsBlock image entry.0 entry.1 (All-head (λ (e : ℕ × List ℕ). IsBlock e.1) entry patch blocks) is.1)
+    (All-tail (λ (e : ℕ × List ℕ). IsBlock e.1) entry patch blocks)
+
+-- and so are all images that patches lead to
+along-images : (patches : List Kept) (image : List (List ℕ)) → IsImage image → All HaveBlocks patches → All IsImage (along image patches)
+unfolding along
+along-images [] image is blocks = All-nil IsImage
+along-images (patch ∷ patches) image is blocks =
+    let next = back-image patch image is (All-head HaveBlocks patch patches blocks) in
+    All-cons IsImage (back image patch) (along (back image patch) patches) next
+    (along-images patches (back image patch) next (All-tail HaveBlocks patch patches blocks))
+
+-- a session's history is one that a session can hold
+pub holds-session : (records : List Kept) (image : List (List ℕ)) (done : ℕ) (history : History) → done ≤ length records
+    → length records < 2 ^ 64 → IsImage image → All HaveBlocks records → history_of records image done ≡ history → IsSession history
+unfolding images_of
+holds-session records image done history within most is_image blocks is =
+    let past = take done records in
+    let images : All IsImage (images_of records image done) =
+    All-append IsImage (reverse (along image (reverse past))) (image ∷ along image (drop done records))
+    (All-turned IsImage (along image (reverse past)) (along-images (reverse past) image is_image (All-turned HaveBlocks past (All-take HaveBlocks done records blocks))))
+    (All-cons IsImage image (along image (drop done records)) is_image (along-images (drop done records) image is_image (All-drop HaveBlocks done records blocks))) in
+    let count = (image_count records image done history within is).1 in
+    record {
+      cursor = stands records image done history within is;
+      images = subst (λ (h : History). All IsImage h.images) is images;
+      count = omega arith;
+    }
