@@ -8,4 +8,6 @@
 #[cfg(test)]
 mod dos;
 #[cfg(test)]
+mod session_files;
+#[cfg(test)]
 mod undo;
