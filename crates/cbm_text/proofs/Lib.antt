@@ -8,3 +8,4 @@ pub mod TextPrograms
 pub mod LinesBack
 pub mod NormalLines
 pub mod WholeTexts
+pub mod FileBytes

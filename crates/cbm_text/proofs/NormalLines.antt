@@ -40,7 +40,7 @@ spelling_unbroken (byte ∷ bytes) text (rest, begins, read) =
     ∙ ap (λ (b : Bool). b || list_any breaks (spelling bytes)) (spell_unbroken byte begins.accepted.0) ∙ spelling_unbroken bytes rest read
 
 -- the bytes that a text stands for, and what they are spelled as
-small_bytes : (bytes text : List ℕ) → IsTextOf bytes text → All (λ b. b < 256) bytes
+pub small_bytes : (bytes text : List ℕ) → IsTextOf bytes text → All (λ b. b < 256) bytes
 unfolding IsTextOf IsAccepted
 small_bytes [] text read = All-nil (λ b. b < 256)
 small_bytes (byte ∷ bytes) text (rest, begins, read) = All-cons (λ b. b < 256) byte bytes begins.accepted.0 (small_bytes bytes rest read)

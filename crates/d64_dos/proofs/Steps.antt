@@ -19,11 +19,12 @@ use Rattle.d64_effects.specs.Laws.{AreTwoBytes, HasRoom, IsWritable}
 use Rattle.d64_effects.specs.View.{IsSound, view}
 use Rattle.d64_effects.specs.ViewAfter.{formatted_view}
 use Rattle.d64_effects.specs.Write.{next_of_directory}
+use Rattle.d64_effects.proofs.EmptyDisks.{IsImage-formatted}
 use Rattle.d64_effects.proofs.FormattedDisks.{holds-formatted, view-formatted}
-use Rattle.d64_effects.proofs.RenamedDisks.{renamed-is_sound, renamed-shows}
-use Rattle.d64_effects.proofs.ScratchedDisks.{scratched-is_sound, scratched-shows, scratched-are_counted}
-use Rattle.d64_effects.proofs.ValidatedDisks.{validated-is_sound, validated-shows}
-use Rattle.d64_effects.proofs.WrittenDisks.{written-is_sound, written-shows}
+use Rattle.d64_effects.proofs.RenamedDisks.{renamed-is_image, renamed-is_sound, renamed-shows}
+use Rattle.d64_effects.proofs.ScratchedDisks.{scratched-is_image, scratched-is_sound, scratched-shows, scratched-are_counted}
+use Rattle.d64_effects.proofs.ValidatedDisks.{validated-is_image, validated-is_sound, validated-shows}
+use Rattle.d64_effects.proofs.WrittenDisks.{written-is_image, written-is_sound, written-shows}
 use Rattle.d64_image.specs.Image.{IsImage}
 use Rattle.d64_image.specs.Patch.{Kept, back}
 use Rattle.d64_dos.specs.Change.{Change, Format, Write, Delete, Rename, Validate, BlockWrite}
@@ -101,24 +102,37 @@ formatted-shows image name id is named two = view-formatted (length image) is.0 
 -- each accepted file command leaves a sound disk, which shows its change
 pub keeps_sound : FileCommandsKeepDisksSound
 keeps_sound image (Format name id) is made none from =
-    record { sound = λ fault first last. holds-formatted (length image) is.0 name id fault; shows = (refl, formatted-shows image name id is made.0 made.1) }
+    record {
+      is_image = IsImage-formatted (length image) is.0 name id made.0 made.1;
+      sound = λ fault first last. holds-formatted (length image) is.0 name id fault;
+      shows = (refl, formatted-shows image name id is made.0 made.1);
+    }
 keeps_sound image (Write name kind bytes) is made none from =
     let passes = accepted image name kind (length bytes) none in
     let kinds = writable kind passes.0 in
     let fits = has_its_room image (length bytes) passes.1 in
     record {
+      is_image = written-is_image image name kind bytes is made.0 made.1 from fits;
       sound = written-is_sound image name kind bytes is made.0 kinds made.1 from fits;
       shows = (refl, written-shows image name kind bytes is made.0 kinds made.1 from fits);
     }
 keeps_sound image (Delete patterns) is made none from = record {
+  is_image = scratched-is_image image patterns is from;
   sound = scratched-is_sound image patterns is from;
   shows = (ap Scratched (scratched-are_counted image patterns), scratched-shows image patterns is from);
 }
-keeps_sound image (Rename old new) is made none from =
-    record { sound = renamed-is_sound image old new is made.1 from; shows = (refl, renamed-shows image old new is made.1 from) }
+keeps_sound image (Rename old new) is made none from = record {
+  is_image = renamed-is_image image old new is made.1 from;
+  sound = renamed-is_sound image old new is made.1 from;
+  shows = (refl, renamed-shows image old new is made.1 from);
+}
 keeps_sound image Validate is made none from =
     let owning = owning_conditions-hold image none in
-    record { sound = validated-is_sound image is owning; shows = (refl, validated-shows image is owning) }
+    record {
+      is_image = validated-is_image image is owning;
+      sound = validated-is_sound image is owning;
+      shows = (refl, validated-shows image is owning);
+    }
 keeps_sound image (BlockWrite at block) is made none from = absurd from
 
 -- a file command may start from every sound image

@@ -8,8 +8,9 @@ use Rattle.d64_dos.specs.Change.{Change, Format, Write, Delete, Rename, Validate
 use Rattle.d64_dos.specs.Command.{after, reply_to, refusal_of, StartsFrom, ViewStep}
 use Rattle.d64_dos.specs.declared.command.Reply.{Reply}
 
--- the disk is sound, and shows what it did before with the command's change
+-- what is left is an image, sound, and shows what it did before with the command's change
 pub record Leaves (image : List (List ℕ)) (change : Change) (reply : Reply) (next : List (List ℕ)) : Type 0 where
+  pub is_image : IsImage next
   pub sound : IsSound next
   pub shows : ViewStep (view image) change reply (view next)
 

@@ -1,5 +1,6 @@
 -- What a line asks for, as an act of one step after another, and how an act is done.
-use Rattle.std.specs.Prelude.{◌≡◌, ℕ, List, [], ◌∷◌, Bool, true, false, if◌then◌else◌, Option, Result, MatchResult, Ok, Err, ◌⊎◌}
+use Rattle.std.specs.Prelude.{◌≡◌, ℕ, List, [], ◌∷◌, Bool, true, false, if◌then◌else◌, Option, Result, MatchResult, Ok, Err, IfOk, ◌⊎◌}
+use Rattle.d64_effects.specs.Laws.{AreBytes}
 use Rattle.petscii.specs.TextForm.{IsTextOf}
 use Rattle.d64_host.specs.Files.{Files}
 use Rattle.d64_host.specs.Host.{fault_number, Fetches, Stores, CountsDevice}
@@ -111,9 +112,10 @@ pub record Ending : Type 0 where
 abbrev pub IsSpelled : (List ℕ → Bool) → List ℕ → List ℕ → Type 0
 IsSpelled test word bytes = IsTextOf bytes word × (test bytes ≡ true)
 
--- what a host may answer to a fetch, and what it shows then
+-- what a host may answer to a fetch, and what it shows then; whatever it tells of its files, a file is made of bytes
 pub record FetchesFile (old : HostState) (name : List ℕ) (limit : ℕ) (fetched : Result (List ℕ) HostFault) (new : HostState) : Type 0 where
   pub answer : Fetches old.files name limit fetched
+  pub bytes : IfOk fetched AreBytes
   pub counted : CountsDevice old.failures new.failures fetched
   pub kept : new.files ≡ old.files
 

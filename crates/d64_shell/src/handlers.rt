@@ -16,6 +16,7 @@ use crate::arguments::{
     patterns_in,
 };
 use crate::history_text::history_text;
+use crate::host_file::fetch;
 use crate::listing_text::listing_text;
 use crate::response::{Output, Response};
 use crate::status_from::{
@@ -87,7 +88,7 @@ pub(crate) fn block_write<H: Host>(
 {
     let name = host_in(name)?;
     let at = block_in(track, sector)?;
-    match host.fetch(alloc, name, HOST_FILE_BYTES) {
+    match fetch(alloc, host, name, HOST_FILE_BYTES) {
         Ok(bytes) => write_one_block(session, at, bytes.as_slice()),
         Err(fault) => Err(of_fault(fault)),
     }
@@ -129,7 +130,7 @@ pub(crate) fn crunch<H: Host>(
 {
     let source = host_in(name)?;
     let name = name_in(alloc, name_word(name, words))?;
-    match host.fetch(alloc, source, HOST_FILE_BYTES) {
+    match fetch(alloc, host, source, HOST_FILE_BYTES) {
         Ok(text) => write_program(alloc, session, name, text.as_slice()),
         Err(fault) => Err(of_fault(fault)),
     }
@@ -405,7 +406,7 @@ pub(crate) fn write<H: Host>(
     let source = host_in(name)?;
     let (name, kind) = name_and_kind_of(name, words)?;
     let name = name_in(alloc, name)?;
-    match host.fetch(alloc, source, HOST_FILE_BYTES) {
+    match fetch(alloc, host, source, HOST_FILE_BYTES) {
         Ok(bytes) => run_command(session, &Command::Write { name, kind, bytes }),
         Err(fault) => Err(of_fault(fault)),
     }

@@ -6,6 +6,7 @@ mod command_word;
 mod entry;
 mod handlers;
 mod history_text;
+mod host_file;
 pub mod laws;
 mod line;
 mod listing_text;

@@ -3,6 +3,7 @@ ghost use Rattle.std.specs.Prelude.{◌≡◌, Ok, IfOk, IfErr, option_copied};
 ghost use Rattle.d64_shell.specs.Program.{IsFirstImage, HasNoFirstImage, RanShell, StoppedBy, outside_of, status_of};
 
 use crate::entry::{ALL_ACCEPTED, FILE_BYTES, SOME_REFUSED};
+use crate::host_file::fetch;
 use crate::program_fault::ProgramFault;
 use crate::runner::{Outcome, run};
 use d64_host::Host;
@@ -54,9 +55,7 @@ fn first_image<H: Host>(
     let Some(name) = name else {
         return Ok(Image::zeroed(alloc)?);
     };
-    let bytes = host
-        .fetch(alloc, name, FILE_BYTES)
-        .map_err(ProgramFault::of_image_file)?;
+    let bytes = fetch(alloc, host, name, FILE_BYTES).map_err(ProgramFault::of_image_file)?;
     Ok(Image::from_bytes(alloc, bytes.as_slice())?)
 }
 

@@ -6,6 +6,7 @@ ghost use Rattle.d64_shell.specs.Program.{RanToolOn, TellsAnswer, outside_of};
 ghost use Rattle.d64_shell.specs.Tools.{TellsSmallLine};
 
 use crate::entry::{ALL_ACCEPTED, FILE_BYTES, SOME_REFUSED};
+use crate::host_file::fetch;
 use crate::program_fault::ProgramFault;
 use crate::status_from::{of_basic_fault, of_list_fault};
 use crate::tools::{Tool, ToolFault};
@@ -56,7 +57,7 @@ fn write_result<R: Read, W: Write, H: Host>(
     let Some(name) = name else {
         return tool.run(alloc, reader, writer);
     };
-    match host.fetch(alloc, name, FILE_BYTES) {
+    match fetch(alloc, host, name, FILE_BYTES) {
         Ok(input) => tool.write(alloc, &input, writer),
         Err(HostFault::Memory(error)) => Err(ToolFault::Memory(error)),
         Err(HostFault::Missing | HostFault::Device | HostFault::TooLong) => Err(ToolFault::Read),

@@ -30,7 +30,7 @@ present-added history image h =
     get_or_push (take (history.cursor + 1) history.images) image [] (history.cursor + 1)
     (length-take-le (history.cursor + 1) history.images (omega arith))
 
-IsHistory-added : (history : History) (image : List (List ℕ)) → IsHistory history → IsHistory (added history image)
+pub IsHistory-added : (history : History) (image : List (List ℕ)) → IsHistory history → IsHistory (added history image)
 IsHistory-added history image h = omega (arith, length-added history image h)
 
 IsHistory-added_all : (images : List (List (List ℕ))) (history : History) → IsHistory history → IsHistory (added_all history images)
