@@ -1,32 +1,27 @@
 -- a byte made of eight bits
-use Rattle.std.proofs.Common.{◌≡◌, ℕ, zero, suc, ◌+◌, ◌-◌, ◌*◌, ◌%◌, ◌^◌, ◌<◌, ◌≤◌, if◌then◌else◌, Bool, true, false, cond, add_comm, refl, sym, ap, ◌∙◌, subst, inl, inr, arith}
+use Rattle.std.proofs.Common.{◌≡◌, ℕ, zero, suc, ◌+◌, ◌-◌, ◌*◌, ◌^◌, ◌<◌, ◌≤◌, if◌then◌else◌, Bool, true, false, cond, nat_eq, add_comm, refl, sym, ap, ◌∙◌, subst, inl, inr, arith}
 use Rattle.std.specs.List.{range_with_len, sum_by}
 use Rattle.std.specs.Int.{bit_at}
 use Rattle.std.proofs.Math.Nat.{two-pow-succ}
 use Rattle.std.proofs.lemmas.Bool.{cases_lt}
 use Rattle.std.proofs.lemmas.Nat.Bits.{bit_at_cat_low, bit_at_cat_high}
-use Rattle.d64_image.proofs.Zones.{equal_below}
 use Rattle.d64_map.proofs.Ranges.{sum_more, sum_by-range_push}
 
--- the value of a bit fits a byte
-pub bit_value : (k : ℕ) → k < 8 → 1 * 2 ^ k % 256 ≡ 2 ^ k
-bit_value k h = equal_below (λ j. 1 * 2 ^ j % 256) (λ j. 2 ^ j) 8 refl k h
-
-pub next_value : (k : ℕ) → k < 8 → 2 ^ (k + 1) ≡ 2 * 2 ^ k
-next_value k h = equal_below (λ j. 2 ^ (j + 1)) (λ j. 2 * 2 ^ j) 8 refl k h
+-- each bit has twice the value of the one before
+pub next_value : (k : ℕ) → 2 ^ (k + 1) ≡ 2 ^ k + 2 ^ k
+next_value k = let e : k + 1 ≡ suc k = omega arith in ap (λ (n : ℕ). 2 ^ n) e ∙ two-pow-succ k
 
 -- the value of the bits that are set
 abbrev pub value_of : (ℕ → Bool) → ℕ → ℕ
 value_of p b = if p b then 2 ^ b else 0
 
 -- one more bit, set or not
-pub bits_more : (p : ℕ → Bool) (k c d : ℕ) → k < 8 → c ≡ sum_by (value_of p) (range_with_len 0 k) → p k ≡ true → d ≡ c + 1 * 2 ^ k % 256
+pub bits_more : (p : ℕ → Bool) (k c d : ℕ) → c ≡ sum_by (value_of p) (range_with_len 0 k) → p k ≡ true → d ≡ c + 2 ^ k
     → d ≡ sum_by (value_of p) (range_with_len 0 (k + 1))
-bits_more p k c d h summed bit more =
+bits_more p k c d summed bit more =
     let z : 0 + k ≡ k = omega arith in
     let v : value_of p (0 + k) ≡ 2 ^ k = ap (value_of p) z ∙ ap (λ (b : Bool). cond b (2 ^ k) 0) bit in
-    let w = bit_value k h in
-    sum_more (value_of p) 0 k c d summed (more ∙ ap (λ (x : ℕ). c + x) (w ∙ sym v))
+    sum_more (value_of p) 0 k c d summed (more ∙ ap (λ (x : ℕ). c + x) (sym v))
 
 pub bits_same : (p : ℕ → Bool) (k c d : ℕ) → c ≡ sum_by (value_of p) (range_with_len 0 k) → p k ≡ false → d ≡ c
     → d ≡ sum_by (value_of p) (range_with_len 0 (k + 1))
@@ -35,8 +30,22 @@ bits_same p k c d summed bit same =
     let v : value_of p (0 + k) ≡ 0 = ap (value_of p) z ∙ ap (λ (b : Bool). cond b (2 ^ k) 0) bit in
     sum_more (value_of p) 0 k c d summed (omega arith)
 
+-- past the last bit that is set the sum stays the same
+more_past : (p : ℕ → Bool) (n more : ℕ) → ((s : ℕ) → n ≤ s → p s ≡ false) → sum_by (value_of p) (range_with_len 0 n) ≡ sum_by (value_of p) (range_with_len 0 (n + more))
+more_past p n zero none = let e : n ≡ n + 0 = omega arith in ap (λ (k : ℕ). sum_by (value_of p) (range_with_len 0 k)) e
+more_past p n (suc more) none =
+    let e : n + more + 1 ≡ n + suc more = omega arith in
+    bits_same p (n + more) _ _ (more_past p n more none) (none (n + more) (omega arith)) refl
+    ∙ ap (λ (k : ℕ). sum_by (value_of p) (range_with_len 0 k)) e
+
+pub bits_past : (p : ℕ → Bool) (n count : ℕ) → n ≤ count → ((s : ℕ) → n ≤ s → p s ≡ false)
+    → sum_by (value_of p) (range_with_len 0 n) ≡ sum_by (value_of p) (range_with_len 0 count)
+bits_past p n count some none =
+    let e : n + (count - n) ≡ count = omega arith in
+    more_past p n (count - n) none ∙ ap (λ (k : ℕ). sum_by (value_of p) (range_with_len 0 k)) e
+
 -- the value of the bits below n is below the next bit's
-sum_below : (p : ℕ → Bool) (n : ℕ) → sum_by (value_of p) (range_with_len 0 n) < 2 ^ n
+pub sum_below : (p : ℕ → Bool) (n : ℕ) → sum_by (value_of p) (range_with_len 0 n) < 2 ^ n
 sum_below p zero = omega arith
 sum_below p (suc n) =
     let e : n + 1 ≡ suc n = omega arith in
@@ -58,6 +67,10 @@ as_bit b = cond b 1 0
 value_is : (b : Bool) (v : ℕ) → cond b v 0 ≡ as_bit b * v
 value_is true v = omega arith
 value_is false v = omega arith
+
+pub bit_test : (b : Bool) → nat_eq (as_bit b) 1 ≡ b
+bit_test true = refl
+bit_test false = refl
 
 bit_of_bit : (b : Bool) → bit_at (as_bit b) 0 ≡ as_bit b
 bit_of_bit true = refl

@@ -1,6 +1,6 @@
 -- what the map that is written for a set says
-use Rattle.std.proofs.Common.{◌≡◌, ◌≢◌, ℕ, ◌+◌, ◌-◌, ◌*◌, ◌/◌, ◌%◌, ◌<◌, ◌≤◌, Bool, true, false, cond, nat_eq, List, [], length, get_or, refl, sym, ap, ◌∙◌, subst, inl, inr, arith}
-use Rattle.std.specs.List.{range_with_len}
+use Rattle.std.proofs.Common.{◌≡◌, ◌≢◌, ℕ, ◌+◌, ◌-◌, ◌*◌, ◌/◌, ◌%◌, ◌<◌, ◌≤◌, true, false, cond, nat_eq, List, [], length, get_or, refl, sym, ap, ◌∙◌, subst, inl, inr, arith}
+use Rattle.std.specs.List.{range_with_len, slice_set}
 use Rattle.std.specs.Int.{bit_at}
 use Rattle.std.specs.Ordering.{nat_cmp}
 use Rattle.std.specs.Cmp.{nat_cmp_total}
@@ -20,9 +20,9 @@ use Rattle.d64_image.proofs.Zones.{Placed, placed}
 use Rattle.d64_image.proofs.Pairs.{pair_at-counted}
 use Rattle.d64_map.specs.Track.{has_sector, blocks_on, members_on}
 use Rattle.d64_map.specs.Map.{map_block, is_free, free_blocks, CountsFit, bits_for, map_byte, is_entry, map_for, with_map}
-use Rattle.d64_map.proofs.Sectors.{has_sector-legal}
+use Rattle.d64_map.proofs.Sectors.{has_sector-legal, sectors_few}
 use Rattle.d64_map.proofs.FreeBlocks.{contains-free_blocks, contains-free_blocks-past}
-use Rattle.d64_map.proofs.Bits.{bit_at-sum, as_bit, byte_below}
+use Rattle.d64_map.proofs.Bits.{bit_at-sum, as_bit, bit_test, byte_below}
 
 entry : (place : ℕ) → 4 ≤ place → place < 144 → is_entry place ≡ true
 entry place l h = grind (arith, nat_tests)
@@ -105,6 +105,37 @@ map_byte-bits free track part place few e =
     let p : place % 4 - 1 ≡ part = omega arith in
     cond-false _ _ _ (ne_eqb (place % 4) 0 (λ z. omega arith)) ∙ ap (λ (t : ℕ). bits_for free t (8 * (place % 4 - 1))) q ∙ ap (λ (k : ℕ). bits_for free track (8 * k)) p
 
+-- a track's entry after its four bytes were written, the count first
+pub entry_written : (xs : List ℕ) (free : set.FinSet nat_cmp) (track entry count low middle high : ℕ) → length xs ≡ 256 → track < 36 → entry ≡ track
+    → count ≡ members_on free track → low ≡ bits_for free track 0 → middle ≡ bits_for free track 8 → high ≡ bits_for free track 16
+    → (place : ℕ) → place / 4 ≡ track
+    → get_or (slice_set (slice_set (slice_set (slice_set xs (4 * entry) count) (4 * entry + 1) low) (4 * entry + 2) middle) (4 * entry + 3) high) place 0 ≡ map_byte free place
+entry_written xs free track entry count low middle high long last same counted a b c place here =
+    let one : List ℕ = slice_set xs (4 * entry) count in
+    let two : List ℕ = slice_set one (4 * entry + 1) low in
+    let three : List ℕ = slice_set two (4 * entry + 2) middle in
+    let m = length-set xs (4 * entry) count in
+    let n = length-set one (4 * entry + 1) low in
+    let o = length-set two (4 * entry + 2) middle in
+    elim (cases_eq place (4 * entry + 3)) [
+      | inl e ↦ ap (λ (k : ℕ). get_or (slice_set three (4 * entry + 3) high) k 0) e ∙ get_or-set_same three (4 * entry + 3) high 0 (omega arith)
+          ∙ c ∙ sym (map_byte-bits free track 2 place (omega arith) (omega arith))
+      | inr p ↦ get_or-set_other three (4 * entry + 3) place high 0 p
+          ∙ elim (cases_eq place (4 * entry + 2)) [
+            | inl e ↦ ap (λ (k : ℕ). get_or three k 0) e ∙ get_or-set_same two (4 * entry + 2) middle 0 (omega arith)
+                ∙ b ∙ sym (map_byte-bits free track 1 place (omega arith) (omega arith))
+            | inr q ↦ get_or-set_other two (4 * entry + 2) place middle 0 q
+                ∙ elim (cases_eq place (4 * entry + 1)) [
+                  | inl e ↦ ap (λ (k : ℕ). get_or two k 0) e ∙ get_or-set_same one (4 * entry + 1) low 0 (omega arith)
+                      ∙ a ∙ sym (map_byte-bits free track 0 place (omega arith) (omega arith))
+                  | inr r ↦ get_or-set_other one (4 * entry + 1) place low 0 r
+                      ∙ (let e : place ≡ 4 * entry = omega (arith, p, q, r, here, same) in
+                         ap (λ (k : ℕ). get_or one k 0) e ∙ get_or-set_same xs (4 * entry) count 0 (omega arith)
+                         ∙ counted ∙ sym (map_byte-count free track place (omega arith)))
+                ]
+          ]
+    ]
+
 -- each bit of the byte for eight sectors
 pub bit_at-bits_for : (free : set.FinSet nat_cmp) (track first k : ℕ) → k < 8 → bit_at (bits_for free track first) k ≡ as_bit (has_sector free track (first + k))
 unfolding bits_for
@@ -124,13 +155,6 @@ placed_at block h =
     let P : ℕ × ℕ → Type 0 = λ x. (1 ≤ x.0) × (x.0 < 36) × (x.1 < sectors_on x.0) × (first_block x.0 + x.1 ≡ block) in
     let r : P (pair_at block) = subst P q (p.from_one, p.within, p.held, p.counted) in
     record { from_one = r.0; within = r.1; held = r.2; counted = r.3 }
-
-pub sectors_few : (track : ℕ) → sectors_on track < 22
-sectors_few track = grind (arith, nat_tests)
-
-bit_test : (b : Bool) → nat_eq (as_bit b) 1 ≡ b
-bit_test true = refl
-bit_test false = refl
 
 -- the bit of a block in the map that is written for a set tells whether it is a member
 pub is_free-with_map : (image : List (List ℕ)) (free : set.FinSet nat_cmp) (block : ℕ) → map_block < length image → block < BLOCKS

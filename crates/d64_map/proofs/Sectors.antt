@@ -1,5 +1,6 @@
 -- the sectors of a track and their blocks
 use Rattle.std.proofs.Common.{◌≡◌, ℕ, ◌+◌, ◌-◌, ◌<◌, ◌≤◌, false, Option, ap, ◌∙◌, arith}
+use Rattle.std.proofs.lemmas.Bool.Decides.{nat_tests}
 use Rattle.std.specs.List.{range_with_len, sum_by}
 use Rattle.std.specs.Option.{option_map_or}
 use Rattle.std.specs.Ordering.{nat_cmp}
@@ -21,6 +22,13 @@ pub has_sector-none : (blocks : set.FinSet nat_cmp) (track sector : ℕ) → sec
 unfolding has_sector
 has_sector-none blocks track sector past =
     ap (λ (o : Option ℕ). option_map_or (set.contains blocks) o false) (block_of-none track sector (λ _ _ held. omega (arith, held, past)))
+
+-- each track has sectors, and few
+pub sectors_some : (track : ℕ) → 0 < sectors_on track
+sectors_some track = grind (arith, nat_tests)
+
+pub sectors_few : (track : ℕ) → sectors_on track < 22
+sectors_few track = grind (arith, nat_tests)
 
 -- a track's blocks end where those of the next track begin
 pub first_block-next : (track : ℕ) → 1 ≤ track → first_block (track + 1) ≡ first_block track + sectors_on track

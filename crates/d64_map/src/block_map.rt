@@ -1,5 +1,5 @@
 //! The block allocation map, read and written.
-ghost use Rattle.std.specs.Prelude.{◌≡◌, ℕ, ◌+◌, ◌<◌, ◌≤◌, ◌==◌, ◌↔◌, true, false, length, IsTrue, OnOk};
+ghost use Rattle.std.specs.Prelude.{◌≡◌, ℕ, ◌+◌, ◌/◌, ◌<◌, ◌≤◌, ◌==◌, ◌↔◌, true, false, length, slice_index, IsTrue, OnOk};
 ghost use Rattle.std.specs.Int.{bit_at};
 ghost use Rattle.std.specs.FinSet as set;
 ghost use Rattle.d64_image.specs.Block.{first_block};
@@ -7,17 +7,11 @@ ghost use Rattle.d64_image.specs.BlockSet.{MembersAreBlocks};
 ghost use Rattle.d64_image.specs.Patch.{back};
 ghost use Rattle.d64_image.specs.declared.block.TheConstants.{BLOCKS};
 ghost use Rattle.d64_map.specs.Track.{members_on};
-ghost use Rattle.d64_map.specs.Map.{map_block, count_of, bit_in, is_free, free_below, free_blocks, NoneIsFreeBetween, blocks_free, CountsFit, bits_for, map_byte, with_map};
+ghost use Rattle.d64_map.specs.Map.{map_block, count_of, bit_in, is_free, free_below, free_blocks, NoneIsFreeBetween, blocks_free, CountsFit, map_byte, with_map};
 
-use crate::tracks::{DIRECTORY_TRACK, TRACKS, has_sector, members_on, sector_count};
+use crate::tracks::{DIRECTORY_TRACK, TRACKS, has_sector, member_bits, sector_count};
 use d64_image::{BLOCK_BYTES, BlockNo, BlockSet, Image, Patch};
 use std::alloc::AllocError;
-
-/// Where the first track's entry stands in the map's block. Each entry has four bytes.
-const ENTRIES_START: usize = 0x04;
-
-/// Where the last track's entry ends.
-const ENTRIES_END: usize = 0x90;
 
 /// The block in which the map stands: track 18, sector 0.
 pub fn map_block() -> BlockNo
@@ -178,32 +172,18 @@ pub fn counts_fit(image: &Image) -> bool
     true
 }
 
-/// The byte of bits for eight sectors of a track. Bits that stand for no sector are 0.
-fn bits_for(free: &BlockSet, track: u8, first: u8) -> u8
-    requires first { first < 128 }
-    ensures bits { result ≡ bits_for free.now track first }
+/// Writes a track's entry into the map's block: the count of the free blocks, and their bits.
+fn put_entry(map: &mut [u8; BLOCK_BYTES], free: &BlockSet, track: u8)
+    requires track { (1 ≤ track) × (track < 36) }
+    ensures entry { (place : ℕ) → place / 4 ≡ track → slice_index map.new place ≡ map_byte free.now place }
+    ensures others { (place : ℕ) → (place / 4 ≡ track → ⊥) → slice_index map.new place ≡ slice_index map.old place }
 {
-    let mut bits = 0;
-    for bit in 0..8 {
-        if has_sector(free, track, first + bit) {
-            bits += 1 << bit;
-        }
-    }
-    bits
-}
-
-/// The byte of the map that belongs at a place of its block.
-fn map_byte(free: &BlockSet, place: usize) -> u8
-    requires entry { (4 ≤ place) × (place < 144) }
-    ensures byte { result ≡ map_byte free.now place }
-{
-    let track = (place / 4) as u8;
-    let part = (place % 4) as u8;
-    if part == 0 {
-        members_on(free, track)
-    } else {
-        bits_for(free, track, 8 * (part - 1))
-    }
+    let bits = member_bits(free, track);
+    let entry = 4 * usize::from(track);
+    map[entry] = bits.count_ones() as u8;
+    map[entry + 1] = (bits % 256) as u8;
+    map[entry + 2] = ((bits >> 8) % 256) as u8;
+    map[entry + 3] = ((bits >> 16) % 256) as u8;
 }
 
 /// Writes the map for a set of free blocks: the count and the bits of each track. No other byte of the image changes.
@@ -219,8 +199,8 @@ pub fn put_map(image: &mut Image, patch: &mut Patch, free: &BlockSet) -> Result<
     known_length(image);
     known_members(free);
     let mut map = *image.sector(map_block());
-    for place in ENTRIES_START..ENTRIES_END {
-        map[place] = map_byte(free, place);
+    for track in 1..TRACKS + 1 {
+        put_entry(&mut map, free, track);
     }
     patch.write(image, map_block(), &map)
 }

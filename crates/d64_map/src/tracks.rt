@@ -1,7 +1,10 @@
 //! Tracks and their blocks.
-ghost use Rattle.std.specs.Prelude.{◌≡◌, ◌<◌, ◌≤◌};
-ghost use Rattle.d64_image.specs.Block.{sectors_on};
-ghost use Rattle.d64_map.specs.Track.{has_sector, members_on};
+ghost use Rattle.std.specs.Prelude.{◌≡◌, ℕ, ◌^◌, ◌<◌, ◌≤◌, if◌then◌else◌, sum_by};
+ghost use Rattle.std.specs.List.{range_with_len};
+ghost use Rattle.std.specs.FinSet as set;
+ghost use Rattle.d64_image.specs.Block.{sectors_on, first_block};
+ghost use Rattle.d64_image.specs.declared.block.TheConstants.{BLOCKS};
+ghost use Rattle.d64_map.specs.Track.{has_sector};
 
 use d64_image::{BlockNo, BlockSet};
 
@@ -34,16 +37,40 @@ pub fn has_sector(blocks: &BlockSet, track: u8, sector: u8) -> bool
     }
 }
 
-/// How many blocks of a track are members.
-pub fn members_on(blocks: &BlockSet, track: u8) -> u8
+/// The number of a track's first block.
+pub fn first_block(track: u8) -> usize
     requires track { (1 ≤ track) × (track < 36) }
-    ensures members { result ≡ members_on blocks.now track }
+    ensures first { result ≡ first_block track }
+    ensures within { result < BLOCKS }
 {
-    let mut count = 0;
+    match BlockNo::of(track, 0) {
+        Some(block) => block.index(),
+        None => 0,
+    }
+}
+
+/// Whether the block of that number is a member.
+pub fn has_block(blocks: &BlockSet, index: usize) -> bool
+    requires there { index < BLOCKS }
+    ensures { result ≡ set.contains blocks.now index }
+{
+    match BlockNo::at(index) {
+        Some(block) => blocks.has(block),
+        None => false,
+    }
+}
+
+/// The bits of a track's sectors: bit s is 1 where the block of sector s is a member. Bits that stand for no sector are 0.
+pub fn member_bits(blocks: &BlockSet, track: u8) -> u32
+    requires track { (1 ≤ track) × (track < 36) }
+    ensures bits { (count : ℕ) → sectors_on track ≤ count → result ≡ sum_by (λ s. if has_sector blocks.now track s then 2 ^ s else 0) (range_with_len 0 count) }
+{
+    let first = first_block(track);
+    let mut bits = 0;
     for sector in 0..sector_count(track) {
-        if has_sector(blocks, track, sector) {
-            count += 1;
+        if has_block(blocks, first + usize::from(sector)) {
+            bits += 1 << sector;
         }
     }
-    count
+    bits
 }

@@ -1,0 +1,13 @@
+use Rattle.d64_map.proofs.Maps.{entry_written}
+use Rattle.d64_map.proofs.TrackBits.{ones_members, low_byte, middle_byte, high_byte}
+use Rattle.d64_map.proofs.block_map.put_entry.Goals as goal
+
+pub returns-clause-entry : goal.returns-clause-entry
+returns-clause-entry c =
+    let free = c.args.free.now in
+    let track = c.args.track in
+    let bits = c.member_bits-bits.result in
+    let are = c.member_bits-bits.ensures.bits in
+    entry_written c.args.map.now free track c.from-entry.result _ _ _ _ c.told-map c.requires.track.1 c.from-entry.ensures
+    (ones_members free track bits c.requires.track.0 c.requires.track.1 are)
+    (low_byte free track bits are) (middle_byte free track bits are) (high_byte free track bits are)
