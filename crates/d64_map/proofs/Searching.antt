@@ -6,8 +6,7 @@ use Rattle.std.proofs.lemmas.Bool.{eq-eqb, ne_eqb, lt-ltb, le-ltb, cond-true, co
 use Rattle.std.proofs.lemmas.List.{take-map, drop-map}
 use Rattle.std.proofs.lemmas.List.Concat.{flat_map-append}
 use Rattle.std.proofs.lemmas.List.Folds.{find-append, flat_map-map}
-use Rattle.d64_image.specs.Block.{sectors_on, first_block, block_of, pair_at}
-use Rattle.d64_image.proofs.Pairs.{block_of-legal}
+use Rattle.d64_image.specs.Block.{sectors_on, first_block, pair_at}
 use Rattle.d64_map.specs.Track.{blocks_on}
 use Rattle.d64_map.specs.Search.{lower_tracks, upper_tracks, first_order, sector_after, rotated, tracks_after, next_order, dir_order}
 use Rattle.d64_map.specs.Side.{track_at, other_side, tracks_along, tracks_beyond}
@@ -75,27 +74,18 @@ unfolding blocks_on
 all_on track = refl
 
 -- a sector whose block passes, and one whose block fails
-pub sector_here : (p : ℕ → Bool) (track sector block end : ℕ) → 1 ≤ track → track < 36 → sector < end → end ≤ sectors_on track → Some block ≡ block_of track sector → p block ≡ true
+pub sector_here : (p : ℕ → Bool) (track sector block end : ℕ) → sector < end → block ≡ first_block track + sector → p block ≡ true
     → Some block ≡ find p (range_with_len (first_block track + sector) (end - sector))
-sector_here p track sector block end one last more held is passes =
-    let e : Some block ≡ Some (first_block track + sector) = is ∙ block_of-legal track sector one last (omega arith) in
-    let f : block ≡ first_block track + sector = cc in
-    e ∙ sym (find_here p (first_block track + sector) (end - sector) (omega arith) (ap p (sym f) ∙ passes))
+sector_here p track sector block end more is passes =
+    ap (λ (b : ℕ). Some b) is ∙ sym (find_here p (first_block track + sector) (end - sector) (omega arith) (ap p (sym is) ∙ passes))
 
-pub sector_later : (p : ℕ → Bool) (track sector block end : ℕ) → 1 ≤ track → track < 36 → sector < end → end ≤ sectors_on track → Some block ≡ block_of track sector → p block ≡ false
+pub sector_later : (p : ℕ → Bool) (track sector block end : ℕ) → sector < end → block ≡ first_block track + sector → p block ≡ false
     → find p (range_with_len (first_block track + sector) (end - sector)) ≡ find p (range_with_len (first_block track + (sector + 1)) (end - (sector + 1)))
-sector_later p track sector block end one last more held is fails =
-    let e : Some block ≡ Some (first_block track + sector) = is ∙ block_of-legal track sector one last (omega arith) in
-    let f : block ≡ first_block track + sector = cc in
+sector_later p track sector block end more is fails =
     let g : first_block track + sector + 1 ≡ first_block track + (sector + 1) = omega arith in
     let n : end - sector - 1 ≡ end - (sector + 1) = omega arith in
-    find_later p (first_block track + sector) (end - sector) (omega arith) (ap p (sym f) ∙ fails)
+    find_later p (first_block track + sector) (end - sector) (omega arith) (ap p (sym is) ∙ fails)
     ∙ ap (λ (x : ℕ). find p (range_with_len x (end - sector - 1))) g ∙ ap (λ (k : ℕ). find p (range_with_len (first_block track + (sector + 1)) k)) n
-
--- no sector of the disk is without a block
-pub sector_there : (track sector end : ℕ) → 1 ≤ track → track < 36 → sector < end → end ≤ sectors_on track → None ≡ block_of track sector → ⊥
-sector_there track sector end one last more held none =
-    let e : None ≡ Some (first_block track + sector) = none ∙ block_of-legal track sector one last (omega arith) in cc
 
 -- the blocks of tracks along a side
 along : (side : Side) (from count : ℕ) → flat_map blocks_on (tracks_along side from count) ≡ flat_map (λ distance. blocks_on (track_at side distance)) (range_with_len from count)

@@ -9,7 +9,7 @@ ghost use Rattle.d64_image.specs.declared.block.TheConstants.{BLOCKS};
 ghost use Rattle.d64_map.specs.Track.{members_on};
 ghost use Rattle.d64_map.specs.Map.{map_block, count_of, bit_in, is_free, free_below, free_blocks, NoneIsFreeBetween, blocks_free, CountsFit, map_byte, with_map};
 
-use crate::tracks::{DIRECTORY_TRACK, TRACKS, has_sector, member_bits, sector_count};
+use crate::tracks::{DIRECTORY_TRACK, TRACKS, first_block, has_block, member_bits, sector_count};
 use d64_image::{BLOCK_BYTES, BlockNo, BlockSet, Image, Patch};
 use std::alloc::AllocError;
 
@@ -96,10 +96,11 @@ fn add_free_on(free: &mut BlockSet, image: &Image, track: u8)
     requires before { free.old ≡ free_below image.now (first_block track) }
     ensures added { free.new ≡ free_below image.now (first_block (track + 1)) }
 {
+    let first = first_block(track);
     let bits = bits_on(image.sector(map_block()), track);
     for sector in 0..sector_count(track) {
         if marks_free(bits, sector) {
-            match BlockNo::of(track, sector) {
+            match BlockNo::at(first + usize::from(sector)) {
                 Some(block) => free.add(block),
                 None => {}
             }
@@ -125,10 +126,11 @@ fn none_is_free_on(image: &Image, blocks: &BlockSet, track: u8) -> bool
     ensures none { IsTrue result ↔ NoneIsFreeBetween image.now blocks.now (first_block track) (first_block (track + 1)) }
 {
     known_length(image);
+    let first = first_block(track);
     let bits = bits_on(image.sector(map_block()), track);
     for sector in 0..sector_count(track) {
         if marks_free(bits, sector) {
-            if has_sector(blocks, track, sector) {
+            if has_block(blocks, first + usize::from(sector)) {
                 return false;
             }
         }

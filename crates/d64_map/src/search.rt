@@ -7,7 +7,7 @@ ghost use Rattle.d64_map.specs.Track.{blocks_on};
 ghost use Rattle.d64_map.specs.Search.{first_order, sector_after, rotated, next_order, dir_order};
 ghost use Rattle.d64_map.specs.Side.{track_at, other_side, tracks_along, tracks_beyond};
 
-use crate::tracks::{DIRECTORY_TRACK, sector_count};
+use crate::tracks::{DIRECTORY_TRACK, first_block, sector_count};
 use d64_image::{BLOCKS, BlockNo, BlockSet};
 
 /// How many sectors further on a file's next block is looked for.
@@ -72,8 +72,9 @@ fn pick_between(free: &BlockSet, track: u8, start: u8, end: u8) -> Option<BlockN
     requires end { end ≤ sectors_on track }
     ensures { result ≡ find (set.contains free.now) (range_with_len (first_block track + start) (end - start)) }
 {
+    let first = first_block(track);
     for sector in start..end {
-        match BlockNo::of(track, sector) {
+        match BlockNo::at(first + usize::from(sector)) {
             Some(block) => {
                 if free.has(block) {
                     return Some(block);

@@ -27,16 +27,6 @@ pub fn sector_count(track: u8) -> u8
     }
 }
 
-/// Whether the disk has that sector, and its block is a member.
-pub fn has_sector(blocks: &BlockSet, track: u8, sector: u8) -> bool
-    ensures { result ≡ has_sector blocks.now track sector }
-{
-    match BlockNo::of(track, sector) {
-        Some(block) => blocks.has(block),
-        None => false,
-    }
-}
-
 /// The number of a track's first block.
 pub fn first_block(track: u8) -> usize
     requires track { (1 ≤ track) × (track < 36) }

@@ -1,8 +1,8 @@
 use Rattle.std.proofs.Common.{◌≡◌, ℕ, nat_eq, ◌+◌, ◌<◌, refl, sym, ap, ◌∙◌, arith}
-use Rattle.std.proofs.lemmas.Option.{same_Some, none-some}
 use Rattle.d64_image.specs.Block.{sectors_on, first_block}
 use Rattle.d64_image.specs.Image.{sector_at}
-use Rattle.d64_image.proofs.Pairs.{pair_at-counted, block_of-legal}
+use Rattle.d64_image.proofs.Pairs.{pair_at-counted}
+use Rattle.d64_image.proofs.Zones.{counted_below}
 use Rattle.d64_map.specs.Map.{is_free, free_below}
 use Rattle.d64_map.proofs.FreeBlocks.{bit_tells, set_more, set_same}
 use Rattle.d64_map.proofs.Sectors.{first_block-next}
@@ -17,7 +17,7 @@ loop-sector-preserved c =
     let block : ℕ = first_block track + sector in
     let held : sector < sectors_on track = omega (arith, c.sector_count-sector-end.ensures.sectors) in
     let short : sector < 24 = omega (arith, c.sector_count-sector-end.ensures.few) in
-    let place = block_of-legal track sector c.requires.track.0 c.requires.track.1 held in
+    let place = c.first_block-first.ensures.first in
     let pair = pair_at-counted track sector c.requires.track.0 c.requires.track.1 held in
     let marked =
     c.marks_free.ensures
@@ -27,10 +27,12 @@ loop-sector-preserved c =
     let next = ap (free_below image) (let e : block + 1 ≡ first_block track + (sector + 1) = omega arith in e) in
     elim c.if-marks_free.branch [
       | then-marks_free+in-Some w ↦
-          let found : w.in-Some.block ≡ block = same_Some w.in-Some.block block (sym w.in-Some.is ∙ w.of.ensures.place ∙ place) in
+          let found : w.in-Some.block ≡ block = omega (arith, w.in-Some.ensures.1, place, w.from.ensures) in
           let passes = ap (is_free image) found ∙ sym marked ∙ w.if-marks_free.true in
           set_more (is_free image) block w.in-Some.block c.loop-sector.free _ c.loop-sector.invariant found passes (w.free-is ∙ w.add.ensures.value) ∙ next
-      | then-marks_free+in-None w ↦ absurd (none-some block (sym w.in-None.is ∙ w.of.ensures.place ∙ place))
+      | then-marks_free+in-None w ↦
+          let below = counted_below track sector c.requires.track.1 held in
+          absurd (omega (arith, w.in-None.ensures, below, place, w.from.ensures))
       | else-marks_free w ↦ set_same (is_free image) block block c.loop-sector.free _ c.loop-sector.invariant refl (sym marked ∙ w.if-marks_free.false) w.free-is ∙ next
     ]
 

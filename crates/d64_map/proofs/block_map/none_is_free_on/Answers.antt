@@ -1,14 +1,21 @@
 use Rattle.std.proofs.Common.{◌≡◌, ℕ, nat_eq, ◌+◌, ◌<◌, true, false, length, refl, sym, ap, ◌∙◌, arith}
+use Rattle.std.specs.FinSet as set
 use Rattle.d64_image.specs.Block.{sectors_on, first_block}
 use Rattle.d64_image.specs.Image.{sector_at}
 use Rattle.d64_image.proofs.Zones.{counted_below}
 use Rattle.d64_map.proofs.FreeBlocks.{bit_is_member, none_more}
-use Rattle.d64_map.proofs.Sectors.{first_block-next, has_sector-legal}
+use Rattle.d64_map.proofs.Sectors.{first_block-next}
 use Rattle.d64_map.proofs.block_map.none_is_free_on.Goals as goal
-use Rattle.d64_map.proofs.block_map.none_is_free_on.Goals.{then-marks_free+else-has_sector, else-marks_free}
+use Rattle.d64_map.proofs.block_map.none_is_free_on.Goals.{then-marks_free+else-has_block, else-marks_free}
 
-pub returns-then-has_sector : goal.returns-then-has_sector
-returns-then-has_sector c =
+pub has_block-requires : goal.has_block-requires
+has_block-requires c =
+    let held : c.loop-sector.sector < sectors_on c.args.track = omega (arith, c.sector_count-sector-end.ensures.sectors) in
+    let below = counted_below c.args.track c.loop-sector.sector c.requires.track.1 held in
+    record { there = omega (arith, below, c.from.ensures, c.first_block-first.ensures.first) }
+
+pub returns-then-has_block : goal.returns-then-has_block
+returns-then-has_block c =
     let image = c.args.image.now in
     let track = c.args.track in
     let sector = c.loop-sector.sector in
@@ -21,12 +28,13 @@ returns-then-has_sector c =
     ∙ ap (λ (n : ℕ). nat_eq n 1) (c.bits_on-bits.ensures sector short)
     ∙ bit_is_member image track sector c.sector.result.now
     (c.sector.ensures.value ∙ ap (sector_at image) c.map_block.ensures) c.requires.track.0 c.requires.track.1 held there in
-    let has = c.has_sector.ensures ∙ has_sector-legal c.args.blocks.now track sector c.requires.track.0 c.requires.track.1 held in
+    let place : c.first_block-first.result + c.from.result ≡ first_block track + sector = omega (arith, c.from.ensures, c.first_block-first.ensures.first) in
+    let has = c.has_block.ensures ∙ ap (set.contains c.args.blocks.now) place in
     record {
       none = (
         λ e. absurd (cc),
         λ none.
-            let not_free = none (first_block track + sector) (omega arith) (omega arith) (sym has ∙ c.if-has_sector.true) in
+            let not_free = none (first_block track + sector) (omega arith) (omega arith) (sym has ∙ c.if-has_block.true) in
             let f : true ≡ false = sym c.if-marks_free.true ∙ bit ∙ not_free in
             absurd (cc),
       );
@@ -48,10 +56,11 @@ loop-sector-preserved c =
     (c.sector.ensures.value ∙ ap (sector_at image) c.map_block.ensures) c.requires.track.0 c.requires.track.1 held there in
     let end : first_block track + sector + 1 ≡ first_block track + (sector + 1) = omega arith in
     elim c.if-marks_free.branch [
-      | then-marks_free+else-has_sector w ↦
-          let has = w.has_sector.ensures ∙ has_sector-legal blocks track sector c.requires.track.0 c.requires.track.1 held in
+      | then-marks_free+else-has_block w ↦
+          let place : c.first_block-first.result + w.from.result ≡ first_block track + sector = omega (arith, w.from.ensures, c.first_block-first.ensures.first) in
+          let has = w.has_block.ensures ∙ ap (set.contains blocks) place in
           none_more image blocks (first_block track) (first_block track + sector) (first_block track + (sector + 1)) end c.loop-sector.invariant
-          (λ member. let f : true ≡ false = sym member ∙ sym has ∙ w.if-has_sector.false in absurd (cc))
+          (λ member. let f : true ≡ false = sym member ∙ sym has ∙ w.if-has_block.false in absurd (cc))
       | else-marks_free w ↦
           none_more image blocks (first_block track) (first_block track + sector) (first_block track + (sector + 1)) end c.loop-sector.invariant
           (λ member. sym bit ∙ w.if-marks_free.false)
