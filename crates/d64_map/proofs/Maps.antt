@@ -20,7 +20,7 @@ use Rattle.d64_image.proofs.Zones.{Placed, placed}
 use Rattle.d64_image.proofs.Pairs.{pair_at-counted}
 use Rattle.d64_map.specs.Track.{has_sector, blocks_on, members_on}
 use Rattle.d64_map.specs.Map.{map_block, is_free, free_blocks, CountsFit, bits_for, map_byte, is_entry, map_for, with_map}
-use Rattle.d64_map.proofs.Sectors.{has_sector-legal, sectors_few}
+use Rattle.d64_map.proofs.Sectors.{has_sector-legal}
 use Rattle.d64_map.proofs.FreeBlocks.{contains-free_blocks, contains-free_blocks-past}
 use Rattle.d64_map.proofs.Bits.{bit_at-sum, as_bit, bit_test, byte_below}
 
@@ -130,8 +130,8 @@ entry_written xs free track entry count low middle high long last same counted a
                       ∙ a ∙ sym (map_byte-bits free track 0 place (omega arith) (omega arith))
                   | inr r ↦ get_or-set_other one (4 * entry + 1) place low 0 r
                       ∙ (let e : place ≡ 4 * entry = omega (arith, p, q, r, here, same) in
-                         ap (λ (k : ℕ). get_or one k 0) e ∙ get_or-set_same xs (4 * entry) count 0 (omega arith)
-                         ∙ counted ∙ sym (map_byte-count free track place (omega arith)))
+                      ap (λ (k : ℕ). get_or one k 0) e ∙ get_or-set_same xs (4 * entry) count 0 (omega arith)
+                      ∙ counted ∙ sym (map_byte-count free track place (omega arith)))
                 ]
           ]
     ]
@@ -155,6 +155,9 @@ placed_at block h =
     let P : ℕ × ℕ → Type 0 = λ x. (1 ≤ x.0) × (x.0 < 36) × (x.1 < sectors_on x.0) × (first_block x.0 + x.1 ≡ block) in
     let r : P (pair_at block) = subst P q (p.from_one, p.within, p.held, p.counted) in
     record { from_one = r.0; within = r.1; held = r.2; counted = r.3 }
+
+pub sectors_few : (track : ℕ) → sectors_on track < 22
+sectors_few track = grind (arith, nat_tests)
 
 -- the bit of a block in the map that is written for a set tells whether it is a member
 pub is_free-with_map : (image : List (List ℕ)) (free : set.FinSet nat_cmp) (block : ℕ) → map_block < length image → block < BLOCKS

@@ -43,12 +43,6 @@ count_more p a n c d counted passes more =
     let t = ap tally passes in
     omega arith
 
-pub count_same : (p : ℕ → Bool) (a n c d : ℕ) → c ≡ count_by p (range_with_len a n) → p (a + n) ≡ false → d ≡ c → d ≡ count_by p (range_with_len a (n + 1))
-count_same p a n c d counted fails same =
-    let s = count_by-range_push p a n in
-    let t = ap tally fails in
-    omega arith
-
 -- one step of a sum
 pub sum_more : (f : ℕ → ℕ) (a n c d : ℕ) → c ≡ sum_by f (range_with_len a n) → d ≡ c + f (a + n) → d ≡ sum_by f (range_with_len a (n + 1))
 sum_more f a n c d summed more = let s = sum_by-range_push f a n in omega arith

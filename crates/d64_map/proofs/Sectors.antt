@@ -23,12 +23,9 @@ unfolding has_sector
 has_sector-none blocks track sector past =
     ap (λ (o : Option ℕ). option_map_or (set.contains blocks) o false) (block_of-none track sector (λ _ _ held. omega (arith, held, past)))
 
--- each track has sectors, and few
+-- each track has sectors
 pub sectors_some : (track : ℕ) → 0 < sectors_on track
 sectors_some track = grind (arith, nat_tests)
-
-pub sectors_few : (track : ℕ) → sectors_on track < 22
-sectors_few track = grind (arith, nat_tests)
 
 -- a track's blocks end where those of the next track begin
 pub first_block-next : (track : ℕ) → 1 ≤ track → first_block (track + 1) ≡ first_block track + sectors_on track

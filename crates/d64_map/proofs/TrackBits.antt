@@ -14,8 +14,9 @@ use Rattle.d64_image.specs.Block.{sectors_on, first_block}
 use Rattle.d64_map.specs.Track.{has_sector, blocks_on, members_on}
 use Rattle.d64_map.specs.Map.{bit_in, bits_for}
 use Rattle.d64_map.proofs.Ranges.{count_by-range_push, sum_by-range_push}
-use Rattle.d64_map.proofs.Sectors.{has_sector-legal, sectors_few}
+use Rattle.d64_map.proofs.Sectors.{has_sector-legal}
 use Rattle.d64_map.proofs.Bits.{value_of, sum_below, bit_at-sum, bit_test, byte_below}
+use Rattle.d64_map.proofs.Maps.{sectors_few}
 
 -- the number of three bytes, the lowest first
 three_bytes : (a b c : ℕ) → from_le_bytes w32 (a ∷ b ∷ c ∷ 0 ∷ []) ≡ (c * 2 ^ 8 + b) * 2 ^ 8 + a
