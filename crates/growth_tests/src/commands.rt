@@ -1,6 +1,6 @@
 //! Calls that change an image as a command asks, or read from it.
 
-use crate::disk::{block, disk, format, same, ten_blocks, write};
+use crate::disk::{block, changed_blocks, disk, format, same, ten_blocks, write};
 use crate::end::{Bench, End};
 use d64_dos::{Command, Refusal, Reply};
 use d64_files::{Name, Pattern, ReadFault, find};
@@ -47,7 +47,7 @@ pub fn apply(bench: &Bench, command: &str) -> Result<End, Fail> {
 /// How a command ended, by its answer, what it was lent, and the image from before.
 fn end_of(answer: Result<Reply, Refusal>, image: &Image, patch: &Patch, before: &Image) -> End {
     match answer {
-        Ok(_) => End::Changed(image.difference_count(before)),
+        Ok(_) => End::Changed(changed_blocks(image, before)),
         Err(Refusal::Memory) => End::want_of_memory(
             same(image, before) && patch.len() == 0,
             "the image is not as it was, or the patch is not empty",

@@ -2,12 +2,22 @@
 
 use d64_dos::{Command, apply};
 use d64_files::{Kind, Name};
-use d64_image::{BlockNo, Image, Patch};
+use d64_image::{BLOCK_BYTES, BlockNo, Image, Patch};
 use std::alloc::Global;
 use std::test::Fail;
 
 /// The program file `10 print"hello"`.
 pub const PROGRAM: &[u8; 17] = b"\x01\x08\x0E\x08\x0A\x00\x99\"HELLO\"\x00\x00\x00";
+
+/// How many blocks of an image are others than those of the image from before.
+pub fn changed_blocks(image: &Image, before: &Image) -> usize {
+    image
+        .bytes()
+        .chunks(BLOCK_BYTES)
+        .zip(before.bytes().chunks(BLOCK_BYTES))
+        .filter(|pair| pair.0 != pair.1)
+        .count()
+}
 
 /// The block of a track and a sector.
 pub fn block(track: u8, sector: u8) -> Result<BlockNo, Fail> {

@@ -1,6 +1,6 @@
 //! Calls of images and patches.
 
-use crate::disk::{block, disk, same};
+use crate::disk::{block, changed_blocks, disk, same};
 use crate::end::{Bench, End};
 use d64_image::{Image, ImageFault, Patch};
 use std::test::Fail;
@@ -43,7 +43,7 @@ pub fn patch_write(bench: &Bench) -> Result<End, Fail> {
     let third = block(18, 1)?;
     bench.begin()?;
     Ok(match patch.write(&mut image, third, &[1; 256]) {
-        Ok(()) => End::Changed(image.difference_count(&before)),
+        Ok(()) => End::Changed(changed_blocks(&image, &before)),
         Err(_) => End::want_of_memory(
             same(&image, &before) && patch.blocks() == kept.as_slice(),
             "the image or the patch is not as it was",

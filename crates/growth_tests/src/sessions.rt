@@ -1,7 +1,7 @@
 //! Calls of sessions.
 
 use crate::commands::{block_write, command_of};
-use crate::disk::{PROGRAM, disk, same, write};
+use crate::disk::{PROGRAM, changed_blocks, disk, same, write};
 use crate::end::{Bench, End};
 use d64_dos::Refusal;
 use d64_image::Image;
@@ -57,7 +57,7 @@ impl Beside {
 
     /// How many blocks of the image are others than at first.
     pub fn changed(&self) -> usize {
-        self.session.image().difference_count(&self.present)
+        changed_blocks(self.session.image(), &self.present)
     }
 }
 
@@ -82,7 +82,7 @@ pub fn first_block_write(bench: &Bench) -> Result<End, Fail> {
     let command = command_of(bench.alloc(), "BlockWrite")?;
     bench.begin()?;
     Ok(match session.run(&command) {
-        Ok(_) => End::Changed(session.image().difference_count(&blank)),
+        Ok(_) => End::Changed(changed_blocks(session.image(), &blank)),
         Err(Refusal::Memory) => End::want_of_memory(
             same(session.image(), &blank) && session.done() == 0 && session.undone() == 0,
             "the session is not as it was",

@@ -4,7 +4,7 @@
 ghost use Rattle.std.specs.Prelude.{◌≢◌, ◌<◌, [], length, IfOk};
 ghost use Rattle.d64_files.specs.Directory.{directory, slots};
 
-use crate::disk::{block, disk, same};
+use crate::disk::{block, changed_blocks, disk, same};
 use crate::end::{Bench, End};
 use d64_files::{
     Kind, Name, Pattern, SlotNo, clear_slot, find, grow, put_chain, put_entry, set_name,
@@ -21,7 +21,7 @@ fn end_of(
     patch: &mut Patch,
     before: &Image,
 ) -> End {
-    let changed = image.difference_count(before);
+    let changed = changed_blocks(image, before);
     patch.swap(image);
     if !same(image, before) {
         return End::Wrong("the image with the patch put back is not as it was");
