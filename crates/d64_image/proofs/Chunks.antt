@@ -10,6 +10,11 @@ empty : {X : Type 0} (xs : List X) → length xs ≡ 0 → [] ≡ xs
 empty [] h = refl
 empty (x ∷ xs) h = absurd (omega arith)
 
+-- there are as many pieces
+pub length-first_chunks : {X : Type 0} (n k : ℕ) (xs : List X) → length (first_chunks n k xs) ≡ k
+length-first_chunks n zero xs = refl
+length-first_chunks n (suc k) xs = let e = length-first_chunks n k (drop n xs) in omega arith
+
 -- the pieces joined are the list
 pub flat_map-first_chunks : {X : Type 0} (n k : ℕ) (xs : List X) → k * n ≡ length xs → flat_map (λ x. x) (first_chunks n k xs) ≡ xs
 flat_map-first_chunks n zero xs h = empty xs (omega arith)

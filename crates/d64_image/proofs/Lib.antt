@@ -1,4 +1,5 @@
 pub mod Zones
+pub mod Sizes
 pub mod Pairs
 pub mod Chunks
 pub mod Sets

@@ -25,12 +25,12 @@ get_or-tracks n i s h k =
     ∙ get_or-map-range_with_len (λ (j : ℕ). (1 + i, j)) 0 (sectors_on (1 + i)) s s (0, 0) k (omega arith)
 
 -- as many pairs stand before a track as its first block says
-pairs_before : (i : ℕ) → i < 35 → length (flat_map pairs_on (take i (range_with_len 1 35))) ≡ first_block (1 + i)
+pairs_before : (i : ℕ) → i < 40 → length (flat_map pairs_on (take i (range_with_len 1 40))) ≡ first_block (1 + i)
 unfolding first_block
-pairs_before i h = equal_below (λ j. length (flat_map pairs_on (take j (range_with_len 1 35)))) (λ j. first_block (1 + j)) 35 refl i h
+pairs_before i h = equal_below (λ j. length (flat_map pairs_on (take j (range_with_len 1 40)))) (λ j. first_block (1 + j)) 40 refl i h
 
--- there are 683 legal pairs
-pub length-pairs : length pairs ≡ 683
+-- there are 768 legal pairs
+pub length-pairs : length pairs ≡ 768
 unfolding pairs
 length-pairs = refl
 
@@ -40,13 +40,13 @@ unfolding pair_at
 at_pairs k = refl
 
 -- the block of a legal pair stands for that pair
-pair_at-after : (i s : ℕ) → i < 35 → s < sectors_on (1 + i) → pair_at (first_block (1 + i) + s) ≡ (1 + i, s)
+pair_at-after : (i s : ℕ) → i < 40 → s < sectors_on (1 + i) → pair_at (first_block (1 + i) + s) ≡ (1 + i, s)
 unfolding pair_at pairs
 pair_at-after i s h k =
-    ap (λ (x : ℕ). get_or (flat_map pairs_on (range_with_len 1 35)) (x + s) (0, 0)) (sym (pairs_before i h)) ∙ get_or-tracks 35 i s h k
+    ap (λ (x : ℕ). get_or (flat_map pairs_on (range_with_len 1 40)) (x + s) (0, 0)) (sym (pairs_before i h)) ∙ get_or-tracks 40 i s h k
 
 -- the same, by the track
-pub pair_at-counted : (t s : ℕ) → 1 ≤ t → t < 36 → s < sectors_on t → pair_at (first_block t + s) ≡ (t, s)
+pub pair_at-counted : (t s : ℕ) → 1 ≤ t → t < 41 → s < sectors_on t → pair_at (first_block t + s) ≡ (t, s)
 pair_at-counted zero s l h k = absurd (omega arith)
 pair_at-counted (suc i) s l h k =
     let e : 1 + i ≡ suc i = omega arith in
@@ -88,31 +88,31 @@ position-none xs t s nowhere =
     rw e (rw b)
 
 -- the pair at a block is legal, and the block is counted from it
-pub counted_apart : (t s k : ℕ) → k < 683 → pair_at k ≡ (t, s) → (1 ≤ t) × (t < 36) × (s < sectors_on t) × (first_block t + s ≡ k)
+pub counted_apart : (t s k : ℕ) → k < 768 → pair_at k ≡ (t, s) → (1 ≤ t) × (t < 41) × (s < sectors_on t) × (first_block t + s ≡ k)
 counted_apart t s k h e =
     let p : Placed k = placed k h in
     let q : pair_at k ≡ (p.track, p.sector) = ap pair_at (sym p.counted) ∙ pair_at-counted p.track p.sector p.from_one p.within p.held in
     let a : p.track ≡ t = ap (λ (x : ℕ × ℕ). x.0) (sym q ∙ e) in
     let b : p.sector ≡ s = ap (λ (x : ℕ × ℕ). x.1) (sym q ∙ e) in
     let one : 1 ≤ t = subst (λ (x : ℕ). 1 ≤ x) a p.from_one in
-    let last : t < 36 = subst (λ (x : ℕ). x < 36) a p.within in
+    let last : t < 41 = subst (λ (x : ℕ). x < 41) a p.within in
     (one, last, subst (λ (x : ℕ). s < sectors_on x) a (subst (λ (y : ℕ). y < sectors_on p.track) b p.held), ap (λ (x : ℕ). first_block x + s) (sym a) ∙ ap (λ (y : ℕ). first_block p.track + y) (sym b) ∙ p.counted)
 
 -- the block of a legal pair is counted from the track's first block
-pub block_of-legal : (t s : ℕ) → 1 ≤ t → t < 36 → s < sectors_on t → block_of t s ≡ Some (first_block t + s)
+pub block_of-legal : (t s : ℕ) → 1 ≤ t → t < 41 → s < sectors_on t → block_of t s ≡ Some (first_block t + s)
 unfolding block_of
 block_of-legal t s l h k =
     position-first pairs t s (first_block t + s) (subst (λ (n : ℕ). first_block t + s < n) (sym length-pairs) (counted_below t s h k)) (at_pairs (first_block t + s) ∙ pair_at-counted t s l h k)
     (λ j m e. let c = counted_apart t s j (let b = counted_below t s h k in omega arith) (sym (at_pairs j) ∙ e) in omega arith)
 
 -- a pair that is not legal has no block
-pub block_of-none : (t s : ℕ) → ((1 ≤ t) → (t < 36) → s < sectors_on t → ⊥) → block_of t s ≡ None
+pub block_of-none : (t s : ℕ) → ((1 ≤ t) → (t < 41) → s < sectors_on t → ⊥) → block_of t s ≡ None
 unfolding block_of
 block_of-none t s h =
     position-none pairs t s (λ j m e. let c = counted_apart t s j (subst (λ (n : ℕ). j < n) length-pairs m) (sym (at_pairs j) ∙ e) in h c.0 c.1 c.2)
 
 -- the block of a block's own pair is that block
-pub block_of-pair_at : (k : ℕ) → k < 683 → block_of (pair_at k).0 (pair_at k).1 ≡ Some k
+pub block_of-pair_at : (k : ℕ) → k < 768 → block_of (pair_at k).0 (pair_at k).1 ≡ Some k
 block_of-pair_at k h =
     let c = counted_apart (pair_at k).0 (pair_at k).1 k h refl in
     block_of-legal (pair_at k).0 (pair_at k).1 c.0 c.1 c.2 ∙ ap (λ (x : ℕ). Some x) c.3
@@ -140,7 +140,7 @@ is_pair-tells : (t s a b : ℕ) → is_pair t s (a, b) ≡ true → (a ≡ t) ×
 is_pair-tells t s a b h = grind (arith, nat_tests)
 
 -- a pair that has a block stands at that block
-pub block_of-some : (t s block : ℕ) → block_of t s ≡ Some block → (block < 683) × (pair_at block ≡ (t, s))
+pub block_of-some : (t s block : ℕ) → block_of t s ≡ Some block → (block < 768) × (pair_at block ≡ (t, s))
 unfolding block_of
 block_of-some t s block e =
     let found = position-Some (is_pair t s) pairs block (0, 0) e in

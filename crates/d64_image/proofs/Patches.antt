@@ -54,6 +54,13 @@ at_least (entry ∷ patch) low high (suc place) d r h =
     let g = r.0 in
     omega arith
 
+-- a kept block lies below the last that may be kept
+pub kept_below : (patch : Kept) (low high place : ℕ) (d : ℕ × List ℕ) → RisesBetween low high patch → place < length patch → (get_or patch place d).0 < high
+unfolding RisesBetween
+kept_below [] low high place d r h = absurd (omega arith)
+kept_below (entry ∷ patch) low high zero d r h = r.1
+kept_below (entry ∷ patch) low high (suc place) d r h = kept_below patch (entry.0 + 1) high place d r.2 (omega arith)
+
 -- a kept block is absent from those before it
 absent-earlier : (patch : Kept) (low high place : ℕ) (d : ℕ × List ℕ) → RisesBetween low high patch → place < length patch
     → Absent (get_or patch place d).0 (take place patch)
@@ -373,6 +380,14 @@ unfolding RisesBetween
 rises-lower [] low lower high r h = tt
 rises-lower (entry ∷ patch) low lower high r h = (let f = r.0 in omega arith, r.1, r.2)
 
+-- one block more above all
+pub rises-pushed : (patch : Kept) (low high block : ℕ) (bytes : List ℕ) → RisesBetween low block patch → low ≤ block → block < high
+    → RisesBetween low high (patch ++ (block, bytes) ∷ [])
+unfolding RisesBetween
+rises-pushed [] low high block bytes r h i = (h, i, tt)
+rises-pushed (entry ∷ patch) low high block bytes r h i =
+    let f = r.1 in (r.0, omega arith, rises-pushed patch (entry.0 + 1) high block bytes r.2 (omega arith) i)
+
 rises-cond : (t : Bool) (entry : ℕ × List ℕ) (rest : Kept) (low high : ℕ) → low ≤ entry.0 → entry.0 < high → RisesBetween (entry.0 + 1) high rest
     → RisesBetween low high (cond t (entry ∷ rest) rest)
 unfolding RisesBetween
@@ -398,6 +413,16 @@ pub with_kept-new : (patch : Kept) (block : ℕ) (bytes : List ℕ) → is_kept 
 unfolding with_kept
 with_kept-new patch block bytes e =
     ap (λ (t : Bool). cond t patch (insert patch (count_by (λ (x : ℕ × List ℕ). nat_lt x.0 block) patch) (block, bytes))) e
+
+-- and leaves the patch ascending
+pub rises-with_kept : (patch : Kept) (low high block : ℕ) (bytes : List ℕ) → RisesBetween low high patch → low ≤ block → block < high
+    → RisesBetween low high (with_kept patch block bytes)
+rises-with_kept patch low high block bytes r h i = elim (cases_Bool (is_kept patch block)) [
+  | inl t ↦ subst (RisesBetween low high) (sym (with_kept-again patch block bytes t)) r
+  | inr f ↦
+      subst (RisesBetween low high) (sym (with_kept-new patch block bytes f))
+      (rises-insert patch low high block (count_by (λ (x : ℕ × List ℕ). nat_lt x.0 block) patch) bytes r (absent patch block f) h i refl)
+]
 
 -- an image that is written through a patch can be put back as before
 pub back-written : (patch : Kept) (image : List (List ℕ)) (block : ℕ) (bytes : List ℕ)
@@ -495,3 +520,26 @@ pub back-changed : (before after : List (List ℕ)) → length before ≡ length
 unfolding changed with_bytes differ
 back-changed before after long =
     restored (length before) 0 before after after (omega arith) (omega arith) (λ k h. absurd (omega arith)) (λ k h. refl)
+
+-- what changed are blocks of the images
+changed-from : (p : ℕ → Bool) (before : List (List ℕ)) (low count high : ℕ) → high ≡ low + count
+    → RisesBetween low high (map (λ block. (block, sector_at before block)) (filter p (range_with_len low count)))
+unfolding RisesBetween
+changed-from p before low zero high e = tt
+changed-from p before low (suc count) high e = either (p low) (changed-from p before (low + 1) count high (omega arith))
+  where
+    either : (t : Bool) → RisesBetween (low + 1) high (map (λ block. (block, sector_at before block)) (filter p (range_with_len (low + 1) count)))
+        → RisesBetween low high (map (λ block. (block, sector_at before block)) (cond t (low ∷ filter p (range_with_len (low + 1) count)) (filter p (range_with_len (low + 1) count))))
+    either true rest = (omega arith, omega arith, rest)
+    either false rest = rises-lower (map (λ block. (block, sector_at before block)) (filter p (range_with_len (low + 1) count))) (low + 1) low high rest (omega arith)
+
+pub rises-changed : (before after : List (List ℕ)) → RisesBetween 0 (length before) (changed before after)
+unfolding changed
+rises-changed before after =
+    changed-from (λ block. not (pointwise nat_eq (sector_at before block) (sector_at after block))) before 0 (length before) (length before) (omega arith)
+
+-- so a patch that is a difference has blocks of the image alone
+pub rises-difference : (image : List (List ℕ)) (patch : Kept) → patch ≡ changed (back image patch) image → RisesBetween 0 (length image) patch
+rises-difference image patch e =
+    subst (λ (n : ℕ). RisesBetween 0 n patch) (length-back patch image)
+    (subst (RisesBetween 0 (length (back image patch))) (sym e) (rises-changed (back image patch) image))

@@ -3,6 +3,7 @@ use Rattle.std.proofs.Common.{◌≡◌, ℕ, zero, suc, ◌+◌, ◌-◌, ◌*�
 use Rattle.std.proofs.lemmas.Bool.Decides.{Decides-below_and, Decides-eqb, nat_tests}
 use Rattle.std.proofs.lemmas.Bool.{cases_lt}
 use Rattle.d64_image.specs.Block.{sectors_on, first_block}
+use Rattle.d64_image.specs.Laws.{EachSizeHasItsTracks}
 use Rattle.d64_image.specs.Zone.{LiesIn}
 use Rattle.d64_image.specs.declared.block.TheConstants.{TRACK_STARTS}
 
@@ -22,9 +23,9 @@ zoned t =
     cond (ltb t 18) ((t - 1) * 21) (cond (ltb t 25) (357 + (t - 18) * 19) (cond (ltb t 31) (490 + (t - 25) * 18) (598 + (t - 31) * 17)))
 
 -- that is the first block, as a test of each track shows
-first_block-zoned : (t : ℕ) → t < 37 → first_block t ≡ zoned t
+first_block-zoned : (t : ℕ) → t < 42 → first_block t ≡ zoned t
 unfolding first_block
-first_block-zoned t h = equal_below first_block zoned 37 refl t h
+first_block-zoned t h = equal_below first_block zoned 42 refl t h
 
 -- the first block of a track of each zone
 pub first_block-first_zone : (t : ℕ) → t < 18 → first_block t ≡ (t - 1) * 21
@@ -36,7 +37,7 @@ first_block-second_zone t l h = let e = first_block-zoned t (omega arith) in gri
 pub first_block-third_zone : (t : ℕ) → 25 ≤ t → t < 31 → first_block t ≡ 490 + (t - 25) * 18
 first_block-third_zone t l h = let e = first_block-zoned t (omega arith) in grind (arith, nat_tests)
 
-pub first_block-fourth_zone : (t : ℕ) → 31 ≤ t → t < 37 → first_block t ≡ 598 + (t - 31) * 17
+pub first_block-fourth_zone : (t : ℕ) → 31 ≤ t → t < 42 → first_block t ≡ 598 + (t - 31) * 17
 first_block-fourth_zone t l h = let e = first_block-zoned t (omega arith) in grind (arith, nat_tests)
 
 -- how many sectors a track of each zone has
@@ -57,7 +58,7 @@ pub record Placed (block : ℕ) : Type 0 where
   pub track : ℕ
   pub sector : ℕ
   pub from_one : 1 ≤ track
-  pub within : track < 36
+  pub within : track < 41
   pub held : sector < sectors_on track
   pub counted : first_block track + sector ≡ block
 
@@ -85,16 +86,16 @@ placed_in_third k l h =
     let s = sectors_on-third_zone (25 + j / 18) (omega arith) (omega arith) in
     record { track = 25 + j / 18; sector = j % 18; from_one = omega arith; within = omega arith; held = omega arith; counted = omega arith }
 
-placed_in_fourth : (k : ℕ) → 598 ≤ k → k < 683 → Placed k
+placed_in_fourth : (k : ℕ) → 598 ≤ k → k < 768 → Placed k
 placed_in_fourth k l h =
     let j : ℕ = k - 598 in
-    let t : j / 17 < 5 = omega arith in
+    let t : j / 17 < 10 = omega arith in
     let e = first_block-fourth_zone (31 + j / 17) (omega arith) (omega arith) in
     let s = sectors_on-fourth_zone (31 + j / 17) (omega arith) in
     record { track = 31 + j / 17; sector = j % 17; from_one = omega arith; within = omega arith; held = omega arith; counted = omega arith }
 
 -- each block has its pair
-pub placed : (k : ℕ) → k < 683 → Placed k
+pub placed : (k : ℕ) → k < 768 → Placed k
 placed k h =
     elim (cases_lt k 357) [
       | inl a ↦ placed_in_first k a
@@ -104,9 +105,9 @@ placed k h =
       ]
     ]
 
--- no track reaches past the last block
-pub counted_below : (t s : ℕ) → t < 36 → s < sectors_on t → first_block t + s < 683
-counted_below t s h k =
+-- no track below the n-th reaches past the blocks of these tracks
+pub counted_up_to : (n t s : ℕ) → 31 ≤ n → n < 42 → t < n → s < sectors_on t → first_block t + s < 598 + (n - 31) * 17
+counted_up_to n t s l m h k =
     elim (cases_lt t 18) [
       | inl a ↦ let e = first_block-first_zone t a in let n = sectors_on-first_zone t a in omega arith
       | inr a ↦ elim (cases_lt t 25) [
@@ -118,26 +119,38 @@ counted_below t s h k =
       ]
     ]
 
+-- no track reaches past the last block
+pub counted_below : (t s : ℕ) → t < 41 → s < sectors_on t → first_block t + s < 768
+counted_below t s h k = counted_up_to 41 t s (omega arith) (omega arith) h k
+
 -- each track begins at a block of the disk
-pub first_block_below : (t : ℕ) → t < 36 → first_block t < 683
+pub first_block_below : (t : ℕ) → t < 41 → first_block t < 768
 first_block_below t h = let some : 0 < sectors_on t = grind (arith, nat_tests) in let b = counted_below t 0 h some in omega arith
 
+-- an image has the blocks of its tracks
+pub all_blocks : EachSizeHasItsTracks
+unfolding first_block
+all_blocks count size = elim size [
+  | inl fewer ↦ rw fewer refl
+  | inr all ↦ rw all refl
+]
+
 -- a track ends where the next one begins
-track_end : (t : ℕ) → 1 ≤ t → t < 36 → first_block (t + 1) ≡ first_block t + sectors_on t
+track_end : (t : ℕ) → 1 ≤ t → t < 41 → first_block (t + 1) ≡ first_block t + sectors_on t
 unfolding first_block
 track_end t l h =
     let next : t + 1 ≡ t - 1 + 2 = omega arith in
     let same : t - 1 + 1 ≡ t = omega arith in
-    ap first_block next ∙ equal_below (λ k. first_block (k + 2)) (λ k. first_block (k + 1) + sectors_on (k + 1)) 35 refl (t - 1) (omega arith)
+    ap first_block next ∙ equal_below (λ k. first_block (k + 2)) (λ k. first_block (k + 1) + sectors_on (k + 1)) 40 refl (t - 1) (omega arith)
     ∙ ap (λ (n : ℕ). first_block n + sectors_on n) same
 
 -- the table tells where each track begins, and where it ends
-pub starts_at : (t place : ℕ) → place ≡ t → t < 37 → get_or TRACK_STARTS place 0 ≡ first_block t
+pub starts_at : (t place : ℕ) → place ≡ t → t < 42 → get_or TRACK_STARTS place 0 ≡ first_block t
 unfolding first_block
 starts_at t place e h =
-    ap (λ (k : ℕ). get_or TRACK_STARTS k 0) e ∙ equal_below (λ k. get_or TRACK_STARTS k 0) first_block 37 refl t h
+    ap (λ (k : ℕ). get_or TRACK_STARTS k 0) e ∙ equal_below (λ k. get_or TRACK_STARTS k 0) first_block 42 refl t h
 
-pub ends_at : (t place : ℕ) → place ≡ t → 1 ≤ t → t < 36 → get_or TRACK_STARTS (place + 1) 0 ≡ first_block t + sectors_on t
+pub ends_at : (t place : ℕ) → place ≡ t → 1 ≤ t → t < 41 → get_or TRACK_STARTS (place + 1) 0 ≡ first_block t + sectors_on t
 ends_at t place e l h = starts_at (t + 1) (place + 1) (omega arith) (omega arith) ∙ track_end t l h
 
 -- each zone's tracks lie in it
@@ -154,6 +167,6 @@ pub lies_in_third : (t : ℕ) → 25 ≤ t → t < 31 → LiesIn record { first_
 lies_in_third t l h =
     record { starts = l; within = omega arith; sectors = sym (sectors_on-third_zone t l h); few = omega arith; first = first_block-third_zone t l h }
 
-pub lies_in_fourth : (t : ℕ) → 31 ≤ t → t < 36 → LiesIn record { first_track = 31; first_block = 598; sectors = 17 } t
+pub lies_in_fourth : (t : ℕ) → 31 ≤ t → t < 41 → LiesIn record { first_track = 31; first_block = 598; sectors = 17 } t
 lies_in_fourth t l h =
     record { starts = l; within = h; sectors = sym (sectors_on-fourth_zone t l); few = omega arith; first = first_block-fourth_zone t l (omega arith) }

@@ -10,13 +10,13 @@ sectors_on track =
 abbrev pub pairs_on : ℕ → List (ℕ × ℕ)
 pairs_on track = map (λ sector. (track, sector)) (range_with_len 0 (sectors_on track))
 
--- the legal pairs of track and sector: track by track from 1 to 35, on each track by sector from 0
+-- the pairs of track and sector that a disk may have: track by track from 1 to 40, on each track by sector from 0
 unfoldable pub pairs : List (ℕ × ℕ)
-pairs = flat_map pairs_on (range_with_len 1 35)
+pairs = flat_map pairs_on (range_with_len 1 40)
 
--- the disk has that sector
+-- a disk of 40 tracks has that sector
 abbrev pub IsLegal : ℕ → ℕ → Type 0
-IsLegal track sector = (1 ≤ track) × (track < 36) × (sector < sectors_on track)
+IsLegal track sector = (1 ≤ track) × (track < 41) × (sector < sectors_on track)
 
 -- the first block of a track: as many blocks as the tracks before it have
 unfoldable pub first_block : ℕ → ℕ

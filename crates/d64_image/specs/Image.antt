@@ -1,4 +1,4 @@
-use Rattle.std.specs.Prelude.{◌≡◌, ℕ, ◌<◌, not, List, [], length, filter, All, slice_index_or, slice_set, nat_eq}
+use Rattle.std.specs.Prelude.{◌≡◌, ℕ, ◌<◌, ◌==◌, ◌||◌, ◌⊎◌, not, Bool, if◌then◌else◌, Option, Some, None, List, [], length, filter, All, slice_index_or, slice_set, nat_eq}
 use Rattle.std.specs.List.{flat_map, range_with_len}
 use Rattle.std.specs.Cmp.Lexicographic.{pointwise}
 use Rattle.d64_image.specs.declared.image.TheConstants.{BLOCK_BYTES}
@@ -7,9 +7,21 @@ use Rattle.d64_image.specs.declared.image.TheConstants.{BLOCK_BYTES}
 abbrev pub IsBlock : List ℕ → Type 0
 IsBlock bytes = (length bytes ≡ BLOCK_BYTES) × All (λ byte. byte < 256) bytes
 
--- how many blocks an image has: those of 35 tracks
+-- how many blocks an image has: those of 35 tracks or of 40
 abbrev pub IsSize : ℕ → Type 0
-IsSize count = count ≡ 683
+IsSize count = (count ≡ 683) ⊎ (count ≡ 768)
+
+-- how many tracks an image of so many blocks has
+abbrev pub tracks_of : ℕ → ℕ
+tracks_of count = if count == 768 then 40 else 35
+
+-- how many blocks an image of so many tracks has; none where no image has so many
+abbrev pub blocks_of : ℕ → Option ℕ
+blocks_of tracks = if tracks == 35 then Some 683 else (if tracks == 40 then Some 768 else None)
+
+-- so many bytes make an image: 683 blocks of 256 bytes, or 768
+abbrev pub is_image_length : ℕ → Bool
+is_image_length len = (len == 174848) || (len == 196608)
 
 -- an image is a list of so many blocks
 abbrev pub IsImage : List (List ℕ) → Type 0

@@ -5,7 +5,7 @@ use Rattle.std.specs.FinSet as set
 use Rattle.d64_image.specs.declared.block.TheConstants.{BLOCKS}
 use Rattle.d64_image.specs.Block.{IsLegal, first_block, pair_at, block_of}
 use Rattle.d64_image.specs.BlockSet.{same_members}
-use Rattle.d64_image.specs.Image.{sector_at, differences}
+use Rattle.d64_image.specs.Image.{IsSize, tracks_of, sector_at, differences}
 use Rattle.d64_image.specs.Patch.{back, changed}
 
 -- each block stands for a legal pair, and is the block of that pair
@@ -23,6 +23,10 @@ EachLegalPairHasItsBlock =
 abbrev pub OnlyLegalPairsHaveBlocks : Type 0
 OnlyLegalPairsHaveBlocks =
     (track sector block : ℕ) → block_of track sector ≡ Some block → IsLegal track sector × (block < BLOCKS) × (pair_at block ≡ (track, sector))
+
+-- an image has the blocks that come before those of the track after its last one
+abbrev pub EachSizeHasItsTracks : Type 0
+EachSizeHasItsTracks = (count : ℕ) → IsSize count → first_block (tracks_of count + 1) ≡ count
 
 -- the blocks in which two images differ are those at which their sectors differ
 abbrev pub DifferencesTell : Type 0

@@ -1,4 +1,4 @@
-use Rattle.std.specs.Prelude.{ℕ, ◌+◌, ◌<◌, ◌≤◌, ◌==◌, not, nat_lt, nat_eq, if◌then◌else◌, Bool, List, [], ◌∷◌, map, filter, fold, count_by}
+use Rattle.std.specs.Prelude.{ℕ, ◌+◌, ◌<◌, ◌≤◌, ◌==◌, not, nat_lt, nat_eq, if◌then◌else◌, Bool, List, [], ◌∷◌, length, map, filter, fold, count_by}
 use Rattle.std.specs.Cmp.Lexicographic.{pointwise}
 use Rattle.std.specs.List.{list_any, insert}
 use Rattle.d64_image.specs.declared.block.TheConstants.{BLOCKS}
@@ -13,9 +13,13 @@ unfoldable pub RisesBetween : ℕ → ℕ → Kept → Type 0
 RisesBetween low high [] = Unit {0}
 RisesBetween low high (entry ∷ patch) = (low ≤ entry.0) × (entry.0 < high) × RisesBetween (entry.0 + 1) high patch
 
--- a patch keeps blocks of an image, ascending
+-- a patch keeps blocks that a disk may have, ascending
 abbrev pub IsPatch : Kept → Type 0
 IsPatch patch = RisesBetween 0 BLOCKS patch
+
+-- a patch keeps blocks of that image
+abbrev pub IsPatchOf : List (List ℕ) → Kept → Type 0
+IsPatchOf image patch = RisesBetween 0 (length image) patch
 
 -- the image with the kept blocks put back
 unfoldable pub back : List (List ℕ) → Kept → List (List ℕ)

@@ -5,7 +5,7 @@ use Rattle.d64_image.specs.declared.block.Zone.{Zone}
 -- a track lies in a zone: it has the zone's number of sectors, and the zone's tracks before it have as many blocks as lie between
 pub record LiesIn (zone : Zone) (track : ℕ) : Type 0 where
   pub starts : zone.first_track ≤ track
-  pub within : track < 36
+  pub within : track < 41
   pub sectors : zone.sectors ≡ sectors_on track
   pub few : zone.sectors < 22
   pub first : first_block track ≡ zone.first_block + (track - zone.first_track) * zone.sectors

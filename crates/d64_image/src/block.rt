@@ -5,8 +5,8 @@ ghost use Rattle.d64_image.specs.declared.block.TheConstants.{BLOCKS};
 
 use std::marker::Model;
 
-/// How many blocks an image has: those of 35 tracks.
-pub const BLOCKS: usize = 683;
+/// How many blocks an image has at most: those of 40 tracks.
+pub const BLOCKS: usize = 768;
 
 /// Neighbouring tracks with equally many sectors each.
 #[derive(Clone, Copy)]
@@ -42,13 +42,14 @@ const ZONES: [Zone; 4] = [
 
 /// Where each track begins: its first block, by the track's number, which counts from 1. The last one is where the last
 /// track ends.
-const TRACK_STARTS: [u16; 37] = [
+const TRACK_STARTS: [u16; 42] = [
     0, 0, 21, 42, 63, 84, 105, 126, 147, 168, 189, 210, 231, 252, 273, 294, 315, 336, 357, 376,
-    395, 414, 433, 452, 471, 490, 508, 526, 544, 562, 580, 598, 615, 632, 649, 666, 683,
+    395, 414, 433, 452, 471, 490, 508, 526, 544, 562, 580, 598, 615, 632, 649, 666, 683, 700, 717,
+    734, 751, 768,
 ];
 
-/// How many tracks an image has.
-const TRACKS: u8 = 35;
+/// How many tracks an image has at most.
+pub(crate) const TRACKS: u8 = 40;
 
 impl Zone {
     ghost use Rattle.std.specs.Prelude.{◌≡◌, ◌+◌, ◌-◌, ◌/◌, ◌<◌, ◌≤◌};
@@ -78,7 +79,7 @@ impl Zone {
 ///
 /// Blocks are numbered as they lie in a D64 image: track by track from 1, on each track by sector from 0.
 /// Tracks 1 to 17 have 21 sectors, 18 to 24 have 19, 25 to 30 have 18, and 31 to 35 have 17 (the 1541 User's
-/// Guide, "Disk format"). The default is the first block.
+/// Guide, "Disk format"); so have the tracks 36 to 40 that some disks have besides. The default is the first block.
 #[derive(Clone, Copy, Debug, Default, PartialEq, Eq, PartialOrd, Ord, Hash)]
 pub struct BlockNo {
     index: u16,
@@ -98,7 +99,8 @@ impl Model for BlockNo {
 }
 
 impl BlockNo {
-    /// The block of a track (from 1) and a sector (from 0), or None where the disk has no such sector.
+    /// The block of a track (from 1) and a sector (from 0), or None where no disk has such a sector. Whether an
+    /// image has it, `Image::holds` tells.
     pub fn of(track: u8, sector: u8) -> Option<BlockNo>
         ensures place { result ≡ block_of track sector }
         ensures within { IfSome result (λ block. block < BLOCKS) }
@@ -115,7 +117,7 @@ impl BlockNo {
         }
     }
 
-    /// The block of that place in the image, from 0, or None from 683 on.
+    /// The block of that place in the image, from 0, or None from 768 on.
     pub fn at(index: usize) -> Option<BlockNo>
         ensures { SomeIff result (index < BLOCKS) index }
     {
@@ -139,7 +141,7 @@ impl BlockNo {
     /// The block's track and its sector on that track.
     fn pair(self) -> (u8, u8)
         ensures pair { result ≡ pair_at self }
-        ensures track { (1 ≤ result.0) × (result.0 < 36) }
+        ensures track { (1 ≤ result.0) × (result.0 < 41) }
         ensures sector { result.1 < 21 }
     {
         let zone = Zone::of_block(self.index);
@@ -151,11 +153,11 @@ impl BlockNo {
         )
     }
 
-    /// The block's track, from 1 to 35.
+    /// The block's track, from 1 to 40.
     pub fn track(self) -> u8
         ensures pair { result ≡ (pair_at self).0 }
         ensures from_one { 1 ≤ result }
-        ensures within { result < 36 }
+        ensures within { result < 41 }
     {
         self.pair().0
     }

@@ -1,10 +1,11 @@
 //! Images of disks.
-ghost use Rattle.std.specs.Prelude.{◌≡◌, ◌<◌, ◌*◌, ◌==◌, if◌then◌else◌, Option, Some, None, IfOk, All, replicate, length};
+ghost use Rattle.std.specs.Prelude.{◌≡◌, ◌<◌, ◌*◌, if◌then◌else◌, Option, Some, None, IfOk, IfSome, All, nat_eq, nat_lt, replicate, length};
 ghost use Rattle.std.specs.Borrow.{sem};
-ghost use Rattle.d64_image.specs.Image.{IsBlock, IsImage, bytes_of, sector_at};
-ghost use Rattle.d64_image.specs.declared.block.TheConstants.{BLOCKS};
+ghost use Rattle.std.specs.Cmp.Lexicographic.{pointwise};
+ghost use Rattle.d64_image.specs.Image.{IsBlock, IsImage, IsSize, blocks_of, bytes_of, is_image_length, sector_at, tracks_of};
 
-use crate::block::{BLOCKS, BlockNo};
+use crate::block::{BLOCKS, BlockNo, TRACKS};
+use crate::block_bytes::same_bytes;
 use std::alloc::{AllocError, AllocFailed, Global};
 use std::marker::Model;
 use thiserror::Error;
@@ -12,34 +13,38 @@ use thiserror::Error;
 /// How many bytes a block has.
 pub const BLOCK_BYTES: usize = 256;
 
-/// How many bytes an image has.
-const IMAGE_BYTES: usize = BLOCKS * BLOCK_BYTES;
+/// How many blocks an image of 35 tracks has.
+const BLOCKS_OF_35: usize = 683;
+
+/// How many tracks an image has that doesn't have all 40.
+const FEWER_TRACKS: u8 = 35;
 
 /// Why bytes make no image.
 #[derive(Clone, Debug, PartialEq, Eq, Drop, Error)]
 pub enum ImageFault {
-    /// There are this many bytes, and an image has 174,848.
-    #[error("an image has 174848 bytes, and these are {0}")]
+    /// There are this many bytes, and an image has 174,848 or 196,608.
+    #[error("an image has 174848 or 196608 bytes, and these are {0}")]
     WrongLength(usize),
     #[error("out of memory")]
     Memory(AllocError),
 }
 
-/// The content of a disk: its 683 blocks of 256 bytes, in one buffer. What is written to it goes through a `Patch`.
+/// The content of a disk: its blocks of 256 bytes, 683 on 35 tracks or 768 on 40, in one buffer. What is written to it goes
+/// through a `Patch`.
 #[derive(Debug, Drop)]
 pub struct Image {
     sectors: Vec<[u8; BLOCK_BYTES]>,
 }
 
 impl Model for Image {
-    ghost use Rattle.std.specs.Prelude.{◌≡◌, ℕ, List, length};
-    ghost use Rattle.d64_image.specs.declared.block.TheConstants.{BLOCKS};
+    ghost use Rattle.std.specs.Prelude.{ℕ, List, length};
+    ghost use Rattle.d64_image.specs.Image.{IsSize};
 
     ghost Value = { List (List ℕ) };
 
     ghost view = { λ image. image.sectors.items };
 
-    ghost invariant = { λ image. length image.sectors.items ≡ BLOCKS };
+    ghost invariant = { λ image. IsSize (length image.sectors.items) };
 }
 
 // The sectors of a slice are known to have the bytes of a block.
@@ -52,17 +57,41 @@ fn known_bytes(_bytes: &[u8])
     ensures { All (λ byte. byte < 256) _bytes.now }
 {}
 
+/// How many blocks an image of so many tracks has, or None where no image has so many.
+pub fn blocks_of(tracks: u8) -> Option<usize>
+    ensures count { result ≡ blocks_of tracks }
+    ensures size { IfSome result IsSize }
+{
+    match tracks {
+        FEWER_TRACKS => Some(BLOCKS_OF_35),
+        TRACKS => Some(BLOCKS),
+        _ => None,
+    }
+}
+
+// So many blocks, all of whose bytes are 0.
+fn blank(alloc: Global, count: usize) -> Result<Vec<[u8; BLOCK_BYTES]>, AllocError>
+    ensures { IfOk result (λ sectors. sectors.items ≡ replicate count (replicate BLOCK_BYTES 0)) }
+{
+    let mut sectors = Vec::with_capacity(alloc, count)?;
+    for _ in 0..count {
+        sectors.push([0; BLOCK_BYTES])?;
+    }
+    Ok(sectors)
+}
+
 impl Image {
     ghost use Rattle.d64_image.specs.Lending.{LendsSector};
     ghost use Rattle.d64_image.specs.ImageFault.{wrong_length};
 
-    /// The image with these bytes, as they lie in a D64 file. Refused where they are not 174,848.
+    /// The image with these bytes, as they lie in a D64 file. Refused where they are neither 174,848, as of 35
+    /// tracks, nor 196,608, as of 40.
     pub fn from_bytes(alloc: Global, bytes: &[u8]) -> Result<Image, ImageFault>
-        ensures refused { wrong_length result ≡ (if length bytes.now == BLOCKS * BLOCK_BYTES then None else Some (length bytes.now)) }
+        ensures refused { wrong_length result ≡ (if is_image_length (length bytes.now) then None else Some (length bytes.now)) }
         ensures kept { IfOk result (λ image. bytes_of image ≡ bytes.now) }
         ensures image { IfOk result IsImage }
     {
-        if bytes.len() != IMAGE_BYTES {
+        if bytes.len() != BLOCKS_OF_35 * BLOCK_BYTES && bytes.len() != BLOCKS * BLOCK_BYTES {
             return Err(ImageFault::WrongLength(bytes.len()));
         }
         known_bytes(bytes);
@@ -72,15 +101,22 @@ impl Image {
         })
     }
 
-    /// The blank image, all of whose bytes are 0.
+    /// The blank image of 35 tracks, all of whose bytes are 0.
     pub fn zeroed(alloc: Global) -> Result<Image, AllocError>
-        ensures { IfOk result (λ image. image ≡ replicate BLOCKS (replicate BLOCK_BYTES 0)) }
+        ensures { IfOk result (λ image. image ≡ replicate 683 (replicate BLOCK_BYTES 0)) }
     {
-        let mut sectors = Vec::with_capacity(alloc, BLOCKS)?;
-        for _ in 0..BLOCKS {
-            sectors.push([0; BLOCK_BYTES])?;
-        }
-        Ok(Image { sectors })
+        Ok(Image {
+            sectors: blank(alloc, BLOCKS_OF_35)?,
+        })
+    }
+
+    /// The blank image of 40 tracks, all of whose bytes are 0.
+    pub fn zeroed40(alloc: Global) -> Result<Image, AllocError>
+        ensures { IfOk result (λ image. image ≡ replicate 768 (replicate BLOCK_BYTES 0)) }
+    {
+        Ok(Image {
+            sectors: blank(alloc, BLOCKS)?,
+        })
     }
 
     /// A copy of the image.
@@ -95,7 +131,7 @@ impl Image {
     /// The image's bytes, as they lie in a D64 file.
     pub fn bytes(&self) -> &[u8]
         ensures value { result.now ≡ bytes_of self.now }
-        ensures len { length result.now ≡ BLOCKS * BLOCK_BYTES }
+        ensures len { length result.now ≡ length self.now * BLOCK_BYTES }
         ensures image { IsImage self.now }
     {
         known_lengths(self.sectors.as_slice());
@@ -104,8 +140,29 @@ impl Image {
         bytes
     }
 
-    /// The 256 bytes of a block, lent from the image's own buffer.
+    /// How many tracks the image has: 35 or 40.
+    pub fn tracks(&self) -> u8
+        ensures value { result ≡ tracks_of (length self.now) }
+        ensures size { IsSize (length self.now) }
+    {
+        if self.sectors.len() == BLOCKS {
+            TRACKS
+        } else {
+            FEWER_TRACKS
+        }
+    }
+
+    /// Whether the image has a block: all of 35 tracks are in each image, and those of tracks 36 to 40 in one of 40 tracks.
+    pub fn holds(&self, block: BlockNo) -> bool
+        ensures value { result ≡ nat_lt block (length self.now) }
+        ensures size { IsSize (length self.now) }
+    {
+        block.index() < self.sectors.len()
+    }
+
+    /// The 256 bytes of a block that the image has, lent from its own buffer.
     pub fn sector(&self, block: BlockNo) -> &[u8; BLOCK_BYTES]
+        requires { block < length self.now }
         ensures value { result.now ≡ sector_at self.now block }
         ensures block { IsBlock result.now }
     {
@@ -114,18 +171,22 @@ impl Image {
         sector
     }
 
-    // The 256 bytes of a block, to be written in place. No other block changes.
+    // The 256 bytes of a block that the image has, to be written in place. No other block changes.
     pub(crate) fn sector_mut(&mut self, block: BlockNo) -> &mut [u8; BLOCK_BYTES]
+        requires { block < length self.old }
         ensures* written { sem 𝓛 (LendsSector self.entry block result) }
         ensures value { result.now ≡ sector_at self.old block }
     {
         &mut self.sectors[block.index()]
     }
 
-    // The image is known to have all blocks of the disk.
-    pub(crate) fn known_length(&self)
-        ensures { length self.now ≡ BLOCKS }
+    /// Whether the image has a block, and that has these 256 bytes.
+    pub fn has_bytes(&self, block: BlockNo, bytes: &[u8; BLOCK_BYTES]) -> bool
+        ensures { result ≡ pointwise nat_eq bytes.now (sector_at self.now block) }
     {
-        let _ = &self.sectors;
+        match self.sectors.get(block.index()) {
+            Some(sector) => same_bytes(bytes, sector),
+            None => false,
+        }
     }
 }

@@ -3,17 +3,18 @@
 //! A caller whose proof needs a law calls the function.
 ghost use Rattle.std.specs.Prelude.{◌≡◌, length};
 ghost use Rattle.d64_image.specs.Block.{pairs};
-ghost use Rattle.d64_image.specs.Laws.{EachBlockHasItsPair, EachLegalPairHasItsBlock, OnlyLegalPairsHaveBlocks};
+ghost use Rattle.d64_image.specs.Laws.{EachBlockHasItsPair, EachLegalPairHasItsBlock, OnlyLegalPairsHaveBlocks, EachSizeHasItsTracks};
 ghost use Rattle.d64_image.specs.Laws.{EmptyPatchPutsNothingBack, ChangesPutBack, ChangesCount};
 ghost use Rattle.d64_image.specs.Laws.{DifferencesTell, AlikeImagesAreEqual, AlikeSetsAreEqual, SameMembersTells};
 ghost use Rattle.d64_image.specs.declared.block.TheConstants.{BLOCKS};
 
-/// Blocks and legal pairs of track and sector stand for one another.
+/// Blocks and legal pairs of track and sector stand for one another, and an image has the blocks of its tracks.
 pub fn blocks_stand_for_pairs()
     ensures count { length pairs ≡ BLOCKS }
     ensures pair { EachBlockHasItsPair }
     ensures block { EachLegalPairHasItsBlock }
     ensures legal { OnlyLegalPairsHaveBlocks }
+    ensures tracks { EachSizeHasItsTracks }
 {}
 
 /// The list of differences names exactly the blocks in which two images differ.

@@ -1,6 +1,6 @@
 //! Disk images of the Commodore 1541 as blocks of 256 bytes.
 //!
-//! A D64 image is the plain copy of a disk of 35 tracks: its 683 blocks, track by track (the VICE manual,
+//! A D64 image is the plain copy of a disk of 35 or 40 tracks: its 683 or 768 blocks, track by track (the VICE manual,
 //! "The D64 disk image format"). Nothing here knows what the blocks mean.
 #![tactic(auto)]
 
@@ -13,5 +13,5 @@ mod patch;
 
 pub use block::{BLOCKS, BlockNo};
 pub use block_set::BlockSet;
-pub use image::{BLOCK_BYTES, Image, ImageFault};
+pub use image::{BLOCK_BYTES, Image, ImageFault, blocks_of};
 pub use patch::Patch;

@@ -1,11 +1,10 @@
 //! Patches: blocks with the bytes that put an image back.
-ghost use Rattle.std.specs.Prelude.{◌≡◌, ◌<◌, ◌≤◌, false, [], length, nat_lt, count_by, vec_len, vec_capacity, OnOk, OnErr};
+ghost use Rattle.std.specs.Prelude.{◌≡◌, ◌<◌, ◌≤◌, ◌++◌, ◌∷◌, false, [], length, nat_lt, count_by, vec_len, vec_capacity, OnOk, OnErr};
 ghost use Rattle.d64_image.specs.declared.block.TheConstants.{BLOCKS};
 ghost use Rattle.d64_image.specs.Image.{sector_at, with_sector};
-ghost use Rattle.d64_image.specs.Patch.{IsPatch, back, changed, is_kept, with_kept, taken, trimmed};
+ghost use Rattle.d64_image.specs.Patch.{IsPatch, IsPatchOf, RisesBetween, back, changed, is_kept, with_kept, taken, trimmed};
 
 use crate::block::BlockNo;
-use crate::block_bytes::same_bytes;
 use crate::image::{BLOCK_BYTES, Image};
 use std::alloc::{AllocError, Global};
 use std::marker::Model;
@@ -105,7 +104,19 @@ impl Patch {
         Ok(())
     }
 
-    /// Writes a block into the image, and keeps the bytes that stood there if the block isn't kept yet. Refused where
+    /// Keeps a block that lies above all that are kept, with these bytes. Refused where there is no memory to keep them.
+    pub fn push(&mut self, block: BlockNo, bytes: &[u8; BLOCK_BYTES]) -> Result<(), AllocError>
+        requires above { RisesBetween 0 block self.old }
+        ensures kept { OnOk result (self.new ≡ self.old ++ (block, bytes.now) ∷ []) }
+        ensures unchanged { OnErr result (self.new ≡ self.old) }
+    {
+        let _ = block.index();
+        make_room(&mut self.kept)?;
+        self.kept.push((block, *bytes)).unwrap();
+        Ok(())
+    }
+
+    /// Writes a block that the image has, and keeps the bytes that stood there if the block isn't kept yet. Refused where
     /// there is no memory to keep them: then the block wasn't kept, and neither image nor patch is changed. A block that
     /// is kept already takes no memory.
     pub fn write(
@@ -114,12 +125,14 @@ impl Patch {
         block: BlockNo,
         bytes: &[u8; BLOCK_BYTES],
     ) -> Result<(), AllocError>
+        requires { block < length image.old }
         ensures kept { OnOk result (self.new ≡ with_kept self.old block (sector_at image.old block)) }
         ensures written { OnOk result (image.new ≡ with_sector image.old block bytes.now) }
         ensures refused { OnErr result (is_kept self.old block ≡ false) }
         ensures unchanged_patch { OnErr result (self.new ≡ self.old) }
         ensures unchanged_image { OnErr result (image.new ≡ image.old) }
         ensures back { back image.new self.new ≡ back image.old self.old }
+        ensures held { IsPatchOf image.old self.old → IsPatchOf image.new self.new }
     {
         if !self.keeps(block) {
             self.keep(block, image.sector(block))?;
@@ -128,12 +141,24 @@ impl Patch {
         Ok(())
     }
 
-    /// Exchanges the bytes of each kept block with those that the image has there. Takes no memory.
+    /// Writes the bytes of each kept block into the image, which has each of them, and goes on keeping them. Takes no memory.
+    pub fn put_back(&self, image: &mut Image)
+        requires { IsPatchOf image.old self.now }
+        ensures { image.new ≡ back image.old self.now }
+    {
+        for entry in &self.kept {
+            *image.sector_mut(entry.0) = entry.1;
+        }
+    }
+
+    /// Exchanges the bytes of each kept block with those that the image has there: it has each of them. Takes no memory.
     pub fn swap(&mut self, image: &mut Image)
+        requires { IsPatchOf image.old self.old }
         ensures image { image.new ≡ back image.old self.old }
         ensures patch { self.new ≡ taken image.old self.old }
         ensures back { back image.new self.new ≡ image.old }
         ensures changed { self.old ≡ changed image.new image.old → self.new ≡ changed image.old image.new }
+        ensures held { IsPatchOf image.new self.new }
     {
         for place in 0..self.kept.len() {
             let entry = &mut self.kept[place];
@@ -142,14 +167,15 @@ impl Patch {
     }
 
     /// Forgets the blocks whose kept bytes the image has: those in which it doesn't differ from the image with the patch
-    /// put back. Takes no memory.
+    /// put back. The image has each kept block. Takes no memory.
     pub fn trim(&mut self, image: &Image)
+        requires { IsPatchOf image.now self.old }
         ensures kept { self.new ≡ trimmed image.now self.old }
         ensures back { back image.now self.new ≡ back image.now self.old }
         ensures changed { self.new ≡ changed (back image.now self.old) image.now }
+        ensures held { IsPatchOf image.now self.new }
     {
-        image.known_length();
         self.kept
-            .retain(|entry| !same_bytes(&entry.1, image.sector(entry.0)));
+            .retain(|entry| !image.has_bytes(entry.0, &entry.1));
     }
 }

@@ -1,6 +1,6 @@
 use Rattle.std.proofs.Common.{refl}
 use Rattle.d64_image.specs.Block.{pair_at}
-use Rattle.d64_image.proofs.Zones.{counted_below}
+use Rattle.d64_image.proofs.Zones.{counted_below, all_blocks}
 use Rattle.d64_image.proofs.Pairs.{length-pairs, pair_at-counted, counted_apart, block_of-legal, block_of-pair_at, block_of-some}
 use Rattle.d64_image.proofs.laws.blocks_stand_for_pairs.Goals as goal
 
@@ -23,3 +23,6 @@ returns-clause-legal c = λ track sector block e.
     let found = block_of-some track sector block e in
     let legal = counted_apart track sector block found.0 found.1 in
     ((legal.0, legal.1, legal.2), found.0, found.1)
+
+pub returns-clause-tracks : goal.returns-clause-tracks
+returns-clause-tracks c = all_blocks

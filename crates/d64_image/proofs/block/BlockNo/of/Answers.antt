@@ -30,7 +30,7 @@ held c =
 
 pub invariant_of-result : goal.invariant_of-result
 invariant_of-result c =
-    subst (λ (n : ℕ). n < 683)
+    subst (λ (n : ℕ). n < 768)
     (sym (counted_on _ _ _ _ (starts_at c.args.track c.from-start.result c.from-start.ensures (omega arith)) c.from.ensures))
     (counted_below c.args.track c.args.sector (omega arith) (held c))
 

@@ -1,13 +1,26 @@
-use Rattle.std.proofs.Common.{◌≡◌, ◌<◌, ◌≤◌, length, refl, ap, ap₂, sym, ◌∙◌, subst, arith}
+use Rattle.std.proofs.Common.{◌≡◌, ℕ, ◌<◌, ◌≤◌, List, take, length, refl, ap, ap₂, sym, ◌∙◌, subst, arith}
 use Rattle.std.proofs.lemmas.List.{length-set, take_all}
 use Rattle.d64_image.specs.declared.block.TheConstants.{BLOCKS}
-use Rattle.d64_image.specs.Patch.{IsPatch, back, taken}
-use Rattle.d64_image.proofs.Patches.{next_entry, exchanged-image, exchanged-kept, taken-all, rises-taken, back-taken, taken-changed, length-back}
+use Rattle.d64_image.specs.Patch.{IsPatch, RisesBetween, back, taken}
+use Rattle.d64_image.proofs.Patches.{next_entry, kept_below, exchanged-image, exchanged-kept, taken-all, rises-taken, back-taken, taken-changed, length-back}
 use Rattle.d64_image.proofs.patch.Patch.swap.Goals as goal
 
 pub loop-place-init : goal.loop-place-init
 unfolding back taken
 loop-place-init c = record { image = refl; kept = refl; long = let e = c.len-place-end.ensures in omega arith }
+
+-- the image has the block that is exchanged next
+pub sector_mut-requires : goal.sector_mut-requires
+sector_mut-requires c =
+    let patch = c.self.inside.kept.items in
+    let entry = c.index_mut-entry.result.now in
+    let held = c.loop-place.invariant in
+    let within : c.loop-place.place < length patch = let h = c.loop-place-test.true in let e = c.len-place-end.ensures in omega arith in
+    let is : entry ≡ _ = next_entry patch c.loop-place.self-inside.kept.items c.args.image.now c.loop-place.place entry held.kept within c.index_mut-entry.ensures.value in
+    let most = subst (RisesBetween 0 (length c.args.image.now)) (sym c.self.view_is) c.requires in
+    let below : entry.0 < length c.args.image.now =
+    subst (λ (e : ℕ × List ℕ). e.0 < length c.args.image.now) (sym is) (kept_below patch 0 (length c.args.image.now) c.loop-place.place entry most within) in
+    subst (λ (n : ℕ). entry.0 < n) (sym (ap length held.image ∙ length-back (take c.loop-place.place patch) c.args.image.now)) below
 
 -- one block more is exchanged
 pub loop-place-preserved : goal.loop-place-preserved
@@ -51,3 +64,16 @@ returns-clause-changed c e =
     taken-all patch c.loop-place.self-inside.kept.items c.args.image.now c.loop-place.place most c.loop-place.invariant.kept
     ∙ ap (taken c.args.image.now) (c.self.view_is ∙ e)
     ∙ taken-changed c.loop-place.image c.args.image.now long
+
+-- the image has each block that is kept now
+pub returns-clause-held : goal.returns-clause-held
+returns-clause-held c =
+    let patch = c.self.inside.kept.items in
+    let image = c.args.image.now in
+    let most : length patch ≤ c.loop-place.place = let h = c.loop-place-test.false in let e = c.len-place-end.ensures in omega arith in
+    let after : c.loop-place.image ≡ back image patch = c.loop-place.invariant.image ∙ ap (back image) (take_all c.loop-place.place patch most) in
+    let held = subst (RisesBetween 0 (length image)) (sym c.self.view_is) c.requires in
+    subst (λ (n : ℕ). RisesBetween 0 n c.loop-place.self-inside.kept.items) (sym (ap length after ∙ length-back patch image))
+    (subst (RisesBetween 0 (length image))
+    (sym (taken-all patch c.loop-place.self-inside.kept.items image c.loop-place.place most c.loop-place.invariant.kept))
+    (rises-taken patch image 0 (length image) held))

@@ -1,9 +1,9 @@
-use Rattle.std.proofs.Common.{ℕ, List, nat_eq, not, ap, sym, ◌∙◌, subst, rules}
+use Rattle.std.proofs.Common.{ℕ, List, length, nat_eq, not, ap, sym, ◌∙◌, subst, rules}
 use Rattle.std.specs.Cmp.Lexicographic.{pointwise}
 use Rattle.std.proofs.lemmas.Fn.{filter_same}
 use Rattle.d64_image.specs.declared.block.TheConstants.{BLOCKS}
 use Rattle.d64_image.specs.Image.{sector_at}
-use Rattle.d64_image.specs.Patch.{IsPatch, RisesBetween, back, trimmed}
+use Rattle.d64_image.specs.Patch.{IsPatch, IsPatchOf, back, trimmed}
 use Rattle.d64_image.proofs.Patches.{rises-trimmed, back-trimmed, trimmed-changed}
 use Rattle.d64_image.proofs.patch.Patch.trim.Goals as goal
 
@@ -27,4 +27,10 @@ pub returns-clause-changed : goal.returns-clause-changed
 returns-clause-changed c =
     returns-clause-kept c
     ∙ trimmed-changed c.args.self.now c.args.image.now
-    (subst (λ (n : ℕ). RisesBetween 0 n c.args.self.now) (sym c.known_length.ensures) (subst IsPatch c.self.view_is c.self.invariant))
+    c.requires
+
+-- and are blocks of the image
+pub returns-clause-held : goal.returns-clause-held
+returns-clause-held c =
+    subst (IsPatchOf c.args.image.now) (sym (returns-clause-kept c))
+    (rises-trimmed c.args.self.now c.args.image.now 0 (length c.args.image.now) c.requires)

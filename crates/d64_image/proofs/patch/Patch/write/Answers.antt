@@ -1,7 +1,8 @@
-use Rattle.std.proofs.Common.{ap, sym, ◌∙◌}
+use Rattle.std.proofs.Common.{ℕ, length, ap, sym, ◌∙◌, subst, arith}
+use Rattle.std.proofs.lemmas.List.{length-set}
 use Rattle.d64_image.specs.Image.{sector_at, with_sector}
-use Rattle.d64_image.specs.Patch.{back, with_kept}
-use Rattle.d64_image.proofs.Patches.{with_kept-again, back-written}
+use Rattle.d64_image.specs.Patch.{IsPatchOf, RisesBetween, back, with_kept}
+use Rattle.d64_image.proofs.Patches.{with_kept-again, rises-with_kept, back-written}
 use Rattle.d64_image.proofs.patch.Patch.write.Goals as goal
 use Rattle.d64_image.proofs.patch.Patch.write.Goals.{then-not-keeps+in_ok-keep, else-not-keeps}
 
@@ -17,3 +18,11 @@ pub returns-clause-back : goal.returns-clause-back
 returns-clause-back c =
     ap (back (with_sector c.args.image.now c.args.block c.args.bytes.now)) (returns-clause-kept c)
     ∙ back-written c.args.self.now c.args.image.now c.args.block c.args.bytes.now
+
+-- the image has each kept block
+pub returns-clause-held : goal.returns-clause-held
+returns-clause-held c h =
+    let image = c.args.image.now in
+    let kept = rises-with_kept c.args.self.now 0 (length image) c.args.block (sector_at image c.args.block) h (omega arith) c.requires in
+    subst (λ (n : ℕ). RisesBetween 0 n c.if-not-keeps.self) (sym (length-set image c.args.block c.args.bytes.now))
+    (subst (IsPatchOf image) (sym (returns-clause-kept c)) kept)

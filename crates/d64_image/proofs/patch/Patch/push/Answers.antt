@@ -1,0 +1,17 @@
+use Rattle.std.proofs.Common.{◌≡◌, ◌<◌, ◌++◌, ◌∷◌, [], sym, subst, arith}
+use Rattle.d64_image.specs.declared.block.TheConstants.{BLOCKS}
+use Rattle.d64_image.specs.Patch.{IsPatch, RisesBetween}
+use Rattle.d64_image.proofs.Patches.{rises-pushed}
+use Rattle.d64_image.proofs.patch.Patch.push.Goals as goal
+
+-- the block lies above those that were kept
+pub invariant_of-self-2 : goal.invariant_of-self-2
+invariant_of-self-2 c =
+    let kept = c.self.inside.kept.items in
+    let block = c.args.block in
+    let room = c.in_ok-make_room.ensures.same in
+    let pushed = rw c.unwrap.ensures at c.push.ensures.items in
+    let all : c.push.new.self.items ≡ kept ++ (block, c.args.bytes.now) ∷ [] = cc in
+    let legal : block < BLOCKS = let v = c.index.ensures.value in let w = c.index.ensures.within in omega arith in
+    subst IsPatch (sym all)
+    (rises-pushed kept 0 BLOCKS block c.args.bytes.now (subst (RisesBetween 0 block) (sym c.self.view_is) c.requires.above) (omega arith) legal)
