@@ -68,7 +68,7 @@ bit_tells image block track sector bytes e f g =
 
 -- the bit of a sector that the disk has tells whether its block is one of the free blocks
 pub bit_is_member : (image : List (List ℕ)) (track sector : ℕ) (bytes : List ℕ) → bytes ≡ sector_at image map_block
-    → 1 ≤ track → track < 36 → sector < sectors_on track → first_block track + sector < length image
+    → 1 ≤ track → track < 41 → sector < sectors_on track → first_block track + sector < length image
     → nat_eq (bit_in bytes track sector) 1 ≡ set.contains (free_blocks image) (first_block track + sector)
 bit_is_member image track sector bytes e one last held there =
     let pair = pair_at-counted track sector one last held in

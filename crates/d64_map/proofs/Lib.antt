@@ -3,6 +3,7 @@ pub mod Sectors
 pub mod FreeBlocks
 pub mod Bits
 pub mod TrackBits
+pub mod Entries
 pub mod Maps
 pub mod Searching
 pub mod Plans

@@ -10,6 +10,7 @@ use Rattle.std.specs.FinSet.{contains-remove}
 use Rattle.std.proofs.lemmas.Bool.{cases_eq, cases_Bool, agree_below, agree_below_at, and_parts, or_cases, or_left, or_right, and_from, eq-eqb, ne_eqb, eqb-true, leb-true, ltb-true, le-leb, lt-ltb}
 use Rattle.std.proofs.lemmas.Bool.Decides.{nat_tests}
 use Rattle.std.proofs.lemmas.List.{append_assoc, take-append-drop}
+use Rattle.std.proofs.lemmas.List.Concat.{flat_map-append}
 use Rattle.std.proofs.lemmas.List.Folds.{list_any-append}
 use Rattle.std.proofs.lemmas.List.Sums.{sum_by-cons}
 use Rattle.std.proofs.lemmas.List.Elements.{All-nil, All-cons, All-weaker, recursion_from_All}
@@ -60,24 +61,24 @@ find_none p (y ∷ xs) x e among =
 
 -- a track that files may take
 abbrev is_file_track : ℕ → Bool
-is_file_track t = leb 1 t && ltb t 36 && not (eqb t 18)
+is_file_track t = leb 1 t && ltb t 41 && not (eqb t 18)
 
 record IsFileTrack (t : ℕ) : Type 0 where
   from_one : 1 ≤ t
-  within : t < 36
+  within : t < 41
   outside : t ≢ 18
 
 file_track : (t : ℕ) → is_file_track t ≡ true → IsFileTrack t
 file_track t h =
-    let a = and_parts (leb 1 t && ltb t 36) (not (eqb t 18)) h in
-    let b = and_parts (leb 1 t) (ltb t 36) a.0 in
-    record { from_one = leb-true 1 t b.0; within = ltb-true t 36 b.1; outside = λ e. let f : not (eqb t 18) ≡ false = ap not (eq-eqb t 18 e) in let g : true ≡ false = sym a.1 ∙ f in cc }
+    let a = and_parts (leb 1 t && ltb t 41) (not (eqb t 18)) h in
+    let b = and_parts (leb 1 t) (ltb t 41) a.0 in
+    record { from_one = leb-true 1 t b.0; within = ltb-true t 41 b.1; outside = λ e. let f : not (eqb t 18) ≡ false = ap not (eq-eqb t 18 e) in let g : true ≡ false = sym a.1 ∙ f in cc }
 
-is_file_track-from : (t : ℕ) → 1 ≤ t → t < 36 → t ≢ 18 → is_file_track t ≡ true
-is_file_track-from t one last outside = and_from (leb 1 t && ltb t 36) (not (eqb t 18)) (and_from (leb 1 t) (ltb t 36) (le-leb 1 t one) (lt-ltb t 36 last)) (ap not (ne_eqb t 18 outside))
+is_file_track-from : (t : ℕ) → 1 ≤ t → t < 41 → t ≢ 18 → is_file_track t ≡ true
+is_file_track-from t one last outside = and_from (leb 1 t && ltb t 41) (not (eqb t 18)) (and_from (leb 1 t) (ltb t 41) (le-leb 1 t one) (lt-ltb t 41 last)) (ap not (ne_eqb t 18 outside))
 
 -- the blocks on a track are those of that track
-on_track : (t block : ℕ) → 1 ≤ t → t < 36 → is_among (blocks_on t) block ≡ true → (block < BLOCKS) × ((pair_at block).0 ≡ t)
+on_track : (t block : ℕ) → 1 ≤ t → t < 41 → is_among (blocks_on t) block ≡ true → (block < BLOCKS) × ((pair_at block).0 ≡ t)
 unfolding blocks_on
 on_track t block one last among =
     let h = and_parts (leb (first_block t) block) (ltb block (first_block t + sectors_on t)) (sym (any-range (first_block t) (sectors_on t) block) ∙ among) in
@@ -125,7 +126,7 @@ abbrev two_tracks : ℕ → List ℕ
 two_tracks d = (18 - d) ∷ (18 + d) ∷ []
 
 first_tracks : List ℕ
-first_tracks = flat_map two_tracks (range_with_len 1 17)
+first_tracks = flat_map two_tracks (range_with_len 1 17) ++ range_with_len 36 5
 
 two_by_two : (ds : List ℕ) → flat_map (λ d. blocks_on (18 - d) ++ blocks_on (18 + d)) ds ≡ flat_map blocks_on (flat_map two_tracks ds)
 two_by_two [] = refl
@@ -135,24 +136,26 @@ two_by_two (d ∷ ds) =
 
 first_order-is : first_order ≡ flat_map blocks_on first_tracks
 unfolding first_order first_tracks
-first_order-is = two_by_two (range_with_len 1 17)
+first_order-is =
+    ap (λ (xs : List ℕ). xs ++ flat_map blocks_on (range_with_len 36 5)) (two_by_two (range_with_len 1 17))
+    ∙ sym (flat_map-append blocks_on (flat_map two_tracks (range_with_len 1 17)) (range_with_len 36 5))
 
 first_tracks-legal : list_all is_file_track first_tracks ≡ true
 unfolding first_tracks
 first_tracks-legal = refl
 
-first_tracks-all : (t : ℕ) → t < 36 → is_among first_tracks t ≡ is_file_track t
+first_tracks-all : (t : ℕ) → t < 41 → is_among first_tracks t ≡ is_file_track t
 unfolding first_tracks
-first_tracks-all t h = agree_below_at (is_among first_tracks) is_file_track 36 t refl h
+first_tracks-all t h = agree_below_at (is_among first_tracks) is_file_track 41 t refl h
 
 -- the tracks after one are all the others
-after_legal : (t : ℕ) → t < 36 → (not (is_file_track t) || list_all is_file_track (tracks_after t)) ≡ true
+after_legal : (t : ℕ) → t < 41 → (not (is_file_track t) || list_all is_file_track (tracks_after t)) ≡ true
 unfolding tracks_after lower_tracks upper_tracks
-after_legal t h = agree_below_at (λ x. not (is_file_track x) || list_all is_file_track (tracks_after x)) (λ _. true) 36 t refl h
+after_legal t h = agree_below_at (λ x. not (is_file_track x) || list_all is_file_track (tracks_after x)) (λ _. true) 41 t refl h
 
-after_all : (t : ℕ) → t < 36 → (not (is_file_track t) || agree_below (λ x. nat_eq t x || is_among (tracks_after t) x) is_file_track 36) ≡ true
+after_all : (t : ℕ) → t < 41 → (not (is_file_track t) || agree_below (λ x. nat_eq t x || is_among (tracks_after t) x) is_file_track 41) ≡ true
 unfolding tracks_after lower_tracks upper_tracks
-after_all t h = agree_below_at (λ y. not (is_file_track y) || agree_below (λ x. nat_eq y x || is_among (tracks_after y) x) is_file_track 36) (λ _. true) 36 t refl h
+after_all t h = agree_below_at (λ y. not (is_file_track y) || agree_below (λ x. nat_eq y x || is_among (tracks_after y) x) is_file_track 41) (λ _. true) 41 t refl h
 
 from_or : (a b : Bool) → a ≡ true → (not a || b) ≡ true → b ≡ true
 from_or true b e h = h
@@ -193,7 +196,7 @@ next_order-whole last h =
           let own : is_file_track t ≡ true = is_file_track-from t p.from_one p.within e in
           let a : ℕ = sector_after 10 (sectors_on t) (pair_at last).1 in
           let legal_after = from_or (is_file_track t) (list_all is_file_track (tracks_after t)) own (after_legal t p.within) in
-          let all_after = from_or (is_file_track t) (agree_below (λ x. nat_eq t x || is_among (tracks_after t) x) is_file_track 36) own (after_all t p.within) in
+          let all_after = from_or (is_file_track t) (agree_below (λ x. nat_eq t x || is_among (tracks_after t) x) is_file_track 41) own (after_all t p.within) in
           let split = λ (block : ℕ). ap (λ (xs : List ℕ). is_among xs block) (next_order-other last e)
           ∙ list_any-append (λ y. nat_eq y block) (rotated a (blocks_on t)) (flat_map blocks_on (tracks_after t))
           ∙ ap (λ (b : Bool). b || is_among (flat_map blocks_on (tracks_after t)) block) (among-rotated a block (blocks_on t)) in
@@ -205,7 +208,7 @@ next_order-whole last h =
                 ];
             whole = λ block k outside.
                 let q = placed_at block k in
-                let in_all = agree_below_at (λ x. nat_eq t x || is_among (tracks_after t) x) is_file_track 36 (pair_at block).0 all_after q.within ∙ outside in
+                let in_all = agree_below_at (λ x. nat_eq t x || is_among (tracks_after t) x) is_file_track 41 (pair_at block).0 all_after q.within ∙ outside in
                 split block
                 ∙ elim (or_cases (nat_eq t (pair_at block).0) (is_among (tracks_after t) (pair_at block).0) in_all) [
                   | inl same ↦ or_left (is_among (blocks_on t) block) (is_among (flat_map blocks_on (tracks_after t)) block) (ap (λ (x : ℕ). is_among (blocks_on x) block) (eqb-true t (pair_at block).0 same) ∙ track_holds block k)

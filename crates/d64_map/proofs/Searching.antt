@@ -9,7 +9,7 @@ use Rattle.std.proofs.lemmas.List.Folds.{find-append, flat_map-map}
 use Rattle.d64_image.specs.Block.{sectors_on, first_block, pair_at}
 use Rattle.d64_map.specs.Track.{blocks_on}
 use Rattle.d64_map.specs.Search.{lower_tracks, upper_tracks, first_order, sector_after, rotated, tracks_after, next_order, dir_order}
-use Rattle.d64_map.specs.Side.{track_at, other_side, tracks_along, tracks_beyond}
+use Rattle.d64_map.specs.Side.{track_at, other_side, reach, tracks_along, tracks_beyond}
 use Rattle.d64_map.specs.declared.search.Side.{Side}
 use Rattle.d64_map.specs.declared.search.Side.TheVariants.{Lower, Upper}
 
@@ -112,35 +112,35 @@ along_none p side distance end past =
 
 -- the blocks beyond a track of a side
 pub beyond : (side : Side) (distance : ℕ) → flat_map blocks_on (tracks_beyond side distance)
-    ≡ flat_map blocks_on (tracks_along side (distance + 1) (18 - (distance + 1))) ++ flat_map blocks_on (tracks_along (other_side side) 1 17) ++ flat_map blocks_on (tracks_along side 1 (distance - 1))
+    ≡ flat_map blocks_on (tracks_along side (distance + 1) (reach side + 1 - (distance + 1))) ++ flat_map blocks_on (tracks_along (other_side side) 1 (reach (other_side side))) ++ flat_map blocks_on (tracks_along side 1 (distance - 1))
 beyond side distance =
-    let n : 17 - distance ≡ 18 - (distance + 1) = omega arith in
-    let a = tracks_along side (distance + 1) (17 - distance) in
-    let b = tracks_along (other_side side) 1 17 in
+    let n : reach side - distance ≡ reach side + 1 - (distance + 1) = omega arith in
+    let a = tracks_along side (distance + 1) (reach side - distance) in
+    let b = tracks_along (other_side side) 1 (reach (other_side side)) in
     let c = tracks_along side 1 (distance - 1) in
     flat_map-append blocks_on (a ++ b) c ∙ ap (λ (xs : List ℕ). xs ++ flat_map blocks_on c) (flat_map-append blocks_on a b)
     ∙ ap (λ (k : ℕ). flat_map blocks_on (tracks_along side (distance + 1) k) ++ flat_map blocks_on b ++ flat_map blocks_on c) n
 
-part_along : (side : Side) (distance : ℕ) → drop distance (tracks_along side 1 17) ≡ tracks_along side (distance + 1) (17 - distance)
+part_along : (side : Side) (count distance : ℕ) → drop distance (tracks_along side 1 count) ≡ tracks_along side (distance + 1) (count - distance)
 unfolding tracks_along
-part_along side distance =
+part_along side count distance =
     let e : 1 + distance ≡ distance + 1 = omega arith in
-    drop-map (track_at side) distance (range_with_len 1 17) ∙ ap (map (track_at side)) (drop-range 1 17 distance ∙ ap (λ (a : ℕ). range_with_len a (17 - distance)) e)
+    drop-map (track_at side) distance (range_with_len 1 count) ∙ ap (map (track_at side)) (drop-range 1 count distance ∙ ap (λ (a : ℕ). range_with_len a (count - distance)) e)
 
-front_along : (side : Side) (count : ℕ) → count ≤ 17 → take count (tracks_along side 1 17) ≡ tracks_along side 1 count
+front_along : (side : Side) (all count : ℕ) → count ≤ all → take count (tracks_along side 1 all) ≡ tracks_along side 1 count
 unfolding tracks_along
-front_along side count h = take-map (track_at side) count (range_with_len 1 17) ∙ ap (map (track_at side)) (take-range 1 17 count h)
+front_along side all count h = take-map (track_at side) count (range_with_len 1 all) ∙ ap (map (track_at side)) (take-range 1 all count h)
 
 lower_is : lower_tracks ≡ tracks_along Lower 1 17
 unfolding lower_tracks tracks_along
 lower_is = refl
 
-upper_is : upper_tracks ≡ tracks_along Upper 1 17
+upper_is : upper_tracks ≡ tracks_along Upper 1 22
 unfolding upper_tracks tracks_along
 upper_is = refl
 
 -- the tracks after one are those beyond it on its side
-pub tracks_after-is : (side : Side) (track distance : ℕ) → track_at side distance ≡ track → 1 ≤ distance → distance < 18 → tracks_after track ≡ tracks_beyond side distance
+pub tracks_after-is : (side : Side) (track distance : ℕ) → track_at side distance ≡ track → 1 ≤ distance → distance ≤ reach side → tracks_after track ≡ tracks_beyond side distance
 unfolding tracks_after
 tracks_after-is Lower track distance e one last =
     let a : 18 - track ≡ distance = omega arith in
@@ -150,8 +150,8 @@ tracks_after-is Lower track distance e one last =
     ∙ ap (λ (k : ℕ). drop distance lower_tracks ++ upper_tracks ++ take k lower_tracks) b
     ∙ ap (λ (xs : List ℕ). drop distance xs ++ upper_tracks ++ take (distance - 1) xs) lower_is
     ∙ ap (λ (xs : List ℕ). drop distance (tracks_along Lower 1 17) ++ xs ++ take (distance - 1) (tracks_along Lower 1 17)) upper_is
-    ∙ ap (λ (xs : List ℕ). xs ++ tracks_along Upper 1 17 ++ take (distance - 1) (tracks_along Lower 1 17)) (part_along Lower distance)
-    ∙ ap (λ (xs : List ℕ). tracks_along Lower (distance + 1) (17 - distance) ++ tracks_along Upper 1 17 ++ xs) (front_along Lower (distance - 1) (omega arith))
+    ∙ ap (λ (xs : List ℕ). xs ++ tracks_along Upper 1 22 ++ take (distance - 1) (tracks_along Lower 1 17)) (part_along Lower 17 distance)
+    ∙ ap (λ (xs : List ℕ). tracks_along Lower (distance + 1) (17 - distance) ++ tracks_along Upper 1 22 ++ xs) (front_along Lower 17 (distance - 1) (omega arith))
 tracks_after-is Upper track distance e one last =
     let a : track - 18 ≡ distance = omega arith in
     let b : track - 19 ≡ distance - 1 = omega arith in
@@ -159,9 +159,9 @@ tracks_after-is Upper track distance e one last =
     ∙ ap (λ (k : ℕ). drop k upper_tracks ++ lower_tracks ++ take (track - 19) upper_tracks) a
     ∙ ap (λ (k : ℕ). drop distance upper_tracks ++ lower_tracks ++ take k upper_tracks) b
     ∙ ap (λ (xs : List ℕ). drop distance xs ++ lower_tracks ++ take (distance - 1) xs) upper_is
-    ∙ ap (λ (xs : List ℕ). drop distance (tracks_along Upper 1 17) ++ xs ++ take (distance - 1) (tracks_along Upper 1 17)) lower_is
-    ∙ ap (λ (xs : List ℕ). xs ++ tracks_along Lower 1 17 ++ take (distance - 1) (tracks_along Upper 1 17)) (part_along Upper distance)
-    ∙ ap (λ (xs : List ℕ). tracks_along Upper (distance + 1) (17 - distance) ++ tracks_along Lower 1 17 ++ xs) (front_along Upper (distance - 1) (omega arith))
+    ∙ ap (λ (xs : List ℕ). drop distance (tracks_along Upper 1 22) ++ xs ++ take (distance - 1) (tracks_along Upper 1 22)) lower_is
+    ∙ ap (λ (xs : List ℕ). xs ++ tracks_along Lower 1 17 ++ take (distance - 1) (tracks_along Upper 1 22)) (part_along Upper 22 distance)
+    ∙ ap (λ (xs : List ℕ). tracks_along Upper (distance + 1) (22 - distance) ++ tracks_along Lower 1 17 ++ xs) (front_along Upper 22 (distance - 1) (omega arith))
 
 -- the orders by the track of the last block
 pub next_order-directory : (last : ℕ) → (pair_at last).0 ≡ 18 → next_order last ≡ first_order

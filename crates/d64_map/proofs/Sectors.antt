@@ -11,7 +11,7 @@ use Rattle.d64_map.specs.Track.{has_sector}
 use Rattle.d64_map.proofs.Ranges.{sum_by-range_push}
 
 -- where the disk has a sector, its block decides
-pub has_sector-legal : (blocks : set.FinSet nat_cmp) (track sector : ℕ) → 1 ≤ track → track < 36 → sector < sectors_on track
+pub has_sector-legal : (blocks : set.FinSet nat_cmp) (track sector : ℕ) → 1 ≤ track → track < 41 → sector < sectors_on track
     → has_sector blocks track sector ≡ set.contains blocks (first_block track + sector)
 unfolding has_sector
 has_sector-legal blocks track sector one last held =

@@ -5,7 +5,7 @@ use Rattle.std.specs.Ordering.{nat_cmp}
 use Rattle.std.specs.FinSet as set
 use Rattle.d64_image.specs.declared.block.TheConstants.{BLOCKS}
 use Rattle.d64_image.specs.BlockSet.{MembersAreBelow}
-use Rattle.d64_image.specs.Image.{IsImage, sector_at}
+use Rattle.d64_image.specs.Image.{IsImage, tracks_of, sector_at}
 use Rattle.d64_image.specs.Block.{pair_at}
 use Rattle.d64_map.specs.Map.{map_block, is_free, free_blocks, CountsFit, is_entry, with_map}
 use Rattle.d64_map.specs.Search.{dir_order}
@@ -32,7 +32,7 @@ OnlyEntriesChange =
     → IsImage image
     → IsImage (with_map image free)
     × ((block : ℕ) → block ≢ map_block → sector_at (with_map image free) block ≡ sector_at image block)
-    × ((place : ℕ) → is_entry place ≡ false → slice_index (sector_at (with_map image free) map_block) place ≡ slice_index (sector_at image map_block) place)
+    × ((place : ℕ) → is_entry (tracks_of (length image)) place ≡ false → slice_index (sector_at (with_map image free) map_block) place ≡ slice_index (sector_at image map_block) place)
 
 -- a free block outside track 18
 abbrev pub IsFreeForFiles : set.FinSet nat_cmp → ℕ → Type 0

@@ -1,10 +1,10 @@
-use Rattle.std.specs.Prelude.{◌≡◌, ℕ, ◌+◌, ◌-◌, ◌*◌, ◌/◌, ◌%◌, ◌^◌, ◌<◌, ◌≤◌, ◌==◌, ◌&&◌, nat_lt, nat_le, not, Bool, true, false, if◌then◌else◌, List, length, map, filter, sum_by, slice_index}
+use Rattle.std.specs.Prelude.{◌≡◌, ℕ, ◌+◌, ◌-◌, ◌*◌, ◌/◌, ◌%◌, ◌^◌, ◌<◌, ◌≤◌, ◌==◌, ◌&&◌, ◌||◌, nat_lt, nat_le, not, Bool, true, false, if◌then◌else◌, List, length, map, filter, sum_by, slice_index}
 use Rattle.std.specs.List.{range_with_len}
 use Rattle.std.specs.Int.{bit_at}
 use Rattle.std.specs.Ordering.{nat_cmp}
 use Rattle.std.specs.FinSet as set
 use Rattle.d64_image.specs.Block.{pair_at}
-use Rattle.d64_image.specs.Image.{sector_at, with_sector}
+use Rattle.d64_image.specs.Image.{tracks_of, sector_at, with_sector}
 use Rattle.d64_image.specs.declared.block.TheConstants.{BLOCKS}
 use Rattle.d64_image.specs.declared.image.TheConstants.{BLOCK_BYTES}
 use Rattle.d64_map.specs.Track.{has_sector, members_on}
@@ -13,13 +13,21 @@ use Rattle.d64_map.specs.Track.{has_sector, members_on}
 abbrev pub map_block : ℕ
 map_block = 357
 
+-- where a track's entry of four bytes begins in the map's block: from $04 on, and from $C0 on for tracks 36 to 40
+unfoldable pub entry_of : ℕ → ℕ
+entry_of track = if nat_lt track 36 then 4 * track else 4 * track + 0x30
+
+-- a place belongs to a track's entry
+abbrev pub IsOfTrack : ℕ → ℕ → Type 0
+IsOfTrack track place = (entry_of track ≤ place) × (place < entry_of track + 4)
+
 -- the count byte of a track, the first of its four bytes in the map
 abbrev pub count_of : List (List ℕ) → ℕ → ℕ
-count_of image track = slice_index (sector_at image map_block) (4 * track)
+count_of image track = slice_index (sector_at image map_block) (entry_of track)
 
 -- the bit of a sector in the map's block: in the three bytes after its track's count, eight sectors a byte
 abbrev pub bit_in : List ℕ → ℕ → ℕ → ℕ
-bit_in bytes track sector = bit_at (slice_index bytes (4 * track + 1 + sector / 8)) (sector % 8)
+bit_in bytes track sector = bit_at (slice_index bytes (entry_of track + 1 + sector / 8)) (sector % 8)
 
 -- the bit of a sector in an image
 abbrev pub bit_of : List (List ℕ) → ℕ → ℕ → ℕ
@@ -52,30 +60,39 @@ NoneIsFreeBetween image members first end =
 
 -- 'blocks free': the sum of the count bytes of all tracks but 18
 unfoldable pub blocks_free : List (List ℕ) → ℕ
-blocks_free image = sum_by (count_of image) (filter (λ track. not (track == 18)) (range_with_len 1 35))
+blocks_free image = sum_by (count_of image) (filter (λ track. not (track == 18)) (range_with_len 1 (tracks_of (length image))))
 
 -- each track's count byte is the number of its blocks that the map marks free
 pub record CountsFit (image : List (List ℕ)) : Type 0 where
-  pub each : (track : ℕ) → 1 ≤ track → track < 36 → count_of image track ≡ members_on (free_blocks image) track
+  pub each : (track : ℕ) → 1 ≤ track → track ≤ tracks_of (length image) → count_of image track ≡ members_on (free_blocks image) track
 
 -- the byte of bits for eight sectors of a track, in which bit b stands for the b-th of them
 unfoldable pub bits_for : set.FinSet nat_cmp → ℕ → ℕ → ℕ
 bits_for free track first = sum_by (λ b. if has_sector free track (first + b) then 2 ^ b else 0) (range_with_len 0 8)
 
+-- the track of a place among the map's entries
+unfoldable pub entry_track : ℕ → ℕ
+entry_track place = if nat_lt place 0xC0 then place / 4 else (place - 0x30) / 4
+
 -- the byte at a place among the map's entries, for a set of free blocks: a count, or bits
 unfoldable pub map_byte : set.FinSet nat_cmp → ℕ → ℕ
 map_byte free place =
-    if place % 4 == 0 then members_on free (place / 4) else bits_for free (place / 4) (8 * (place % 4 - 1))
+    if place % 4 == 0
+    then members_on free (entry_track place)
+    else bits_for free (entry_track place) (8 * (place % 4 - 1))
 
--- whether a place in the map's block belongs to a track's entry: from $04 to $8F
-abbrev pub is_entry : ℕ → Bool
-is_entry place = nat_le 0x04 place && nat_lt place 0x90
+-- whether a place in the map's block of a disk of so many tracks belongs to a track's entry: from $04 to $8F, and on 40 tracks
+-- from $C0 to $D3 besides
+abbrev pub is_entry : ℕ → ℕ → Bool
+is_entry tracks place =
+    (nat_le 0x04 place && nat_lt place 0x90) || ((tracks == 40) && (nat_le 0xC0 place && nat_lt place 0xD4))
 
--- the map's block, rewritten for a set of free blocks: its entries are new, all its other bytes are the old ones
-unfoldable pub map_for : List ℕ → set.FinSet nat_cmp → List ℕ
-map_for bytes free =
-    map (λ place. if is_entry place then map_byte free place else slice_index bytes place) (range_with_len 0 BLOCK_BYTES)
+-- the map's block of a disk of so many tracks, rewritten for a set of free blocks: its entries are new, all its other bytes are the
+-- old ones
+unfoldable pub map_for : ℕ → List ℕ → set.FinSet nat_cmp → List ℕ
+map_for tracks bytes free =
+    map (λ place. if is_entry tracks place then map_byte free place else slice_index bytes place) (range_with_len 0 BLOCK_BYTES)
 
 -- the image whose map marks free exactly that set
 unfoldable pub with_map : List (List ℕ) → set.FinSet nat_cmp → List (List ℕ)
-with_map image free = with_sector image map_block (map_for (sector_at image map_block) free)
+with_map image free = with_sector image map_block (map_for (tracks_of (length image)) (sector_at image map_block) free)

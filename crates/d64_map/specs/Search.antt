@@ -7,14 +7,14 @@ use Rattle.d64_map.specs.Track.{blocks_on}
 unfoldable pub lower_tracks : List ℕ
 lower_tracks = map (λ distance. 18 - distance) (range_with_len 1 17)
 
--- the tracks above 18, outward from it: 19 to 35
+-- the tracks above 18, outward from it: 19 to 40
 unfoldable pub upper_tracks : List ℕ
-upper_tracks = map (λ distance. 18 + distance) (range_with_len 1 17)
+upper_tracks = map (λ distance. 18 + distance) (range_with_len 1 22)
 
--- the order for a file's first block: tracks 17, 19, 16, 20, and so on to 1, 35, on each track sectors rising
+-- the order for a file's first block: tracks 17, 19, 16, 20, and so on to 1, 35, then 36 to 40, on each track sectors rising
 unfoldable pub first_order : List ℕ
 first_order =
-    flat_map (λ distance. blocks_on (18 - distance) ++ blocks_on (18 + distance)) (range_with_len 1 17)
+    flat_map (λ distance. blocks_on (18 - distance) ++ blocks_on (18 + distance)) (range_with_len 1 17) ++ flat_map blocks_on (range_with_len 36 5)
 
 -- the sector at which the search goes on after a sector of a track: so many sectors further on, and where that is past the
 -- track's end, counted from its beginning and one less

@@ -13,6 +13,11 @@ abbrev pub other_side : Side → Side
 other_side Lower = Upper
 other_side Upper = Lower
 
+-- how many tracks a side has: below 18 those down to 1, above it those up to 40
+abbrev pub reach : Side → ℕ
+reach Lower = 17
+reach Upper = 22
+
 -- the tracks of a side at so many distances, from one on
 unfoldable pub tracks_along : Side → ℕ → ℕ → List ℕ
 tracks_along side from count = map (track_at side) (range_with_len from count)
@@ -20,4 +25,4 @@ tracks_along side from count = map (track_at side) (range_with_len from count)
 -- the tracks beyond one of a side, then the other side, and then the rest of the side up to that track
 abbrev pub tracks_beyond : Side → ℕ → List ℕ
 tracks_beyond side distance =
-    tracks_along side (distance + 1) (17 - distance) ++ tracks_along (other_side side) 1 17 ++ tracks_along side 1 (distance - 1)
+    tracks_along side (distance + 1) (reach side - distance) ++ tracks_along (other_side side) 1 (reach (other_side side)) ++ tracks_along side 1 (distance - 1)

@@ -3,15 +3,21 @@ ghost use Rattle.std.specs.Prelude.{◌≡◌, ℕ, ◌+◌, ◌/◌, ◌<◌, �
 ghost use Rattle.std.specs.Int.{bit_at};
 ghost use Rattle.std.specs.FinSet as set;
 ghost use Rattle.d64_image.specs.Block.{first_block};
-ghost use Rattle.d64_image.specs.BlockSet.{MembersAreBlocks};
-ghost use Rattle.d64_image.specs.Patch.{back};
-ghost use Rattle.d64_image.specs.declared.block.TheConstants.{BLOCKS};
+ghost use Rattle.d64_image.specs.BlockSet.{MembersAreBelow};
+ghost use Rattle.d64_image.specs.Image.{IsBlock, tracks_of, sector_at};
+ghost use Rattle.d64_image.specs.Patch.{IsPatchOf, back};
 ghost use Rattle.d64_map.specs.Track.{members_on};
-ghost use Rattle.d64_map.specs.Map.{map_block, count_of, bit_in, is_free, free_below, free_blocks, NoneIsFreeBetween, blocks_free, CountsFit, map_byte, with_map};
+ghost use Rattle.d64_map.specs.Map.{map_block, entry_of, IsOfTrack, count_of, bit_in, is_free, free_below, free_blocks, NoneIsFreeBetween, blocks_free, CountsFit, map_byte, with_map};
 
-use crate::tracks::{DIRECTORY_TRACK, TRACKS, first_block, has_block, member_bits, sector_count};
+use crate::tracks::{DIRECTORY_TRACK, first_block, has_block, member_bits, sector_count};
 use d64_image::{BLOCK_BYTES, BlockNo, BlockSet, Image, Patch};
 use std::alloc::AllocError;
+
+/// The first track whose entry in the map doesn't stand right after that of the track before it.
+const FIRST_TRACK_BEYOND: u8 = 36;
+
+/// How many bytes lie between the entries of tracks 35 and 36.
+const BEYOND: usize = 0x30;
 
 /// The block in which the map stands: track 18, sector 0.
 pub fn map_block() -> BlockNo
@@ -20,34 +26,35 @@ pub fn map_block() -> BlockNo
     BlockNo::of(DIRECTORY_TRACK, 0).unwrap()
 }
 
-// The image has as many blocks as a disk of 35 tracks.
-fn known_length(image: &Image)
-    ensures { length image.now ≡ BLOCKS }
+/// The map's block of an image.
+fn map_of(image: &Image) -> &[u8; BLOCK_BYTES]
+    ensures value { result.now ≡ sector_at image.now map_block }
+    ensures block { IsBlock result.now }
 {
-    let _ = image.bytes();
+    let _ = image.tracks();
+    image.sector(map_block())
 }
 
-// The image has each block.
-fn known_block(image: &Image, block: BlockNo)
-    ensures { block < length image.now }
+/// Where a track's entry of four bytes begins in the map's block.
+fn entry_of(track: u8) -> usize
+    requires { track < 41 }
+    ensures place { result ≡ entry_of track }
+    ensures within { result ≤ 208 }
 {
-    known_length(image);
-    let _ = block.index();
-}
-
-// The members of a set of blocks are blocks of the disk.
-fn known_members(blocks: &BlockSet)
-    ensures { MembersAreBlocks blocks.now }
-{
-    let _ = blocks.has(map_block());
+    let place = 4 * usize::from(track);
+    if track < FIRST_TRACK_BEYOND {
+        place
+    } else {
+        place + BEYOND
+    }
 }
 
 /// The bits of a track's sectors in the map's block: bit s is that of sector s.
 fn bits_on(map: &[u8; BLOCK_BYTES], track: u8) -> u32
-    requires { track < 36 }
+    requires { track < 41 }
     ensures { (sector : ℕ) → sector < 24 → bit_at result sector ≡ bit_in map.now track sector }
 {
-    let entry = 4 * usize::from(track);
+    let entry = entry_of(track);
     u32::from_le_bytes([map[entry + 1], map[entry + 2], map[entry + 3], 0])
 }
 
@@ -59,22 +66,23 @@ fn marks_free(bits: u32, sector: u8) -> bool
     (bits >> sector) & 1 == 1
 }
 
-/// Whether the map marks a block free.
+/// Whether the map marks a block of the image free.
 pub fn is_free(image: &Image, block: BlockNo) -> bool
+    requires { block < length image.now }
     ensures bit { result ≡ is_free image.now block }
     ensures member { result ≡ set.contains (free_blocks image.now) block }
 {
-    known_block(image, block);
-    let bits = bits_on(image.sector(map_block()), block.track());
+    let bits = bits_on(map_of(image), block.track());
     marks_free(bits, block.sector())
 }
 
-/// The count byte of a track: how many of its sectors are free, as the map says.
+/// The count byte of a track of the image, which counts from 1: how many of its sectors are free, as the map says.
 pub fn free_count(image: &Image, track: u8) -> u8
-    requires track { (1 ≤ track) × (track < 36) }
+    requires track { (1 ≤ track) × (track ≤ tracks_of (length image.now)) }
     ensures count { result ≡ count_of image.now track }
 {
-    image.sector(map_block())[4 * usize::from(track)]
+    let _ = image.tracks();
+    map_of(image)[entry_of(track)]
 }
 
 /// The number that a directory shows as blocks free: the sum of the count bytes of all tracks but 18.
@@ -82,7 +90,7 @@ pub fn blocks_free(image: &Image) -> u32
     ensures { result ≡ blocks_free image.now }
 {
     let mut sum = 0;
-    for track in 1..TRACKS + 1 {
+    for track in 1..image.tracks() + 1 {
         if track != DIRECTORY_TRACK {
             sum += u32::from(free_count(image, track));
         }
@@ -92,12 +100,12 @@ pub fn blocks_free(image: &Image) -> u32
 
 /// Adds the free blocks of a track to those of the tracks before it.
 fn add_free_on(free: &mut BlockSet, image: &Image, track: u8)
-    requires track { (1 ≤ track) × (track < 36) }
+    requires track { (1 ≤ track) × (track < 41) }
     requires before { free.old ≡ free_below image.now (first_block track) }
     ensures added { free.new ≡ free_below image.now (first_block (track + 1)) }
 {
     let first = first_block(track);
-    let bits = bits_on(image.sector(map_block()), track);
+    let bits = bits_on(map_of(image), track);
     for sector in 0..sector_count(track) {
         if marks_free(bits, sector) {
             match BlockNo::at(first + usize::from(sector)) {
@@ -112,9 +120,8 @@ fn add_free_on(free: &mut BlockSet, image: &Image, track: u8)
 pub fn free_set(image: &Image) -> BlockSet
     ensures { result ≡ free_blocks image.now }
 {
-    known_length(image);
     let mut free = BlockSet::empty();
-    for track in 1..TRACKS + 1 {
+    for track in 1..image.tracks() + 1 {
         add_free_on(&mut free, image, track);
     }
     free
@@ -122,12 +129,12 @@ pub fn free_set(image: &Image) -> BlockSet
 
 /// Whether the map marks none of a track's blocks free that are members.
 fn none_is_free_on(image: &Image, blocks: &BlockSet, track: u8) -> bool
-    requires track { (1 ≤ track) × (track < 36) }
+    requires track { (1 ≤ track) × (track ≤ tracks_of (length image.now)) }
     ensures none { IsTrue result ↔ NoneIsFreeBetween image.now blocks.now (first_block track) (first_block (track + 1)) }
 {
-    known_length(image);
+    let _ = image.tracks();
     let first = first_block(track);
-    let bits = bits_on(image.sector(map_block()), track);
+    let bits = bits_on(map_of(image), track);
     for sector in 0..sector_count(track) {
         if marks_free(bits, sector) {
             if has_block(blocks, first + usize::from(sector)) {
@@ -142,8 +149,7 @@ fn none_is_free_on(image: &Image, blocks: &BlockSet, track: u8) -> bool
 pub fn none_is_free(image: &Image, blocks: &BlockSet) -> bool
     ensures { IsTrue result ↔ ((block : ℕ) → set.contains blocks.now block ≡ true → set.contains (free_blocks image.now) block ≡ false) }
 {
-    known_members(blocks);
-    for track in 1..TRACKS + 1 {
+    for track in 1..image.tracks() + 1 {
         if !none_is_free_on(image, blocks, track) {
             return false;
         }
@@ -153,12 +159,12 @@ pub fn none_is_free(image: &Image, blocks: &BlockSet) -> bool
 
 /// How many blocks of a track the map marks free.
 fn free_on(image: &Image, track: u8) -> u8
-    requires track { (1 ≤ track) × (track < 36) }
+    requires track { (1 ≤ track) × (track ≤ tracks_of (length image.now)) }
     ensures free { result ≡ members_on (free_blocks image.now) track }
 {
-    known_length(image);
+    let _ = image.tracks();
     let sectors = (1 << sector_count(track)) - 1;
-    let free = bits_on(image.sector(map_block()), track) & sectors;
+    let free = bits_on(map_of(image), track) & sectors;
     free.count_ones() as u8
 }
 
@@ -166,7 +172,7 @@ fn free_on(image: &Image, track: u8) -> u8
 pub fn counts_fit(image: &Image) -> bool
     ensures { IsTrue result ↔ CountsFit image.now }
 {
-    for track in 1..TRACKS + 1 {
+    for track in 1..image.tracks() + 1 {
         if free_count(image, track) != free_on(image, track) {
             return false;
         }
@@ -176,32 +182,32 @@ pub fn counts_fit(image: &Image) -> bool
 
 /// Writes a track's entry into the map's block: the count of the free blocks, and their bits.
 fn put_entry(map: &mut [u8; BLOCK_BYTES], free: &BlockSet, track: u8)
-    requires track { (1 ≤ track) × (track < 36) }
-    ensures entry { (place : ℕ) → place / 4 ≡ track → slice_index map.new place ≡ map_byte free.now place }
-    ensures others { (place : ℕ) → (place / 4 ≡ track → ⊥) → slice_index map.new place ≡ slice_index map.old place }
+    requires track { (1 ≤ track) × (track < 41) }
+    ensures entry { (place : ℕ) → IsOfTrack track place → slice_index map.new place ≡ map_byte free.now place }
+    ensures others { (place : ℕ) → (IsOfTrack track place → ⊥) → slice_index map.new place ≡ slice_index map.old place }
 {
     let bits = member_bits(free, track);
-    let entry = 4 * usize::from(track);
+    let entry = entry_of(track);
     map[entry] = bits.count_ones() as u8;
     map[entry + 1] = (bits % 256) as u8;
     map[entry + 2] = ((bits >> 8) % 256) as u8;
     map[entry + 3] = ((bits >> 16) % 256) as u8;
 }
 
-/// Writes the map for a set of free blocks: the count and the bits of each track. No other byte of the image changes.
+/// Writes the map for a set of free blocks of the image: the count and the bits of each track. No other byte of the image changes.
 ///
 /// The patch keeps the map's block: the image with the patch put back stays the same. Refused where there is no memory
 /// to keep it.
 pub fn put_map(image: &mut Image, patch: &mut Patch, free: &BlockSet) -> Result<(), AllocError>
+    requires members { MembersAreBelow (length image.old) free.now }
     ensures written { OnOk result (image.new ≡ with_map image.old free.now) }
     ensures free { OnOk result (free_blocks image.new ≡ free.now) }
     ensures counts { OnOk result (CountsFit image.new) }
     ensures back { back image.new patch.new ≡ back image.old patch.old }
+    ensures held { IsPatchOf image.old patch.old → IsPatchOf image.new patch.new }
 {
-    known_length(image);
-    known_members(free);
-    let mut map = *image.sector(map_block());
-    for track in 1..TRACKS + 1 {
+    let mut map = *map_of(image);
+    for track in 1..image.tracks() + 1 {
         put_entry(&mut map, free, track);
     }
     patch.write(image, map_block(), &map)

@@ -1,11 +1,11 @@
 //! The order in which free blocks are searched.
-ghost use Rattle.std.specs.Prelude.{◌≡◌, ◌+◌, ◌-◌, ◌<◌, ◌≤◌, ◌==◌, ◌&&◌, find};
+ghost use Rattle.std.specs.Prelude.{◌≡◌, ◌+◌, ◌-◌, ◌<◌, ◌≤◌, ◌==◌, ◌&&◌, ◌++◌, find};
 ghost use Rattle.std.specs.List.{range_with_len, flat_map};
 ghost use Rattle.std.specs.FinSet as set;
 ghost use Rattle.d64_image.specs.Block.{sectors_on, first_block};
 ghost use Rattle.d64_map.specs.Track.{blocks_on};
 ghost use Rattle.d64_map.specs.Search.{first_order, sector_after, rotated, next_order, dir_order};
-ghost use Rattle.d64_map.specs.Side.{track_at, other_side, tracks_along, tracks_beyond};
+ghost use Rattle.d64_map.specs.Side.{track_at, other_side, reach, tracks_along, tracks_beyond};
 
 use crate::tracks::{DIRECTORY_TRACK, first_block, sector_count};
 use d64_image::{BLOCKS, BlockNo, BlockSet};
@@ -16,8 +16,11 @@ const FILE_INTERLEAVE: u8 = 10;
 /// How many sectors further on the directory's next block is looked for.
 const DIRECTORY_INTERLEAVE: u8 = 3;
 
-/// One more than the distance of the outermost tracks from track 18.
-const DISTANCE_END: u8 = 18;
+/// How far track 1 lies from track 18, and on the other side track 35.
+const LOWER_REACH: u8 = 17;
+
+/// How far track 40 lies from track 18.
+const UPPER_REACH: u8 = 22;
 
 /// A side of track 18.
 #[derive(Clone, Copy)]
@@ -31,10 +34,10 @@ enum Side {
 impl Side {
     /// The side of a track other than 18, and the track's distance from 18.
     fn of(track: u8) -> (Side, u8)
-        requires range { (1 ≤ track) × (track < 36) }
+        requires range { (1 ≤ track) × (track < 41) }
         requires side { track ≡ 18 → ⊥ }
         ensures track { track_at result.0 result.1 ≡ track }
-        ensures distance { (1 ≤ result.1) × (result.1 < 18) }
+        ensures distance { (1 ≤ result.1) × (result.1 ≤ reach result.0) }
     {
         if track < DIRECTORY_TRACK {
             (Side::Lower, DIRECTORY_TRACK - track)
@@ -53,11 +56,22 @@ impl Side {
         }
     }
 
+    /// How many tracks the side has.
+    fn reach(self) -> u8
+        ensures reach { result ≡ reach self }
+        ensures within { result ≤ 22 }
+    {
+        match self {
+            Side::Lower => LOWER_REACH,
+            Side::Upper => UPPER_REACH,
+        }
+    }
+
     /// The track at a distance from track 18.
     fn track(self, distance: u8) -> u8
-        requires { (1 ≤ distance) × (distance < 18) }
+        requires { (1 ≤ distance) × (distance ≤ reach self) }
         ensures at { result ≡ track_at self distance }
-        ensures range { (1 ≤ result) × (result < 36) }
+        ensures range { (1 ≤ result) × (result < 41) }
     {
         match self {
             Side::Lower => DIRECTORY_TRACK - distance,
@@ -68,7 +82,7 @@ impl Side {
 
 /// The first free block of a track from one sector up to another.
 fn pick_between(free: &BlockSet, track: u8, start: u8, end: u8) -> Option<BlockNo>
-    requires track { (1 ≤ track) × (track < 36) }
+    requires track { (1 ≤ track) × (track < 41) }
     requires end { end ≤ sectors_on track }
     ensures { result ≡ find (set.contains free.now) (range_with_len (first_block track + start) (end - start)) }
 {
@@ -88,7 +102,7 @@ fn pick_between(free: &BlockSet, track: u8, start: u8, end: u8) -> Option<BlockN
 
 /// The first free block of a track.
 fn pick_on(free: &BlockSet, track: u8) -> Option<BlockNo>
-    requires { (1 ≤ track) × (track < 36) }
+    requires { (1 ≤ track) × (track < 41) }
     ensures { result ≡ find (set.contains free.now) (blocks_on track) }
 {
     pick_between(free, track, 0, sector_count(track))
@@ -96,7 +110,7 @@ fn pick_on(free: &BlockSet, track: u8) -> Option<BlockNo>
 
 /// The first free block of a track from a sector on, and then from the track's beginning.
 fn pick_around(free: &BlockSet, track: u8, start: u8) -> Option<BlockNo>
-    requires track { (1 ≤ track) × (track < 36) }
+    requires track { (1 ≤ track) × (track < 41) }
     requires start { start ≤ sectors_on track }
     ensures { result ≡ find (set.contains free.now) (rotated start (blocks_on track)) }
 {
@@ -109,7 +123,7 @@ fn pick_around(free: &BlockSet, track: u8, start: u8) -> Option<BlockNo>
 /// The first free block on the tracks of a side from one distance up to another.
 fn pick_along(free: &BlockSet, side: Side, start: u8, end: u8) -> Option<BlockNo>
     requires start { 1 ≤ start }
-    requires end { end ≤ 18 }
+    requires end { end ≤ reach side + 1 }
     ensures { result ≡ find (set.contains free.now) (flat_map blocks_on (tracks_along side start (end - start))) }
 {
     for distance in start..end {
@@ -123,14 +137,15 @@ fn pick_along(free: &BlockSet, side: Side, start: u8, end: u8) -> Option<BlockNo
 
 /// The first free block on the tracks beyond one of a side, then on the other side, then on the rest of the side.
 fn pick_beyond(free: &BlockSet, side: Side, distance: u8) -> Option<BlockNo>
-    requires { (1 ≤ distance) × (distance < 18) }
+    requires { (1 ≤ distance) × (distance ≤ reach side) }
     ensures { result ≡ find (set.contains free.now) (flat_map blocks_on (tracks_beyond side distance)) }
 {
-    match pick_along(free, side, distance + 1, DISTANCE_END) {
+    match pick_along(free, side, distance + 1, side.reach() + 1) {
         Some(block) => return Some(block),
         None => {}
     }
-    match pick_along(free, side.other(), 1, DISTANCE_END) {
+    let other = side.other();
+    match pick_along(free, other, 1, other.reach() + 1) {
         Some(block) => Some(block),
         None => pick_along(free, side, 1, distance),
     }
@@ -152,12 +167,11 @@ fn sector_after(interleave: u8, sectors: u8, sector: u8) -> u8
     }
 }
 
-/// The free block that a file's first block takes: on the tracks nearest to track 18 first, 17 before 19, by sectors rising.
-/// None where no block outside track 18 is free.
-pub fn pick_first(free: &BlockSet) -> Option<BlockNo>
-    ensures { result ≡ find (set.contains free.now) first_order }
+/// The first free block on tracks 17, 19, 16, 20, and so on to 1, 35.
+fn pick_outward(free: &BlockSet) -> Option<BlockNo>
+    ensures { result ≡ find (set.contains free.now) (flat_map (λ distance. blocks_on (18 - distance) ++ blocks_on (18 + distance)) (range_with_len 1 17)) }
 {
-    for distance in 1..DISTANCE_END {
+    for distance in 1..LOWER_REACH + 1 {
         match pick_on(free, DIRECTORY_TRACK - distance) {
             Some(block) => return Some(block),
             None => {}
@@ -168,6 +182,17 @@ pub fn pick_first(free: &BlockSet) -> Option<BlockNo>
         }
     }
     None
+}
+
+/// The free block that a file's first block takes: on the tracks nearest to track 18 first, 17 before 19, by sectors rising.
+/// None where no block outside track 18 is free.
+pub fn pick_first(free: &BlockSet) -> Option<BlockNo>
+    ensures { result ≡ find (set.contains free.now) first_order }
+{
+    match pick_outward(free) {
+        Some(block) => Some(block),
+        None => pick_along(free, Side::Upper, LOWER_REACH + 1, UPPER_REACH + 1),
+    }
 }
 
 /// The free block that a file's next block takes after the block that was taken last: ten sectors further on the same track,

@@ -8,9 +8,6 @@ ghost use Rattle.d64_map.specs.Track.{has_sector};
 
 use d64_image::{BlockNo, BlockSet};
 
-/// How many tracks a disk has. They are numbered from 1.
-pub const TRACKS: u8 = 35;
-
 /// The track of the map and of the directory.
 pub const DIRECTORY_TRACK: u8 = 18;
 
@@ -29,7 +26,7 @@ pub fn sector_count(track: u8) -> u8
 
 /// The number of a track's first block.
 pub fn first_block(track: u8) -> usize
-    requires track { (1 ≤ track) × (track < 36) }
+    requires track { (1 ≤ track) × (track < 41) }
     ensures first { result ≡ first_block track }
     ensures within { result < BLOCKS }
 {
@@ -52,7 +49,7 @@ pub fn has_block(blocks: &BlockSet, index: usize) -> bool
 
 /// The bits of a track's sectors: bit s is 1 where the block of sector s is a member. Bits that stand for no sector are 0.
 pub fn member_bits(blocks: &BlockSet, track: u8) -> u32
-    requires track { (1 ≤ track) × (track < 36) }
+    requires track { (1 ≤ track) × (track < 41) }
     ensures bits { (count : ℕ) → sectors_on track ≤ count → result ≡ sum_by (λ s. if has_sector blocks.now track s then 2 ^ s else 0) (range_with_len 0 count) }
 {
     let first = first_block(track);

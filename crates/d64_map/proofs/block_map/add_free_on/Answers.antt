@@ -1,6 +1,5 @@
 use Rattle.std.proofs.Common.{◌≡◌, ℕ, nat_eq, ◌+◌, ◌<◌, refl, sym, ap, ◌∙◌, arith}
 use Rattle.d64_image.specs.Block.{sectors_on, first_block}
-use Rattle.d64_image.specs.Image.{sector_at}
 use Rattle.d64_image.proofs.Pairs.{pair_at-counted}
 use Rattle.d64_image.proofs.Zones.{counted_below}
 use Rattle.d64_map.specs.Map.{is_free, free_below}
@@ -22,7 +21,7 @@ loop-sector-preserved c =
     let marked =
     c.marks_free.ensures
     ∙ ap (λ (n : ℕ). nat_eq n 1) (c.bits_on-bits.ensures sector short)
-    ∙ bit_tells image block track sector c.sector.result.now (c.sector.ensures.value ∙ ap (sector_at image) c.map_block.ensures)
+    ∙ bit_tells image block track sector c.map_of.result.now c.map_of.ensures.value
     (sym (ap (λ (p : ℕ × ℕ). p.0) pair)) (sym (ap (λ (p : ℕ × ℕ). p.1) pair)) in
     let next = ap (free_below image) (let e : block + 1 ≡ first_block track + (sector + 1) = omega arith in e) in
     elim c.if-marks_free.branch [

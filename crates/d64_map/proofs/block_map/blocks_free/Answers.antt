@@ -1,6 +1,8 @@
-use Rattle.std.proofs.Common.{◌≡◌, ℕ, ◌+◌, ◌-◌, ◌==◌, not, ap, ◌∙◌, arith}
+use Rattle.std.proofs.Common.{◌≡◌, ℕ, ◌+◌, ◌-◌, ◌==◌, not, length, ap, ◌∙◌, arith}
 use Rattle.std.specs.List.{range_with_len, sum_by, filter}
 use Rattle.std.proofs.lemmas.Bool.Decides.{nat_tests}
+use Rattle.d64_image.specs.Image.{tracks_of}
+use Rattle.d64_image.proofs.Sizes.{tracks_most}
 use Rattle.d64_map.specs.Map.{count_of, blocks_free}
 use Rattle.d64_map.proofs.Ranges.{passed_more, passed_same}
 use Rattle.d64_map.proofs.block_map.blocks_free.Goals as goal
@@ -16,5 +18,6 @@ loop-track-preserved c =
 pub returns : goal.returns
 unfolding blocks_free
 returns c =
-    let e : c.loop-track.track - 1 ≡ 35 = omega arith in
+    let most = tracks_most (length c.args.image.now) c.tracks-track-end.ensures.size in
+    let e : c.loop-track.track - 1 ≡ tracks_of (length c.args.image.now) = let t = c.tracks-track-end.ensures.value in omega arith in
     c.loop-track.invariant.summed ∙ ap (λ (n : ℕ). sum_by (count_of c.args.image.now) (filter (λ track. not (track == 18)) (range_with_len 1 n))) e

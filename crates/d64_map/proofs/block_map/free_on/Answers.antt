@@ -1,12 +1,11 @@
-use Rattle.std.proofs.Common.{ℕ, ◌-◌, ◌<◌, ◌≤◌, bit_and, nat_eq, sym, ap, ◌∙◌, subst, arith}
+use Rattle.std.proofs.Common.{ℕ, ◌-◌, ◌<◌, ◌≤◌, bit_and, length, nat_eq, sym, ap, ◌∙◌, subst, arith}
 use Rattle.std.specs.Prelude.{count_ones}
 use Rattle.std.specs.List.{range_with_len, count_by}
 use Rattle.std.specs.Int.{bit_at}
 use Rattle.std.specs.FinSet as set
 use Rattle.std.proofs.lemmas.Nat.{one_shl, pow_pos, and_mask}
 use Rattle.d64_image.specs.Block.{sectors_on, first_block}
-use Rattle.d64_image.specs.Image.{sector_at}
-use Rattle.d64_image.proofs.Zones.{counted_below}
+use Rattle.d64_image.proofs.Sizes.{counted_within, tracks_most}
 use Rattle.d64_map.specs.Map.{free_blocks}
 use Rattle.d64_map.specs.Track.{blocks_on, members_on}
 use Rattle.d64_map.proofs.FreeBlocks.{bit_is_member}
@@ -36,7 +35,8 @@ returns c =
           (λ s h.
           let held : s < sectors_on track = omega (arith, c.sector_count.ensures.sectors) in
           ap (λ (n : ℕ). nat_eq n 1) (c.bits_on.ensures s (omega (arith, few)))
-          ∙ bit_is_member image track s c.sector.result.now (c.sector.ensures.value ∙ ap (sector_at image) c.map_block.ensures) c.requires.track.0 c.requires.track.1 held
-          (let b = counted_below track s c.requires.track.1 held in let l = c.known_length.ensures in omega arith))
+          ∙ bit_is_member image track s c.map_of.result.now c.map_of.ensures.value c.requires.track.0
+          (let most = tracks_most (length image) c.tracks.ensures.size in omega (arith, most, c.requires.track.1)) held
+          (counted_within (length image) track s c.tracks.ensures.size c.requires.track.1 held))
           ∙ ap (λ (n : ℕ). count_by free (range_with_len (first_block track) n)) c.sector_count.ensures.sectors;
     }

@@ -1,6 +1,8 @@
-use Rattle.std.proofs.Common.{◌≡◌, sym, ap, ◌∙◌, arith}
+use Rattle.std.proofs.Common.{◌≡◌, ℕ, ◌+◌, length, ap, ◌∙◌, arith}
 use Rattle.d64_image.specs.Block.{first_block}
-use Rattle.d64_image.proofs.Zones.{first_block-fourth_zone}
+use Rattle.d64_image.specs.Image.{tracks_of}
+use Rattle.d64_image.proofs.Zones.{all_blocks}
+use Rattle.d64_image.proofs.Sizes.{tracks_most}
 use Rattle.d64_map.specs.Map.{free_below, free_blocks}
 use Rattle.d64_map.proofs.block_map.free_set.Goals as goal
 
@@ -11,6 +13,8 @@ loop-track-init c = c.empty-free.ensures.value
 pub returns : goal.returns
 unfolding free_blocks
 returns c =
-    let e : c.loop-track.track ≡ 36 = omega arith in
-    let last : first_block c.loop-track.track ≡ 683 = ap first_block e ∙ first_block-fourth_zone 36 (omega arith) (omega arith) in
-    c.loop-track.invariant ∙ ap (free_below c.args.image.now) (last ∙ sym c.known_length.ensures)
+    let size = c.tracks-track-end.ensures.size in
+    let count : ℕ = length c.args.image.now in
+    let most = tracks_most count size in
+    let e : c.loop-track.track ≡ tracks_of count + 1 = let t = c.tracks-track-end.ensures.value in omega arith in
+    c.loop-track.invariant ∙ ap (free_below c.args.image.now) (ap first_block e ∙ all_blocks count size)

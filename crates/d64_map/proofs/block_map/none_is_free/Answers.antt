@@ -1,7 +1,10 @@
-use Rattle.std.proofs.Common.{◌≡◌, true, false, refl, sym, ap, ◌∙◌, inl, inr, arith}
+use Rattle.std.proofs.Common.{◌≡◌, ◌+◌, true, false, length, refl, sym, ap, ◌∙◌, inl, inr, arith}
 use Rattle.std.proofs.lemmas.Bool.{cases_lt}
 use Rattle.d64_image.specs.Block.{first_block}
-use Rattle.d64_image.proofs.Zones.{first_block-fourth_zone}
+use Rattle.d64_image.specs.Image.{tracks_of}
+use Rattle.d64_image.proofs.Zones.{all_blocks}
+use Rattle.d64_image.proofs.Sizes.{tracks_most}
+use Rattle.d64_map.proofs.FreeBlocks.{contains-free_blocks-past}
 use Rattle.d64_map.proofs.block_map.none_is_free.Goals as goal
 
 pub loop-track-init : goal.loop-track-init
@@ -26,6 +29,14 @@ loop-track-preserved c block from to member =
 
 pub returns : goal.returns
 returns c =
-    let e : c.loop-track.track ≡ 36 = omega arith in
-    let last : first_block c.loop-track.track ≡ 683 = ap first_block e ∙ first_block-fourth_zone 36 (omega arith) (omega arith) in
-    (λ told block member. let within = c.known_members.ensures block member in c.loop-track.invariant block (omega arith) (omega arith) member, λ none. refl)
+    let image = c.args.image.now in
+    let size = c.tracks-track-end.ensures.size in
+    let most = tracks_most (length image) size in
+    let e : c.loop-track.track ≡ tracks_of (length image) + 1 = let t = c.tracks-track-end.ensures.value in omega arith in
+    let last : first_block c.loop-track.track ≡ length image = ap first_block e ∙ all_blocks (length image) size in (
+      λ told block member. elim (cases_lt block (length image)) [
+        | inl within ↦ c.loop-track.invariant block (omega arith) (omega arith) member
+        | inr past ↦ contains-free_blocks-past image block past
+      ],
+      λ none. refl,
+    )

@@ -1,8 +1,7 @@
 use Rattle.std.proofs.Common.{◌≡◌, ℕ, nat_eq, ◌+◌, ◌<◌, true, false, length, refl, sym, ap, ◌∙◌, arith}
 use Rattle.std.specs.FinSet as set
 use Rattle.d64_image.specs.Block.{sectors_on, first_block}
-use Rattle.d64_image.specs.Image.{sector_at}
-use Rattle.d64_image.proofs.Zones.{counted_below}
+use Rattle.d64_image.proofs.Sizes.{counted_within, size_most, tracks_most}
 use Rattle.d64_map.proofs.FreeBlocks.{bit_is_member, none_more}
 use Rattle.d64_map.proofs.Sectors.{first_block-next}
 use Rattle.d64_map.proofs.block_map.none_is_free_on.Goals as goal
@@ -11,8 +10,10 @@ use Rattle.d64_map.proofs.block_map.none_is_free_on.Goals.{then-marks_free+else-
 pub has_block-requires : goal.has_block-requires
 has_block-requires c =
     let held : c.loop-sector.sector < sectors_on c.args.track = omega (arith, c.sector_count-sector-end.ensures.sectors) in
-    let below = counted_below c.args.track c.loop-sector.sector c.requires.track.1 held in
-    record { there = omega (arith, below, c.from.ensures, c.first_block-first.ensures.first) }
+    let size = c.tracks.ensures.size in
+    let below = counted_within (length c.args.image.now) c.args.track c.loop-sector.sector size c.requires.track.1 held in
+    let most = size_most (length c.args.image.now) size in
+    record { there = omega (arith, below, most, c.from.ensures, c.first_block-first.ensures.first) }
 
 pub returns-then-has_block : goal.returns-then-has_block
 returns-then-has_block c =
@@ -22,12 +23,12 @@ returns-then-has_block c =
     let held : sector < sectors_on track = omega (arith, c.sector_count-sector-end.ensures.sectors) in
     let short : sector < 24 = omega (arith, c.sector_count-sector-end.ensures.few) in
     let next = first_block-next track c.requires.track.0 in
-    let there : first_block track + sector < length image = let b = counted_below track sector c.requires.track.1 held in let l = c.known_length.ensures in omega arith in
+    let few : track < 41 = let most = tracks_most (length image) c.tracks.ensures.size in omega (arith, most, c.requires.track.1) in
+    let there = counted_within (length image) track sector c.tracks.ensures.size c.requires.track.1 held in
     let bit =
     c.marks_free.ensures
     ∙ ap (λ (n : ℕ). nat_eq n 1) (c.bits_on-bits.ensures sector short)
-    ∙ bit_is_member image track sector c.sector.result.now
-    (c.sector.ensures.value ∙ ap (sector_at image) c.map_block.ensures) c.requires.track.0 c.requires.track.1 held there in
+    ∙ bit_is_member image track sector c.map_of.result.now c.map_of.ensures.value c.requires.track.0 few held there in
     let place : c.first_block-first.result + c.from.result ≡ first_block track + sector = omega (arith, c.from.ensures, c.first_block-first.ensures.first) in
     let has = c.has_block.ensures ∙ ap (set.contains c.args.blocks.now) place in
     record {
@@ -47,13 +48,13 @@ loop-sector-preserved c =
     let track = c.args.track in
     let sector = c.loop-sector.sector in
     let held : sector < sectors_on track = omega (arith, c.sector_count-sector-end.ensures.sectors) in
-    let there : first_block track + sector < length image = let b = counted_below track sector c.requires.track.1 held in let l = c.known_length.ensures in omega arith in
+    let few : track < 41 = let most = tracks_most (length image) c.tracks.ensures.size in omega (arith, most, c.requires.track.1) in
+    let there = counted_within (length image) track sector c.tracks.ensures.size c.requires.track.1 held in
     let short : sector < 24 = omega (arith, c.sector_count-sector-end.ensures.few) in
     let bit =
     c.marks_free.ensures
     ∙ ap (λ (n : ℕ). nat_eq n 1) (c.bits_on-bits.ensures sector short)
-    ∙ bit_is_member image track sector c.sector.result.now
-    (c.sector.ensures.value ∙ ap (sector_at image) c.map_block.ensures) c.requires.track.0 c.requires.track.1 held there in
+    ∙ bit_is_member image track sector c.map_of.result.now c.map_of.ensures.value c.requires.track.0 few held there in
     let end : first_block track + sector + 1 ≡ first_block track + (sector + 1) = omega arith in
     elim c.if-marks_free.branch [
       | then-marks_free+else-has_block w ↦

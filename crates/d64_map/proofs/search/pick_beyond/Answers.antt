@@ -1,8 +1,8 @@
-use Rattle.std.proofs.Common.{ℕ, ◌+◌, ◌-◌, ◌++◌, List, sym, ap, ◌∙◌}
+use Rattle.std.proofs.Common.{◌≡◌, ℕ, ◌+◌, ◌-◌, ◌++◌, Bool, List, sym, ap, ◌∙◌, arith}
 use Rattle.std.specs.List.{find, flat_map}
 use Rattle.std.specs.FinSet as set
 use Rattle.d64_map.specs.Track.{blocks_on}
-use Rattle.d64_map.specs.Side.{other_side, tracks_along}
+use Rattle.d64_map.specs.Side.{other_side, reach, tracks_along}
 use Rattle.d64_map.specs.declared.search.Side.{Side}
 use Rattle.d64_map.proofs.Searching.{beyond, found_first, found_second}
 use Rattle.d64_map.proofs.search.pick_beyond.Goals as goal
@@ -10,13 +10,25 @@ use Rattle.d64_map.proofs.search.pick_beyond.Goals as goal
 -- the blocks of the three parts
 
 abbrev first : Side → ℕ → List ℕ
-first side distance = flat_map blocks_on (tracks_along side (distance + 1) (18 - (distance + 1)))
+first side distance = flat_map blocks_on (tracks_along side (distance + 1) (reach side + 1 - (distance + 1)))
 
 abbrev second : Side → List ℕ
-second side = flat_map blocks_on (tracks_along side 1 17)
+second side = flat_map blocks_on (tracks_along side 1 (reach side))
 
 abbrev third : Side → ℕ → List ℕ
 third side distance = flat_map blocks_on (tracks_along side 1 (distance - 1))
+
+-- the search on a side ends at its last track
+on_side : (p : ℕ → Bool) (side : Side) (start reached : ℕ) → reached ≡ reach side
+    → find p (flat_map blocks_on (tracks_along side start (reached + 1 - start))) ≡ find p (flat_map blocks_on (tracks_along side start (reach side + 1 - start)))
+on_side p side start reached e = ap (λ (n : ℕ). find p (flat_map blocks_on (tracks_along side start (n + 1 - start)))) e
+
+-- all of the other side
+other_side-whole : (p : ℕ → Bool) (side other : Side) (reached : ℕ) → other ≡ other_side side → reached ≡ reach other
+    → find p (flat_map blocks_on (tracks_along other 1 (reached + 1 - 1))) ≡ find p (second (other_side side))
+other_side-whole p side other reached e f =
+    let n : reached + 1 - 1 ≡ reach other = omega arith in
+    ap (λ (k : ℕ). find p (flat_map blocks_on (tracks_along other 1 k))) n ∙ ap (λ (s : Side). find p (second s)) e
 
 pub returns-in-Some : goal.returns-in-Some
 returns-in-Some c =
@@ -25,7 +37,8 @@ returns-in-Some c =
     let distance = c.args.distance in
     sym (ap (find p) (beyond side distance)
     ∙ found_first p (first side distance ++ second (other_side side)) (third side distance) c.in-Some.block
-    (found_first p (first side distance) (second (other_side side)) c.in-Some.block (sym c.in-Some.ensures)))
+    (found_first p (first side distance) (second (other_side side)) c.in-Some.block
+    (sym (c.in-Some.ensures ∙ on_side p side (distance + 1) c.reach.result c.reach.ensures.reach))))
 
 pub returns-in-Some-pick_along : goal.returns-in-Some-pick_along
 returns-in-Some-pick_along c =
@@ -34,8 +47,8 @@ returns-in-Some-pick_along c =
     let distance = c.args.distance in
     sym (ap (find p) (beyond side distance)
     ∙ found_first p (first side distance ++ second (other_side side)) (third side distance) c.in-Some-pick_along.block
-    (found_second p (first side distance) (second (other_side side)) (sym c.in-None.ensures)
-    ∙ ap (λ (s : Side). find p (second s)) (sym c.other.ensures) ∙ sym c.in-Some-pick_along.ensures))
+    (found_second p (first side distance) (second (other_side side)) (sym (c.in-None.ensures ∙ on_side p side (distance + 1) c.reach.result c.reach.ensures.reach))
+    ∙ sym (c.in-Some-pick_along.ensures ∙ other_side-whole p side c.other-other.result c.reach-2.result c.other-other.ensures c.reach-2.ensures.reach)))
 
 pub returns-in-None-pick_along : goal.returns-in-None-pick_along
 returns-in-None-pick_along c =
@@ -45,5 +58,5 @@ returns-in-None-pick_along c =
     c.pick_along-in-None-pick_along.ensures
     ∙ sym (ap (find p) (beyond side distance)
     ∙ found_second p (first side distance ++ second (other_side side)) (third side distance)
-    (found_second p (first side distance) (second (other_side side)) (sym c.in-None.ensures)
-    ∙ ap (λ (s : Side). find p (second s)) (sym c.other.ensures) ∙ sym c.in-None-pick_along.ensures))
+    (found_second p (first side distance) (second (other_side side)) (sym (c.in-None.ensures ∙ on_side p side (distance + 1) c.reach.result c.reach.ensures.reach))
+    ∙ sym (c.in-None-pick_along.ensures ∙ other_side-whole p side c.other-other.result c.reach-2.result c.other-other.ensures c.reach-2.ensures.reach)))

@@ -1,39 +1,34 @@
-use Rattle.std.proofs.Common.{◌≡◌, ℕ, ◌+◌, ◌-◌, ◌++◌, List, refl, sym, ap, ◌∙◌, arith}
+use Rattle.std.proofs.Common.{◌≡◌, ℕ, ◌+◌, ◌-◌, ◌++◌, List, refl, sym, ap, ◌∙◌}
 use Rattle.std.specs.List.{range_with_len, flat_map, find}
 use Rattle.std.specs.FinSet as set
 use Rattle.d64_map.specs.Track.{blocks_on}
 use Rattle.d64_map.specs.Search.{first_order}
-use Rattle.d64_map.proofs.Searching.{found_first, found_second, first_here, first_later}
+use Rattle.d64_map.specs.Side.{tracks_along}
+use Rattle.d64_map.specs.declared.search.Side.TheVariants.{Upper}
+use Rattle.d64_map.proofs.Searching.{found_first, found_second}
 use Rattle.d64_map.proofs.search.pick_first.Goals as goal
 
--- the blocks of the two tracks at a distance
-abbrev both : ℕ → List ℕ
-both distance = blocks_on (18 - distance) ++ blocks_on (18 + distance)
+-- the blocks of the tracks from 1 to 35, and those beyond
+abbrev outward : List ℕ
+outward = flat_map (λ distance. blocks_on (18 - distance) ++ blocks_on (18 + distance)) (range_with_len 1 17)
 
-pub loop-distance-init : goal.loop-distance-init
+abbrev beyond : List ℕ
+beyond = flat_map blocks_on (range_with_len 36 5)
+
+order : first_order ≡ outward ++ beyond
 unfolding first_order
-loop-distance-init c = refl
+order = refl
+
+tracks_beyond : flat_map blocks_on (tracks_along Upper 18 5) ≡ beyond
+unfolding tracks_along
+tracks_beyond = refl
 
 pub returns-in-Some : goal.returns-in-Some
 returns-in-Some c =
     let p = set.contains c.args.free.now in
-    let d = c.loop-distance.distance in
-    sym (c.loop-distance.invariant
-    ∙ first_here p both d (18 - d) c.in-Some.block (omega arith) (found_first p (blocks_on (18 - d)) (blocks_on (18 + d)) c.in-Some.block (sym c.in-Some.ensures)))
+    sym (ap (find p) order ∙ found_first p outward beyond c.in-Some.block (sym c.in-Some.ensures))
 
-pub returns-in-Some-pick_on : goal.returns-in-Some-pick_on
-returns-in-Some-pick_on c =
+pub returns-in-None : goal.returns-in-None
+returns-in-None c =
     let p = set.contains c.args.free.now in
-    let d = c.loop-distance.distance in
-    sym (c.loop-distance.invariant
-    ∙ first_here p both d (18 - d) c.in-Some-pick_on.block (omega arith)
-    (found_second p (blocks_on (18 - d)) (blocks_on (18 + d)) (sym c.in-None.ensures) ∙ sym c.in-Some-pick_on.ensures))
-
-pub loop-distance-preserved : goal.loop-distance-preserved
-loop-distance-preserved c =
-    let p = set.contains c.args.free.now in
-    let d = c.loop-distance.distance in
-    let n : 18 - d - 1 ≡ 18 - (d + 1) = omega arith in
-    c.loop-distance.invariant
-    ∙ first_later p both d (18 - d) (omega arith) (found_second p (blocks_on (18 - d)) (blocks_on (18 + d)) (sym c.in-None.ensures) ∙ sym c.in-None-pick_on.ensures)
-    ∙ ap (λ (k : ℕ). find p (flat_map both (range_with_len (d + 1) k))) n
+    c.pick_along.ensures ∙ ap (find p) tracks_beyond ∙ sym (ap (find p) order ∙ found_second p outward beyond (sym c.in-None.ensures))

@@ -1,0 +1,34 @@
+use Rattle.std.proofs.Common.{◌≡◌, ℕ, ◌+◌, ◌-◌, ◌++◌, List, refl, sym, ap, ◌∙◌, arith}
+use Rattle.std.specs.List.{range_with_len, flat_map, find}
+use Rattle.std.specs.FinSet as set
+use Rattle.d64_map.specs.Track.{blocks_on}
+use Rattle.d64_map.proofs.Searching.{found_first, found_second, first_here, first_later}
+use Rattle.d64_map.proofs.search.pick_outward.Goals as goal
+
+-- the blocks of the two tracks at a distance
+abbrev both : ℕ → List ℕ
+both distance = blocks_on (18 - distance) ++ blocks_on (18 + distance)
+
+pub returns-in-Some : goal.returns-in-Some
+returns-in-Some c =
+    let p = set.contains c.args.free.now in
+    let d = c.loop-distance.distance in
+    sym (c.loop-distance.invariant
+    ∙ first_here p both d (18 - d) c.in-Some.block (omega arith) (found_first p (blocks_on (18 - d)) (blocks_on (18 + d)) c.in-Some.block (sym c.in-Some.ensures)))
+
+pub returns-in-Some-pick_on : goal.returns-in-Some-pick_on
+returns-in-Some-pick_on c =
+    let p = set.contains c.args.free.now in
+    let d = c.loop-distance.distance in
+    sym (c.loop-distance.invariant
+    ∙ first_here p both d (18 - d) c.in-Some-pick_on.block (omega arith)
+    (found_second p (blocks_on (18 - d)) (blocks_on (18 + d)) (sym c.in-None.ensures) ∙ sym c.in-Some-pick_on.ensures))
+
+pub loop-distance-preserved : goal.loop-distance-preserved
+loop-distance-preserved c =
+    let p = set.contains c.args.free.now in
+    let d = c.loop-distance.distance in
+    let n : 18 - d - 1 ≡ 18 - (d + 1) = omega arith in
+    c.loop-distance.invariant
+    ∙ first_later p both d (18 - d) (omega arith) (found_second p (blocks_on (18 - d)) (blocks_on (18 + d)) (sym c.in-None.ensures) ∙ sym c.in-None-pick_on.ensures)
+    ∙ ap (λ (k : ℕ). find p (flat_map both (range_with_len (d + 1) k))) n
