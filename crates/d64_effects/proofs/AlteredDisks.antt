@@ -5,11 +5,10 @@ use Rattle.std.specs.List.{list_any, flat_map, range_with_len, IsDistinct}
 use Rattle.std.specs.Ordering.{nat_cmp}
 use Rattle.std.specs.FinSet as set
 use Rattle.std.proofs.lemmas.List.Elements.{All-weaker}
-use Rattle.d64_image.specs.declared.block.TheConstants.{BLOCKS}
 use Rattle.d64_image.specs.Block.{pair_at}
 use Rattle.d64_image.specs.BlockSet.{MembersAreBelow}
-use Rattle.d64_image.specs.Image.{IsImage, sector_at}
-use Rattle.d64_map.specs.Map.{map_block, bit_in, is_free, free_blocks, map_for, with_map, CountsFit}
+use Rattle.d64_image.specs.Image.{IsImage, tracks_of, sector_at}
+use Rattle.d64_map.specs.Map.{map_block, entry_of, bit_in, is_free, free_blocks, map_for, with_map, CountsFit}
 use Rattle.d64_map.specs.Track.{members_on}
 use Rattle.d64_map.proofs.Maps.{sector_at-with_map, sector_at-with_map-other, length-with_map, free_blocks-with_map, counts-with_map, IsImage-with_map}
 use Rattle.d64_files.specs.Directory.{directory, slots, slots_in, owned_blocks}
@@ -18,7 +17,7 @@ use Rattle.d64_files.specs.Slot.{HasKind}
 use Rattle.d64_files.specs.declared.dir_fault.DirFault.TheVariants.{WrongCounts, NoDirectory, UnknownKind, NoChain, CrossLinked, MarkedFree}
 use Rattle.d64_effects.specs.View.{IsSound, disk_field, disk_id, slot_view, view}
 use Rattle.d64_effects.proofs.DirectoryEntries.{link_same, directory-same, slots-same}
-use Rattle.d64_effects.proofs.FormattedDisks.{drop-map_for}
+use Rattle.d64_effects.proofs.FormattedDisks.{part-map_for}
 use Rattle.d64_effects.proofs.Frames.{Agree, Framed, framed, owned_by-same, slot_view-same, HasItsChains-same}
 use Rattle.d64_effects.proofs.NewDirectory.{other_block}
 use Rattle.d64_effects.proofs.Occurrences.{tally, occurs, occurs-distinct, distinct-from_occurs, All-from_occurs, joined}
@@ -56,7 +55,7 @@ same_map image one cells changed apart fit =
       long = changed.long;
       counts = record {
         each = λ track from to.
-            ap (λ (bytes : List ℕ). get_or bytes (4 * track) 0) e ∙ fit.each track from to
+            ap (λ (bytes : List ℕ). get_or bytes (entry_of track) 0) e ∙ fit.each track from (subst (λ (n : ℕ). track ≤ tracks_of n) changed.long to)
             ∙ ap (λ (members : set.FinSet nat_cmp). members_on members track) (sym free);
       };
       marked = free;
@@ -72,9 +71,6 @@ module _ (image one cells : List (List ℕ)) (free : set.FinSet nat_cmp) (is : I
     (changed : SlotsChanged image one cells) (apart : occurs map_block (directory image) ≡ 0) (members : MembersAreBelow (length image) free) where
   has_map_block : map_block < length one
   has_map_block = let e = changed.is_image.0 in omega arith
-
-  few : length one ≤ BLOCKS
-  few = let e = changed.is_image.0 in omega arith
 
   within : MembersAreBelow (length one) free
   within = subst (λ (n : ℕ). MembersAreBelow n free) (sym changed.long) members
@@ -92,23 +88,25 @@ module _ (image one cells : List (List ℕ)) (free : set.FinSet nat_cmp) (is : I
   same_slots : slots (with_map one free) ≡ slots one
   same_slots = ap (slots_in (with_map one free)) same_directory ∙ slots-same one (with_map one free) (directory one) listed_sector
 
-  same_tail : (n : ℕ) → 144 ≤ n → drop n (sector_at (with_map one free) map_block) ≡ drop n (sector_at image map_block)
-  same_tail n past =
+  same_part : (n count : ℕ) → 144 ≤ n → n + count ≤ 192 → take count (drop n (sector_at (with_map one free) map_block)) ≡ take count (drop n (sector_at image map_block))
+  same_part n count past before =
       let inside : map_block < length image = let l = is.0 in omega arith in
-      ap (drop n) (sector_at-with_map one free has_map_block ∙ ap (λ (old : List ℕ). map_for old free) (changed.kept map_block apart))
-      ∙ drop-map_for (sector_at image map_block) free n (is.1 map_block [] inside).0 past
+      let tracks : ℕ = tracks_of (length one) in
+      ap (λ (bytes : List ℕ). take count (drop n bytes))
+      (sector_at-with_map one free has_map_block ∙ ap (λ (old : List ℕ). map_for tracks old free) (changed.kept map_block apart))
+      ∙ part-map_for tracks (sector_at image map_block) free n count (is.1 map_block [] inside).0 past before
 
   pub remapped : Altered image (with_map one free) cells free
   remapped = record {
     is_image = IsImage-with_map one free changed.is_image;
     long = length-with_map one free ∙ changed.long;
-    counts = counts-with_map one free has_map_block few within;
-    marked = free_blocks-with_map one free has_map_block few within;
+    counts = counts-with_map one free changed.is_image.0 within;
+    marked = free_blocks-with_map one free changed.is_image.0 within;
     blocks = same_directory ∙ changed.blocks;
     entries = same_slots ∙ changed.entries;
     kept = λ block other absent. sector_at-with_map-other one free block other ∙ changed.kept block absent;
-    name = ap (take 16) (same_tail 0x90 (omega arith));
-    id = ap (take 2) (same_tail 0xA2 (omega arith));
+    name = same_part 0x90 16 (omega arith) (omega arith);
+    id = same_part 0xA2 2 (omega arith) (omega arith);
   }
 
 -- the directory of an image that has no cross-linked blocks doesn't hold the map's

@@ -1,5 +1,5 @@
 -- what a formatted disk has
-use Rattle.std.proofs.Common.{◌≡◌, ◌≢◌, ℕ, zero, suc, ◌+◌, ◌-◌, ◌<◌, ◌≤◌, ◌&&◌, Bool, true, not, eqb, ltb, nat_eq, nat_le, nat_lt, List, [], ◌∷◌, ◌++◌, length, refl, sym, ap, ap₂, ◌∙◌, subst, arith}
+use Rattle.std.proofs.Common.{◌≡◌, ◌≢◌, ℕ, zero, suc, ◌+◌, ◌-◌, ◌<◌, ◌≤◌, ◌&&◌, Bool, true, not, eqb, ltb, nat_eq, nat_le, nat_lt, List, [], ◌∷◌, ◌++◌, length, refl, sym, ap, ap₂, ◌∙◌, subst, inl, inr, arith}
 use Rattle.std.specs.Prelude.{All}
 use Rattle.std.specs.List.{range_with_len, sum_by, count_by, filter, list_all}
 use Rattle.std.specs.Ordering.{nat_cmp}
@@ -14,19 +14,19 @@ use Rattle.std.proofs.lemmas.List.Sums.{sum_by-cons, AllPass-from_list_all}
 use Rattle.d64_image.specs.declared.image.TheConstants.{BLOCK_BYTES}
 use Rattle.d64_image.specs.Block.{sectors_on, first_block, pair_at}
 use Rattle.d64_image.specs.BlockSet.{MembersAreBelow}
-use Rattle.d64_image.specs.Image.{IsBlock, IsSize, IsImage, with_sector}
-use Rattle.d64_image.proofs.Zones.{counted_below}
+use Rattle.d64_image.specs.Image.{IsBlock, IsSize, IsImage, tracks_of, with_sector}
+use Rattle.d64_image.proofs.Sizes.{tracks_most, counted_within}
 use Rattle.d64_image.proofs.Pairs.{pair_at-counted}
 use Rattle.d64_map.specs.Track.{blocks_on, members_on}
 use Rattle.d64_map.specs.Map.{map_block, count_of, all_of, free_blocks, blocks_free, CountsFit, with_map}
 use Rattle.d64_map.proofs.Ranges.{range_push, count_more}
 use Rattle.d64_map.proofs.FreeBlocks.{any-below}
-use Rattle.d64_map.proofs.Maps.{free_blocks-with_map, counts-with_map, IsImage-with_map}
+use Rattle.d64_map.proofs.Maps.{length-with_map, free_blocks-with_map, counts-with_map, IsImage-with_map}
 use Rattle.d64_files.specs.Name.{IsName}
 use Rattle.d64_effects.specs.Format.{directory_start, header, free_when_formatted, blank, formatted}
 use Rattle.d64_files.specs.Name.{filled}
 use Rattle.d64_files.specs.Writing.{empty_directory}
-use Rattle.d64_effects.specs.Laws.{AreTwoBytes}
+use Rattle.d64_effects.specs.Laws.{AreTwoBytes, free_count_of}
 use Rattle.d64_files.proofs.WrittenBytes.{length-filled}
 
 -- one step of the set of all blocks
@@ -69,14 +69,14 @@ pub free_blocks-formatted : (count : ℕ) (size : IsSize count) (name id : List 
 unfolding formatted
 free_blocks-formatted count size name id =
     free_blocks-with_map (with_sector (with_sector (blank count) map_block (header name id)) directory_start empty_directory) (free_when_formatted count)
-    (let l = length-parts count size name id in omega arith) (let l = length-parts count size name id in omega arith)
+    (subst IsSize (sym (length-parts count size name id)) size)
     (subst (λ (n : ℕ). MembersAreBelow n (free_when_formatted count)) (sym (length-parts count size name id)) (members_are_below count size))
 
 pub counts-formatted : (count : ℕ) (size : IsSize count) (name id : List ℕ) → CountsFit (formatted count name id)
 unfolding formatted
 counts-formatted count size name id =
     counts-with_map (with_sector (with_sector (blank count) map_block (header name id)) directory_start empty_directory) (free_when_formatted count)
-    (let l = length-parts count size name id in omega arith) (let l = length-parts count size name id in omega arith)
+    (subst IsSize (sym (length-parts count size name id)) size)
     (subst (λ (n : ℕ). MembersAreBelow n (free_when_formatted count)) (sym (length-parts count size name id)) (members_are_below count size))
 
 -- a range of which each number passes
@@ -103,31 +103,56 @@ unfolding first_block
 directory_start-pair = pair_at-counted 18 1 (omega arith) (omega arith) (omega arith)
 
 -- all blocks of a track other than 18 are free
-whole_track : (count : ℕ) (size : IsSize count) (track : ℕ) → 1 ≤ track → track < 36 → track ≢ 18 → members_on (free_when_formatted count) track ≡ sectors_on track
+whole_track : (count : ℕ) (size : IsSize count) (track : ℕ) → 1 ≤ track → track ≤ tracks_of count → track ≢ 18 → members_on (free_when_formatted count) track ≡ sectors_on track
 unfolding members_on blocks_on
 whole_track count size track one last other =
     sym (count_all (set.contains (free_when_formatted count)) (first_block track) (sectors_on track) (λ i h.
-    let p = pair_at-counted track i one last h in
-    other_is_member count size (first_block track + i) (let b = counted_below track i last h in omega arith)
+    let p = pair_at-counted track i one (let most = tracks_most count size in omega arith) h in
+    other_is_member count size (first_block track + i) (counted_within count track i size last h)
     (λ e. other (ap (λ (pair : ℕ × ℕ). pair.0) (sym p ∙ ap pair_at e ∙ map_block-pair)))
     (λ e. other (ap (λ (pair : ℕ × ℕ). pair.0) (sym p ∙ ap pair_at e ∙ directory_start-pair)))))
 
--- a track that the directory's sum counts
-abbrev is_counted : ℕ → Bool
-is_counted track = nat_le 1 track && (nat_lt track 36 && not (nat_eq track 18))
+pub length-formatted : (count : ℕ) (size : IsSize count) (name id : List ℕ) → length (formatted count name id) ≡ count
+unfolding formatted
+length-formatted count size name id =
+    length-with_map (with_sector (with_sector (blank count) map_block (header name id)) directory_start empty_directory) (free_when_formatted count) ∙ length-parts count size name id
 
-pub blocks_free-formatted : (count : ℕ) (size : IsSize count) (name id : List ℕ) → blocks_free (formatted count name id) ≡ 664
+-- a track that the directory's sum counts, of so many tracks
+abbrev is_counted : ℕ → ℕ → Bool
+is_counted tracks track = nat_le 1 track && (nat_le track tracks && not (nat_eq track 18))
+
+-- the tracks whose counts are summed
+abbrev summed_tracks : ℕ → List ℕ
+summed_tracks tracks = filter (λ track. not (nat_eq track 18)) (range_with_len 1 tracks)
+
+-- each of them counts all its sectors
+counts_summed : (count : ℕ) (size : IsSize count) (name id : List ℕ) (tracks total : ℕ) → tracks ≡ tracks_of count
+    → list_all (is_counted tracks) (summed_tracks tracks) ≡ true → sum_by sectors_on (summed_tracks tracks) ≡ total
+    → sum_by (count_of (formatted count name id)) (summed_tracks tracks) ≡ total
+counts_summed count size name id tracks total same legal summed =
+    sum_by-same (count_of (formatted count name id)) sectors_on (summed_tracks tracks)
+    (All-weaker (λ t. is_counted tracks t ≡ true) (λ t. count_of (formatted count name id) t ≡ sectors_on t) (λ t h.
+    let one : 1 ≤ t = grind (arith, nat_tests) in
+    let last : t ≤ tracks = grind (arith, nat_tests) in
+    let other : t ≢ 18 = grind (arith, nat_tests) in
+    let within : t ≤ tracks_of count = subst (λ (n : ℕ). t ≤ n) same last in
+    let fits : CountsFit (formatted count name id) = counts-formatted count size name id in
+    fits.each t one (subst (λ (n : ℕ). t ≤ tracks_of n) (sym (length-formatted count size name id)) within)
+    ∙ ap (λ (s : set.FinSet nat_cmp). members_on s t) (free_blocks-formatted count size name id) ∙ whole_track count size t one within other)
+    (summed_tracks tracks) (AllPass-from_list_all (is_counted tracks) (summed_tracks tracks) legal))
+    ∙ summed
+
+pub blocks_free-formatted : (count : ℕ) (size : IsSize count) (name id : List ℕ) → blocks_free (formatted count name id) ≡ free_count_of count
 unfolding blocks_free
 blocks_free-formatted count size name id =
-    sum_by-same (count_of (formatted count name id)) sectors_on (filter (λ track. not (nat_eq track 18)) (range_with_len 1 35))
-    (All-weaker (λ t. is_counted t ≡ true) (λ t. count_of (formatted count name id) t ≡ sectors_on t) (λ t h.
-    let one : 1 ≤ t = grind (arith, nat_tests) in
-    let last : t < 36 = grind (arith, nat_tests) in
-    let other : t ≢ 18 = grind (arith, nat_tests) in
-    let fits : CountsFit (formatted count name id) = counts-formatted count size name id in
-    fits.each t one last ∙ ap (λ (s : set.FinSet nat_cmp). members_on s t) (free_blocks-formatted count size name id) ∙ whole_track count size t one last other)
-    (filter (λ track. not (nat_eq track 18)) (range_with_len 1 35))
-    (AllPass-from_list_all is_counted (filter (λ track. not (nat_eq track 18)) (range_with_len 1 35)) refl))
+    let summed : ℕ → ℕ = λ tracks. sum_by (count_of (formatted count name id)) (summed_tracks tracks) in
+    ap (λ (n : ℕ). summed (tracks_of n)) (length-formatted count size name id)
+    ∙ elim size [
+      | inl fewer ↦ ap (λ (n : ℕ). summed (tracks_of n)) fewer
+          ∙ counts_summed count (inl fewer) name id 35 664 (sym (ap tracks_of fewer)) refl refl ∙ sym (ap free_count_of fewer)
+      | inr all ↦ ap (λ (n : ℕ). summed (tracks_of n)) all
+          ∙ counts_summed count (inr all) name id 40 749 (sym (ap tracks_of all)) refl refl ∙ sym (ap free_count_of all)
+    ]
 
 -- numbers that pass the test are bytes
 are_bytes : (xs : List ℕ) → list_all (λ byte. nat_lt byte 256) xs ≡ true → All (λ byte. byte < 256) xs

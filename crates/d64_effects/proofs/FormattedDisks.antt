@@ -8,13 +8,13 @@ use Rattle.std.specs.FinSet as set
 use Rattle.std.proofs.Math.ListN.{replicate}
 use Rattle.std.proofs.lemmas.Bool.{lt-ltb, not-true}
 use Rattle.std.proofs.lemmas.Bool.Decides.{nat_tests}
-use Rattle.std.proofs.lemmas.List.{take_all, take-append-le, drop_at, drop-append-le, get_or-drop, get_or-set_same, get_or-set_other, length-append, length-drop, length-set, length-replicate}
+use Rattle.std.proofs.lemmas.List.{take_all, take-append-le, drop_at, drop-append-le, get_or-drop, get_or-take, length-take-le, get_or-set_same, get_or-set_other, length-append, length-drop, length-set, length-replicate}
 use Rattle.std.proofs.lemmas.Grind.{same_number_lists}
 use Rattle.std.proofs.lemmas.List.Elements.{All-nil, All-cons, All-head, All-tail, All-weaker}
 use Rattle.std.proofs.lemmas.List.Sums.{AllPass-from_list_all}
 use Rattle.std.proofs.lemmas.Map.Keys.{IsDistinct-cons}
 use Rattle.d64_image.specs.declared.image.TheConstants.{BLOCK_BYTES}
-use Rattle.d64_image.specs.Image.{IsBlock, IsSize, sector_at, with_sector}
+use Rattle.d64_image.specs.Image.{IsBlock, IsSize, tracks_of, sector_at, with_sector}
 use Rattle.d64_map.specs.Map.{map_block, is_entry, map_for, free_blocks}
 use Rattle.d64_map.proofs.Maps.{elsewhere, length-map_for, sector_at-with_map, sector_at-with_map-other, length-with_map}
 use Rattle.d64_files.specs.Chain.{chain, held, block_in, led_by}
@@ -32,15 +32,10 @@ use Rattle.d64_effects.specs.Laws.{AreTwoBytes}
 use Rattle.d64_effects.specs.View.{View, FileView, slot_view, disk_field, disk_id, view}
 use Rattle.d64_effects.specs.ViewAfter.{formatted_view}
 use Rattle.d64_effects.proofs.CellFields.{HasKind-unused, owned_by-unused, HasItsChains-unused}
-use Rattle.d64_effects.proofs.EmptyDisks.{length-parts, contains-free, free_blocks-formatted, counts-formatted, IsBlock-header}
+use Rattle.d64_effects.proofs.EmptyDisks.{length-formatted, length-parts, contains-free, free_blocks-formatted, counts-formatted, IsBlock-header}
 use Rattle.d64_files.proofs.WrittenBytes.{length-filled}
 use Rattle.d64_effects.proofs.Frames.{slot_view-unused}
 use Rattle.d64_effects.proofs.Places.{directory_start-place}
-
-pub length-formatted : (count : ℕ) (size : IsSize count) (name id : List ℕ) → length (formatted count name id) ≡ count
-unfolding formatted
-length-formatted count size name id =
-    length-with_map (with_sector (with_sector (blank count) map_block (header name id)) directory_start empty_directory) (free_when_formatted count) ∙ length-parts count size name id
 
 -- the blank image with the map's block alone
 length-labelled : (count : ℕ) (size : IsSize count) (name id : List ℕ) → length (with_sector (blank count) map_block (header name id)) ≡ count
@@ -59,12 +54,12 @@ directory_start-formatted count size name id =
     ∙ get_or-set_same (with_sector (blank count) map_block (header name id)) directory_start empty_directory [] (let l = length-labelled count size name id in omega arith)
 
 -- the map's block is the label with the map
-map_block-formatted : (count : ℕ) (size : IsSize count) (name id : List ℕ) → sector_at (formatted count name id) map_block ≡ map_for (header name id) (free_when_formatted count)
+map_block-formatted : (count : ℕ) (size : IsSize count) (name id : List ℕ) → sector_at (formatted count name id) map_block ≡ map_for (tracks_of count) (header name id) (free_when_formatted count)
 unfolding formatted
 map_block-formatted count size name id =
     sector_at-with_map (with_sector (with_sector (blank count) map_block (header name id)) directory_start empty_directory) (free_when_formatted count)
     (let l = length-parts count size name id in omega arith)
-    ∙ ap (λ (bytes : List ℕ). map_for bytes (free_when_formatted count))
+    ∙ ap₂ (λ (n : ℕ) (bytes : List ℕ). map_for (tracks_of n) bytes (free_when_formatted count)) (length-parts count size name id)
     (get_or-set_other (with_sector (blank count) map_block (header name id)) directory_start map_block empty_directory [] (λ e. omega arith)
     ∙ get_or-set_same (blank count) map_block (header name id) [] (let l = length-blank count size in omega arith))
 
@@ -154,17 +149,22 @@ holds-formatted count size name id MarkedFree =
     (All-cons P map_block (directory_start ∷ []) (is_marked count size name id map_block (contains-free count size map_block))
     (All-cons P directory_start [] (is_marked count size name id directory_start (contains-free count size directory_start)) (All-nil P)))
 
--- the map's block from the label on is as it was
-pub drop-map_for : (bytes : List ℕ) (free : set.FinSet nat_cmp) (n : ℕ) → length bytes ≡ 256 → 144 ≤ n → drop n (map_for bytes free) ≡ drop n bytes
-drop-map_for bytes free n long past =
-    let whole = length-map_for bytes free in
-    let a = length-drop n (map_for bytes free) in
+-- the map's block is as it was where the label stands
+pub part-map_for : (tracks : ℕ) (bytes : List ℕ) (free : set.FinSet nat_cmp) (n count : ℕ) → length bytes ≡ 256 → 144 ≤ n → n + count ≤ 192
+    → take count (drop n (map_for tracks bytes free)) ≡ take count (drop n bytes)
+part-map_for tracks bytes free n count long past before =
+    let whole = length-map_for tracks bytes free in
+    let a = length-drop n (map_for tracks bytes free) in
     let b = length-drop n bytes in
-    same_number_lists (drop n (map_for bytes free)) (drop n bytes) (omega arith) (λ k h.
-    get_or-drop n (map_for bytes free) k 0 ∙ elsewhere bytes free (n + k) long (beyond (n + k) (omega arith)) ∙ sym (get_or-drop n bytes k 0))
+    let c = length-take-le count (drop n (map_for tracks bytes free)) (omega arith) in
+    let d = length-take-le count (drop n bytes) (omega arith) in
+    same_number_lists (take count (drop n (map_for tracks bytes free))) (take count (drop n bytes)) (omega arith) (λ k h.
+    get_or-take count (drop n (map_for tracks bytes free)) k 0 (omega arith)
+    ∙ get_or-drop n (map_for tracks bytes free) k 0 ∙ elsewhere tracks bytes free (n + k) long (between tracks (n + k) (omega arith) (omega arith))
+    ∙ sym (get_or-take count (drop n bytes) k 0 (omega arith) ∙ get_or-drop n bytes k 0))
   where
-    beyond : (place : ℕ) → 144 ≤ place → is_entry place ≡ false
-    beyond place past = grind (arith, nat_tests)
+    between : (tracks place : ℕ) → 144 ≤ place → place < 192 → is_entry tracks place ≡ false
+    between tracks place past before = grind (arith, nat_tests)
 
 -- a part of the front
 range-append : (xs ys : List ℕ) (from to : ℕ) → from ≤ to → to ≤ length xs → slice_range (xs ++ ys) from to ≡ slice_range xs from to
@@ -212,20 +212,20 @@ unfolding header
 label name id named two = name_and_id (filled name) id (replicate 85 0) (length-filled name named.short) two.0 (header name id) refl
 
 -- the same in the formatted disk
-part-formatted : (count : ℕ) (size : IsSize count) (name id : List ℕ) (from to : ℕ) → IsName name → AreTwoBytes id → 144 ≤ from
+part-formatted : (count : ℕ) (size : IsSize count) (name id : List ℕ) (from to : ℕ) → IsName name → AreTwoBytes id → 144 ≤ from → from + (to - from) ≤ 192
     → slice_range (sector_at (formatted count name id) map_block) from to ≡ slice_range (header name id) from to
-part-formatted count size name id from to named two past =
+part-formatted count size name id from to named two past before =
     let block : IsBlock (header name id) = IsBlock-header name id named two in
     ap (λ (bytes : List ℕ). slice_range bytes from to) (map_block-formatted count size name id)
-    ∙ ap (take (to - from)) (drop-map_for (header name id) (free_when_formatted count) from block.0 past)
+    ∙ part-map_for (tracks_of count) (header name id) (free_when_formatted count) from (to - from) block.0 past before
 
 disk_field-formatted : (count : ℕ) (size : IsSize count) (name id : List ℕ) → IsName name → AreTwoBytes id → disk_field (formatted count name id) ≡ filled name
 disk_field-formatted count size name id named two =
-    let both = label name id named two in part-formatted count size name id 0x90 0xA0 named two (omega arith) ∙ both.0
+    let both = label name id named two in part-formatted count size name id 0x90 0xA0 named two (omega arith) (omega arith) ∙ both.0
 
 disk_id-formatted : (count : ℕ) (size : IsSize count) (name id : List ℕ) → IsName name → AreTwoBytes id → disk_id (formatted count name id) ≡ id
 disk_id-formatted count size name id named two =
-    let both = label name id named two in part-formatted count size name id 0xA2 0xA4 named two (omega arith) ∙ both.1
+    let both = label name id named two in part-formatted count size name id 0xA2 0xA4 named two (omega arith) (omega arith) ∙ both.1
 
 -- so it shows nothing
 shown-formatted : (count : ℕ) (size : IsSize count) (name id : List ℕ) → map (slot_view (formatted count name id)) (slots (formatted count name id)) ≡ replicate 8 None

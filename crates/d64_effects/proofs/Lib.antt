@@ -21,6 +21,7 @@ pub mod RenamedDisks
 pub mod ClearedDisks
 pub mod ValidatedDisks
 pub mod ScratchedDisks
+pub mod Lengths
 pub mod KeptFiles
 pub mod ContentSteps
 pub mod ListedDisks

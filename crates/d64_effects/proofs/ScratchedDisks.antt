@@ -79,7 +79,7 @@ module _ (image patterns : List (List ℕ)) (is : IsImage image) (sound : IsSoun
       let g = owned_within image (slots image) q (omega arith) in
       omega arith
 
-  members : MembersAreBelow (length image) (with_freed (free_blocks image) (given_back image patterns))
+  pub members : MembersAreBelow (length image) (with_freed (free_blocks image) (given_back image patterns))
   members q member =
       let given : List ℕ = given_back image patterns in
       elim (or_cases (list_any (nat_eq q) given) (set.contains (free_blocks image) q) (sym (contains-with_freed (free_blocks image) given q) ∙ member)) [

@@ -31,7 +31,7 @@ below_all : (n q : ℕ) → set.contains (all_of n) q ≡ true → q < n
 below_all n q member = ltb-true q n (sym (contains-from_list_nat (range_with_len 0 n) q ∙ any-below n q) ∙ member)
 
 -- all blocks but some are blocks
-members-all_but : (count : ℕ) (owned : List ℕ) → MembersAreBelow count (all_but count owned)
+pub members-all_but : (count : ℕ) (owned : List ℕ) → MembersAreBelow count (all_but count owned)
 members-all_but count owned q member =
     below_all count q
     (and_parts (not (list_any (nat_eq q) owned)) (set.contains (all_of count) q) (sym (contains-without (all_of count) owned q) ∙ member)).1

@@ -1,5 +1,5 @@
 -- the image after the writing of a file: its blocks, its directory, its map
-use Rattle.std.proofs.Common.{◌≡◌, ◌≢◌, ℕ, ◌<◌, ◌≤◌, true, not, nat_eq, List, [], ◌∷◌, ◌++◌, length, map, take, drop, get_or, Option, refl, sym, ap, ◌∙◌, subst, inl, inr, arith}
+use Rattle.std.proofs.Common.{◌≡◌, ◌≢◌, ℕ, ◌+◌, ◌<◌, ◌≤◌, true, not, nat_eq, List, [], ◌∷◌, ◌++◌, length, map, take, drop, get_or, Option, refl, sym, ap, ◌∙◌, subst, inl, inr, arith}
 use Rattle.std.specs.Prelude.{replicate}
 use Rattle.std.specs.List.{list_any}
 use Rattle.std.specs.Ordering.{nat_cmp}
@@ -9,7 +9,7 @@ use Rattle.std.proofs.lemmas.List.Elements.{All-weaker, All-get_or}
 use Rattle.std.proofs.lemmas.Map.Steps.{length-le_from_distinct_below}
 use Rattle.d64_image.specs.declared.block.TheConstants.{BLOCKS}
 use Rattle.d64_image.specs.BlockSet.{MembersAreBelow}
-use Rattle.d64_image.specs.Image.{IsImage, sector_at}
+use Rattle.d64_image.specs.Image.{IsImage, IsSize, tracks_of, sector_at}
 use Rattle.d64_map.specs.Laws.{IsFreeForFiles}
 use Rattle.d64_map.specs.Map.{map_block, free_blocks, map_for, with_map, CountsFit}
 use Rattle.d64_map.proofs.Maps.{sector_at-with_map, sector_at-with_map-other, length-with_map, free_blocks-with_map, counts-with_map, IsImage-with_map}
@@ -27,7 +27,7 @@ use Rattle.d64_effects.specs.Write.{taken_by, directory_grown, without, with_new
 use Rattle.d64_effects.proofs.CellFields.{length-entry_bytes, are_bytes-entry_bytes}
 use Rattle.d64_effects.proofs.DirectoryEntries.{link_same, directory-same, slots-same}
 use Rattle.d64_effects.proofs.FileChains.{Fits, length-with_chain, sector_at-with_chain, IsImage-with_chain, Chain-with_chain, data_along-same, data_along-with_chain}
-use Rattle.d64_effects.proofs.FormattedDisks.{drop-map_for}
+use Rattle.d64_effects.proofs.FormattedDisks.{part-map_for}
 use Rattle.d64_effects.proofs.NewDirectory.{NewEntry, has_directory, new_entry}
 use Rattle.d64_effects.proofs.Occurrences.{occurs, occurs-append, occurs-present, occurs-from_All, All-from_occurs, absent-from_occurs}
 use Rattle.d64_effects.proofs.Rows.{with_row}
@@ -74,7 +74,7 @@ apart image taken grown bytes sound file dir =
     }
 
 -- the members that are left are blocks of the image
-left_are_blocks : (image : List (List ℕ)) (taken : List ℕ) → MembersAreBelow (length image) (without (free_blocks image) taken)
+pub left_are_blocks : (image : List (List ℕ)) (taken : List ℕ) → MembersAreBelow (length image) (without (free_blocks image) taken)
 left_are_blocks image taken q member =
     free_is_block image q
     (and_parts (not (list_any (nat_eq q) taken)) (set.contains (free_blocks image) q) (sym (contains-without (free_blocks image) taken q) ∙ member)).1
@@ -154,26 +154,32 @@ module _ (image listed : List (List ℕ)) (place : Option ℕ) (taken grown entr
       sector_at-with_chain listed taken bytes map_block (absent-from_occurs map_block taken separate.map_not_taken)
       ∙ new.kept map_block separate.map_not_listed
 
-  same_tail : (n : ℕ) → 144 ≤ n → drop n (sector_at (filed listed taken bytes free) map_block) ≡ drop n (sector_at image map_block)
-  same_tail n past =
+  size : IsSize (length (with_chain listed taken bytes))
+  size = subst IsSize (sym length_chained) is.0
+
+  same_part : (n count : ℕ) → 144 ≤ n → n + count ≤ 192
+      → take count (drop n (sector_at (filed listed taken bytes free) map_block)) ≡ take count (drop n (sector_at image map_block))
+  same_part n count past before =
       let inside : map_block < length image = let l = is.0 in omega arith in
-      ap (drop n) (sector_at-with_map (with_chain listed taken bytes) free has_map_block ∙ ap (λ (old : List ℕ). map_for old free) old_map)
-      ∙ drop-map_for (sector_at image map_block) free n (is.1 map_block [] inside).0 past
+      let tracks : ℕ = tracks_of (length (with_chain listed taken bytes)) in
+      ap (λ (bytes : List ℕ). take count (drop n bytes))
+      (sector_at-with_map (with_chain listed taken bytes) free has_map_block ∙ ap (λ (old : List ℕ). map_for tracks old free) old_map)
+      ∙ part-map_for tracks (sector_at image map_block) free n count (is.1 map_block [] inside).0 past before
 
   -- what is left, where these blocks are marked free
   pub leaves : free ≡ without (free_blocks image) (taken ++ grown) → LeftByWriting image (filed listed taken bytes free) place taken grown entry bytes
   leaves left = record {
     is_image = IsImage-with_map (with_chain listed taken bytes) free (IsImage-with_chain (length image) most listed taken bytes new.is_image small fits);
     long = length_filed ∙ new.long;
-    counts = counts-with_map (with_chain listed taken bytes) free has_map_block (let l = length_chained in let m = most in omega arith) within;
-    free = free_blocks-with_map (with_chain listed taken bytes) free has_map_block (let l = length_chained in let m = most in omega arith) within ∙ left;
+    counts = counts-with_map (with_chain listed taken bytes) free size within;
+    free = free_blocks-with_map (with_chain listed taken bytes) free size within ∙ left;
     blocks = same_directory ∙ new.blocks;
     entries = ap (map (drop 2)) same_slots ∙ new.entries;
     kept = λ block other absent apart. other_sector block other absent ∙ new.kept block apart;
     chain = has_chain;
     content = has_data;
-    name = ap (take 16) (same_tail 0x90 (omega arith));
-    id = ap (take 2) (same_tail 0xA2 (omega arith));
+    name = same_part 0x90 16 (omega arith) (omega arith);
+    id = same_part 0xA2 2 (omega arith) (omega arith);
   }
 
 -- the blocks that a file takes fit its bytes

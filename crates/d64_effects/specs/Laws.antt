@@ -1,5 +1,5 @@
 -- What follows from the definitions of the effects.
-use Rattle.std.specs.Prelude.{◌≡◌, ◌≢◌, ℕ, ◌<◌, ◌≤◌, List, All, length, filter, None}
+use Rattle.std.specs.Prelude.{◌≡◌, ◌≢◌, ℕ, ◌<◌, ◌≤◌, ◌==◌, if◌then◌else◌, List, All, length, filter, None}
 use Rattle.d64_files.specs.Name.{IsName}
 use Rattle.d64_files.specs.Directory.{slots, AllHold}
 use Rattle.d64_files.specs.Writing.{blocks_for, first_unused, dir_last}
@@ -34,9 +34,13 @@ FormattedIsFree = (count : ℕ) (name id : List ℕ) → IsSize count → free_b
 abbrev pub FormattedCountsFit : Type 0
 FormattedCountsFit = (count : ℕ) (name id : List ℕ) → IsSize count → CountsFit (formatted count name id)
 
--- 664 blocks of it are free
-abbrev pub FormattedHas664Free : Type 0
-FormattedHas664Free = (count : ℕ) (name id : List ℕ) → IsSize count → blocks_free (formatted count name id) ≡ 664
+-- how many blocks are free on a formatted disk of so many: 664 on 35 tracks, and 749 on 40
+abbrev pub free_count_of : ℕ → ℕ
+free_count_of count = if count == 768 then 749 else 664
+
+-- the directory shows so many free blocks
+abbrev pub FormattedShowsItsFree : Type 0
+FormattedShowsItsFree = (count : ℕ) (name id : List ℕ) → IsSize count → blocks_free (formatted count name id) ≡ free_count_of count
 
 -- a formatted disk is sound, whatever its name and its id are
 abbrev pub FormattedIsSound : Type 0

@@ -1,7 +1,7 @@
 //! Laws of the effects: each function's contract is a law, and its body is empty.
 //!
 //! A caller whose proof needs a law calls the function.
-ghost use Rattle.d64_effects.specs.Laws.{FormattedIsImage, FormattedIsFree, FormattedCountsFit, FormattedHas664Free};
+ghost use Rattle.d64_effects.specs.Laws.{FormattedIsImage, FormattedIsFree, FormattedCountsFit, FormattedShowsItsFree};
 ghost use Rattle.d64_effects.specs.Laws.{FormattedIsSound, FormattedShows};
 ghost use Rattle.d64_effects.specs.Laws.{WrittenIsImage, WrittenIsSound, WrittenShows};
 ghost use Rattle.d64_effects.specs.Laws.{RenamedIsImage, RenamedIsSound, RenamedShows};
@@ -14,12 +14,12 @@ ghost use Rattle.d64_effects.specs.ContentsLaws.{FormattedListsNothing, WrittenL
 ghost use Rattle.d64_effects.specs.ContentsLaws.{RenamedListsTheName, ValidatedListsTheClosed};
 ghost use Rattle.d64_effects.specs.ContentsLaws.{FormattedDiskLists, WrittenDiskLists, ScratchedDiskLists, RenamedDiskLists, ValidatedDiskLists};
 
-/// A formatted disk is a sound image with 664 blocks free, which shows its name and id and no file.
+/// A formatted disk is a sound image with 664 blocks free on 35 tracks, or 749 on 40, which shows its name and id and no file.
 pub fn formatted_disk_is_sound_and_empty()
     ensures image { FormattedIsImage }
     ensures free { FormattedIsFree }
     ensures counts { FormattedCountsFit }
-    ensures blocks_free { FormattedHas664Free }
+    ensures blocks_free { FormattedShowsItsFree }
     ensures sound { FormattedIsSound }
     ensures view { FormattedShows }
 {}

@@ -2,9 +2,10 @@
 use Rattle.std.proofs.Common.{◌≡◌, ◌≢◌, ℕ, zero, suc, ◌<◌, ◌≤◌, ◌||◌, Bool, true, false, cond, eqb, ltb, List, [], ◌∷◌, length, get_or, Option, Some, None, refl, sym, ap, ap₂, ◌∙◌, subst, inl, inr, arith}
 use Rattle.std.specs.Prelude.{All, Contains, IsSome, MatchOption, ◌↔◌}
 use Rattle.std.specs.List.{list_any, IsDistinct, AllByRecursion}
-use Rattle.std.specs.Option.{option_and_then}
+use Rattle.std.specs.Option.{option_and_then, option_map_or}
 use Rattle.std.proofs.lemmas.Bool.{or_parts, or_cases, cases_lt, lt-ltb, le-ltb, eqb-true, eq-eqb}
 use Rattle.std.proofs.lemmas.Bool.Decides.{eqb_tells}
+use Rattle.std.proofs.lemmas.List.Elements.{All-nil}
 use Rattle.std.proofs.lemmas.List.Folds.{list_any_at, Any-from_list_any}
 use Rattle.std.proofs.lemmas.Map.Keys.{IsDistinct-cons}
 use Rattle.std.proofs.lemmas.Map.Steps.{length-le_from_distinct_below}
@@ -12,7 +13,7 @@ use Rattle.d64_image.specs.Block.{block_of}
 use Rattle.d64_files.specs.declared.chain.Link.{Link}
 use Rattle.d64_files.specs.declared.chain.Link.TheVariants.{End, To, Broken}
 use Rattle.d64_files.specs.ChainLaws.{LinkedAlike}
-use Rattle.d64_files.specs.Chain.{Chain, chain, chain_by, before, link_at, link_to, link_of, led_by, block_in, held}
+use Rattle.d64_files.specs.Chain.{Chain, chain, chain_by, before, link_at, link_to, link_of, led_by, block_in, held, chain_from, LieIn}
 
 -- a chain begins with the block from which it leads
 pub begins : (image : List (List ℕ)) (start : ℕ) (blocks : List ℕ) → Chain image start blocks → (rest : List ℕ) × (blocks ≡ start ∷ rest)
@@ -279,3 +280,20 @@ pub exists : (image : List (List ℕ)) (start : ℕ) (found : Option (List ℕ))
 exists image start None none = (λ (s : false ≡ true). cc, λ some. absurd (some (chain-none image start none)))
 exists image start (Some blocks) h =
     (λ _. subst (λ (bs : List ℕ). bs ≢ []) (sym (chain-is image start blocks h)) (not_empty image start blocks h), λ _. refl)
+
+-- the block of a track and a sector is one that the image has
+pub block_in-within : (image : List (List ℕ)) (track sector block : ℕ) → Some block ≡ block_in image track sector → block < length image
+unfolding block_in
+block_in-within image track sector block e = leads_within image false (block_of track sector) block (sym (ap link_to e))
+
+-- the image has each block of its chains
+chain-lies : (image : List (List ℕ)) (start : ℕ) (blocks : List ℕ) → chain image start ≡ blocks → LieIn image blocks
+chain-lies image start [] e = All-nil (λ (b : ℕ). b < length image)
+chain-lies image start (block ∷ rest) e = all_within image start (block ∷ rest) (is_chain image start (block ∷ rest) e (λ f. absurd (cc)))
+
+any_chain-lies : (image : List (List ℕ)) (start : Option ℕ) → LieIn image (option_map_or (chain image) start [])
+any_chain-lies image None = All-nil (λ (b : ℕ). b < length image)
+any_chain-lies image (Some start) = chain-lies image start (chain image start) refl
+
+pub chain_from-lies : (image : List (List ℕ)) (track sector : ℕ) → LieIn image (chain_from image track sector)
+chain_from-lies image track sector = any_chain-lies image (block_in image track sector)

@@ -1,5 +1,5 @@
 -- The tests of the conditions of a sound image, and the first that fails.
-use Rattle.std.proofs.Common.{◌≡◌, ◌≢◌, ℕ, zero, suc, ◌+◌, ◌<◌, ◌≤◌, Bool, true, false, cond, not, eqb, List, [], ◌∷◌, ◌++◌, get_or, Option, Some, None, refl, sym, ap, ◌∙◌, subst, inl, inr, arith}
+use Rattle.std.proofs.Common.{◌≡◌, ◌≢◌, ℕ, zero, suc, ◌+◌, ◌<◌, ◌≤◌, Bool, true, false, cond, not, eqb, List, [], ◌∷◌, ◌++◌, length, get_or, Option, Some, None, refl, sym, ap, ◌∙◌, subst, inl, inr, arith}
 use Rattle.std.specs.Prelude.{All, find, nat_lt, nat_le, MatchOption, MatchResult, Result, Ok, Err}
 use Rattle.std.specs.List.{list_any, list_all, range_with_len}
 use Rattle.std.specs.Option.{option_or}
@@ -9,6 +9,7 @@ use Rattle.std.proofs.lemmas.Bool.Decides.{nat_tests}
 use Rattle.std.proofs.lemmas.List.Elements.{All-nil, All-cons, All-head, All-tail}
 use Rattle.std.proofs.lemmas.List.Folds.{find-append}
 use Rattle.std.proofs.lemmas.Option.{MatchOption-at_none, MatchOption-at_some}
+use Rattle.d64_image.specs.Image.{tracks_of}
 use Rattle.d64_map.specs.Map.{CountsFit, free_blocks, count_of}
 use Rattle.d64_map.specs.Track.{members_on}
 use Rattle.d64_files.specs.Directory.{directory, slots, owned_blocks, number_of, Holds, AllHold, IsFirstFault}
@@ -45,7 +46,7 @@ abbrev fits : List (List ℕ) → ℕ → Bool
 fits image track = eqb (count_of image track) (members_on (free_blocks image) track)
 
 -- counts that fit pass the test, on tracks in a row
-counts_pass : (image : List (List ℕ)) → CountsFit image → (first n : ℕ) → 1 ≤ first → first + n ≤ 36 → list_all (fits image) (range_with_len first n) ≡ true
+counts_pass : (image : List (List ℕ)) → CountsFit image → (first n : ℕ) → 1 ≤ first → first + n ≤ tracks_of (length image) + 1 → list_all (fits image) (range_with_len first n) ≡ true
 counts_pass image counts first zero from to = refl
 counts_pass image counts first (suc n) from to =
     and_from (fits image first) (list_all (fits image) (range_with_len (first + 1) n))
@@ -67,7 +68,7 @@ count_fits image first (suc n) track h from to =
 -- a condition that isn't failed holds
 pub met : (image : List (List ℕ)) (fault : DirFault) → fails image fault ≡ false → Holds image fault
 unfolding fails
-met image WrongCounts h = record { each = λ track from to. count_fits image 1 35 track (untrue _ h) from to }
+met image WrongCounts h = record { each = λ track from to. count_fits image 1 (tracks_of (length image)) track (untrue _ h) from (omega arith) }
 met image NoDirectory h = λ e. let f : is_nil (directory image) ≡ true = ap is_nil e in cc
 met image UnknownKind h = have_kinds (slots image) (untrue _ h)
 met image NoChain h =
@@ -80,7 +81,7 @@ met image MarkedFree h = all_fail (set.contains (free_blocks image)) (λ (b : �
 -- a condition that holds isn't failed
 pub not_failed : (image : List (List ℕ)) (fault : DirFault) → Holds image fault → fails image fault ≡ false
 unfolding fails
-not_failed image WrongCounts h = ap not (counts_pass image h 1 35 (omega arith) (omega arith))
+not_failed image WrongCounts h = ap not (counts_pass image h 1 (tracks_of (length image)) (omega arith) (omega arith))
 not_failed image NoDirectory h = not_nil (directory image) h
 not_failed image UnknownKind h = ap not (kinds_pass (slots image) h)
 not_failed image NoChain h =

@@ -1,18 +1,22 @@
 -- The lists of slots: those of a block, those of blocks, and those that are left of a walk.
-use Rattle.std.proofs.Common.{◌≡◌, ℕ, ◌+◌, ◌*◌, ◌/◌, ◌%◌, ◌<◌, ◌≤◌, ◌||◌, Bool, true, false, cond, List, [], ◌∷◌, length, get_or, take, drop, Some, refl, sym, ap, ap₂, ◌∙◌, subst, arith, length-append}
+use Rattle.std.proofs.Common.{◌≡◌, ℕ, ◌+◌, ◌-◌, ◌*◌, ◌/◌, ◌%◌, ◌<◌, ◌≤◌, ◌||◌, Bool, true, false, cond, List, [], ◌∷◌, length, get_or, take, drop, Some, refl, sym, ap, ap₂, ◌∙◌, subst, inl, inr, arith, length-append}
 use Rattle.std.specs.Prelude.{All, find, position, option_map}
 use Rattle.std.specs.List.{enumerate_from, list_any, position_from}
 use Rattle.std.proofs.Math.Nat.{div-add-mod}
 use Rattle.std.proofs.Math.ListN.{drop_of_length-le}
-use Rattle.std.proofs.lemmas.List.{drop_more, length-take-le}
+use Rattle.std.proofs.lemmas.Bool.{cases_lt}
+use Rattle.std.proofs.lemmas.List.{drop_more, length-take-le, get_or_past}
 use Rattle.std.proofs.lemmas.List.Concat.{get_or-flat_map, flat_map-cons}
 use Rattle.std.proofs.lemmas.List.Elements.{All-get_or, All-from_get_or}
 use Rattle.std.proofs.lemmas.List.FromFn.{length-map-range_with_len, get_or-map-range_with_len, length-enumerate_from, get_or-enumerate_from}
 use Rattle.std.proofs.lemmas.Grind.{get_or_default_zero}
 use Rattle.std.proofs.lemmas.Iterator.Adapters.{position_from-zero}
 use Rattle.d64_image.specs.Image.{sector_at}
+use Rattle.d64_files.specs.Chain.{LieIn}
 use Rattle.d64_files.specs.Slot.{cell, cells, HasKind}
-use Rattle.d64_files.specs.Directory.{slots_in, numbered}
+use Rattle.d64_files.specs.Directory.{directory, slots, slots_in, numbered}
+use Rattle.d64_files.specs.Writing.{dir_last, slot_block}
+use Rattle.d64_files.proofs.Chains.{chain_from-lies}
 
 -- a block has eight slots
 pub length-cells : (bytes : List ℕ) → length (cells bytes) ≡ 8
@@ -140,3 +144,16 @@ found-numbered test cells = found_from test 0 cells ∙ sym (position_from-zero 
 pub any-numbered : (test : List ℕ → Bool) (n : ℕ) (cells : List (List ℕ)) → list_any (λ (e : ℕ × List ℕ). test e.1) (enumerate_from n cells) ≡ list_any test cells
 any-numbered test n [] = refl
 any-numbered test n (c ∷ cells) = ap (λ (b : Bool). test c || b) (any-numbered test (n + 1) cells)
+
+-- the image has the blocks of its directory
+pub directory-lies : (image : List (List ℕ)) → LieIn image (directory image)
+directory-lies image = chain_from-lies image 18 1
+
+pub slot_block-within : (image : List (List ℕ)) (slot : ℕ) → slot < length (slots image) → slot_block image slot < length image
+slot_block-within image slot h = directory-lies image (slot / 8) 0 (let count = length-slots_in image (directory image) in omega arith)
+
+pub dir_last-within : (image : List (List ℕ)) → 0 < length image → dir_last image < length image
+dir_last-within image some = elim (cases_lt (length (directory image) - 1) (length (directory image))) [
+  | inl inside ↦ directory-lies image (length (directory image) - 1) 0 inside
+  | inr past ↦ subst (λ (block : ℕ). block < length image) (sym (get_or_past (directory image) (length (directory image) - 1) 0 past)) some
+]

@@ -1,5 +1,5 @@
 -- Chains of blocks: bytes 0 and 1 of a block link it to the next.
-use Rattle.std.specs.Prelude.{◌≡◌, ℕ, zero, suc, ◌<◌, ◌==◌, nat_eq, nat_lt, false, if◌then◌else◌, List, [], ◌∷◌, length, slice_index, Option, Some, None}
+use Rattle.std.specs.Prelude.{◌≡◌, ℕ, zero, suc, ◌<◌, ◌==◌, nat_eq, nat_lt, false, if◌then◌else◌, List, [], ◌∷◌, All, length, slice_index, Option, Some, None}
 use Rattle.std.specs.List.{list_any}
 use Rattle.std.specs.Option.{option_and_then, option_map_or}
 use Rattle.d64_image.specs.Block.{block_of}
@@ -14,6 +14,10 @@ link_at image block = (slice_index (sector_at image block) 0, slice_index (secto
 -- a block, where the image has it
 abbrev pub held : List (List ℕ) → ℕ → Option ℕ
 held image block = if nat_lt block (length image) then Some block else None
+
+-- the image has each of these blocks
+abbrev pub LieIn : List (List ℕ) → List ℕ → Type 0
+LieIn image blocks = All (λ block. block < length image) blocks
 
 -- the block of a track and a sector, where the image has that block
 unfoldable pub block_in : List (List ℕ) → ℕ → ℕ → Option ℕ

@@ -1,7 +1,8 @@
 -- The first condition of a sound image that fails, as tests.
-use Rattle.std.specs.Prelude.{ℕ, nat_le, nat_eq, not, Bool, List, [], ◌∷◌, find, Option, Some, None, Result, Ok, Err}
+use Rattle.std.specs.Prelude.{ℕ, nat_le, nat_eq, not, Bool, List, [], ◌∷◌, length, find, Option, Some, None, Result, Ok, Err}
 use Rattle.std.specs.List.{range_with_len, list_any, list_all}
 use Rattle.std.specs.FinSet as set
+use Rattle.d64_image.specs.Image.{tracks_of}
 use Rattle.d64_map.specs.Map.{free_blocks, count_of}
 use Rattle.d64_map.specs.Track.{members_on}
 use Rattle.d64_files.specs.Claims.{has_repeats}
@@ -14,7 +15,7 @@ use Rattle.d64_files.specs.declared.dir_fault.DirFault.TheVariants.{WrongCounts,
 
 -- whether an image fails the condition that the fault names
 unfoldable pub fails : List (List ℕ) → DirFault → Bool
-fails image WrongCounts = not (list_all (λ track. nat_eq (count_of image track) (members_on (free_blocks image) track)) (range_with_len 1 35))
+fails image WrongCounts = not (list_all (λ track. nat_eq (count_of image track) (members_on (free_blocks image) track)) (range_with_len 1 (tracks_of (length image))))
 fails image NoDirectory = is_nil (directory image)
 fails image UnknownKind = not (list_all (λ cell. nat_le (kind_number cell) 4) (slots image))
 fails image NoChain = list_any (λ cell. list_any (λ root. is_nil (chain_at image root)) (roots cell)) (slots image)

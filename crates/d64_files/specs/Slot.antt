@@ -1,7 +1,6 @@
 -- A slot of the directory: its 32 bytes, and what they say of a file.
 use Rattle.std.specs.Prelude.{ℕ, ◌+◌, ◌*◌, ◌%◌, ◌^◌, ◌≤◌, ◌==◌, Bool, not, if◌then◌else◌, List, [], ◌∷◌, map, take, drop, take_while, slice_index, slice_index_or, slice_range, bit_and, Option, Some, None}
 use Rattle.std.specs.List.{range_with_len}
-use Rattle.d64_image.specs.Block.{block_of}
 use Rattle.d64_files.specs.declared.kind.Kind.{Kind}
 use Rattle.d64_files.specs.declared.kind.Kind.TheVariants.{Del, Seq, Prg, Usr, Rel}
 
@@ -52,10 +51,6 @@ is_closed cell = has_bit (type_byte cell) 7
 -- the track and the sector of a file's first block
 abbrev pub first_pair : List ℕ → ℕ × ℕ
 first_pair cell = (slice_index cell 3, slice_index cell 4)
-
--- a file's first block, where there is a block of that track and sector
-abbrev pub start_of : List ℕ → Option ℕ
-start_of cell = block_of (slice_index cell 3) (slice_index cell 4)
 
 -- the field of the name: 16 bytes
 abbrev pub field_of : List ℕ → List ℕ

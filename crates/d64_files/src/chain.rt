@@ -16,31 +16,27 @@ pub(crate) enum Link {
     Broken,
 }
 
-// The image has each block.
-fn known_block(image: &Image, block: BlockNo)
-    ensures { block < length image.now }
-{
-    let _ = image.sector(block);
-}
-
 /// The block of a track (from 1) and a sector (from 0), or None where the image has no such block.
 #[tactic(auto, unfolding(crate::specs::Chain::block_in))]
 pub(crate) fn block_in(image: &Image, track: u8, sector: u8) -> Option<BlockNo>
     ensures { result ≡ block_of_pair image.now track sector }
 {
     let block = BlockNo::of(track, sector)?;
-    known_block(image, block);
-    Some(block)
+    if image.holds(block) {
+        Some(block)
+    } else {
+        None
+    }
 }
 
 impl Link {
     ghost use Rattle.d64_files.specs.Chain.{link_of};
 
-    /// The link of a block.
+    /// The link of a block of the image.
     #[tactic(auto, unfolding(crate::specs::Chain::led_by))]
     pub(crate) fn of(image: &Image, block: BlockNo) -> Link
-        ensures link { result ≡ link_of image.now block }
-        ensures block { block < length image.now }
+        requires { block < length image.now }
+        ensures { result ≡ link_of image.now block }
     {
         let sector = image.sector(block);
         if sector[0] == 0 {
@@ -53,10 +49,11 @@ impl Link {
     }
 }
 
-/// The chain from a block, or None where there is none: where a link leads off the disk, or back to a block of the chain.
+/// The chain from a block of the image, or None where there is none: where a link leads off the disk, or back to a block of the chain.
 ///
 /// It ends after at most as many blocks as the image has, and takes no memory.
 pub(crate) fn chain(image: &Image, start: BlockNo) -> Option<BlockList>
+    requires { start < length image.now }
     ensures chain { MatchOption result ((blocks : List ℕ) → Chain image.now start blocks → ⊥) (λ blocks. Chain image.now start blocks) }
     ensures value { unwrap_or result [] ≡ chain_of image.now start }
     ensures exists { IsSome result ↔ (chain_of image.now start ≢ []) }

@@ -1,8 +1,7 @@
 //! Claims of blocks: which blocks are owned, and whether one is owned twice.
-ghost use Rattle.std.specs.Prelude.{◌≡◌, ◌≢◌, List, ℕ, [], ◌∷◌, ◌++◌, nat_eq, length, All, OnOk, MatchResult};
+ghost use Rattle.std.specs.Prelude.{◌≡◌, ◌≢◌, List, ℕ, [], ◌∷◌, ◌++◌, nat_eq, All, OnOk, MatchResult};
 ghost use Rattle.std.specs.List.{flat_map, IsDistinct};
 ghost use Rattle.std.specs.FinSet as set;
-ghost use Rattle.d64_image.specs.declared.block.TheConstants.{BLOCKS};
 ghost use Rattle.d64_files.specs.Claims.{claims_of};
 ghost use Rattle.d64_files.specs.Ownership.{chain_at, owned_by, HasItsChains};
 ghost use Rattle.d64_files.specs.declared.dir_fault.DirFault.TheVariants.{NoChain, CrossLinked};
@@ -13,13 +12,6 @@ use crate::entry::Entry;
 use crate::kind::Kind;
 use crate::slots::Slots;
 use d64_image::{BLOCKS, BlockNo, BlockSet, Image};
-
-// The image has as many blocks as the disk.
-fn known_length(image: &Image)
-    ensures { length image.now ≡ BLOCKS }
-{
-    let _ = image.bytes();
-}
 
 /// The blocks that were claimed so far.
 #[derive(Drop)]
@@ -67,7 +59,7 @@ impl Claims {
             Some(start) => start,
             None => return Err(DirFault::NoChain),
         };
-        known_length(image);
+        let _ = image.tracks();
         for _ in 0..BLOCKS {
             self.claim(last);
             match Link::of(image, last) {

@@ -2,7 +2,7 @@
 //!
 //! They write through a patch, so that what they write can be taken back.
 ghost use Rattle.std.specs.Prelude.{◌≡◌, ◌+◌, ◌<◌, ◌≤◌, length, OnOk};
-ghost use Rattle.d64_image.specs.Patch.{back};
+ghost use Rattle.d64_image.specs.Patch.{IsPatchOf, back};
 ghost use Rattle.d64_files.specs.Clearing.{with_cleared_slot, with_name};
 ghost use Rattle.d64_files.specs.Directory.{slots};
 ghost use Rattle.d64_files.specs.Name.{filled};
@@ -35,6 +35,7 @@ fn write_in_slot(
     requires part { place + length part.now ≤ 30 }
     ensures written { OnOk result (image.new ≡ with_bytes image.old (slot_block image.old slot) (slot_start slot + place) part.now) }
     ensures back { back image.new patch.new ≡ back image.old patch.old }
+    ensures held { IsPatchOf image.old patch.old → IsPatchOf image.new patch.new }
 {
     let block = block_of_slot(image, slot);
     let start = SLOT_BYTES * (slot.place() % SLOTS_PER_BLOCK) + TYPE_BYTE;
@@ -63,6 +64,7 @@ pub fn clear_slot(image: &mut Image, patch: &mut Patch, slot: SlotNo) -> Result<
     requires { slot < length (slots image.old) }
     ensures cleared { OnOk result (image.new ≡ with_cleared_slot image.old slot) }
     ensures back { back image.new patch.new ≡ back image.old patch.old }
+    ensures held { IsPatchOf image.old patch.old → IsPatchOf image.new patch.new }
 {
     write_in_slot(image, patch, slot, 0, &[0])
 }
@@ -82,6 +84,7 @@ pub fn set_name(
     requires { slot < length (slots image.old) }
     ensures named { OnOk result (image.new ≡ with_name image.old slot name.now) }
     ensures back { back image.new patch.new ≡ back image.old patch.old }
+    ensures held { IsPatchOf image.old patch.old → IsPatchOf image.new patch.new }
 {
     write_in_slot(image, patch, slot, NAME_AFTER_TYPE, &filled(name))
 }

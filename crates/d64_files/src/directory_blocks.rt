@@ -94,7 +94,8 @@ impl<'a> Directory<'a> {
     /// The caller knows that the directory has that slot.
     pub fn place_of(&self, slot: SlotNo) -> (BlockNo, usize)
         requires { slot < length (slots self.now) }
-        ensures { result ≡ (slot_block self.now slot, slot % 8) }
+        ensures place { result ≡ (slot_block self.now slot, slot % 8) }
+        ensures held { result.0 < length self.now }
     {
         let place = slot.place();
         (
@@ -125,7 +126,8 @@ pub(crate) fn last_directory_block(image: &Image) -> BlockNo
 /// The block of the directory in which a slot stands, whatever kinds its slots have.
 pub(crate) fn block_of_slot(image: &Image, slot: SlotNo) -> BlockNo
     requires { slot < length (slots image.now) }
-    ensures { result ≡ slot_block image.now slot }
+    ensures block { result ≡ slot_block image.now slot }
+    ensures held { result < length image.now }
 {
     let directory = directory_blocks(image).unwrap();
     directory.as_slice()[slot.place() / SLOTS_PER_BLOCK]

@@ -1,10 +1,11 @@
 //! The slots of a directory, one at a time.
-ghost use Rattle.std.specs.Prelude.{◌≡◌, ◌<◌, ◌*◌, ◌+◌, IfSome, length, option_map};
-ghost use Rattle.d64_image.specs.declared.block.TheConstants.{BLOCKS};
-ghost use Rattle.d64_files.specs.Slot.{HasKind, is_used, kind_of, is_locked, is_closed, first_pair, start_of, field_of, name_of, side_pair, size_of};
+ghost use Rattle.std.specs.Prelude.{◌≡◌, ◌*◌, ◌+◌, length, option_map};
+ghost use Rattle.d64_files.specs.Chain.{block_in};
+ghost use Rattle.d64_files.specs.Slot.{HasKind, is_used, kind_of, is_locked, is_closed, first_pair, field_of, name_of, side_pair, size_of};
 
+use crate::chain::block_in;
 use crate::kind::Kind;
-use d64_image::BlockNo;
+use d64_image::{BlockNo, Image};
 use std::marker::Model;
 
 /// How many bytes a slot has.
@@ -134,13 +135,12 @@ impl<'a> Entry<'a> {
         }
     }
 
-    /// The first block of the file, or None where the disk has no block of that track and sector.
-    pub fn start(&self) -> Option<BlockNo>
-        ensures place { result ≡ start_of self.now.1 }
-        ensures within { IfSome result (λ block. block < BLOCKS) }
+    /// The first block of the file, or None where the image that the entry stands in has no block of that track and sector.
+    pub fn start(&self, image: &Image) -> Option<BlockNo>
+        ensures { result ≡ block_in image.now (first_pair self.now.1).0 (first_pair self.now.1).1 }
     {
         let (track, sector) = self.first_pair();
-        BlockNo::of(track, sector)
+        block_in(image, track, sector)
     }
 
     /// The track (from 1) and the sector (from 0) of the first block, as they stand in the entry.

@@ -1,5 +1,6 @@
 //! The data of files in their blocks.
 ghost use Rattle.std.specs.Prelude.{◌≡◌, ◌*◌, ◌≤◌, length, IfOk, vec_len};
+ghost use Rattle.d64_files.specs.Chain.{LieIn};
 ghost use Rattle.d64_files.specs.FileData.{data_of as data_in, data_along as data_in_all};
 
 use d64_image::{BLOCK_BYTES, BlockNo, Image};
@@ -22,12 +23,13 @@ pub(crate) fn data_of(sector: &[u8; BLOCK_BYTES]) -> &[u8]
     }
 }
 
-/// The data of the blocks, one after another.
+/// The data of blocks of the image, one after another.
 pub(crate) fn data_along(
     alloc: Global,
     image: &Image,
     blocks: &[BlockNo],
 ) -> Result<Vec<u8>, AllocError>
+    requires { LieIn image.now blocks.now }
     ensures value { IfOk result (λ bytes. bytes.items ≡ data_in_all image.now blocks.now) }
     ensures len { IfOk result (λ bytes. vec_len bytes ≤ 254 * length blocks.now) }
 {

@@ -2,6 +2,7 @@
 ghost use Rattle.std.specs.Prelude.{◌≡◌, ◌*◌, ◌<◌, ◌≤◌, ◌↔◌, IsTrue, IfOk, All, List, ℕ, length, MatchResult};
 ghost use Rattle.std.specs.Iterator.{YieldsFirst, item_count};
 ghost use Rattle.d64_image.specs.declared.block.TheConstants.{BLOCKS};
+ghost use Rattle.d64_files.specs.Chain.{LieIn};
 ghost use Rattle.d64_files.specs.Slot.{HasKind, cell as slot_bytes, cells};
 ghost use Rattle.d64_files.specs.Directory.{slots, slots_in, numbered, AllHold, IsFirstFault};
 
@@ -29,6 +30,7 @@ pub struct Slots<'a> {
 
 impl<'a> Model for Slots<'a> {
     ghost use Rattle.std.specs.Prelude.{ℕ, List, All, drop};
+    ghost use Rattle.d64_files.specs.Chain.{LieIn};
     ghost use Rattle.d64_files.specs.Slot.{HasKind};
     ghost use Rattle.d64_files.specs.Directory.{slots_in, numbered};
 
@@ -36,7 +38,7 @@ impl<'a> Model for Slots<'a> {
 
     ghost view = { λ walk. drop walk.place (numbered (slots_in walk.image.now walk.directory)) };
 
-    ghost invariant = { λ walk. All HasKind (slots_in walk.image.now walk.directory) };
+    ghost invariant = { λ walk. LieIn walk.image.now walk.directory × All HasKind (slots_in walk.image.now walk.directory) };
 }
 
 /// The bytes of a slot of a block.
@@ -81,7 +83,8 @@ impl<'a> Slots<'a> {
     ///
     /// The caller knows that each slot has a kind.
     pub(crate) fn along(image: &'a Image, blocks: BlockList) -> Slots<'a>
-        requires { All HasKind (slots_in image.now blocks) }
+        requires blocks { LieIn image.now blocks }
+        requires kinds { All HasKind (slots_in image.now blocks) }
         ensures slots { result ≡ numbered (slots_in image.now blocks) }
         ensures len { length result ≤ 8 * BLOCKS }
     {

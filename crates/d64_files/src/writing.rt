@@ -5,7 +5,8 @@
 //! same. They are refused where there is no memory to keep what stood there. Then some blocks may be written, and the
 //! image with the patch put back is still the one from before.
 ghost use Rattle.std.specs.Prelude.{◌≡◌, ◌≢◌, ◌+◌, ◌*◌, ◌<◌, ◌≤◌, [], length, OnOk};
-ghost use Rattle.d64_image.specs.Patch.{back};
+ghost use Rattle.d64_image.specs.Patch.{IsPatchOf, back};
+ghost use Rattle.d64_files.specs.Chain.{LieIn};
 ghost use Rattle.d64_files.specs.Directory.{directory, slots};
 ghost use Rattle.d64_files.specs.Writing.{written_at, with_bytes, blocks_for, linked_block, last_block, with_chain, entry_bytes, with_entry, dir_last, empty_directory, with_growth};
 
@@ -59,7 +60,7 @@ fn write_entry(
     write_at(block, start + 28, &blocks.to_le_bytes());
 }
 
-/// Writes the entry of a closed file into one of the eight slots of a block of the directory, which are counted from 0:
+/// Writes the entry of a closed file into one of the eight slots of a block of the directory, which the image has, which are counted from 0:
 /// its kind, its first block, its name, no side blocks, and the size in blocks that the directory shows. Every other
 /// byte of the image stays.
 ///
@@ -75,9 +76,11 @@ pub fn put_entry_at(
     first: BlockNo,
     blocks: u16,
 ) -> Result<(), AllocError>
-    requires { index < 8 }
+    requires block { block < length image.old }
+    requires slot { index < 8 }
     ensures written { OnOk result (image.new ≡ with_bytes image.old block (32 * index + 2) (entry_bytes name.now kind first blocks)) }
     ensures back { back image.new patch.new ≡ back image.old patch.old }
+    ensures held { IsPatchOf image.old patch.old → IsPatchOf image.new patch.new }
 {
     let start = SLOT_BYTES * index + 2;
     let mut bytes = *image.sector(block);
@@ -104,6 +107,7 @@ pub fn put_entry(
     requires slot { slot < length (slots image.old) }
     ensures written { OnOk result (image.new ≡ with_entry image.old slot (entry_bytes name.now kind first blocks)) }
     ensures back { back image.new patch.new ≡ back image.old patch.old }
+    ensures held { IsPatchOf image.old patch.old → IsPatchOf image.new patch.new }
 {
     let block = block_of_slot(image, slot);
     let index = slot.place() % SLOTS_PER_BLOCK;
@@ -132,7 +136,7 @@ fn last_block(bytes: &[u8]) -> [u8; BLOCK_BYTES]
     block
 }
 
-/// Writes the data of a file into blocks, each linked to the next. No other block changes.
+/// Writes the data of a file into blocks of the image, each linked to the next. No other block changes.
 ///
 /// Refused where there is no memory to keep what stood there: then some blocks may be written, and the image with the
 /// patch put back is still the one from before. The caller knows that there are as many blocks as the file takes.
@@ -142,9 +146,11 @@ pub fn put_chain(
     blocks: &[BlockNo],
     bytes: &[u8],
 ) -> Result<(), AllocError>
+    requires blocks { LieIn image.old blocks.now }
     requires count { length blocks.now ≡ blocks_for (length bytes.now) }
     ensures written { OnOk result (image.new ≡ with_chain image.old blocks.now bytes.now) }
     ensures back { back image.new patch.new ≡ back image.old patch.old }
+    ensures held { IsPatchOf image.old patch.old → IsPatchOf image.new patch.new }
 {
     let last = blocks.len() - 1;
     let mut rest = bytes;
@@ -164,7 +170,7 @@ pub fn empty_directory() -> [u8; BLOCK_BYTES]
     directory
 }
 
-/// Appends a block to the directory: the last one's link names it, and its eight slots are empty. No other byte of the
+/// Appends a block of the image to the directory: the last one's link names it, and its eight slots are empty. No other byte of the
 /// image changes.
 ///
 /// Refused where there is no memory to keep what stood there: then the link may be written, and the image with the
@@ -175,10 +181,13 @@ pub fn grow_after(
     last: BlockNo,
     new: BlockNo,
 ) -> Result<(), AllocError>
-    requires { last ≡ dir_last image.old }
+    requires last { last ≡ dir_last image.old }
+    requires new { new < length image.old }
     ensures written { OnOk result (image.new ≡ with_growth image.old new) }
     ensures back { back image.new patch.new ≡ back image.old patch.old }
+    ensures held { IsPatchOf image.old patch.old → IsPatchOf image.new patch.new }
 {
+    let _ = image.tracks();
     let mut bytes = *image.sector(last);
     write_at(&mut bytes, 0, &[new.track(), new.sector()]);
     patch.write(image, last, &bytes)?;
@@ -190,8 +199,10 @@ pub fn grow_after(
 /// The caller knows that there is a directory.
 pub fn grow(image: &mut Image, patch: &mut Patch, new: BlockNo) -> Result<(), AllocError>
     requires directory { directory image.old ≢ [] }
+    requires new { new < length image.old }
     ensures written { OnOk result (image.new ≡ with_growth image.old new) }
     ensures back { back image.new patch.new ≡ back image.old patch.old }
+    ensures held { IsPatchOf image.old patch.old → IsPatchOf image.new patch.new }
 {
     let last = last_directory_block(image);
     grow_after(image, patch, last, new)

@@ -1,8 +1,8 @@
-use Rattle.std.proofs.Common.{◌≡◌, ℕ, ◌/◌, ◌<◌, List, [], Option, Some, length, get_or, sym, ap, ◌∙◌, arith}
+use Rattle.std.proofs.Common.{◌≡◌, ℕ, ◌/◌, ◌<◌, List, [], Option, Some, length, get_or, sym, ap, ◌∙◌, subst, arith}
 use Rattle.std.specs.Prelude.{unwrap_or}
 use Rattle.std.proofs.lemmas.Grind.{get_or_default_zero}
 use Rattle.d64_files.specs.Directory.{directory, slots}
-use Rattle.d64_files.proofs.SlotLists.{length-slots_in}
+use Rattle.d64_files.proofs.SlotLists.{length-slots_in, slot_block-within}
 use Rattle.d64_files.proofs.directory_blocks.block_of_slot.Goals as goal
 
 -- the blocks that were found are the directory's
@@ -22,8 +22,8 @@ bounds-as_slice-place c =
     (blocks_are c.args.image.now _ _ c.as_slice.result.now c.as_slice.ensures.value c.unwrap-directory.ensures c.directory_blocks.ensures.value)
     c.place.ensures c.requires
 
-pub returns : goal.returns
-returns c =
+pub returns-clause-block : goal.returns-clause-block
+returns-clause-block c =
     let image = c.args.image.now in
     let items = c.as_slice.result.now in
     let same = blocks_are image _ _ items c.as_slice.ensures.value c.unwrap-directory.ensures c.directory_blocks.ensures.value in
@@ -32,3 +32,6 @@ returns c =
     (slot_within image items c.args.slot c.place.result same c.place.ensures c.requires)
     ∙ ap (λ (bs : List ℕ). get_or bs (c.place.result / 8) 0) same
     ∙ ap (λ (n : ℕ). get_or (directory image) (n / 8) 0) c.place.ensures
+
+pub returns-clause-held : goal.returns-clause-held
+returns-clause-held c = subst (λ (b : ℕ). b < length c.args.image.now) (sym (returns-clause-block c)) (slot_block-within c.args.image.now c.args.slot c.requires)

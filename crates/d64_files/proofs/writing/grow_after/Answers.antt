@@ -1,7 +1,9 @@
-use Rattle.std.proofs.Common.{◌≡◌, ℕ, ◌∷◌, List, [], ap, ap₂, ◌∙◌}
+use Rattle.std.proofs.Common.{◌≡◌, ℕ, ◌<◌, ◌∷◌, List, [], length, sym, ap, ap₂, ◌∙◌, subst, arith}
 use Rattle.std.proofs.lemmas.Result.{on_ok_weaker}
-use Rattle.d64_image.specs.Image.{sector_at, with_sector}
-use Rattle.d64_files.specs.Writing.{written_at, with_bytes, pair_bytes, empty_directory, with_growth}
+use Rattle.d64_image.specs.Image.{IsSize, sector_at, with_sector}
+use Rattle.d64_image.proofs.Sizes.{size_least}
+use Rattle.d64_files.specs.Writing.{written_at, with_bytes, pair_bytes, dir_last, empty_directory, with_growth}
+use Rattle.d64_files.proofs.SlotLists.{dir_last-within}
 use Rattle.d64_files.proofs.writing.grow_after.Goals as goal
 
 pub returns-clause-written : goal.returns-clause-written
@@ -19,5 +21,15 @@ returns-clause-written c =
     (λ written.
     written
     ∙ ap₂ (λ (held : List (List ℕ)) (new : List ℕ). with_sector held c.args.new new) first c.empty_directory.ensures
-    ∙ ap (λ (block : ℕ). with_sector (with_bytes image block 0 (pair_bytes c.args.new)) c.args.new empty_directory) c.requires)
+    ∙ ap (λ (block : ℕ). with_sector (with_bytes image block 0 (pair_bytes c.args.new)) c.args.new empty_directory) c.requires.last)
     c.write-2.ensures.written
+
+-- the image has the directory's last block
+last_within : (image : List (List ℕ)) (last : ℕ) → IsSize (length image) → last ≡ dir_last image → last < length image
+last_within image last size is = subst (λ (b : ℕ). b < length image) (sym is) (dir_last-within image (let least = size_least (length image) size in omega arith))
+
+pub sector-requires : goal.sector-requires
+sector-requires c = last_within c.args.image.now c.args.last c.tracks.ensures.size c.requires.last
+
+pub write-requires : goal.write-requires
+write-requires c = last_within c.args.image.now c.args.last c.tracks.ensures.size c.requires.last

@@ -1,4 +1,5 @@
 use Rattle.std.proofs.Common.{◌≡◌, ℕ, ◌+◌, ◌-◌, ◌<◌, length, get_or, ap, ◌∙◌, arith}
+use Rattle.std.proofs.lemmas.List.{length-set}
 use Rattle.std.proofs.lemmas.Result.{on_ok_weaker}
 use Rattle.d64_files.proofs.FileBlocks.{needs_one, count_after, after_first, after_last}
 use Rattle.d64_files.proofs.writing.put_chain.Goals as goal
@@ -12,6 +13,8 @@ loop-place-preserved c =
           c.index-blocks-place.result c.index-blocks-place-in-loop-place.result inside c.index-blocks-place.is c.index-blocks-place-in-loop-place.is
           c.linked_block.ensures c.in_ok-write.ensures.written
           ∙ c.loop-place.invariant.image;
+      long = ap length c.in_ok-write.ensures.written ∙ length-set c.loop-place.image _ _ ∙ c.loop-place.invariant.long;
+      held = λ h. c.write.ensures.held (c.loop-place.invariant.held h);
       back = c.write.ensures.back ∙ c.loop-place.invariant.back;
       count = count_after c.loop-place.place (length c.args.blocks.now) c.loop-place.rest.now inside c.loop-place.invariant.count;
     }

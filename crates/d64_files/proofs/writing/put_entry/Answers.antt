@@ -10,5 +10,5 @@ returns-clause-written c =
     on_ok_weaker c.put_entry_at.result
     (λ written.
     written
-    ∙ ap₂ (λ (block place : ℕ). with_bytes c.args.image.now block (32 * (place % 8) + 2) entry) c.block_of_slot-block.ensures c.place-index.ensures)
+    ∙ ap₂ (λ (block place : ℕ). with_bytes c.args.image.now block (32 * (place % 8) + 2) entry) c.block_of_slot-block.ensures.block c.place-index.ensures)
     c.put_entry_at.ensures.written

@@ -1,11 +1,12 @@
-use Rattle.std.proofs.Common.{◌≡◌, ◌≢◌, ℕ, List, [], refl, sym, ap, ◌∙◌, subst, arith}
+use Rattle.std.proofs.Common.{◌≡◌, ◌≢◌, ℕ, ◌<◌, List, [], length, refl, sym, ap, ◌∙◌, subst, arith}
 use Rattle.std.specs.Prelude.{All}
 use Rattle.std.proofs.lemmas.Grind.{get_or_default_zero}
 use Rattle.d64_image.specs.Image.{sector_at}
+use Rattle.d64_files.specs.Chain.{LieIn}
 use Rattle.d64_files.specs.Slot.{cells, HasKind}
 use Rattle.d64_files.specs.Directory.{directory, slots_in}
 use Rattle.d64_files.proofs.Conditions.{both_hold, unknown_kind}
-use Rattle.d64_files.proofs.SlotLists.{all_kinds, kinds_of_block}
+use Rattle.d64_files.proofs.SlotLists.{all_kinds, kinds_of_block, directory-lies}
 use Rattle.d64_files.proofs.directory_blocks.Directory.of.Goals as goal
 
 pub returns-then-not-kinds_are_known-clause-conditions : goal.returns-then-not-kinds_are_known-clause-conditions
@@ -28,6 +29,14 @@ kinds : (c : goal.After-loop-block) → All HasKind (slots_in c.args.image.now (
 kinds c =
     subst (λ (bs : List ℕ). All HasKind (slots_in c.args.image.now bs)) (c.as_slice-block-items.ensures.value ∙ c.in-Some.ensures.value)
     (all_kinds c.args.image.now c.as_slice-block-items.result.now (λ k within. c.loop-block.invariant k (omega arith)))
+
+-- the image has the block that is read
+pub sector-requires : goal.sector-requires
+sector-requires c =
+    let image = c.args.image.now in
+    let items = c.as_slice-block-items.result.now in
+    let same : items ≡ directory image = c.as_slice-block-items.ensures.value ∙ c.in-Some.ensures.value in
+    subst (λ (b : ℕ). b < length image) (sym c.block-item.is) (subst (LieIn image) (sym same) (directory-lies image) c.loop-block.block-index c.block-item.result (omega arith))
 
 pub invariant_of-result : goal.invariant_of-result
 invariant_of-result c = (c.in-Some.ensures.value, c.in-Some.ensures.exists.0 refl, kinds c)

@@ -1,4 +1,5 @@
 use Rattle.std.proofs.Common.{◌≡◌, ℕ, ◌+◌, ◌/◌, ◌<◌, ◌≤◌, List, [], ◌∷◌, length, drop, sym, ap, ap₂, ◌∙◌, subst, rules}
+use Rattle.d64_files.specs.Chain.{LieIn}
 use Rattle.d64_files.specs.Slot.{HasKind}
 use Rattle.d64_files.specs.Directory.{slots_in, numbered}
 use Rattle.d64_files.proofs.SlotLists.{next_slot, no_slot, bytes_at_place, kind_at_place}
@@ -12,6 +13,14 @@ returns-then-index-blocks-clause-steps c =
     let gone : c.args.self.now ≡ [] = sym c.self.view_is ∙ no_slot c.self.inside.image.now blocks place past in
     (gone, gone)
 
+-- the image has the block of the next slot
+pub sector-requires : goal.sector-requires
+sector-requires c =
+    let image = c.self.inside.image.now in
+    let items = c.as_slice-blocks.result.now in
+    let lies = subst (LieIn image) (sym c.as_slice-blocks.ensures.value) c.self.invariant.0 in
+    subst (λ (b : ℕ). b < length image) (sym c.index-blocks-index.is) (lies (c.self.inside.place / 8) c.index-blocks-index.result c.if-index-blocks.false)
+
 pub of-requires-clause-kind : goal.of-requires-clause-kind
 of-requires-clause-kind c =
     let image = c.self.inside.image.now in
@@ -20,7 +29,7 @@ of-requires-clause-kind c =
     let bytes = bytes_at_place image blocks c.as_slice-blocks.result.now place c.index-blocks-index.result c.sector.result.now c.slot_of-bytes.result.now
     c.as_slice-blocks.ensures.value c.if-index-blocks.false c.index-blocks-index.is c.sector.ensures.value c.slot_of-bytes.ensures.value in
     let within = subst (λ (bs : List ℕ). place / 8 < length bs) c.as_slice-blocks.ensures.value c.if-index-blocks.false in
-    subst HasKind (sym bytes) (kind_at_place image blocks place within c.self.invariant)
+    subst HasKind (sym bytes) (kind_at_place image blocks place within c.self.invariant.1)
 
 -- what was left is the entry and what is left now
 stepped : (c : goal.After-of) → c.args.self.now ≡ c.of.result ∷ drop (c.self.inside.place + 1) (numbered (slots_in c.self.inside.image.now c.self.inside.directory))
