@@ -1,9 +1,14 @@
 -- the entry of a new file, in the slot that is there for it
-use Rattle.std.proofs.Common.{◌≡◌, ℕ, ◌+◌, ◌*◌, List, [], Option, Some, None, option_to_list, refl, sym, ap, ap₂, ◌∙◌, subst}
+use Rattle.std.proofs.Common.{◌≡◌, ℕ, ◌+◌, ◌*◌, ◌<◌, not, length, List, [], Option, Some, None, option_to_list, refl, sym, ap, ap₂, ◌∙◌, subst}
 use Rattle.std.specs.Prelude.{MatchOption}
+use Rattle.std.proofs.lemmas.List.Quantifiers.{position-Some}
 use Rattle.d64_map.specs.Map.{free_blocks}
+use Rattle.d64_map.proofs.Plans.{dir_pick}
 use Rattle.d64_files.specs.Directory.{slots}
 use Rattle.d64_files.specs.Writing.{with_bytes, first_unused, dir_last, with_entry, with_growth}
+use Rattle.d64_files.specs.Slot.{is_used}
+use Rattle.d64_files.proofs.SlotLists.{slot_block-within}
+use Rattle.d64_effects.proofs.TakenBlocks.{free_is_block}
 use Rattle.d64_effects.specs.Write.{grown_by, directory_grown, with_entry_in, with_new_entry}
 use Rattle.d64_dos.specs.Space.{IsPlace, StandsIn, grown_at}
 use Rattle.d64_dos.specs.declared.write.Place.{Place}
@@ -49,3 +54,22 @@ pub last_of_place : (image : List (List ℕ)) (place : Place) (last block : ℕ)
     → IsPlace image (free_blocks image) place → last ≡ dir_last image
 last_of_place image place last block e at =
     let is : IsPlace image (free_blocks image) (New last block) = subst (IsPlace image (free_blocks image)) e at in is.1
+
+-- the image has the block that the directory takes
+pub new_of_place : (image : List (List ℕ)) (place : Place) (last block : ℕ) → place ≡ New last block
+    → IsPlace image (free_blocks image) place → block < length image
+new_of_place image place last block e at =
+    let is : IsPlace image (free_blocks image) (New last block) = subst (IsPlace image (free_blocks image)) e at in
+    free_is_block image block (dir_pick (free_blocks image) (dir_last image) (Some block) is.2).0
+
+-- and the block of an unused slot
+vacant_held : (image : List (List ℕ)) (vacant : Option ℕ) (block index : ℕ) → first_unused (slots image) ≡ vacant
+    → MatchOption vacant ⊥ (StandsIn image block index) → block < length image
+vacant_held image None block index e is = absurd is
+vacant_held image (Some slot) block index e is =
+    subst (λ (b : ℕ). b < length image) (sym is.0) (slot_block-within image slot (position-Some (λ cell. not (is_used cell)) (slots image) slot [] e).0)
+
+pub vacant_of_place : (image : List (List ℕ)) (place : Place) (block index : ℕ) → place ≡ Vacant block index
+    → IsPlace image (free_blocks image) place → block < length image
+vacant_of_place image place block index e at =
+    vacant_held image (first_unused (slots image)) block index refl (subst (IsPlace image (free_blocks image)) e at)

@@ -1,11 +1,11 @@
 -- what a formatted disk lists
-use Rattle.std.proofs.Common.{◌≡◌, ◌≢◌, ℕ, zero, suc, ◌+◌, ◌-◌, ◌==◌, not, Bool, false, cond, List, [], ◌∷◌, ◌++◌, length, take, drop, replicate, refl, sym, ap, ◌∙◌, subst, arith, append_assoc}
+use Rattle.std.proofs.Common.{◌≡◌, ◌≢◌, ℕ, zero, suc, ◌+◌, ◌-◌, ◌==◌, not, Bool, false, cond, List, [], ◌∷◌, ◌++◌, length, take, drop, replicate, refl, sym, ap, ap₂, ◌∙◌, subst, arith, append_assoc}
 use Rattle.std.specs.Prelude.{All, Contains, map, filter, take_while, slice_range}
 use Rattle.std.proofs.lemmas.Bool.{ne_eqb}
 use Rattle.std.proofs.lemmas.List.{drop_at, length-append, length-set, get_or-set_same, get_or-set_other}
 use Rattle.std.proofs.lemmas.List.Sums.{take_while-cons}
 use Rattle.std.proofs.lemmas.List.Elements.{All-head, All-tail, All-get_or, All-contains_itself}
-use Rattle.d64_image.specs.Image.{IsSize, sector_at, with_sector}
+use Rattle.d64_image.specs.Image.{IsSize, tracks_of, sector_at, with_sector}
 use Rattle.d64_map.specs.Map.{map_block, map_for}
 use Rattle.d64_map.proofs.Maps.{sector_at-with_map}
 use Rattle.d64_files.specs.Directory.{slots}
@@ -14,11 +14,11 @@ use Rattle.d64_files.specs.Slot.{is_used}
 use Rattle.d64_files.specs.Writing.{empty_directory}
 use Rattle.d64_files.proofs.WrittenBytes.{length-filled}
 use Rattle.d64_effects.specs.Format.{directory_start, header, free_when_formatted, blank, formatted}
-use Rattle.d64_effects.specs.Laws.{AreTwoBytes}
+use Rattle.d64_effects.specs.Laws.{AreTwoBytes, free_count_of}
 use Rattle.d64_effects.specs.View.{View, disk_field, disk_id, view}
 use Rattle.d64_effects.specs.ViewAfter.{formatted_view}
 use Rattle.d64_effects.proofs.EmptyDisks.{length-parts, blocks_free-formatted, IsBlock-header}
-use Rattle.d64_effects.proofs.FormattedDisks.{drop-map_for, unused-formatted, view-formatted}
+use Rattle.d64_effects.proofs.FormattedDisks.{part-map_for, unused-formatted, view-formatted}
 use Rattle.d64_dos.specs.Listing.{FormattedDiskLists, row_of}
 use Rattle.d64_dos.proofs.ListedRows.{listing_by_fields}
 
@@ -57,7 +57,7 @@ none_used (cell ∷ cells) unused =
     ∙ none_used cells (All-tail (λ c. is_used c ≡ false) cell cells unused)
 
 -- the map's block is the header with the map
-header_of : (count : ℕ) (size : IsSize count) (name id : List ℕ) → sector_at (formatted count name id) map_block ≡ map_for (header name id) (free_when_formatted count)
+header_of : (count : ℕ) (size : IsSize count) (name id : List ℕ) → sector_at (formatted count name id) map_block ≡ map_for (tracks_of count) (header name id) (free_when_formatted count)
 unfolding formatted
 header_of count size name id =
     let labelled : List (List ℕ) = with_sector (blank count) map_block (header name id) in
@@ -65,7 +65,7 @@ header_of count size name id =
     let a = length-set labelled directory_start empty_directory in
     let b = length-set (blank count) map_block (header name id) in
     sector_at-with_map (with_sector labelled directory_start empty_directory) (free_when_formatted count) (omega arith)
-    ∙ ap (λ (bytes : List ℕ). map_for bytes (free_when_formatted count))
+    ∙ ap₂ (λ (n : ℕ) (bytes : List ℕ). map_for (tracks_of n) bytes (free_when_formatted count)) p
     (get_or-set_other labelled directory_start map_block empty_directory [] (λ e. omega arith)
     ∙ get_or-set_same (blank count) map_block (header name id) [] (omega arith))
 
@@ -96,13 +96,13 @@ version : (count : ℕ) (size : IsSize count) (name id : List ℕ) → IsName na
 version count size name id named two =
     let block = IsBlock-header name id named two in
     ap (λ (bytes : List ℕ). slice_range bytes 0xA5 0xA7) (header_of count size name id)
-    ∙ ap (take 2) (drop-map_for (header name id) (free_when_formatted count) 0xA5 block.0 (omega arith))
+    ∙ part-map_for (tracks_of count) (header name id) (free_when_formatted count) 0xA5 2 block.0 (omega arith) (omega arith)
     ∙ version_in name id named two
 
--- a formatted disk lists its name, its id, the version, no file, and 664 free blocks
+-- a formatted disk lists its name, its id, the version, no file, and its free blocks
 pub listed : FormattedDiskLists
 listed count name id size named two =
-    sym (listing_by_fields (formatted count name id) name id (0x32 ∷ 0x41 ∷ []) [] 664
+    sym (listing_by_fields (formatted count name id) name id (0x32 ∷ 0x41 ∷ []) [] (free_count_of count)
     (sym (ap (take_while (λ byte. not (byte == 0xA0))) (name_field count size name id named two) ∙ cut_at_fill name (16 - length name) named.allowed))
     (sym (id_field count size name id named two))
     (sym (version count size name id named two))

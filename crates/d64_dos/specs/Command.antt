@@ -1,5 +1,5 @@
 -- What commands do, and when they are refused: a table with a row for each command.
-use Rattle.std.specs.Prelude.{◌≡◌, ℕ, List, length, filter, Option, None, Some, IsSome, MatchOption}
+use Rattle.std.specs.Prelude.{◌≡◌, ℕ, ◌<◌, List, length, filter, Option, None, Some, IsSome, MatchOption}
 use Rattle.d64_image.specs.Image.{with_sector}
 use Rattle.d64_effects.specs.Contents.{names_and_contents}
 use Rattle.d64_effects.specs.ContentsAfter.{is_scratched_row}
@@ -29,12 +29,14 @@ pub record Promise : Type 0 where
   pub shows : View → View
 
 -- a command: of an image, the first refusal that applies, the image that it leaves, in which every byte that the command does not name is
--- as before, and the reply; and what it promises of the disk's files. A command that is no file command promises nothing
+-- as before, and the reply; and what it promises of the disk's files. A command that is no file command promises nothing.
+-- And the block that a command names by itself, where it names one
 pub record Row : Type 0 where
   pub refusal : List (List ℕ) → Option Refusal
   pub effect : List (List ℕ) → List (List ℕ)
   pub reply : List (List ℕ) → Reply
   pub promise : Option Promise
+  pub block : Option ℕ
 
 -- how many files of the directory's list patterns scratch
 abbrev pub scratched_of : View → List (List ℕ) → ℕ
@@ -47,36 +49,42 @@ row (Format name id) = record {
   effect = λ image. formatted (length image) name id;
   reply = λ image. Done;
   promise = Some (record { start = AnyDisk; reply = λ old. Done; shows = λ old. formatted_view old.count name id });
+  block = None;
 }
 row (Write name kind bytes) = record {
   refusal = λ image. write_refusal image name kind (length bytes);
   effect = λ image. written image name kind bytes;
   reply = λ image. Done;
   promise = Some (record { start = SoundDisk; reply = λ old. Done; shows = λ old. written_view old name kind bytes });
+  block = None;
 }
 row (Delete patterns) = record {
   refusal = delete_refusal;
   effect = λ image. scratched image patterns;
   reply = λ image. Scratched (scratched_count image patterns);
   promise = Some (record { start = SoundDisk; reply = λ old. Scratched (scratched_of old patterns); shows = λ old. scratched_view old patterns });
+  block = None;
 }
 row (Rename old new) = record {
   refusal = λ image. rename_refusal image old new;
   effect = λ image. renamed image old new;
   reply = λ image. Done;
   promise = Some (record { start = SoundDisk; reply = λ shown. Done; shows = λ shown. renamed_view shown old new });
+  block = None;
 }
 row Validate = record {
   refusal = validate_refusal;
   effect = validated;
   reply = λ image. Done;
   promise = Some (record { start = AnyDisk; reply = λ old. Done; shows = validated_view });
+  block = None;
 }
 row (BlockWrite at block) = record {
   refusal = λ image. None;
   effect = λ image. with_sector image at block;
   reply = λ image. Done;
   promise = None;
+  block = Some at;
 }
 
 -- the first refusal of a command that applies to the image, and none where the command is to be accepted
@@ -90,6 +98,10 @@ after image change = (row change).effect image
 -- what an accepted command answers
 abbrev pub reply_to : List (List ℕ) → Change → Reply
 reply_to image change = (row change).reply image
+
+-- the image has the block that a command names
+abbrev pub IsWithin : List (List ℕ) → Change → Type 0
+IsWithin image change = MatchOption (row change).block (Unit {0}) (λ block. block < length image)
 
 -- a command that changes the files of a disk; a block write promises nothing of them
 abbrev pub IsFileCommand : Change → Type 0

@@ -7,7 +7,7 @@ use Rattle.d64_files.specs.Name.{IsName}
 use Rattle.d64_files.specs.Slot.{is_used, name_of, is_closed, is_locked, kind_of, size_of}
 use Rattle.d64_files.specs.declared.kind.Kind.{Kind}
 use Rattle.d64_effects.specs.Format.{formatted}
-use Rattle.d64_effects.specs.Laws.{AreTwoBytes}
+use Rattle.d64_effects.specs.Laws.{AreTwoBytes, free_count_of}
 use Rattle.d64_effects.specs.View.{disk_field, disk_id}
 use Rattle.d64_dos.specs.declared.row.Row.{Row}
 use Rattle.d64_dos.specs.declared.row.Listing.{Listing}
@@ -60,8 +60,8 @@ shown_listing listing = record {
   free = listing.free;
 }
 
--- a formatted disk lists its name, its id, the DOS version `2A`, no file, and 664 free blocks
+-- a formatted disk lists its name, its id, the DOS version `2A`, no file, and all blocks outside track 18 free
 abbrev pub FormattedDiskLists : Type 0
 FormattedDiskLists =
     (count : ℕ) (name id : List ℕ) → IsSize count → IsName name → AreTwoBytes id
-    → listing_of (formatted count name id) ≡ record { name = name; id = id; dos = 0x32 ∷ 0x41 ∷ []; rows = []; free = 664 }
+    → listing_of (formatted count name id) ≡ record { name = name; id = id; dos = 0x32 ∷ 0x41 ∷ []; rows = []; free = free_count_of count }

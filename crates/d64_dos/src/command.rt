@@ -1,12 +1,12 @@
 //! Commands on an image, and what they answer.
-ghost use Rattle.std.specs.Prelude.{◌≡◌, [], IfOk, OnOk, OnErr};
+ghost use Rattle.std.specs.Prelude.{◌≡◌, [], length, IfOk, OnOk, OnErr};
 ghost use Rattle.d64_dos.specs.Change.{said};
-ghost use Rattle.d64_dos.specs.Command.{after, reply_to, refusal_of, StartsFrom};
+ghost use Rattle.d64_dos.specs.Command.{after, reply_to, refusal_of, IsWithin, StartsFrom};
 ghost use Rattle.d64_dos.specs.Refusal.{refused_by};
 ghost use Rattle.d64_dos.specs.Step.{IsMade, Leaves};
 ghost use Rattle.d64_effects.specs.Laws.{AreBytes};
 ghost use Rattle.d64_image.specs.Image.{IsImage};
-ghost use Rattle.d64_image.specs.Patch.{back, changed};
+ghost use Rattle.d64_image.specs.Patch.{IsPatchOf, back, changed};
 
 use crate::delete::scratch;
 use crate::format::format;
@@ -63,7 +63,7 @@ pub enum Reply {
 }
 
 /// Changes the image as a command asks, and answers it. The patch, empty before, keeps each block that the command
-/// changed, once and ascending, with its bytes from before.
+/// changed, once and ascending, with its bytes from before. The image has the block that a block write names.
 ///
 /// The first refusal that applies is answered, and want of memory only where none does; then the image is as it was,
 /// and the patch is empty. Neither a format nor a block write has a refusal of its own. The others have these, in order:
@@ -76,10 +76,11 @@ pub enum Reply {
 ///   name, be it the same.
 /// - A validation `Directory` with the first condition that fails of those on the directory, the files and their chains.
 ///
-/// An accepted file command leaves a sound disk, which shows the command's change and nothing else: a format always, a
+/// The image keeps its number of tracks. An accepted file command leaves a sound disk, which shows the command's change and nothing else: a format always, a
 /// validation too, the others where the disk was sound.
 pub fn apply(image: &mut Image, patch: &mut Patch, command: &Command) -> Result<Reply, Refusal>
-    requires { patch.old ≡ [] }
+    requires patch { patch.old ≡ [] }
+    requires block { IsWithin image.old (said command.now) }
     ensures refused { refused_by result ≡ refusal_of image.old (said command.now) }
     ensures reply { IfOk result (λ reply. reply ≡ reply_to image.old (said command.now)) }
     ensures accepted { OnOk result (image.new ≡ after image.old (said command.now)) }
@@ -87,6 +88,7 @@ pub fn apply(image: &mut Image, patch: &mut Patch, command: &Command) -> Result<
     ensures back { OnOk result (back image.new patch.new ≡ image.old) }
     ensures unchanged { OnErr result (image.new ≡ image.old) }
     ensures forgotten { OnErr result (patch.new ≡ []) }
+    ensures kind { length image.new ≡ length image.old }
     ensures step { IfOk result (λ reply. StartsFrom (said command.now) image.old → Leaves image.old (said command.now) reply image.new) }
 {
     let answer = carried_out(image, patch, command);
@@ -134,10 +136,12 @@ fn known_command(command: &Command)
 /// Changes the image as a command asks, byte for byte. After a refusal in the middle some blocks may be written; the image
 /// with the patch put back is the one from before in any case.
 fn carried_out(image: &mut Image, patch: &mut Patch, command: &Command) -> Result<Reply, Refusal>
+    requires { IsWithin image.old (said command.now) }
     ensures refused { refused_by result ≡ refusal_of image.old (said command.now) }
     ensures reply { IfOk result (λ reply. reply ≡ reply_to image.old (said command.now)) }
     ensures accepted { OnOk result (image.new ≡ after image.old (said command.now)) }
     ensures back { back image.new patch.new ≡ back image.old patch.old }
+    ensures held { IsPatchOf image.old patch.old → IsPatchOf image.new patch.new }
     ensures known { IsImage image.old × IsMade (said command.now) }
 {
     known_command(command);

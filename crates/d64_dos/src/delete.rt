@@ -3,7 +3,7 @@ ghost use Rattle.std.specs.Prelude.{◌≡◌, ◌<◌, ℕ, List, length, All, 
 ghost use Rattle.std.specs.List.{list_any, flat_map};
 ghost use Rattle.std.specs.FinSet as set;
 ghost use Rattle.d64_image.specs.BlockSet.{MembersAreBlocks};
-ghost use Rattle.d64_image.specs.Patch.{back};
+ghost use Rattle.d64_image.specs.Patch.{IsPatchOf, back};
 ghost use Rattle.d64_map.specs.Map.{free_blocks};
 ghost use Rattle.d64_files.specs.Directory.{slots, slot_owns, AllHold};
 ghost use Rattle.d64_files.specs.Pattern.{matches as is_match};
@@ -101,6 +101,7 @@ pub(crate) fn clear_slots(
     requires { All (λ place. place < length (slots image.old)) places.now }
     ensures cleared { OnOk result (image.new ≡ with_cleared image.old places.now) }
     ensures back { back image.new patch.new ≡ back image.old patch.old }
+    ensures held { IsPatchOf image.old patch.old → IsPatchOf image.new patch.new }
 {
     clearing_keeps_the_directory();
     let _ = image.bytes();
@@ -128,8 +129,10 @@ pub(crate) fn scratch(
     ensures count { IfOk result (λ count. count ≡ scratched_count image.old patterns.now) }
     ensures image { OnOk result (image.new ≡ scratched image.old patterns.now) }
     ensures back { back image.new patch.new ≡ back image.old patch.old }
+    ensures held { IsPatchOf image.old patch.old → IsPatchOf image.new patch.new }
 {
     clearing_keeps_the_directory();
+    let _ = image.bytes();
     let found = match checked(image) {
         Ok((directory, _owned)) => find_scratched(&directory, patterns),
         Err(fault) => return Err(Refusal::Directory(fault)),

@@ -38,6 +38,7 @@ pub fn listing(alloc: Global, image: &Image) -> Result<Listing, Refusal>
         Ok(walk) => walk,
         Err(fault) => return Err(Refusal::Directory(fault)),
     };
+    let _ = image.tracks();
     let header = image.sector(map_block());
     Ok(Listing {
         name: Vec::from_slice(alloc, disk_name(header))?,

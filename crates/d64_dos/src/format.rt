@@ -1,12 +1,13 @@
 //! An empty disk, made block by block.
-ghost use Rattle.std.specs.Prelude.{◌≡◌, length, replicate, OnOk};
+ghost use Rattle.std.specs.Prelude.{◌≡◌, ◌<◌, length, replicate, OnOk};
 ghost use Rattle.d64_image.specs.declared.image.TheConstants.{BLOCK_BYTES};
 ghost use Rattle.d64_image.specs.Image.{with_sector};
-ghost use Rattle.d64_image.specs.Patch.{back};
+ghost use Rattle.d64_image.specs.Patch.{IsPatchOf, back};
 ghost use Rattle.d64_effects.specs.Format.{directory_start, header, free_when_formatted, blank, formatted};
 
+use crate::block_count::block_count;
 use d64_files::{DIRECTORY_SECTOR, Name, empty_directory, write_at};
-use d64_image::{BLOCK_BYTES, BLOCKS, BlockNo, BlockSet, Image, Patch};
+use d64_image::{BLOCK_BYTES, BlockNo, BlockSet, Image, Patch};
 use d64_map::{DIRECTORY_TRACK, map_block, put_map};
 use std::alloc::AllocError;
 
@@ -51,13 +52,12 @@ fn header(name: &Name, id: &[u8; 2]) -> [u8; BLOCK_BYTES]
     header
 }
 
-/// The free blocks of the disk when it is formatted: all but those of the map and of the directory.
+/// The free blocks of the disk when it is formatted, as many tracks as it has: all but those of the map and of the directory.
 fn free_when_formatted(image: &Image) -> BlockSet
     ensures { result ≡ free_when_formatted (length image.now) }
 {
-    let _ = image.bytes();
     let mut free = BlockSet::empty();
-    for index in 0..BLOCKS {
+    for index in 0..block_count(image) {
         match BlockNo::at(index) {
             Some(block) => free.add(block),
             None => {}
@@ -68,10 +68,12 @@ fn free_when_formatted(image: &Image) -> BlockSet
     free
 }
 
-/// Writes zeros into a block, where it has other bytes: what a patch need not keep takes no memory.
+/// Writes zeros into a block of the image, where it has other bytes: what a patch need not keep takes no memory.
 fn blank_block(image: &mut Image, patch: &mut Patch, block: BlockNo) -> Result<(), AllocError>
+    requires { block < length image.old }
     ensures blank { OnOk result (image.new ≡ with_sector image.old block (replicate BLOCK_BYTES 0)) }
     ensures back { back image.new patch.new ≡ back image.old patch.old }
+    ensures held { IsPatchOf image.old patch.old → IsPatchOf image.new patch.new }
 {
     let blank = [0; BLOCK_BYTES];
     if *image.sector(block) == blank {
@@ -84,9 +86,9 @@ fn blank_block(image: &mut Image, patch: &mut Patch, block: BlockNo) -> Result<(
 fn blank(image: &mut Image, patch: &mut Patch) -> Result<(), AllocError>
     ensures blank { OnOk result (image.new ≡ blank (length image.old)) }
     ensures back { back image.new patch.new ≡ back image.old patch.old }
+    ensures held { IsPatchOf image.old patch.old → IsPatchOf image.new patch.new }
 {
-    let _ = image.bytes();
-    for index in 0..BLOCKS {
+    for index in 0..block_count(image) {
         match BlockNo::at(index) {
             Some(block) => blank_block(image, patch, block)?,
             None => {}
@@ -105,7 +107,9 @@ pub(crate) fn format(
 ) -> Result<(), AllocError>
     ensures formatted { OnOk result (image.new ≡ formatted (length image.old) name.now id.now) }
     ensures back { back image.new patch.new ≡ back image.old patch.old }
+    ensures held { IsPatchOf image.old patch.old → IsPatchOf image.new patch.new }
 {
+    let _ = image.tracks();
     let free = free_when_formatted(image);
     blank(image, patch)?;
     patch.write(image, map_block(), &header(name, id))?;

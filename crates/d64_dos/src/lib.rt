@@ -4,6 +4,7 @@
 //! Guide gives it.
 #![tactic(auto)]
 
+mod block_count;
 mod command;
 mod delete;
 mod directory;

@@ -1,6 +1,6 @@
 //! The renaming of a file.
 ghost use Rattle.std.specs.Prelude.{◌≡◌, ◌<◌, Some, length, IfOk, IfSome, OnOk};
-ghost use Rattle.d64_image.specs.Patch.{back};
+ghost use Rattle.d64_image.specs.Patch.{IsPatchOf, back};
 ghost use Rattle.d64_files.specs.Directory.{slots};
 ghost use Rattle.d64_effects.specs.Rename.{first_of_name, renamed};
 ghost use Rattle.d64_dos.specs.FileRefusals.{rename_refusal};
@@ -58,6 +58,7 @@ pub(crate) fn rename(
     ensures refused { refused_by result ≡ rename_refusal image.old old.now new.now }
     ensures image { OnOk result (image.new ≡ renamed image.old old.now new.now) }
     ensures back { back image.new patch.new ≡ back image.old patch.old }
+    ensures held { IsPatchOf image.old patch.old → IsPatchOf image.new patch.new }
 {
     let slot = match slot_to_rename(image, old, new) {
         Ok(slot) => slot,

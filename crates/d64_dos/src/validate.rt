@@ -1,17 +1,18 @@
 //! The validation of a disk: unclosed files are dropped, and free is what nobody owns.
 ghost use Rattle.std.specs.Prelude.{◌≡◌, ℕ, List, length, OnOk};
 ghost use Rattle.std.specs.FinSet as set;
-ghost use Rattle.d64_image.specs.Patch.{back};
+ghost use Rattle.d64_image.specs.Patch.{IsPatchOf, back};
 ghost use Rattle.d64_effects.specs.Validate.{unclosed_slots, all_but, validated};
 ghost use Rattle.d64_dos.specs.FileRefusals.{validate_refusal};
 ghost use Rattle.d64_dos.specs.Refusal.{refused_by};
 
+use crate::block_count::block_count;
 use crate::delete::{MOST_SLOTS, clear_slots};
 use crate::refusal::Refusal;
 use arrayvec::ArrayVec;
 use d64_effects::laws::clearing_keeps_the_directory;
 use d64_files::{Directory, owned};
-use d64_image::{BLOCKS, BlockNo, BlockSet, Image, Patch};
+use d64_image::{BlockNo, BlockSet, Image, Patch};
 use d64_map::put_map;
 
 /// The places of the used slots whose files aren't closed, in the directory's order.
@@ -31,9 +32,8 @@ fn unclosed_slots(directory: &Directory) -> ArrayVec<usize, MOST_SLOTS>
 fn all_but(image: &Image, owned: &BlockSet) -> BlockSet
     ensures { (blocks : List ℕ) → owned.now ≡ set.from_list blocks → result ≡ all_but (length image.now) blocks }
 {
-    let _ = image.bytes();
     let mut others = BlockSet::empty();
-    for index in 0..BLOCKS {
+    for index in 0..block_count(image) {
         match BlockNo::at(index) {
             Some(block) => {
                 if !owned.has(block) {
@@ -58,6 +58,7 @@ pub(crate) fn validate(image: &mut Image, patch: &mut Patch) -> Result<(), Refus
     ensures refused { refused_by result ≡ validate_refusal image.old }
     ensures image { OnOk result (image.new ≡ validated image.old) }
     ensures back { back image.new patch.new ≡ back image.old patch.old }
+    ensures held { IsPatchOf image.old patch.old → IsPatchOf image.new patch.new }
 {
     clearing_keeps_the_directory();
     let owned = match owned(image) {

@@ -1,6 +1,6 @@
 //! The writing of a file: its blocks, its entry, and the map.
 ghost use Rattle.std.specs.Prelude.{◌≡◌, length, is_some, IfOk, OnOk, IfSome, MatchOption};
-ghost use Rattle.d64_image.specs.Patch.{back};
+ghost use Rattle.d64_image.specs.Patch.{IsPatchOf, back};
 ghost use Rattle.d64_map.specs.Map.{free_blocks};
 ghost use Rattle.d64_files.specs.Writing.{entry_bytes};
 ghost use Rattle.d64_effects.specs.Write.{with_new_entry, written};
@@ -123,6 +123,7 @@ fn put_new_entry(
     requires { IsPlace image.old (free_blocks image.old) place }
     ensures written { OnOk result (image.new ≡ with_new_entry image.old (entry_bytes name.now kind first blocks)) }
     ensures back { back image.new patch.new ≡ back image.old patch.old }
+    ensures held { IsPatchOf image.old patch.old → IsPatchOf image.new patch.new }
 {
     match place {
         Place::Vacant { block, index } => {
@@ -147,6 +148,7 @@ fn put_file(
     requires { IsSpace image.old (length bytes.now) space.now }
     ensures written { OnOk result (image.new ≡ written image.old name.now kind bytes.now) }
     ensures back { back image.new patch.new ≡ back image.old patch.old }
+    ensures held { IsPatchOf image.old patch.old → IsPatchOf image.new patch.new }
 {
     plan_takes_free_blocks();
     let blocks = space.blocks.as_slice();
@@ -180,6 +182,7 @@ pub(crate) fn write(
     ensures refused { refused_by result ≡ write_refusal image.old name.now kind (length bytes.now) }
     ensures written { OnOk result (image.new ≡ written image.old name.now kind bytes.now) }
     ensures back { back image.new patch.new ≡ back image.old patch.old }
+    ensures held { IsPatchOf image.old patch.old → IsPatchOf image.new patch.new }
 {
     let space = match space_for(image, name, kind, bytes.len()) {
         Ok(space) => space,

@@ -1,6 +1,7 @@
-use Rattle.std.proofs.Common.{List, ℕ, ap, ◌∙◌}
+use Rattle.std.proofs.Common.{◌≡◌, List, [], ℕ, length, sym, ap, ◌∙◌, subst}
 use Rattle.std.proofs.lemmas.Result.{on_ok_weaker}
-use Rattle.d64_image.specs.Patch.{changed}
+use Rattle.d64_image.specs.Patch.{Kept, IsPatchOf, RisesBetween, back, changed}
+use Rattle.d64_image.proofs.Patches.{length-back}
 use Rattle.d64_dos.specs.Change.{said}
 use Rattle.d64_dos.proofs.Steps.{step_of, nothing_back, on_err}
 use Rattle.d64_dos.proofs.command.apply.Goals as goal
@@ -8,13 +9,13 @@ use Rattle.d64_dos.proofs.command.apply.Goals as goal
 pub returns-then-is_ok-clause-changed : goal.returns-then-is_ok-clause-changed
 returns-then-is_ok-clause-changed c =
     let done = c.carried_out-answer in
-    let before = done.ensures.back ∙ nothing_back c.args.image.now c.args.patch.now c.requires in
+    let before = done.ensures.back ∙ nothing_back c.args.image.now c.args.patch.now c.requires.patch in
     on_ok_weaker done.result (λ _. c.trim.ensures.changed ∙ ap (λ (image : List (List ℕ)). changed image done.new.image) before) done.ensures.accepted
 
 pub returns-then-is_ok-clause-back : goal.returns-then-is_ok-clause-back
 returns-then-is_ok-clause-back c =
     let done = c.carried_out-answer in
-    let before = done.ensures.back ∙ nothing_back c.args.image.now c.args.patch.now c.requires in
+    let before = done.ensures.back ∙ nothing_back c.args.image.now c.args.patch.now c.requires.patch in
     on_ok_weaker done.result (λ _. c.trim.ensures.back ∙ before) done.ensures.accepted
 
 pub returns-then-is_ok-clause-step : goal.returns-then-is_ok-clause-step
@@ -26,4 +27,27 @@ returns-then-is_ok-clause-step c =
 pub returns-else-is_ok-clause-unchanged : goal.returns-else-is_ok-clause-unchanged
 returns-else-is_ok-clause-unchanged c =
     let done = c.carried_out-answer in
-    on_err done.result (c.swap.ensures.image ∙ done.ensures.back ∙ nothing_back c.args.image.now c.args.patch.now c.requires)
+    on_err done.result (c.swap.ensures.image ∙ done.ensures.back ∙ nothing_back c.args.image.now c.args.patch.now c.requires.patch)
+
+-- the image has each block that the patch keeps, which was empty before
+kept : (image next : List (List ℕ)) (patch after : Kept) → (IsPatchOf image patch → IsPatchOf next after) → patch ≡ [] → IsPatchOf next after
+unfolding RisesBetween
+kept image next patch after held empty = held (subst (IsPatchOf image) (sym empty) tt)
+
+pub trim-requires : goal.trim-requires
+trim-requires c = kept c.args.image.now _ c.args.patch.now _ c.carried_out-answer.ensures.held c.requires.patch
+
+pub swap-requires : goal.swap-requires
+swap-requires c = kept c.args.image.now _ c.args.patch.now _ c.carried_out-answer.ensures.held c.requires.patch
+
+-- the image with the patch put back is as long as before, and so is the image
+kind : (image next : List (List ℕ)) (patch after : Kept) → back next after ≡ back image patch → length next ≡ length image
+kind image next patch after e = sym (length-back after next) ∙ ap length e ∙ length-back patch image
+
+pub returns-then-is_ok-clause-kind : goal.returns-then-is_ok-clause-kind
+returns-then-is_ok-clause-kind c = kind c.args.image.now _ c.args.patch.now _ c.carried_out-answer.ensures.back
+
+pub returns-else-is_ok-clause-kind : goal.returns-else-is_ok-clause-kind
+returns-else-is_ok-clause-kind c =
+    ap length c.swap.ensures.image ∙ length-back c.carried_out-answer.new.patch c.carried_out-answer.new.image
+    ∙ kind c.args.image.now c.carried_out-answer.new.image c.args.patch.now c.carried_out-answer.new.patch c.carried_out-answer.ensures.back

@@ -1,6 +1,7 @@
-use Rattle.std.proofs.Common.{◌≡◌, ◌==◌, not, ℕ, List, None, sym, ap, ◌∙◌, arith, rules}
+use Rattle.std.proofs.Common.{◌≡◌, ◌==◌, not, ℕ, List, None, length, sym, ap, ◌∙◌, arith, rules}
 use Rattle.std.specs.Prelude.{take_while, slice_range}
 use Rattle.d64_image.specs.Image.{sector_at}
+use Rattle.d64_image.proofs.Sizes.{size_least}
 use Rattle.d64_map.specs.Map.{map_block}
 use Rattle.d64_dos.specs.Listing.{rows_of}
 use Rattle.d64_dos.specs.Refusal.{refused_by}
@@ -34,3 +35,10 @@ returns-clause-listing c =
     (two_bytes header 0xA5 (omega (arith, long)) ∙ ap (λ (bytes : List ℕ). slice_range bytes 0xA5 0xA7) same)
     (c.in_ok-rows_of.ensures ∙ ap rows_of c.in-Ok.ensures.slots ∙ rows-numbered image)
     c.blocks_free.ensures
+
+-- the image has the map's block
+pub sector-header-requires : goal.sector-header-requires
+sector-header-requires c =
+    let least = size_least (length c.args.image.now) c.tracks.ensures.size in
+    let e = c.map_block.ensures in
+    omega arith

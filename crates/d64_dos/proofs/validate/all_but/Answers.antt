@@ -1,6 +1,7 @@
 use Rattle.std.proofs.Common.{◌≡◌, ◌+◌, true, false, length, sym, ap, ◌∙◌, subst, arith}
 use Rattle.std.specs.Ordering.{nat_cmp}
 use Rattle.std.specs.FinSet as set
+use Rattle.d64_image.proofs.Sizes.{size_most}
 use Rattle.d64_dos.proofs.BlockSets.{OthersBelow, no_others, one_other, no_other, all_others}
 use Rattle.d64_dos.proofs.validate.all_but.Goals as goal
 use Rattle.d64_dos.proofs.validate.all_but.Goals.{in-Some+then-not-has, in-Some+else-not-has, in-None}
@@ -26,10 +27,14 @@ loop-index-preserved c =
           let member : set.contains owned c.loop-index.index ≡ true = ap (set.contains owned) (sym here) ∙ sym w.has.ensures.value ∙ w.if-not-has.false in
           subst (λ (others : set.FinSet nat_cmp). OthersBelow owned others next) (sym w.others-is)
           (no_other owned c.loop-index.others c.loop-index.index c.loop-index.invariant member)
-      | in-None w ↦ absurd (w.in-None.ensures c.loop-index-test.true)
+      | in-None w ↦
+          let most = size_most (length c.args.image.now) c.block_count-index-end.ensures.size in
+          let long = c.block_count-index-end.ensures.count in
+          let test = c.loop-index-test.true in
+          absurd (w.in-None.ensures (omega arith))
     ]
 
 pub returns : goal.returns
 returns c =
-    let long = c.bytes.ensures.image.0 in
+    let long = c.block_count-index-end.ensures.count in
     λ blocks listed. all_others c.args.owned.now c.loop-index.others c.loop-index.index (length c.args.image.now) blocks (omega arith) listed c.loop-index.invariant

@@ -1,9 +1,18 @@
-use Rattle.std.proofs.Common.{◌≡◌, ◌<◌, length, get_or, ap, ◌∙◌, arith}
+use Rattle.std.proofs.Common.{◌≡◌, ℕ, ◌<◌, ◌++◌, length, get_or, sym, ap, ◌∙◌, subst, arith}
+use Rattle.std.specs.Prelude.{All}
+use Rattle.std.proofs.lemmas.List.Elements.{All-weaker}
 use Rattle.std.proofs.lemmas.List.{get_or_default}
 use Rattle.std.proofs.lemmas.Result.{on_ok_weaker}
+use Rattle.d64_image.specs.BlockSet.{MembersAreBelow}
+use Rattle.d64_map.specs.Laws.{IsFreeForFiles}
 use Rattle.d64_map.specs.Map.{free_blocks}
 use Rattle.d64_files.specs.Writing.{blocks_for}
 use Rattle.d64_files.proofs.FileBlocks.{needs_one}
+use Rattle.d64_effects.proofs.FileChains.{length-with_chain}
+use Rattle.d64_effects.proofs.Lengths.{length-with_new_entry}
+use Rattle.d64_effects.proofs.TakenBlocks.{free_is_block}
+use Rattle.d64_effects.proofs.WrittenImages.{left_are_blocks}
+use Rattle.d64_dos.specs.Space.{grown_at}
 use Rattle.d64_dos.proofs.Spaces.{written-in_space}
 use Rattle.d64_dos.proofs.write.put_file.Goals as goal
 
@@ -21,3 +30,27 @@ returns-clause-written c =
     let whole = written-in_space image c.args.name.now c.args.kind c.args.bytes.now space c.requires in
     let l = ap length blocks in
     on_ok_weaker c.put_map.result (λ written. let mapped = written in cc) c.put_map.ensures.written
+
+-- the image has the blocks of the file
+pub put_chain-requires-clause-blocks : goal.put_chain-requires-clause-blocks
+put_chain-requires-clause-blocks c =
+    let image = c.args.image.now in
+    let taken = c.args.space.now.blocks.items in
+    let free = (c.plan_takes_free_blocks.ensures.blocks (free_blocks image) (blocks_for (length c.args.bytes.now)) taken c.requires.taken).1 in
+    let held = All-weaker (IsFreeForFiles (free_blocks image)) (λ block. block < length image) (λ block h. free_is_block image block h.0) taken free in
+    let long = ap length c.in_ok-put_new_entry.ensures.written ∙ length-with_new_entry image _ in
+    subst (λ (n : ℕ). All (λ block. block < n) c.as_slice-blocks.result.now) (sym long)
+    (subst (All (λ block. block < length image)) (sym c.as_slice-blocks.ensures.value) held)
+
+-- and those that stay free
+pub put_map-requires : goal.put_map-requires
+put_map-requires c =
+    let image = c.args.image.now in
+    let space = c.args.space.now in
+    let long =
+    ap length c.in_ok-put_chain.ensures.written ∙ length-with_chain _ _ c.args.bytes.now
+    ∙ ap length c.in_ok-put_new_entry.ensures.written ∙ length-with_new_entry image _ in
+    record {
+      members = subst (λ (n : ℕ). MembersAreBelow n space.free) (sym long)
+          (subst (MembersAreBelow (length image)) (sym c.requires.left) (left_are_blocks image (space.blocks.items ++ grown_at space.place)));
+    }
