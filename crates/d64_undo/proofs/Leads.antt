@@ -9,12 +9,16 @@ use Rattle.std.proofs.lemmas.List.{length-reverse, length-take-le, reverse-rever
 use Rattle.std.proofs.lemmas.List.Elements.{All-nil, All-cons, All-head, All-tail, All-append, All-take, All-drop, All-map, All-filter, All-from_get_or}
 use Rattle.std.proofs.lemmas.List.FromFn.{length-range_with_len, get_or-range_with_len}
 use Rattle.d64_image.specs.Image.{IsBlock, IsImage, sector_at, differences}
-use Rattle.d64_image.specs.Patch.{Kept, RisesBetween, IsPatch, back, changed}
-use Rattle.d64_image.proofs.Patches.{back-changed}
+use Rattle.d64_image.specs.Patch.{Kept, RisesBetween, back, changed}
+use Rattle.d64_image.proofs.Patches.{back-changed, rises-changed}
 use Rattle.d64_undo.specs.History.{History, present}
 use Rattle.d64_undo.specs.Records.{along, LeadAlong, images_of, AreRecords}
 use Rattle.d64_undo.specs.SessionFile.{HaveBlocks, IsSession}
 use Rattle.d64_undo.proofs.Sessions.{history_of}
+
+-- an image of so many blocks
+abbrev IsImageOf : ℕ → List (List ℕ) → Type 0
+IsImageOf count image = (length image ≡ count) × All IsBlock image
 
 -- the patches that lead from an image through those that come one after another
 pub leads : List (List ℕ) → List (List (List ℕ)) → List Kept
@@ -27,27 +31,29 @@ length-leads [] image = refl
 length-leads (next ∷ images) image = ap suc (length-leads images next)
 
 -- a patch leads to the next image
-leads-next : (next image : List (List ℕ)) → IsImage next → IsImage image → back image (changed next image) ≡ next
-leads-next next image is_next is_image = back-changed next image (is_next.0 ∙ sym is_image.0)
+leads-next : (count : ℕ) (next image : List (List ℕ)) → IsImageOf count next → IsImageOf count image → back image (changed next image) ≡ next
+leads-next count next image is_next is_image = back-changed next image (is_next.0 ∙ sym is_image.0)
 
 -- they lead through the images
-along-leads : (images : List (List (List ℕ))) (image : List (List ℕ)) → IsImage image → All IsImage images → along image (leads image images) ≡ images
+along-leads : (count : ℕ) (images : List (List (List ℕ))) (image : List (List ℕ)) → IsImageOf count image → All (IsImageOf count) images
+    → along image (leads image images) ≡ images
 unfolding along leads
-along-leads [] image is each = refl
-along-leads (next ∷ images) image is each =
-    let is_next = All-head IsImage next images each in
-    ap (λ (x : List (List ℕ)). x ∷ along x (leads next images)) (leads-next next image is_next is)
-    ∙ ap (λ (xs : List (List (List ℕ))). next ∷ xs) (along-leads images next is_next (All-tail IsImage next images each))
+along-leads count [] image is each = refl
+along-leads count (next ∷ images) image is each =
+    let is_next = All-head (IsImageOf count) next images each in
+    ap (λ (x : List (List ℕ)). x ∷ along x (leads next images)) (leads-next count next image is_next is)
+    ∙ ap (λ (xs : List (List (List ℕ))). next ∷ xs) (along-leads count images next is_next (All-tail (IsImageOf count) next images each))
 
 -- and each is the difference to the next one
-lead-leads : (images : List (List (List ℕ))) (image : List (List ℕ)) → IsImage image → All IsImage images → LeadAlong image (leads image images)
+lead-leads : (count : ℕ) (images : List (List (List ℕ))) (image : List (List ℕ)) → IsImageOf count image → All (IsImageOf count) images
+    → LeadAlong image (leads image images)
 unfolding LeadAlong leads
-lead-leads [] image is each = tt
-lead-leads (next ∷ images) image is each =
-    let is_next = All-head IsImage next images each in
-    let there = leads-next next image is_next is in (
+lead-leads count [] image is each = tt
+lead-leads count (next ∷ images) image is each =
+    let is_next = All-head (IsImageOf count) next images each in
+    let there = leads-next count next image is_next is in (
       ap (λ (x : List (List ℕ)). changed x image) (sym there),
-      subst (λ (x : List (List ℕ)). LeadAlong x (leads next images)) (sym there) (lead-leads images next is_next (All-tail IsImage next images each)),
+      subst (λ (x : List (List ℕ)). LeadAlong x (leads next images)) (sym there) (lead-leads count images next is_next (All-tail (IsImageOf count) next images each)),
     )
 
 -- ascending blocks are at most as many as there are
@@ -60,33 +66,9 @@ most (entry ∷ patch) low high r h =
     let rest = most patch (entry.0 + 1) high r.2 (omega arith) in
     omega arith
 
--- blocks of a range that pass a test, each with its bytes, ascend
-rises-range : (n low high : ℕ) (image : List (List ℕ)) (p : ℕ → Bool) → high ≡ low + n
-    → (lower : ℕ) → lower ≤ low → RisesBetween lower high (map (λ (b : ℕ). (b, sector_at image b)) (filter p (range_with_len low n)))
-unfolding RisesBetween
-rises-range zero low high image p e lower h = tt
-rises-range (suc n) low high image p e lower h =
-    let entry : ℕ → ℕ × List ℕ = λ (b : ℕ). (b, sector_at image b) in
-    let rest : List ℕ = filter p (range_with_len (low + 1) n) in
-    elim (cases_Bool (p low)) [
-      | inl t ↦
-          subst (λ (u : Bool). RisesBetween lower high (map entry (cond u (low ∷ rest) rest))) (sym t)
-          (h, omega arith, rises-range n (low + 1) high image p (omega arith) (low + 1) (omega arith))
-      | inr f ↦
-          subst (λ (u : Bool). RisesBetween lower high (map entry (cond u (low ∷ rest) rest))) (sym f)
-          (rises-range n (low + 1) high image p (omega arith) lower (omega arith))
-    ]
-
--- what changed is a patch
-changed-patch : (before after : List (List ℕ)) → IsImage before → IsPatch (changed before after)
-unfolding changed
-changed-patch before after is =
-    subst (λ (n : ℕ). RisesBetween 0 n (changed before after)) is.0
-    (rises-range (length before) 0 (length before) before (λ (b : ℕ). not (pointwise nat_eq (sector_at before b) (sector_at after b))) (omega arith) 0 (omega arith))
-
 -- each block of a range that lies in an image is one
-range-blocks : (image : List (List ℕ)) → IsImage image → All (λ (b : ℕ). IsBlock (sector_at image b)) (range_with_len 0 (length image))
-range-blocks image is =
+range-blocks : (count : ℕ) (image : List (List ℕ)) → IsImageOf count image → All (λ (b : ℕ). IsBlock (sector_at image b)) (range_with_len 0 (length image))
+range-blocks count image is =
     All-from_get_or (λ (b : ℕ). IsBlock (sector_at image b)) (range_with_len 0 (length image)) 0 (λ k h.
     let long = length-range_with_len 0 (length image) in
     let within : k < length image = omega arith in
@@ -94,24 +76,25 @@ range-blocks image is =
     subst (λ (b : ℕ). IsBlock (sector_at image b)) (sym at) (is.1 k [] within))
 
 -- what changed has the bytes of blocks
-changed-blocks : (before after : List (List ℕ)) → IsImage before → HaveBlocks (changed before after)
+changed-blocks : (count : ℕ) (before after : List (List ℕ)) → IsImageOf count before → HaveBlocks (changed before after)
 unfolding changed
-changed-blocks before after is =
+changed-blocks count before after is =
     All-map (λ (e : ℕ × List ℕ). IsBlock e.1) (λ (b : ℕ). (b, sector_at before b)) (differences before after)
     (All-filter (λ (b : ℕ). not (pointwise nat_eq (sector_at before b) (sector_at after b))) (λ (b : ℕ). IsBlock (sector_at before b)) (range_with_len 0 (length before))
-    (range-blocks before is))
+    (range-blocks count before is))
 
--- a record that a file can have
-abbrev pub IsRecord : Kept → Type 0
-IsRecord patch = IsPatch patch × HaveBlocks patch
+-- a record that the file of an image of so many blocks can have
+abbrev pub IsRecord : ℕ → Kept → Type 0
+IsRecord count patch = RisesBetween 0 count patch × HaveBlocks patch
 
-leads-records : (images : List (List (List ℕ))) (image : List (List ℕ)) → All IsImage images → All IsRecord (leads image images)
+leads-records : (count : ℕ) (images : List (List (List ℕ))) (image : List (List ℕ)) → All (IsImageOf count) images → All (IsRecord count) (leads image images)
 unfolding leads
-leads-records [] image each = All-nil IsRecord
-leads-records (next ∷ images) image each =
-    let is_next = All-head IsImage next images each in
-    All-cons IsRecord (changed next image) (leads next images) (changed-patch next image is_next, changed-blocks next image is_next)
-    (leads-records images next (All-tail IsImage next images each))
+leads-records count [] image each = All-nil (IsRecord count)
+leads-records count (next ∷ images) image each =
+    let is_next = All-head (IsImageOf count) next images each in
+    let rises = subst (λ (n : ℕ). RisesBetween 0 n (changed next image)) is_next.0 (rises-changed next image) in
+    All-cons (IsRecord count) (changed next image) (leads next images) (rises, changed-blocks count next image is_next)
+    (leads-records count images next (All-tail (IsImageOf count) next images each))
 
 -- what holds of each element holds of each in another order
 pub All-turned : {X : Type 0} (P : X → Type 0) (xs : List X) → All P xs → All P (reverse xs)
@@ -126,7 +109,7 @@ pub record Held (history : History) (records : List Kept) : Type 0 where
   pub count : length records + 1 ≡ length history.images
   pub lead : AreRecords records (present history) history.cursor
   pub is : history_of records (present history) history.cursor ≡ history
-  pub each : All IsRecord records
+  pub each : All (IsRecord (length (present history))) records
   pub image : IsImage (present history)
 
 -- each history that a session can hold is that of some records
@@ -140,9 +123,11 @@ held history is =
     let past = reverse (take done images) in
     let rest = drop (suc done) images in
     let parted : images ≡ take done images ++ image ∷ rest = split_at images done [] lt in
-    let is_image : IsImage image = is.images done [] lt in
-    let are_past : All IsImage past = All-turned IsImage (take done images) (All-take IsImage done images is.images) in
-    let are_rest : All IsImage rest = All-drop IsImage (suc done) images is.images in
+    let count = length image in
+    let each : All (IsImageOf count) images = λ k d h. (is.kind k d h, (is.images k d h).1) in
+    let is_image : IsImageOf count image = each done [] lt in
+    let are_past : All (IsImageOf count) past = All-turned (IsImageOf count) (take done images) (All-take (IsImageOf count) done images each) in
+    let are_rest : All (IsImageOf count) rest = All-drop (IsImageOf count) (suc done) images each in
     let back_leads = leads image past in
     let on_leads = leads image rest in
     let first = reverse back_leads in
@@ -156,21 +141,21 @@ held history is =
     let on_long = length-leads rest image in
     let rest_long = length-drop (suc done) images in
     let before : reverse (along image (reverse (take done records))) ≡ take done images =
-    ap (λ (ps : List Kept). reverse (along image ps)) turned ∙ ap reverse (along-leads past image is_image are_past) ∙ reverse-reverse (take done images) in
-    let after : along image (drop done records) ≡ rest = ap (along image) end ∙ along-leads rest image is_image are_rest in (
+    ap (λ (ps : List Kept). reverse (along image ps)) turned ∙ ap reverse (along-leads count past image is_image are_past) ∙ reverse-reverse (take done images) in
+    let after : along image (drop done records) ≡ rest = ap (along image) end ∙ along-leads count rest image is_image are_rest in (
       records,
       record {
         within = omega arith;
         count = omega arith;
         lead = (
-          subst (LeadAlong image) (sym turned) (lead-leads past image is_image are_past),
-          subst (LeadAlong image) (sym end) (lead-leads rest image is_image are_rest),
+          subst (LeadAlong image) (sym turned) (lead-leads count past image is_image are_past),
+          subst (LeadAlong image) (sym end) (lead-leads count rest image is_image are_rest),
         );
         is =
             ap (λ (xs : List (List (List ℕ))). let h : History = record { images = xs; cursor = done } in h)
             (ap₂ (λ (xs ys : List (List (List ℕ))). xs ++ image ∷ ys) before after ∙ sym parted);
         each =
-            All-append IsRecord first on_leads (All-turned IsRecord back_leads (leads-records past image are_past)) (leads-records rest image are_rest);
-        image = is_image;
+            All-append (IsRecord count) first on_leads (All-turned (IsRecord count) back_leads (leads-records count past image are_past)) (leads-records count rest image are_rest);
+        image = is.images done [] lt;
       },
     )

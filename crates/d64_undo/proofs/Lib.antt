@@ -5,4 +5,7 @@ pub mod SoundHistories
 pub mod Leads
 pub mod SessionFiles
 pub mod FilesRead
+pub mod FilesTaken
+pub mod Resumed
+pub mod Reading
 pub mod Runs

@@ -1,9 +1,11 @@
 -- runs of requests: a run with one request more, and what is free in a run
-use Rattle.std.proofs.Common.{◌≡◌, ◌≢◌, List, [], ◌∷◌, ◌++◌, Option, Some, None, refl, sym, ap, ap₂, ◌∙◌, subst, arith}
+use Rattle.std.proofs.Common.{◌≡◌, ◌≢◌, ℕ, ◌<◌, length, List, [], ◌∷◌, ◌++◌, Option, Some, None, refl, sym, ap, ap₂, ◌∙◌, subst, arith}
 use Rattle.std.proofs.lemmas.List.Elements.{All-head, All-tail}
+use Rattle.std.specs.Prelude.{MatchOption}
+use Rattle.d64_dos.specs.Command.{row}
 use Rattle.d64_dos.specs.Refusal.{cause_of}
 use Rattle.d64_undo.specs.History.{History}
-use Rattle.d64_undo.specs.Request.{Asked, Apply, Undo, Redo, Step, Run, HasMemory}
+use Rattle.d64_undo.specs.Request.{Asked, Apply, Undo, Redo, IsAskedOf, Step, Run, HasMemory}
 use Rattle.d64_dos.specs.declared.refusal.Refusal.{Refusal}
 use Rattle.d64_dos.specs.declared.refusal.Refusal.TheVariants.{NotClosed, NotFound, Exists, WrongType, Directory, DiskFull, Memory}
 use Rattle.d64_undo.specs.declared.request.Answer.{Answer}
@@ -88,3 +90,14 @@ same_run history (r ∷ requests) (a ∷ answers) (b ∷ others) next other p q 
     same_run p.0 requests answers others next other p.1.1 (subst (λ (h : History). Run h requests others other) (sym first.1) q.1.1)
     (rest_with_memory a answers f) (rest_with_memory b others g) in
     (ap₂ (λ (x : Answer) (xs : List Answer). x ∷ xs) first.0 rest.0, rest.1)
+
+-- an image with as many blocks has the block that a request names
+named_alike : (image other : List (List ℕ)) (block : Option ℕ) → length other ≡ length image
+    → MatchOption block (Unit {0}) (λ b. b < length image) → MatchOption block (Unit {0}) (λ b. b < length other)
+named_alike image other None long h = tt
+named_alike image other (Some block) long h = omega arith
+
+pub asked_alike : (image other : List (List ℕ)) (request : Asked) → length other ≡ length image → IsAskedOf image request → IsAskedOf other request
+asked_alike image other (Apply change) long h = named_alike image other (row change).block long h
+asked_alike image other Undo long h = tt
+asked_alike image other Redo long h = tt

@@ -7,12 +7,12 @@ use Rattle.std.proofs.lemmas.Bool.Decides.{nat_tests}
 use Rattle.std.proofs.lemmas.List.{ext_get_or, length-set}
 use Rattle.std.proofs.lemmas.List.Elements.{All-nil, All-cons, All-head, All-tail, All-append, All-take, All-drop, All-set}
 use Rattle.std.proofs.lemmas.List.FromFn.{length-map-range_with_len, get_or-map-range_with_len}
-use Rattle.d64_image.specs.declared.block.TheConstants.{BLOCKS}
-use Rattle.d64_image.specs.Image.{IsBlock, IsImage, bytes_of}
+use Rattle.d64_image.specs.Image.{IsBlock, IsSize, IsImage, tracks_of, bytes_of}
 use Rattle.d64_image.specs.Patch.{Kept, back, changed}
-use Rattle.d64_undo.specs.History.{History, record_blocks}
+use Rattle.d64_image.proofs.Patches.{length-back}
+use Rattle.d64_undo.specs.History.{History, present, record_blocks}
 use Rattle.d64_undo.specs.Records.{along, images_of, AreRecords}
-use Rattle.d64_undo.specs.SessionFile.{magic, tracks_of, record_file, records_of, file_with, file_of, HaveBlocks, IsSession}
+use Rattle.d64_undo.specs.SessionFile.{magic, record_file, records_of, file_with, file_of, HaveBlocks, IsSession}
 use Rattle.d64_undo.proofs.Leads.{All-turned}
 use Rattle.d64_undo.proofs.Records.{length-images, record-done, record-undone}
 use Rattle.d64_undo.proofs.Sessions.{history_of, present_is, stands, image_count}
@@ -50,13 +50,12 @@ records-held records image done within leads =
     ∙ record_blocks-held records image done k within lt leads)
 
 -- the parts of a file, added one after another
-pub added-parts : (image : List (List ℕ)) (done : ℕ) (records : List Kept) → length image ≡ BLOCKS
-    → ((((magic ++ 35 ∷ []) ++ bytes_of image) ++ to_le_bytes w64 done) ++ to_le_bytes w64 (length records)) ++ flat_map record_file records
+pub added-parts : (image : List (List ℕ)) (tracks done : ℕ) (records : List Kept) → tracks ≡ tracks_of (length image)
+    → ((((magic ++ tracks ∷ []) ++ bytes_of image) ++ to_le_bytes w64 done) ++ to_le_bytes w64 (length records)) ++ flat_map record_file records
     ≡ file_with image done records
 unfolding file_with
-added-parts image done records long =
-    let tracks : tracks_of image ≡ 35 = ap (λ (n : ℕ). cond (n == 768) 40 35) long in
-    ap (λ (t : ℕ). magic ++ t ∷ bytes_of image ++ to_le_bytes w64 done ++ to_le_bytes w64 (length records) ++ flat_map record_file records) (sym tracks)
+added-parts image tracks done records same =
+    ap (λ (t : ℕ). magic ++ t ∷ bytes_of image ++ to_le_bytes w64 done ++ to_le_bytes w64 (length records) ++ flat_map record_file records) same
 
 -- the file of what a session holds is that of its history
 pub file-held : (records : List Kept) (image : List (List ℕ)) (done : ℕ) (history : History) → done ≤ length records
@@ -72,7 +71,7 @@ unfolding back
 back-image [] image is blocks = is
 back-image (entry ∷ patch) image is blocks =
     back-image patch (set image entry.0 entry.1)
-    (length-set image entry.0 entry.1 ∙ is.0, All-set IsBlock image entry.0 entry.1 (All-head (λ (e : ℕ × List ℕ). IsBlock e.1) entry patch blocks) is.1)
+    (subst IsSize (sym (length-set image entry.0 entry.1)) is.0, All-set IsBlock image entry.0 entry.1 (All-head (λ (e : ℕ × List ℕ). IsBlock e.1) entry patch blocks) is.1)
     (All-tail (λ (e : ℕ × List ℕ). IsBlock e.1) entry patch blocks)
 
 -- and so are all images that patches lead to
@@ -84,6 +83,14 @@ along-images (patch ∷ patches) image is blocks =
     All-cons IsImage (back image patch) (along (back image patch) patches) next
     (along-images patches (back image patch) next (All-tail HaveBlocks patch patches blocks))
 
+-- all of one kind
+along-kind : (patches : List Kept) (image : List (List ℕ)) (count : ℕ) → length image ≡ count → All (λ other. length other ≡ count) (along image patches)
+unfolding along
+along-kind [] image count long = All-nil (λ other. length other ≡ count)
+along-kind (patch ∷ patches) image count long =
+    let next = length-back patch image ∙ long in
+    All-cons (λ other. length other ≡ count) (back image patch) (along (back image patch) patches) next (along-kind patches (back image patch) count next)
+
 -- a session's history is one that a session can hold
 pub holds-session : (records : List Kept) (image : List (List ℕ)) (done : ℕ) (history : History) → done ≤ length records
     → length records < 2 ^ 64 → IsImage image → All HaveBlocks records → history_of records image done ≡ history → IsSession history
@@ -94,9 +101,18 @@ holds-session records image done history within most is_image blocks is =
     All-append IsImage (reverse (along image (reverse past))) (image ∷ along image (drop done records))
     (All-turned IsImage (along image (reverse past)) (along-images (reverse past) image is_image (All-turned HaveBlocks past (All-take HaveBlocks done records blocks))))
     (All-cons IsImage image (along image (drop done records)) is_image (along-images (drop done records) image is_image (All-drop HaveBlocks done records blocks))) in
+    let kinds : All (λ other. length other ≡ length image) (images_of records image done) =
+    let one = λ (other : List (List ℕ)). length other ≡ length image in
+    All-append one (reverse (along image (reverse past))) (image ∷ along image (drop done records))
+    (All-turned one (along image (reverse past)) (along-kind (reverse past) image (length image) refl))
+    (All-cons one image (along image (drop done records)) refl (along-kind (drop done records) image (length image) refl)) in
     let count = (image_count records image done history within is).1 in
     record {
       cursor = stands records image done history within is;
       images = subst (λ (h : History). All IsImage h.images) is images;
+      kind =
+          subst (λ (h : History). All (λ other. length other ≡ length (present h)) h.images) is
+          (subst (λ (shown : List (List ℕ)). All (λ other. length other ≡ length shown) (images_of records image done))
+          (sym (present_is records image done (history_of records image done) within refl)) kinds);
       count = omega arith;
     }

@@ -5,4 +5,5 @@ pub mod SoundHistory
 pub mod Request
 pub mod SessionFile
 pub mod ResumeFault
+pub mod Resuming
 pub mod SessionFileLaws

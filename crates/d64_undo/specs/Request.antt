@@ -1,5 +1,5 @@
-use Rattle.std.specs.Prelude.{◌≡◌, ◌≢◌, ◌+◌, ◌<◌, ◌≤◌, List, [], ◌∷◌, length, None, All}
-use Rattle.d64_dos.specs.Command.{after, reply_to, refusal_of}
+use Rattle.std.specs.Prelude.{◌≡◌, ◌≢◌, ℕ, ◌+◌, ◌<◌, ◌≤◌, List, [], ◌∷◌, length, None, All}
+use Rattle.d64_dos.specs.Command.{after, reply_to, refusal_of, IsWithin}
 use Rattle.d64_dos.specs.Refusal.{cause_of}
 use Rattle.d64_undo.specs.History.{History, present, added, undone, redone}
 use Rattle.d64_dos.specs.Change.{Change, said}
@@ -21,6 +21,12 @@ abbrev pub asked : Request → Asked
 asked (requests.Apply command) = Apply (said command)
 asked requests.Undo = Undo
 asked requests.Redo = Redo
+
+-- an image has the block that a request names by itself
+abbrev pub IsAskedOf : List (List ℕ) → Asked → Type 0
+IsAskedOf image (Apply change) = IsWithin image change
+IsAskedOf image Undo = Unit {0}
+IsAskedOf image Redo = Unit {0}
 
 -- a request, its answer, and the history before and after it: the one free choice is want of memory in the place of an acceptance
 abbrev pub Step : History → Asked → Answer → History → Type 0

@@ -1,14 +1,13 @@
 -- What is wrong with bytes that are no session file: they are read part after part, up to the first fault.
-use Rattle.std.specs.Prelude.{ℕ, zero, suc, ◌+◌, ◌*◌, ◌==◌, ◌||◌, ◌&&◌, not, nat_lt, nat_eq, if◌then◌else◌, Bool, true, Option, Some, None, Result, Ok, Err, List, [], ◌∷◌, ◌++◌, length, map, reverse, take, drop}
+use Rattle.std.specs.Prelude.{ℕ, zero, suc, ◌+◌, ◌*◌, ◌==◌, ◌||◌, ◌&&◌, not, nat_lt, nat_eq, if◌then◌else◌, Bool, true, Option, Some, None, Result, Ok, Err, List, [], ◌∷◌, length, reverse, take, drop}
 use Rattle.std.specs.Int.{Width, byte_len, w16, w64, from_le_bytes}
-use Rattle.std.specs.List.{list_all, list_any}
+use Rattle.std.specs.List.{list_all}
 use Rattle.std.specs.Cmp.Lexicographic.{pointwise}
 use Rattle.std.specs.Simd.{first_chunks}
-use Rattle.d64_image.specs.declared.block.TheConstants.{BLOCKS}
 use Rattle.d64_image.specs.declared.image.TheConstants.{BLOCK_BYTES}
-use Rattle.d64_image.specs.Image.{sector_at}
+use Rattle.d64_image.specs.Image.{blocks_of, sector_at}
 use Rattle.d64_image.specs.Patch.{Kept, back}
-use Rattle.d64_undo.specs.SessionFile.{magic, track_counts}
+use Rattle.d64_undo.specs.SessionFile.{magic}
 use Rattle.d64_undo.specs.declared.resume_fault.ResumeFault.{ResumeFault}
 use Rattle.d64_undo.specs.declared.resume_fault.ResumeFault.TheVariants.{NotSession, Truncated, Trailing, BadCursor, BadRecord, Memory}
 
@@ -41,40 +40,72 @@ number_at width bytes = do
   digits ← bytes_at (byte_len width) bytes
   Ok (from_le_bytes width digits.0, digits.1)
 
--- a byte at each place of the beginning, of those that may stand there, and the bytes after them
-unfoldable pub after_head : List (List ℕ) → List ℕ → Result (List ℕ) ResumeFault
-after_head [] bytes = Ok bytes
-after_head (allowed ∷ head) [] = Err Truncated
-after_head (allowed ∷ head) (byte ∷ bytes) = if list_any (λ other. other == byte) allowed then after_head head bytes else Err NotSession
+-- the bytes after those with which each session file begins
+unfoldable pub after_magic : List ℕ → List ℕ → Result (List ℕ) ResumeFault
+after_magic [] bytes = Ok bytes
+after_magic (byte ∷ others) [] = Err Truncated
+after_magic (byte ∷ others) (first ∷ bytes) = if first == byte then after_magic others bytes else Err NotSession
 
--- a block that lies from one on in an image, with its bytes
-unfoldable pub block_at : ℕ → List ℕ → Reading (ℕ × List ℕ)
-block_at low bytes = do
+-- what only a session file has
+abbrev pub or_not_session : {A : Type 0} → Option A → Result A ResumeFault
+or_not_session None = Err NotSession
+or_not_session (Some part) = Ok part
+
+-- how many blocks the image has: the byte that is read is the number of the disk's tracks
+unfoldable pub block_count_at : List ℕ → Reading ℕ
+block_count_at [] = Err Truncated
+block_count_at (tracks ∷ bytes) = do
+  blocks ← or_not_session (blocks_of tracks)
+  Ok (blocks, bytes)
+
+-- the beginning, and the image
+unfoldable pub image_at : List ℕ → Reading (List (List ℕ))
+image_at bytes = do
+  rest ← after_magic magic bytes
+  blocks ← block_count_at rest
+  content ← bytes_at (blocks.0 * BLOCK_BYTES) blocks.1
+  Ok (first_chunks BLOCK_BYTES blocks.0 content.0, content.1)
+
+-- how many records are done, and how many there are
+unfoldable pub counts_at : List ℕ → Reading (ℕ × ℕ)
+counts_at bytes = do
+  done ← number_at w64 bytes
+  count ← number_at w64 done.1
+  if nat_lt count.0 done.0 then Err BadCursor else Ok ((done.0, count.0), count.1)
+
+-- the index of a block that lies from one on in an image of so many blocks
+unfoldable pub index_at : ℕ → ℕ → List ℕ → Reading ℕ
+index_at blocks low bytes = do
   index ← number_at w16 bytes
-  if nat_lt index.0 low || not (nat_lt index.0 BLOCKS) then Err BadRecord else do
-    content ← bytes_at BLOCK_BYTES index.1
-    Ok ((index.0, content.0), content.1)
+  if nat_lt index.0 low || not (nat_lt index.0 blocks) then Err BadRecord else Ok index
+
+-- such a block, with its bytes
+unfoldable pub block_at : ℕ → ℕ → List ℕ → Reading (ℕ × List ℕ)
+block_at blocks low bytes = do
+  index ← index_at blocks low bytes
+  content ← bytes_at BLOCK_BYTES index.1
+  Ok ((index.0, content.0), content.1)
 
 -- so many ascending blocks that lie from one on
-unfoldable pub blocks_at : ℕ → ℕ → List ℕ → Reading Kept
-blocks_at zero low bytes = Ok ([], bytes)
-blocks_at (suc count) low bytes = do
-  first ← block_at low bytes
-  others ← blocks_at count (first.0.0 + 1) first.1
+unfoldable pub blocks_at : ℕ → ℕ → ℕ → List ℕ → Reading Kept
+blocks_at blocks zero low bytes = Ok ([], bytes)
+blocks_at blocks (suc count) low bytes = do
+  first ← block_at blocks low bytes
+  others ← blocks_at blocks count (first.0.0 + 1) first.1
   Ok (first.0 ∷ others.0, others.1)
 
 -- a record: how many blocks it has, and these
-unfoldable pub record_file_at : List ℕ → Reading Kept
-record_file_at bytes = do
+unfoldable pub record_file_at : ℕ → List ℕ → Reading Kept
+record_file_at blocks bytes = do
   count ← number_at w16 bytes
-  blocks_at count.0 0 count.1
+  blocks_at blocks count.0 0 count.1
 
--- so many records
-unfoldable pub records_at : ℕ → List ℕ → Reading (List Kept)
-records_at zero bytes = Ok ([], bytes)
-records_at (suc count) bytes = do
-  first ← record_file_at bytes
-  others ← records_at count first.1
+-- so many records of an image of so many blocks
+unfoldable pub records_at : ℕ → ℕ → List ℕ → Reading (List Kept)
+records_at blocks zero bytes = Ok ([], bytes)
+records_at blocks (suc count) bytes = do
+  first ← record_file_at blocks bytes
+  others ← records_at blocks count first.1
   Ok (first.0 ∷ others.0, others.1)
 
 -- the parts of a session file
@@ -83,20 +114,13 @@ pub record Parts : Type 0 where
   pub done : ℕ
   pub records : List Kept
 
--- for each place of the beginning the bytes that may stand there
-abbrev pub head : List (List ℕ)
-head = map (λ byte. byte ∷ []) magic ++ track_counts ∷ []
-
 -- all parts in their order, with no bytes after them
 unfoldable pub parts_at : List ℕ → Result Parts ResumeFault
 parts_at bytes = do
-  rest ← after_head head bytes
-  image ← bytes_at (BLOCKS * BLOCK_BYTES) rest
-  done ← number_at w64 image.1
-  count ← number_at w64 done.1
-  if nat_lt count.0 done.0 then Err BadCursor else do
-    records ← records_at count.0 count.1
-    if length records.1 == 0 then Ok (record { image = first_chunks BLOCK_BYTES BLOCKS image.0; done = done.0; records = records.0 }) else Err Trailing
+  image ← image_at bytes
+  counts ← counts_at image.1
+  records ← records_at (length image.0) counts.0.1 counts.1
+  if length records.1 == 0 then Ok (record { image = image.0; done = counts.0.0; records = records.0 }) else Err Trailing
 
 -- each block of a record differs from that of an image
 unfoldable pub all_differ : List (List ℕ) → Kept → Bool
@@ -126,3 +150,17 @@ fault_in (Err fault) = Some fault
 -- the first fault of bytes that are no session file
 abbrev pub first_fault : List ℕ → Option ResumeFault
 first_fault bytes = fault_in (session_at bytes)
+
+-- the fault that a refusal tells; want of memory tells none of the bytes', and leaves what would have been told
+abbrev pub told_by : ResumeFault → Option ResumeFault → Option ResumeFault
+told_by NotSession other = Some NotSession
+told_by Truncated other = Some Truncated
+told_by Trailing other = Some Trailing
+told_by BadCursor other = Some BadCursor
+told_by BadRecord other = Some BadRecord
+told_by (Memory error) other = other
+
+-- the fault for which bytes were refused, none where they were accepted; where memory was wanting, the one that would have been told
+abbrev pub refused_by : {A : Type 0} → Result A ResumeFault → Option ResumeFault → Option ResumeFault
+refused_by (Ok session) other = None
+refused_by (Err fault) other = told_by fault other

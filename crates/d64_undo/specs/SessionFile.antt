@@ -1,22 +1,14 @@
 -- The bytes of a session file.
-use Rattle.std.specs.Prelude.{ℕ, ◌-◌, ◌≤◌, ◌^◌, ◌==◌, if◌then◌else◌, All, List, [], ◌∷◌, ◌++◌, length, map}
+use Rattle.std.specs.Prelude.{◌≡◌, ℕ, ◌-◌, ◌≤◌, ◌^◌, All, List, [], ◌∷◌, ◌++◌, length, map}
 use Rattle.std.specs.Int.{w16, w64, to_le_bytes}
 use Rattle.std.specs.List.{flat_map, range_with_len}
-use Rattle.d64_image.specs.Image.{IsBlock, IsImage, bytes_of}
+use Rattle.d64_image.specs.Image.{IsBlock, IsImage, tracks_of, bytes_of}
 use Rattle.d64_image.specs.Patch.{Kept}
 use Rattle.d64_undo.specs.History.{History, IsHistory, present, record_blocks}
 
 -- the bytes with which each session file begins: D64S
 abbrev pub magic : List ℕ
 magic = 0x44 ∷ 0x36 ∷ 0x34 ∷ 0x53 ∷ []
-
--- how many tracks a disk may have
-abbrev pub track_counts : List ℕ
-track_counts = 35 ∷ []
-
--- how many tracks the disk of an image has, by its number of blocks
-abbrev pub tracks_of : List (List ℕ) → ℕ
-tracks_of image = if length image == 768 then 40 else 35
 
 -- a block of a record: its index, and its bytes
 abbrev pub block_file : ℕ × List ℕ → List ℕ
@@ -29,7 +21,7 @@ record_file patch = to_le_bytes w16 (length patch) ++ flat_map block_file patch
 -- the file of a present image, of how many records are done, and of all records, oldest first
 unfoldable pub file_with : List (List ℕ) → ℕ → List Kept → List ℕ
 file_with image done records =
-    magic ++ tracks_of image ∷ bytes_of image ++ to_le_bytes w64 done ++ to_le_bytes w64 (length records) ++ flat_map record_file records
+    magic ++ tracks_of (length image) ∷ bytes_of image ++ to_le_bytes w64 done ++ to_le_bytes w64 (length records) ++ flat_map record_file records
 
 -- the records of a history, oldest first
 unfoldable pub records_of : History → List Kept
@@ -39,11 +31,12 @@ records_of history = map (record_blocks history) (range_with_len 0 (length histo
 abbrev pub file_of : History → List ℕ
 file_of history = file_with (present history) history.cursor (records_of history)
 
--- the histories that a session can hold: the cursor stands on one of the images, these are images of disks, and a number of 64 bits
--- counts the records
+-- the histories that a session can hold: the cursor stands on one of the images, these are images of disks of as many tracks, and a
+-- number of 64 bits counts the records
 pub record IsSession (history : History) : Type 0 where
   pub cursor : IsHistory history
   pub images : All IsImage history.images
+  pub kind : All (λ image. length image ≡ length (present history)) history.images
   pub count : length history.images ≤ 2 ^ 64
 
 -- what a record keeps of each block are the bytes of one

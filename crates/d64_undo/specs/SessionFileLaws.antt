@@ -1,7 +1,8 @@
-use Rattle.std.specs.Prelude.{◌≡◌, None}
+use Rattle.std.specs.Prelude.{◌≡◌, ℕ, ◌<◌, List, All, None, Result, Ok, Err, IfOk}
 use Rattle.d64_undo.specs.History.{History}
 use Rattle.d64_undo.specs.SessionFile.{file_of, IsSession}
-use Rattle.d64_undo.specs.ResumeFault.{first_fault}
+use Rattle.d64_undo.specs.ResumeFault.{first_fault, fault_number, refused_by}
+use Rattle.d64_undo.specs.declared.resume_fault.ResumeFault.{ResumeFault}
 
 -- bytes are the file of at most one history
 abbrev pub FilesTell : Type 0
@@ -10,3 +11,23 @@ FilesTell = (history other : History) → IsSession history → IsSession other 
 -- the file of a history has no fault
 abbrev pub FilesAreFaultless : Type 0
 FilesAreFaultless = (history : History) → IsSession history → first_fault (file_of history) ≡ None
+
+-- bytes without a fault are the file of a history
+abbrev pub FaultlessAreFiles : Type 0
+FaultlessAreFiles =
+    (bytes : List ℕ) → All (λ byte. byte < 256) bytes → first_fault bytes ≡ None → (history : History) × IsSession history × (file_of history ≡ bytes)
+
+-- what may be answered to bytes that are to be resumed
+pub record IsAnswer (bytes : List ℕ) (answer : Result History ResumeFault) : Type 0 where
+  pub refused : refused_by answer (first_fault bytes) ≡ first_fault bytes
+  pub file : IfOk answer (λ session. file_of session ≡ bytes)
+  pub session : IfOk answer IsSession
+
+-- that history was answered, or want of memory
+abbrev pub IsOrMemory : History → Result History ResumeFault → Type 0
+IsOrMemory history (Ok session) = session ≡ history
+IsOrMemory history (Err fault) = fault_number fault ≡ 6
+
+-- what was kept is resumed with the same history and cursor
+abbrev pub KeptIsResumed : Type 0
+KeptIsResumed = (history : History) (answer : Result History ResumeFault) → IsSession history → IsAnswer (file_of history) answer → IsOrMemory history answer

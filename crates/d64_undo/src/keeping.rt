@@ -7,11 +7,11 @@ ghost use Rattle.d64_undo.specs.SessionFile.{block_file, record_file, file_with,
 use d64_image::{BLOCK_BYTES, BlockNo, Image, Patch};
 use std::alloc::{AllocError, Global};
 
-/// The bytes with which each session file begins: D64S, and the number of tracks.
-const HEAD: [u8; 5] = [0x44, 0x36, 0x34, 0x53, 35];
+/// The bytes with which each session file begins: D64S.
+pub(crate) const MAGIC: [u8; 4] = [0x44, 0x36, 0x34, 0x53];
 
-/// How many bytes a file has besides its image and its records: its beginning and two counts.
-const COUNT_BYTES: usize = HEAD.len() + 2 * size_of::<u64>();
+/// How many bytes a file has besides its image and its records: its beginning, the number of tracks and two counts.
+const COUNT_BYTES: usize = MAGIC.len() + 1 + 2 * size_of::<u64>();
 
 // The bytes of a slice are known to be bytes.
 fn known_bytes(_bytes: &[u8])
@@ -83,7 +83,8 @@ pub(crate) fn session_file(
 {
     let bytes = image.bytes();
     let mut file = Vec::with_capacity(alloc, file_len(bytes, records))?;
-    file.extend_from_slice(&HEAD)?;
+    file.extend_from_slice(&MAGIC)?;
+    file.extend_from_slice(&[image.tracks()])?;
     file.extend_from_slice(bytes)?;
     file.extend_from_slice(&(done as u64).to_le_bytes())?;
     file.extend_from_slice(&(records.len() as u64).to_le_bytes())?;

@@ -3,7 +3,7 @@
 //! A caller whose proof needs a law calls the function.
 ghost use Rattle.d64_undo.specs.HistoryLaws.{UndoAfterCommand, RedoAfterUndo, Retraced};
 ghost use Rattle.d64_undo.specs.Request.{MemoryAloneIsFree, MemoryForAcceptance};
-ghost use Rattle.d64_undo.specs.SessionFileLaws.{FilesTell, FilesAreFaultless};
+ghost use Rattle.d64_undo.specs.SessionFileLaws.{FilesTell, FilesAreFaultless, FaultlessAreFiles, KeptIsResumed};
 
 /// Undo after an accepted command gives the image from before it.
 pub fn undo_after_command()
@@ -30,9 +30,19 @@ pub fn memory_for_acceptance()
     ensures { MemoryForAcceptance }
 {}
 
-/// Bytes are the session file of at most one history, and the file of each history has no fault: what was kept is resumed with
-/// the same history and cursor.
+/// Bytes are the session file of at most one history.
 pub fn session_files_tell()
-    ensures one { FilesTell }
+    ensures { FilesTell }
+{}
+
+/// The file of each history has no fault, and bytes without a fault are the file of a history.
+pub fn session_files_are_faultless()
     ensures faultless { FilesAreFaultless }
+    ensures files { FaultlessAreFiles }
+{}
+
+/// What was kept is resumed with the same history and cursor, or memory is wanting: to the file of a history, nothing else meets
+/// the contract of `resume`.
+pub fn kept_is_resumed()
+    ensures { KeptIsResumed }
 {}

@@ -8,8 +8,10 @@ mod keeping;
 pub mod laws;
 mod request;
 mod resume_fault;
+mod resuming;
 mod session;
 
 pub use request::{Answer, Request, run_all};
 pub use resume_fault::ResumeFault;
+pub use resuming::resume;
 pub use session::{NothingToRedo, NothingToUndo, Session};

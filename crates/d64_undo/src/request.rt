@@ -1,6 +1,7 @@
 //! Requests to a session, and whole runs of them.
-ghost use Rattle.std.specs.Prelude.{◌≡◌, map, IfOk, OnErr};
-ghost use Rattle.d64_undo.specs.Request.{asked, Step, Run};
+ghost use Rattle.std.specs.Prelude.{◌≡◌, length, map, All, IfOk, OnErr};
+ghost use Rattle.d64_undo.specs.History.{present};
+ghost use Rattle.d64_undo.specs.Request.{asked, IsAskedOf, Step, Run};
 
 use crate::session::{NothingToRedo, NothingToUndo, Session};
 use d64_dos::{Command, Refusal, Reply};
@@ -28,7 +29,9 @@ pub enum Answer {
 
 // The answer to one request.
 fn run_one(session: &mut Session, request: &Request) -> Answer
-    ensures { Step session.old (asked request.now) result session.new }
+    requires { IsAskedOf (present session.old) (asked request.now) }
+    ensures step { Step session.old (asked request.now) result session.new }
+    ensures kind { length (present session.new) ≡ length (present session.old) }
 {
     match request {
         Request::Apply(command) => match session.run(command) {
@@ -47,12 +50,13 @@ fn run_one(session: &mut Session, request: &Request) -> Answer
 }
 
 /// Runs the requests one after another, and gives their answers. Where there is no memory for the answers
-/// themselves, no request has run.
+/// themselves, no request has run. The image has the block that each block write names.
 pub fn run_all(
     alloc: Global,
     session: &mut Session,
     requests: &[Request],
 ) -> Result<Vec<Answer>, AllocError>
+    requires { All (λ request. IsAskedOf (present session.old) (asked request)) requests.now }
     ensures ran { IfOk result (λ answers. Run session.old (map asked requests.now) answers.items session.new) }
     ensures unchanged { OnErr result (session.new ≡ session.old) }
 {

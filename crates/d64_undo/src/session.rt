@@ -1,10 +1,11 @@
 //! Sessions: an image with undo and redo.
-ghost use Rattle.std.specs.Prelude.{◌≡◌, ◌+◌, ◌^◌, ◌<◌, ◌↔◌, length, option_copied, IsOk, OnOk, OnErr, IfOk};
+ghost use Rattle.std.specs.Prelude.{◌≡◌, ◌+◌, ◌^◌, ◌<◌, ◌≤◌, ◌↔◌, length, option_copied, IsOk, OnOk, OnErr, IfOk};
 ghost use Rattle.d64_dos.specs.Change.{said};
-ghost use Rattle.d64_dos.specs.Command.{after, reply_to, refusal_of};
+ghost use Rattle.d64_dos.specs.Command.{after, reply_to, refusal_of, IsWithin};
 ghost use Rattle.d64_dos.specs.Refusal.{refused_by};
 ghost use Rattle.d64_effects.specs.View.{IsSound};
 ghost use Rattle.d64_undo.specs.History.{IsHistory, present, begun, added, undone, redone, record_len, record_at};
+ghost use Rattle.d64_undo.specs.Records.{images_of, AreRecords};
 ghost use Rattle.d64_undo.specs.SessionFile.{file_of, IsSession};
 ghost use Rattle.d64_undo.specs.SoundHistory.{IsSoundHistory, KeepsSound};
 
@@ -67,6 +68,26 @@ impl Session {
         }
     }
 
+    // The session that holds a present image, and records that lead away from it, so many of which are done.
+    pub(crate) fn of_records(
+        alloc: Global,
+        present: Image,
+        records: Vec<Patch>,
+        done: usize,
+    ) -> Session
+        requires within { done ≤ length records.items }
+        requires lead { AreRecords records.items present done }
+        ensures images { result.images ≡ images_of records.items present done }
+        ensures cursor { result.cursor ≡ done }
+    {
+        Session {
+            alloc,
+            image: present,
+            records,
+            done,
+        }
+    }
+
     /// The present image.
     pub fn image(&self) -> &Image
         ensures present { result.now ≡ present self.now }
@@ -118,14 +139,17 @@ impl Session {
 
     /// Runs a command on the present image. Where it is accepted, the records after the cursor are dropped
     /// and one is added, also where nothing changed. It is refused by the first refusal that applies, and
-    /// for want of memory only where none does; then image, records and cursor are as before.
+    /// for want of memory only where none does; then image, records and cursor are as before. The present image has the
+    /// block that a block write names.
     ///
     /// Where all images of the history are sound, so are all after an accepted file command, and after every refusal.
     pub fn run(&mut self, command: &Command) -> Result<Reply, Refusal>
+        requires { IsWithin (present self.old) (said command.now) }
         ensures refused { refused_by result ≡ refusal_of (present self.old) (said command.now) }
         ensures reply { IfOk result (λ reply. reply ≡ reply_to (present self.old) (said command.now)) }
         ensures accepted { OnOk result (self.new ≡ added self.old (after (present self.old) (said command.now))) }
         ensures unchanged { OnErr result (self.new ≡ self.old) }
+        ensures kind { length (present self.new) ≡ length (present self.old) }
         ensures sound { KeepsSound (said command.now) result → IsSoundHistory self.old → IsSoundHistory self.new }
     {
         let mut record = Patch::new(self.alloc);
@@ -145,6 +169,7 @@ impl Session {
         ensures possible { IsOk result ↔ (0 < self.old.cursor) }
         ensures moved { OnOk result (self.new ≡ undone self.old) }
         ensures unchanged { OnErr result (self.new ≡ self.old) }
+        ensures kind { length (present self.new) ≡ length (present self.old) }
         ensures sound { IsSoundHistory self.old → IsSoundHistory self.new }
     {
         if self.done == 0 {
@@ -157,7 +182,8 @@ impl Session {
     // The cursor one record back.
     fn step_back(&mut self)
         requires { 0 < self.old.cursor }
-        ensures { self.new ≡ undone self.old }
+        ensures moved { self.new ≡ undone self.old }
+        ensures kind { length (present self.new) ≡ length (present self.old) }
     {
         self.done -= 1;
         self.records[self.done].swap(&mut self.image);
@@ -168,6 +194,7 @@ impl Session {
         ensures possible { IsOk result ↔ (self.old.cursor + 1 < length self.old.images) }
         ensures moved { OnOk result (self.new ≡ redone self.old) }
         ensures unchanged { OnErr result (self.new ≡ self.old) }
+        ensures kind { length (present self.new) ≡ length (present self.old) }
         ensures sound { IsSoundHistory self.old → IsSoundHistory self.new }
     {
         if self.undone() == 0 {
@@ -180,7 +207,8 @@ impl Session {
     // The cursor one record on.
     fn step_on(&mut self)
         requires { self.old.cursor + 1 < length self.old.images }
-        ensures { self.new ≡ redone self.old }
+        ensures moved { self.new ≡ redone self.old }
+        ensures kind { length (present self.new) ≡ length (present self.old) }
     {
         self.records[self.done].swap(&mut self.image);
         self.done += 1;

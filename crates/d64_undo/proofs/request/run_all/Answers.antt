@@ -1,10 +1,11 @@
 use Rattle.std.proofs.Common.{◌≡◌, ◌+◌, List, [], ◌∷◌, ◌++◌, map, take, ap, sym, ◌∙◌, subst, arith}
 use Rattle.std.specs.Vec.{vec_len}
 use Rattle.std.proofs.lemmas.List.{map-append, take_more}
-use Rattle.d64_undo.specs.Request.{Asked, asked, Run}
+use Rattle.d64_undo.specs.History.{present}
+use Rattle.d64_undo.specs.Request.{Asked, asked, IsAskedOf, Run}
 use Rattle.d64_undo.specs.declared.request.Request.{Request}
 use Rattle.d64_undo.specs.declared.request.Answer.{Answer}
-use Rattle.d64_undo.proofs.Runs.{Run-push}
+use Rattle.d64_undo.proofs.Runs.{Run-push, asked_alike}
 use Rattle.d64_undo.proofs.request.run_all.Goals as goal
 
 -- the run so far, and the step of this request
@@ -23,7 +24,15 @@ loop-request-preserved c =
           subst (λ (rs : List Asked). Run c.args.session.now rs c.push.new.self.items c.run_one.new.session) (sym requests)
           (subst (λ (xs : List Answer). Run c.args.session.now (map asked before ++ asked c.request-item.result ∷ []) xs c.run_one.new.session) (sym answers)
           (Run-push c.args.session.now c.loop-request.session c.run_one.new.session (map asked before) c.loop-request.answers.items
-          (asked c.request-item.result) c.run_one.result c.loop-request.invariant.ran c.run_one.ensures));
+          (asked c.request-item.result) c.run_one.result c.loop-request.invariant.ran c.run_one.ensures.step));
+      kind = c.run_one.ensures.kind ∙ c.loop-request.invariant.kind;
       count = omega arith;
       room = omega (arith, c.push.ensures.capacity);
     }
+
+-- the image has as many blocks as before, and so the one that the request names
+pub run_one-requires : goal.run_one-requires
+run_one-requires c =
+    asked_alike (present c.args.session.now) (present c.loop-request.session) (asked c.request-item.result) c.loop-request.invariant.kind
+    (subst (λ (r : Request). IsAskedOf (present c.args.session.now) (asked r)) (sym c.request-item.is)
+    (c.requires c.loop-request.request-index c.request-item.result c.loop-request-test.true))

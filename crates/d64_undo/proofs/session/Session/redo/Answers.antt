@@ -6,4 +6,4 @@ use Rattle.d64_undo.proofs.session.Session.redo.Goals as goal
 
 -- the images are the same
 pub returns-clause-sound : goal.returns-clause-sound
-returns-clause-sound c all = subst IsSoundHistory (sym c.step_on.ensures) (moved-sound c.args.self.now (redone c.args.self.now) refl all)
+returns-clause-sound c all = subst IsSoundHistory (sym c.step_on.ensures.moved) (moved-sound c.args.self.now (redone c.args.self.now) refl all)

@@ -1,10 +1,12 @@
-use Rattle.std.proofs.Common.{arith, rules, ◌≡◌, ◌+◌, ◌++◌, ◌∷◌, [], List, ℕ, take, sym, ap, ◌∙◌, subst}
+use Rattle.std.proofs.Common.{arith, rules, ◌≡◌, ◌+◌, ◌++◌, ◌∷◌, [], List, ℕ, length, take, refl, sym, ap, ◌∙◌, subst}
 use Rattle.d64_dos.specs.Change.{said}
-use Rattle.d64_dos.specs.Command.{after, refusal_of, reply_to}
+use Rattle.d64_dos.specs.Command.{after, refusal_of, reply_to, IsWithin}
 use Rattle.d64_dos.specs.Refusal.{refused_by}
 use Rattle.d64_dos.specs.Step.{Leaves}
 use Rattle.d64_dos.proofs.Steps.{starts_from_sound}
 use Rattle.d64_effects.specs.View.{IsSound}
+use Rattle.d64_image.specs.Patch.{RisesBetween}
+use Rattle.d64_image.proofs.Patches.{rises-changed}
 use Rattle.d64_undo.specs.History.{present, added}
 use Rattle.d64_undo.specs.Records.{AreRecords}
 use Rattle.d64_undo.specs.SoundHistory.{IsSoundHistory}
@@ -85,3 +87,25 @@ returns-clause-sound c is all =
     subst IsSoundHistory (sym (returns-clause-accepted c))
     (added-sound c.args.self.now (after (present c.args.self.now) (said c.args.command.now)) all
     (subst IsSound (c.in_ok-reply.ensures.accepted ∙ ap (λ (image : List (List ℕ)). after image (said c.args.command.now)) (sym old)) left.sound))
+
+-- the present image has the block that the command names
+pub apply-requires-clause-block : goal.apply-requires-clause-block
+apply-requires-clause-block c =
+    let s = c.self.inside in
+    subst (λ (image : List (List ℕ)). IsWithin image (said c.args.command.now))
+    (present_is s.records.items s.image s.done c.args.self.now c.self.invariant.0 c.self.view_is) c.requires
+
+-- the record is a difference of the image
+pub swap-requires : goal.swap-requires
+swap-requires c =
+    let before = c.self.inside.image in
+    subst (λ (n : ℕ). RisesBetween 0 n c.apply.new.patch) (sym c.in_ok-reply.ensures.kind)
+    (subst (RisesBetween 0 (length before)) (sym c.in_ok-reply.ensures.changed) (rises-changed before c.apply.new.image))
+
+-- the image is as long as before
+pub returns-clause-kind : goal.returns-clause-kind
+returns-clause-kind c =
+    let s = c.self.inside in
+    ap length (present_is _ c.apply.new.image _ _ (invariant_of-self-2 c).0 refl)
+    ∙ c.in_ok-reply.ensures.kind
+    ∙ sym (ap length (present_is s.records.items s.image s.done c.args.self.now c.self.invariant.0 c.self.view_is))

@@ -1,9 +1,10 @@
-use Rattle.std.proofs.Common.{◌≡◌, ◌+◌, ◌-◌, ◌<◌, length, sym, ap, ◌∙◌, subst, arith}
+use Rattle.std.proofs.Common.{◌≡◌, ◌+◌, ◌-◌, ◌<◌, length, refl, sym, ap, ◌∙◌, subst, arith}
 use Rattle.std.proofs.lemmas.List.{length-set}
 use Rattle.d64_image.specs.Patch.{changed}
+use Rattle.d64_image.proofs.Patches.{length-back, rises-difference}
 use Rattle.d64_undo.specs.Records.{AreRecords}
 use Rattle.d64_undo.proofs.Records.{last_done, records_undone}
-use Rattle.d64_undo.proofs.Sessions.{image_count, history-undone}
+use Rattle.d64_undo.proofs.Sessions.{present_is, image_count, history-undone}
 use Rattle.d64_undo.proofs.session.Session.step_back.Goals as goal
 
 -- the record before the cursor leads on now
@@ -27,8 +28,8 @@ invariant_of-self c =
     )
 
 -- the images are the same, and the cursor is one back
-pub returns : goal.returns
-returns c =
+pub returns-clause-moved : goal.returns-clause-moved
+returns-clause-moved c =
     let s = c.self.inside in
     let n = s.done - 1 in
     let within = c.self.invariant.0 in
@@ -38,3 +39,24 @@ returns c =
     let h : n < length s.records.items = omega arith in
     history-undone s.records.items s.image c.swap.new.image s.done n c.index_mut.result.now c.swap.new.self c.args.self.now h one c.self.view_is
     c.index_mut.ensures.value c.swap.ensures.image c.swap.ensures.back
+
+-- the record is a difference of the image
+pub swap-requires : goal.swap-requires
+swap-requires c =
+    let s = c.self.inside in
+    let n = s.done - 1 in
+    let within = c.self.invariant.0 in
+    let cursor = (image_count s.records.items s.image s.done c.args.self.now within c.self.view_is).0 in
+    let some = c.requires in
+    let one : s.done ≡ n + 1 = omega arith in
+    let h : n < length s.records.items = omega arith in
+    let leads = subst (AreRecords s.records.items s.image) one c.self.invariant.1 in
+    rises-difference s.image c.index_mut.result.now (last_done s.records.items s.image n c.index_mut.result.now h c.index_mut.ensures.value leads)
+
+-- the image is as long as before
+pub returns-clause-kind : goal.returns-clause-kind
+returns-clause-kind c =
+    let s = c.self.inside in
+    ap length (present_is _ c.swap.new.image _ _ (invariant_of-self c).0 refl)
+    ∙ ap length c.swap.ensures.image ∙ length-back c.index_mut.result.now s.image
+    ∙ sym (ap length (present_is s.records.items s.image s.done c.args.self.now c.self.invariant.0 c.self.view_is))

@@ -1,8 +1,9 @@
-use Rattle.std.proofs.Common.{◌≡◌, ◌<◌, length, sym, ap, ◌∙◌, arith}
+use Rattle.std.proofs.Common.{◌≡◌, ◌<◌, length, refl, sym, ap, ◌∙◌, arith}
 use Rattle.std.proofs.lemmas.List.{length-set}
 use Rattle.d64_image.specs.Patch.{changed}
+use Rattle.d64_image.proofs.Patches.{length-back, rises-difference}
 use Rattle.d64_undo.proofs.Records.{next_undone, records_redone}
-use Rattle.d64_undo.proofs.Sessions.{image_count, history-redone}
+use Rattle.d64_undo.proofs.Sessions.{present_is, image_count, history-redone}
 use Rattle.d64_undo.proofs.session.Session.step_on.Goals as goal
 
 -- there is a record after the cursor
@@ -33,8 +34,8 @@ invariant_of-self c =
     )
 
 -- the images are the same, and the cursor is one on
-pub returns : goal.returns
-returns c =
+pub returns-clause-moved : goal.returns-clause-moved
+returns-clause-moved c =
     let s = c.self.inside in
     let count = image_count s.records.items s.image s.done c.args.self.now c.self.invariant.0 c.self.view_is in
     let cursor = count.0 in
@@ -43,3 +44,22 @@ returns c =
     let h : s.done < length s.records.items = omega arith in
     history-redone s.records.items s.image c.swap.new.image s.done c.index_mut.result.now c.swap.new.self c.args.self.now h c.self.view_is
     c.index_mut.ensures.value c.swap.ensures.image c.swap.ensures.back
+
+-- the record is a difference of the image
+pub swap-requires : goal.swap-requires
+swap-requires c =
+    let s = c.self.inside in
+    let count = image_count s.records.items s.image s.done c.args.self.now c.self.invariant.0 c.self.view_is in
+    let cursor = count.0 in
+    let images = count.1 in
+    let some = c.requires in
+    let h : s.done < length s.records.items = omega arith in
+    rises-difference s.image c.index_mut.result.now (next_undone s.records.items s.image s.done c.index_mut.result.now h c.index_mut.ensures.value c.self.invariant.1)
+
+-- the image is as long as before
+pub returns-clause-kind : goal.returns-clause-kind
+returns-clause-kind c =
+    let s = c.self.inside in
+    ap length (present_is _ c.swap.new.image _ _ (invariant_of-self c).0 refl)
+    ∙ ap length c.swap.ensures.image ∙ length-back c.index_mut.result.now s.image
+    ∙ sym (ap length (present_is s.records.items s.image s.done c.args.self.now c.self.invariant.0 c.self.view_is))

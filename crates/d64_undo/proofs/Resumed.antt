@@ -1,0 +1,159 @@
+-- bytes without a fault are the file of a session
+use Rattle.std.proofs.Common.{◌≡◌, ℕ, Fits, w8, get_or, arith, ◌<◌, ◌&&◌, Bool, true, false, cond, not, nat_eq, List, [], ◌∷◌, length, reverse, take, drop, Option, Some, None, Result, Ok, Err, refl, sym, ap, ap₂, ◌∙◌, subst}
+use Rattle.std.specs.List.{All, filter, list_all}
+use Rattle.std.specs.Cmp.Lexicographic.{pointwise}
+use Rattle.std.proofs.lemmas.List.Elements.{All-head, All-tail, All-take, All-drop, All-weaker, All-from_get_or}
+use Rattle.d64_image.specs.Image.{sector_at}
+use Rattle.d64_image.specs.Patch.{Kept, RisesBetween, back, changed, trimmed}
+use Rattle.d64_image.proofs.Patches.{length-back, trimmed-changed}
+use Rattle.d64_undo.specs.History.{History}
+use Rattle.d64_undo.specs.Records.{LeadAlong, images_of, AreRecords}
+use Rattle.d64_undo.specs.SessionFile.{file_of, HaveBlocks, IsSession}
+use Rattle.d64_undo.specs.ResumeFault.{◌>>=◌, Parts, parts_at, all_differ, differ_along, lead_both_ways, session_at, fault_in, first_fault, fault_number, told_by, refused_by}
+use Rattle.d64_undo.specs.Resuming.{Fails, Gives}
+use Rattle.d64_undo.specs.SessionFileLaws.{FaultlessAreFiles, KeptIsResumed}
+use Rattle.d64_undo.specs.declared.resume_fault.ResumeFault.{ResumeFault}
+use Rattle.d64_undo.specs.declared.resume_fault.ResumeFault.TheVariants.{NotSession, Truncated, Trailing, BadCursor, BadRecord, Memory}
+use Rattle.d64_undo.proofs.Leads.{All-turned}
+use Rattle.d64_undo.proofs.Sessions.{history_of}
+use Rattle.d64_undo.proofs.SessionFiles.{file-held, holds-session}
+use Rattle.d64_undo.proofs.FilesRead.{faultless, one_history}
+use Rattle.d64_undo.proofs.Reading.{fails_then}
+use Rattle.d64_undo.proofs.FilesTaken.{AreBytes, IsRecordOf, AreParts, parts_take, bind_ok, end_ok, ok_is}
+
+both-true : (t u : Bool) → (t && u) ≡ true → (t ≡ true) × (u ≡ true)
+both-true true u e = (refl, e)
+both-true false u e = absurd cc
+
+-- a filter that keeps all
+filter-all : (p : ℕ × List ℕ → Bool) (xs : Kept) → list_all p xs ≡ true → filter p xs ≡ xs
+filter-all p [] e = refl
+filter-all p (x ∷ xs) e =
+    let b = both-true (p x) (list_all p xs) e in
+    ap (λ (t : Bool). cond t (x ∷ filter p xs) (filter p xs)) b.0 ∙ ap (λ (rest : Kept). x ∷ rest) (filter-all p xs b.1)
+
+-- blocks that all differ are all that changed
+differ-changed : (patch : Kept) (image : List (List ℕ)) → RisesBetween 0 (length image) patch → all_differ image patch ≡ true → patch ≡ changed (back image patch) image
+unfolding all_differ trimmed
+differ-changed patch image rises e =
+    sym (filter-all (λ (x : ℕ × List ℕ). not (pointwise nat_eq x.1 (sector_at image x.0))) patch e) ∙ trimmed-changed patch image rises
+
+-- and so records whose blocks all differ lead away from an image
+differ-lead : (records : List Kept) (image : List (List ℕ)) (blocks : ℕ) → length image ≡ blocks → All (IsRecordOf blocks 0) records
+    → differ_along image records ≡ true → LeadAlong image records
+unfolding LeadAlong differ_along
+differ-lead [] image blocks long each e = tt
+differ-lead (patch ∷ patches) image blocks long each e =
+    let b = both-true (all_differ image patch) (differ_along (back image patch) patches) e in
+    let is = All-head (IsRecordOf blocks 0) patch patches each in (
+      differ-changed patch image (subst (λ (n : ℕ). RisesBetween 0 n patch) (sym long) is.0) b.0,
+      differ-lead patches (back image patch) blocks (length-back patch image ∙ long) (All-tail (IsRecordOf blocks 0) patch patches each) b.1,
+    )
+
+pub are-records : (records : List Kept) (image : List (List ℕ)) (done : ℕ) → All (IsRecordOf (length image) 0) records
+    → lead_both_ways image done records ≡ true → AreRecords records image done
+unfolding AreRecords
+are-records records image done each e =
+    let is = IsRecordOf (length image) 0 in
+    let b = both-true (differ_along image (reverse (take done records))) (differ_along image (drop done records)) e in (
+      differ-lead (reverse (take done records)) image (length image) refl (All-turned is (take done records) (All-take is done records each)) b.0,
+      differ-lead (drop done records) image (length image) refl (All-drop is done records each) b.1,
+    )
+
+-- what a session is that has the parts of a file
+pub record IsResumed (bytes : List ℕ) (parts : Parts) : Type 0 where
+  pub session : IsSession (history_of parts.records parts.image parts.done)
+  pub file : file_of (history_of parts.records parts.image parts.done) ≡ bytes
+
+pub resumed : (bytes : List ℕ) (parts : Parts) → AreParts bytes parts → lead_both_ways parts.image parts.done parts.records ≡ true → IsResumed bytes parts
+resumed bytes parts are e =
+    let history = history_of parts.records parts.image parts.done in
+    let leads = are-records parts.records parts.image parts.done are.each e in
+    let blocks : All HaveBlocks parts.records =
+    All-weaker (IsRecordOf (length parts.image) 0) HaveBlocks (λ patch is. is.1) parts.records are.each in
+    record {
+      session = holds-session parts.records parts.image parts.done history are.within are.count are.image blocks refl;
+      file = sym (file-held parts.records parts.image parts.done history are.within leads refl) ∙ are.file;
+    }
+
+-- the parts that were read without fault
+pub session_take : (bytes : List ℕ) (parts : Parts) → AreBytes bytes → session_at bytes ≡ Ok parts → IsResumed bytes parts
+unfolding session_at
+session_take bytes parts are e =
+    let a = bind_ok (parts_at bytes) (λ read. cond (lead_both_ways read.image read.done read.records) (Ok read) (Err BadRecord)) parts e in
+    let g = end_ok (lead_both_ways a.0.image a.0.done a.0.records) BadRecord (Ok a.0) parts a.2 in
+    subst (IsResumed bytes) (ok_is a.0 parts g.1) (resumed bytes a.0 (parts_take bytes a.0 are a.1) g.0)
+
+no-fault : (reading : Result Parts ResumeFault) → fault_in reading ≡ None → (parts : Parts) × (reading ≡ Ok parts)
+no-fault (Ok parts) e = (parts, refl)
+no-fault (Err fault) e = absurd cc
+
+-- bytes without a fault are the file of a history
+pub files : FaultlessAreFiles
+files bytes are e =
+    let read = no-fault (session_at bytes) e in
+    let is = session_take bytes read.0 are read.1 in
+    (history_of read.0.records read.0.image read.0.done, is.session, is.file)
+
+only-memory : (fault : ResumeFault) → told_by fault None ≡ None → fault_number fault ≡ 6
+only-memory NotSession e = absurd cc
+only-memory Truncated e = absurd cc
+only-memory Trailing e = absurd cc
+only-memory BadCursor e = absurd cc
+only-memory BadRecord e = absurd cc
+only-memory (Memory error) e = refl
+
+-- what was kept is resumed
+pub kept-resumed : KeptIsResumed
+kept-resumed history (Ok session) is answer = one_history session history answer.session is answer.file
+kept-resumed history (Err fault) is answer =
+    only-memory fault (subst (λ (first : Option ResumeFault). told_by fault first ≡ first) (faultless history is) answer.refused)
+
+-- the fault that was answered is the one that was read
+pub refused-by : {Answer Part : Type 0} (seen : Answer → Part) (result : Result Answer ResumeFault) (reading : Result Part ResumeFault)
+    → Gives seen result reading → refused_by result (fault_in reading) ≡ fault_in reading
+refused-by seen (Ok answer) reading e = sym (ap fault_in e)
+refused-by seen (Err NotSession) reading e = sym (ap fault_in e)
+refused-by seen (Err Truncated) reading e = sym (ap fault_in e)
+refused-by seen (Err Trailing) reading e = sym (ap fault_in e)
+refused-by seen (Err BadCursor) reading e = sym (ap fault_in e)
+refused-by seen (Err BadRecord) reading e = sym (ap fault_in e)
+refused-by seen (Err (Memory error)) reading e = refl
+
+-- what was a fault of the parts is one of the session
+pub session_fails : (fault : ResumeFault) (bytes : List ℕ) → Fails fault (parts_at bytes) → told_by fault (first_fault bytes) ≡ first_fault bytes
+unfolding session_at
+session_fails fault bytes e =
+    let history : Result Parts ResumeFault = Err fault in
+    refused-by (λ (parts : Parts). parts) history (session_at bytes)
+    (fails_then fault (parts_at bytes) (λ parts. cond (lead_both_ways parts.image parts.done parts.records) (Ok parts) (Err BadRecord)) e)
+
+-- the test of the blocks
+tested : (bytes : List ℕ) (parts : Parts) (t : Bool) → parts_at bytes ≡ Ok parts → lead_both_ways parts.image parts.done parts.records ≡ t
+    → session_at bytes ≡ cond t (Ok parts) (Err BadRecord)
+unfolding session_at
+tested bytes parts t e f =
+    ap (λ (r : Result Parts ResumeFault). r >>= λ read. cond (lead_both_ways read.image read.done read.records) (Ok read) (Err BadRecord)) e
+    ∙ ap (λ (u : Bool). cond u (Ok parts) (Err BadRecord)) f
+
+pub no_difference : (bytes : List ℕ) (parts : Parts) → parts_at bytes ≡ Ok parts → lead_both_ways parts.image parts.done parts.records ≡ false
+    → Some BadRecord ≡ first_fault bytes
+no_difference bytes parts e f = sym (ap fault_in (tested bytes parts false e f))
+
+pub all_difference : (bytes : List ℕ) (parts : Parts) → parts_at bytes ≡ Ok parts → lead_both_ways parts.image parts.done parts.records ≡ true
+    → None ≡ first_fault bytes
+all_difference bytes parts e f = sym (ap fault_in (tested bytes parts true e f))
+
+-- the parts that were read from bytes
+pub parts_read : (bytes : List ℕ) (parts : Parts) → ((i : ℕ) → Fits w8 (get_or bytes i 0)) → parts_at bytes ≡ Ok parts → AreParts bytes parts
+parts_read bytes parts fit e = parts_take bytes parts (All-from_get_or (λ (b : ℕ). b < 256) bytes 0 (λ i h. omega (arith, fit i))) e
+
+-- a history that is that of these parts
+pub history_read : (bytes : List ℕ) (parts : Parts) (history : History) → AreParts bytes parts → lead_both_ways parts.image parts.done parts.records ≡ true
+    → history.images ≡ images_of parts.records parts.image parts.done → history.cursor ≡ parts.done
+    → IsSession history × (file_of history ≡ bytes)
+history_read bytes parts history are e images cursor =
+    let same : history ≡ history_of parts.records parts.image parts.done =
+    ap₂ (λ (xs : List (List (List ℕ))) (k : ℕ). let h : History = record { images = xs; cursor = k } in h) images cursor in
+    let is = resumed bytes parts are e in
+    (subst IsSession (sym same) is.session, subst (λ (h : History). file_of h ≡ bytes) (sym same) is.file)
