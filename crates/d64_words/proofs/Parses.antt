@@ -16,7 +16,7 @@ use Rattle.d64_words.specs.Commands.{d64sh}
 use Rattle.d64_words.specs.Asked.{IsFault, IsFaultOf, IsJob, IsJobOf, IsSubcommand, IsToldAs, Met}
 use Rattle.d64_words.specs.declared.asked.Job.{Job}
 use Rattle.d64_words.specs.declared.asked.JobFault.{JobFault}
-use Rattle.d64_words.specs.declared.asked.JobFault.TheVariants.{Words, Start, Memory}
+use Rattle.d64_words.specs.declared.asked.JobFault.TheVariants.{Words, Start, Memory, Tracks, Both}
 
 pub simple_and_free : is_simple_and_free d64sh ≡ true
 unfolding clap_on_literals d64sh
@@ -102,6 +102,8 @@ pub told : (words : List Text) (error : Error) (fault : JobFault) → HasKind (f
 told words error (Words carried) kind is = elim kind [ inl memory ↦ absurd (is.1 memory) | inr among ↦ subst (λ (e : Error). IsAmong (kind_of e) (fault_of d64sh words) × (kind_of e ≢ OutOfMemory)) (sym is.0) (among, is.1) ]
 told words error Start kind is = absurd is
 told words error Memory kind is = tt
+told words error Tracks kind is = absurd is
+told words error Both kind is = absurd is
 
 -- what the subcommand asks for is what the words ask for
 module _ (words : List Text) (met : Met) (none : fault_of d64sh words ≡ []) (is : subcommand_of d64sh words ≡ Some met) where
@@ -112,6 +114,8 @@ module _ (words : List Text) (met : Met) (none : fault_of d64sh words ≡ []) (i
   refused (Words error) asks = absurd asks
   refused Start asks = (none, subst (λ o. IsSomeAnd o (λ m. IsFaultOf m Start)) (sym is) asks)
   refused Memory asks = tt
+  refused Tracks asks = (none, subst (λ o. IsSomeAnd o (λ m. IsFaultOf m Tracks)) (sym is) asks)
+  refused Both asks = (none, subst (λ o. IsSomeAnd o (λ m. IsFaultOf m Both)) (sym is) asks)
 
 pub error_told : {T : Type 0} (r : Result T JobFault) (P Q : JobFault → Type 0) → ((fault : JobFault) → P fault → Q fault) → IsErrAnd r P → IfErr r Q
 error_told (Ok job) P Q f is = tt

@@ -1,14 +1,15 @@
 -- What the words of the program ask for.
-use Rattle.std.specs.Prelude.{◌≡◌, ◌≢◌, ◌⊎◌, List, [], codes, Option, option_map, IsSomeAnd, String, string_bytes, ⊤}
+use Rattle.std.specs.Prelude.{◌≡◌, ◌≢◌, ◌⊎◌, ℕ, List, [], codes, Option, option_map, IsSome, IsSomeAnd, String, string_bytes, ⊤}
 use Rattle.clap.specs.Words.{Row, Text, IsAmong, fault_of, first_of, kind_of, subcommand_of}
 use Rattle.clap.specs.declared.error.Error.{Error}
 use Rattle.clap.specs.declared.error.kind.ErrorKind.TheVariants.{DisplayHelp, DisplayVersion, OutOfMemory}
 use Rattle.d64_words.specs.Commands.{d64sh}
 use Rattle.d64_words.specs.Start.{IsStartBy, HasNoAddress}
+use Rattle.d64_words.specs.Tracks.{IsTracksBy, HasNoTracks}
 use Rattle.d64_words.specs.declared.asked.Job.{Job}
 use Rattle.d64_words.specs.declared.asked.Job.TheVariants.{Shell, Petcat, Crunch}
 use Rattle.d64_words.specs.declared.asked.JobFault.{JobFault}
-use Rattle.d64_words.specs.declared.asked.JobFault.TheVariants.{Words, Start, Memory}
+use Rattle.d64_words.specs.declared.asked.JobFault.TheVariants.{Words, Start, Memory, Tracks, Both}
 
 -- a subcommand that the words name, and the values that they give to its arguments
 abbrev pub Met : Type 0
@@ -22,18 +23,28 @@ IsSubcommand name = (name ≡ codes "shell") ⊎ ((name ≡ codes "petcat") ⊎ 
 abbrev pub IsGiven : {A : Type 0} → Met → Text → Option (String A) → Type 0
 IsGiven met id name = option_map string_bytes name ≡ first_of id met.1
 
+-- `--resume` stands beside `--tracks`
+abbrev pub HasBoth : Met → Type 0
+HasBoth met = IsSomeAnd (first_of (codes "resume") met.1) (λ file. IsSome (first_of (codes "tracks") met.1))
+
 -- the subcommand asks for this job
 abbrev pub IsJobOf : Met → Job → Type 0
-IsJobOf met (Shell image) = (met.0 ≡ codes "shell") × IsGiven met (codes "image") image
+IsJobOf met (Shell image tracks resume) =
+    (met.0 ≡ codes "shell") × IsGiven met (codes "image") image × IsGiven met (codes "resume") resume
+    × IsTracksBy (first_of (codes "tracks") met.1) (first_of (codes "image") met.1) tracks × (¬ HasBoth met)
 IsJobOf met (Petcat file) = (met.0 ≡ codes "petcat") × IsGiven met (codes "file") file
 IsJobOf met (Crunch start file) =
     (met.0 ≡ codes "crunch") × IsGiven met (codes "file") file × IsStartBy (first_of (codes "start") met.1) start
 
--- it asks for no job, since its start is no address; or there is no memory
+-- it asks for no job, since its start is no address, or no disk has its number of tracks; or, where a disk has so many, since
+-- a session of a file has tracks of its own; or there is no memory
 abbrev pub IsFaultOf : Met → JobFault → Type 0
 IsFaultOf met (Words error) = ⊥
 IsFaultOf met Start = (met.0 ≡ codes "crunch") × HasNoAddress (first_of (codes "start") met.1)
 IsFaultOf met Memory = ⊤
+IsFaultOf met Tracks = (met.0 ≡ codes "shell") × HasNoTracks (first_of (codes "tracks") met.1) (first_of (codes "image") met.1)
+IsFaultOf met Both = (met.0 ≡ codes "shell") × HasBoth met
+    × (tracks : ℕ) × IsTracksBy (first_of (codes "tracks") met.1) (first_of (codes "image") met.1) tracks
 
 -- the words are the program's, and ask neither for help nor for the version; and of the subcommand that they name this holds
 abbrev pub IsUse : List Text → (Met → Type 0) → Type 0
@@ -43,21 +54,27 @@ IsUse words holds = (fault_of d64sh words ≡ []) × IsSomeAnd (subcommand_of d6
 abbrev pub IsJob : List Text → Job → Type 0
 IsJob words job = IsUse words (λ met. IsJobOf met job)
 
--- the words ask for no job, for this fault: an error of clap's, of one of the kinds that it has at these words; or a start
--- that is no address
+-- the words ask for no job, for this fault: an error of clap's, of one of the kinds that it has at these words; or a fault of
+-- what the subcommand that they name is given
 abbrev pub IsFault : List Text → JobFault → Type 0
 IsFault words (Words error) = IsAmong (kind_of error) (fault_of d64sh words) × (kind_of error ≢ OutOfMemory)
 IsFault words Start = IsUse words (λ met. IsFaultOf met Start)
 IsFault words Memory = ⊤
+IsFault words Tracks = IsUse words (λ met. IsFaultOf met Tracks)
+IsFault words Both = IsUse words (λ met. IsFaultOf met Both)
 
 -- how clap's error is told: want of memory as that, and every other as it is
 abbrev pub IsToldAs : Error → JobFault → Type 0
 IsToldAs error (Words told) = (told ≡ error) × (kind_of error ≢ OutOfMemory)
 IsToldAs error Start = ⊥
 IsToldAs error Memory = kind_of error ≡ OutOfMemory
+IsToldAs error Tracks = ⊥
+IsToldAs error Both = ⊥
 
 -- the fault is the help or the version that the words asked for
 abbrev pub WasAskedFor : JobFault → Type 0
 WasAskedFor (Words error) = (kind_of error ≡ DisplayHelp) ⊎ (kind_of error ≡ DisplayVersion)
 WasAskedFor Start = ⊥
 WasAskedFor Memory = ⊥
+WasAskedFor Tracks = ⊥
+WasAskedFor Both = ⊥

@@ -2,7 +2,7 @@
 use Rattle.std.specs.Prelude.{codes, Some, true}
 use Rattle.clap.specs.Words.{App, Rule, new_app, new_rule, with_rule, with_subcommand}
 
--- `image`, `file` and `start`: two places, and an option with a value
+-- `image`, `file`, `start`, `tracks` and `resume`: two places, and three options with a value
 abbrev pub image_argument : Rule
 image_argument = record (new_rule (codes "image")) { value_names = 1 }
 
@@ -12,9 +12,15 @@ file_argument = record (new_rule (codes "file")) { value_names = 1 }
 abbrev pub start_option : Rule
 start_option = record (new_rule (codes "start")) { long = Some (codes "start"); value_names = 1 }
 
--- `shell [IMAGE]`
+abbrev pub tracks_option : Rule
+tracks_option = record (new_rule (codes "tracks")) { long = Some (codes "tracks"); value_names = 1 }
+
+abbrev pub resume_option : Rule
+resume_option = record (new_rule (codes "resume")) { long = Some (codes "resume"); value_names = 1 }
+
+-- `shell [--tracks N] [--resume FILE] [IMAGE]`
 abbrev pub shell : App
-shell = with_rule (new_app (codes "shell")) image_argument
+shell = with_rule (with_rule (with_rule (new_app (codes "shell")) tracks_option) resume_option) image_argument
 
 -- `petcat [FILE]`
 abbrev pub petcat : App

@@ -12,12 +12,22 @@ use thiserror::Error;
 /// What the words ask for. The names are names of host files, as they stand in the words.
 #[derive(Debug, Drop)]
 pub enum Job {
-    /// Run a script on an image, or on a blank one where there is no name.
-    Shell { image: Option<String> },
+    /// Run a script on an image, or on a blank one of so many tracks where there is no name: 35 or 40. Where `resume`
+    /// names a session file, the script runs on its session, and `image` is where `save` stores by default and no more.
+    Shell {
+        image: Option<String>,
+        tracks: u8,
+        resume: Option<String>,
+    },
     /// List the BASIC program in a file, or in the standard input where there is no name.
-    Petcat { file: Option<String> },
+    Petcat {
+        file: Option<String>,
+    },
     /// Make a BASIC program, loaded at `start`, of the text in a file, or in the standard input.
-    Crunch { start: u16, file: Option<String> },
+    Crunch {
+        start: u16,
+        file: Option<String>,
+    },
 }
 
 /// Why the words ask for no job.
@@ -31,6 +41,12 @@ pub enum JobFault {
     Start,
     #[error("out of memory")]
     Memory,
+    /// What follows `--tracks` is neither 35 nor 40, or there is an image beside it.
+    #[error("usage: --tracks takes 35 or 40 and no IMAGE")]
+    Tracks,
+    /// There is `--resume` beside `--tracks`.
+    #[error("usage: --resume and --tracks exclude each other")]
+    Both,
 }
 
 impl JobFault {
@@ -40,7 +56,7 @@ impl JobFault {
     {
         match self {
             JobFault::Words(error) => !error.use_stderr(),
-            JobFault::Start | JobFault::Memory => false,
+            JobFault::Start | JobFault::Memory | JobFault::Tracks | JobFault::Both => false,
         }
     }
 }

@@ -3,7 +3,7 @@
 ghost use Rattle.std.specs.Prelude.{◌≡◌, IfOk, false};
 ghost use Rattle.clap.specs.Words.{app_of, rule_of};
 ghost use Rattle.clap.specs.declared.builder.command.Command.TheViews.{out-Command as fields_of};
-ghost use Rattle.d64_words.specs.Commands.{bare, d64sh, shell, petcat, crunch, file_argument, start_option};
+ghost use Rattle.d64_words.specs.Commands.{bare, d64sh, shell, petcat, crunch, file_argument, start_option, tracks_option, resume_option};
 
 use clap::{Arg, Command};
 use std::alloc::{AllocError, Global};
@@ -18,13 +18,17 @@ const AFTER_HELP: &str = "`d64sh shell --help` and the like say what goes in and
 manual has the commands of the shell, and what the exit status means:
 `man d64sh`, or docs/MANUAL.md beside the source.";
 
+const SHELL_USAGE: &str = "d64sh shell [--tracks N] [IMAGE]
+       d64sh shell --resume FILE [IMAGE]";
+
 const SHELL_AFTER_HELP: &str =
     "In:      the script on the standard input, one command a line, such as `list`
 Out:     what each command shows, and a status line for each, `00, OK,00,00`
          where it was accepted
 Example: echo list | d64sh shell disk.d64
 
-IMAGE itself changes by the command `save` alone. The manual has all commands:
+IMAGE itself changes by the command `save` alone. With --resume, it isn't read,
+and `save` without a name stores there. The manual has all commands:
 `man d64sh`, or docs/MANUAL.md beside the source.";
 
 const PETCAT_AFTER_HELP: &str =
@@ -68,7 +72,7 @@ fn bare<'a>(alloc: Global) -> Command<'a>
         .arg_required_else_help(true)
 }
 
-/// `shell [IMAGE]`.
+/// `shell [--tracks N] [IMAGE]` and `shell --resume FILE [IMAGE]`.
 fn shell<'a>(alloc: Global) -> Result<Command<'a>, AllocError>
     ensures app { IfOk result (λ command. app_of command ≡ shell) }
     ensures local { IfOk result (λ command. (fields_of command).has_globals ≡ false) }
@@ -78,7 +82,10 @@ fn shell<'a>(alloc: Global) -> Result<Command<'a>, AllocError>
         .help("The D64 image to work on; without it, a blank image");
     Command::new(alloc, "shell")
         .about("Runs a script of commands on a disk image")
+        .override_usage(SHELL_USAGE)
         .after_help(SHELL_AFTER_HELP)
+        .arg(tracks_option(alloc))?
+        .arg(resume_option(alloc))?
         .arg(image)
 }
 
@@ -114,6 +121,28 @@ fn file_argument<'a>(alloc: Global, help: &'a str) -> Arg<'a>
     ensures local { result.global ≡ false }
 {
     Arg::new(alloc, "file").value_name("FILE").help(help)
+}
+
+/// `[--tracks N]`.
+fn tracks_option<'a>(alloc: Global) -> Arg<'a>
+    ensures rule { rule_of result ≡ tracks_option }
+    ensures local { result.global ≡ false }
+{
+    Arg::new(alloc, "tracks")
+        .long("tracks")
+        .value_name("N")
+        .help("Tracks of the blank image: 35 or 40; without it, 35. Not with IMAGE")
+}
+
+/// `--resume FILE`.
+fn resume_option<'a>(alloc: Global) -> Arg<'a>
+    ensures rule { rule_of result ≡ resume_option }
+    ensures local { result.global ≡ false }
+{
+    Arg::new(alloc, "resume")
+        .long("resume")
+        .value_name("FILE")
+        .help("The session to go on with, as `keep` stored it. Not with --tracks")
 }
 
 /// `[--start HEX]`.

@@ -1,12 +1,13 @@
 //! From words to the job that they ask for.
 
-ghost use Rattle.std.specs.Prelude.{◌≡◌, IfOk, IfErr, MatchOption, codes, map, string_bytes, option_map};
+ghost use Rattle.std.specs.Prelude.{◌≡◌, IfOk, IfErr, IsTrue, MatchOption, codes, map, string_bytes, option_map, ◌↔◌, ◌≢◌, None};
 ghost use Rattle.std.specs.Char.{is_ascii_hexdigit};
 ghost use Rattle.std.specs.List.{list_all};
 ghost use Rattle.clap.specs.Words.{found_of, first_of, rows_of};
 ghost use Rattle.d64_words.specs.Asked.{IsSubcommand, IsJob, IsJobOf, IsFault, IsFaultOf};
 ghost use Rattle.d64_words.specs.Start.{IsAddress, address_of, IsStartBy, HasNoAddress};
-ghost use Rattle.d64_words.specs.declared.asked.JobFault.TheVariants.{Start};
+ghost use Rattle.d64_words.specs.Tracks.{track_count, IsTracksBy, HasNoTracks};
+ghost use Rattle.d64_words.specs.declared.asked.JobFault.TheVariants.{Start, Tracks};
 
 use crate::asked::{Job, JobFault};
 use crate::command;
@@ -16,13 +17,18 @@ use std::alloc::{AllocError, Global};
 /// The address at which programs are loaded, where the words say no other.
 const DEFAULT_START: u16 = 0x0801;
 
+/// The tracks of a blank image, where the words say no other number.
+const DEFAULT_TRACKS: u8 = 35;
+
 /// The most digits of an address.
 const ADDRESS_DIGITS: usize = 4;
 
 /// The job that the words of the process ask for, of which the first is the program's name.
 ///
 /// `Words` comes exactly where the words are none of the program's, or ask for help or the version; else `Start` exactly where
-/// what follows `--start` is other than one to four hexadecimal digits; and `Memory` in place of any answer.
+/// what follows `--start` is other than one to four hexadecimal digits; else `Tracks` exactly where what follows `--tracks` is
+/// neither 35 nor 40, or there is an image beside it; else `Both` exactly where there is `--resume` beside `--tracks`; and `Memory`
+/// in place of any answer.
 pub fn job(alloc: Global, words: &[&str]) -> Result<Job, JobFault>
     ensures job { IfOk result (IsJob (map (λ word. word.now) words.now)) }
     ensures fault { IfErr result (IsFault (map (λ word. word.now) words.now)) }
@@ -41,9 +47,7 @@ fn job_of(alloc: Global, name: &str, arguments: &ArgMatches) -> Result<Job, JobF
     ensures fault { IfErr result (IsFaultOf (name.now, rows_of (found_of arguments.now))) }
 {
     match name {
-        "shell" => Ok(Job::Shell {
-            image: value(alloc, arguments, "image")?,
-        }),
+        "shell" => shell_job(alloc, arguments),
         "petcat" => Ok(Job::Petcat {
             file: value(alloc, arguments, "file")?,
         }),
@@ -51,6 +55,50 @@ fn job_of(alloc: Global, name: &str, arguments: &ArgMatches) -> Result<Job, JobF
             start: start(arguments)?,
             file: value(alloc, arguments, "file")?,
         }),
+    }
+}
+
+/// The job that `shell` with these matches asks for.
+fn shell_job(alloc: Global, arguments: &ArgMatches) -> Result<Job, JobFault>
+    ensures job { IfOk result (IsJobOf (codes "shell", rows_of (found_of arguments.now))) }
+    ensures fault { IfErr result (IsFaultOf (codes "shell", rows_of (found_of arguments.now))) }
+{
+    let tracks = tracks(arguments)?;
+    let resume = value(alloc, arguments, "resume")?;
+    if resume.is_some() && given(arguments, "tracks").is_some() {
+        return Err(JobFault::Both);
+    }
+    Ok(Job::Shell {
+        image: value(alloc, arguments, "image")?,
+        tracks,
+        resume,
+    })
+}
+
+/// The tracks that the words give, or the default number.
+fn tracks(arguments: &ArgMatches) -> Result<u8, JobFault>
+    ensures tracks { IfOk result (IsTracksBy (first_of (codes "tracks") (rows_of (found_of arguments.now)))
+        (first_of (codes "image") (rows_of (found_of arguments.now)))) }
+    ensures fault { IfErr result (λ fault. (fault ≡ Tracks) × HasNoTracks (first_of (codes "tracks") (rows_of (found_of arguments.now)))
+        (first_of (codes "image") (rows_of (found_of arguments.now)))) }
+{
+    let Some(text) = given(arguments, "tracks") else {
+        return Ok(DEFAULT_TRACKS);
+    };
+    match given(arguments, "image") {
+        Some(_) => Err(JobFault::Tracks),
+        None => track_count(text).ok_or(JobFault::Tracks),
+    }
+}
+
+/// The number of tracks that a text says; None where no disk has so many.
+fn track_count(text: &str) -> Option<u8>
+    ensures { result ≡ track_count text.now }
+{
+    match text {
+        "35" => Some(35),
+        "40" => Some(40),
+        _ => None,
     }
 }
 
