@@ -6,8 +6,9 @@ use Rattle.std.proofs.KnownBytes.{Appends-kept, Keeps-trans}
 use Rattle.d64_script.specs.RawLines.{lines_of, ended_lines}
 use Rattle.d64_script.specs.Script.{script_limit}
 use Rattle.d64_shell.specs.Act.{HostState}
-use Rattle.d64_undo.specs.History.{History, begun}
-use Rattle.d64_shell.specs.Program.{home_of, IsFirstImage, Outside, RanShell, StoppedBy, fault_of_run}
+use Rattle.d64_undo.specs.History.{History}
+use Rattle.d64_shell.specs.Program.{Beginning, home_of, IsFirstHistory, Outside, RanShell, IsToldOf}
+use Rattle.d64_shell.specs.declared.program_fault.ProgramFault.TheVariants as faults
 use Rattle.d64_shell.specs.Runner.{Stand, RanLines, StoppedAt, Ran}
 use Rattle.d64_shell.specs.Transcript.{Progress}
 use Rattle.d64_shell.specs.declared.runner.Outcome.{Outcome}
@@ -84,28 +85,26 @@ Ran-flushed home reader left old new flushed (Err (Memory error)) ran kept = rec
   world = ran.world;
 }
 
--- a script has run on the first image, and then its output was flushed
+-- a script has run from a beginning, and then its output was flushed
 pub RanShell-flushed : (old new : Outside) (ended : Result Outcome ShellFault)
-    (name : Option (List ℕ)) (image : List (List ℕ)) (home : List ℕ) (host : HostState) (first history : History) (writer : Option (List ℕ))
-    → IsFirstImage old.host name image host → home ≡ home_of name → first ≡ begun image
-    → Ran home old.reader new.reader
+    (beginning : Beginning) (home at : List ℕ) (host : HostState) (first last : History) (writer : Option (List ℕ))
+    → IsFirstHistory old.host beginning first host → at ≡ home
+    → Ran at old.reader new.reader
     (record { writer = old.writer; world = record { host = host; history = first } })
-    (record { writer = writer; world = record { host = new.host; history = history } }) ended
-    → Keeps writer new.writer → RanShell name old new ended
-RanShell-flushed old new ended name image home host first history writer is_first at_home begins ran flushed = record {
-  image = image;
+    (record { writer = writer; world = record { host = new.host; history = last } }) ended
+    → Keeps writer new.writer → RanShell beginning home old new ended
+RanShell-flushed old new ended beginning home at host first last writer begins at_home ran flushed = record {
+  first = first;
   host = host;
-  first = is_first;
-  history = history;
-  ran = Ran-flushed (home_of name) old.reader new.reader
-      (record { writer = old.writer; world = record { host = host; history = begun image } })
-      (record { writer = writer; world = record { host = new.host; history = history } }) new.writer ended
-      (rw (at_home, begins) at ran) flushed;
+  begins = begins;
+  last = last;
+  ran = Ran-flushed home old.reader new.reader
+      (record { writer = old.writer; world = record { host = host; history = first } })
+      (record { writer = writer; world = record { host = new.host; history = last } }) new.writer ended
+      (rw at_home at ran) flushed;
 }
 
--- the fault of a run tells how the script ended
-pub StoppedBy-run : (name : Option (List ℕ)) (old new : Outside) (fault : ShellFault)
-    → RanShell name old new (Err fault) → StoppedBy (fault_of_run fault) name old new
-StoppedBy-run name old new Read ran = ran
-StoppedBy-run name old new Write ran = (Err Write, ran)
-StoppedBy-run name old new (Memory error) ran = inr (error, ran)
+-- however a run ended, a flush that fails is told as a write fault
+pub told_of-write : (ended : Result Outcome ShellFault) → IsToldOf ended faults.Write
+told_of-write (Ok outcome) = refl
+told_of-write (Err fault) = inr refl

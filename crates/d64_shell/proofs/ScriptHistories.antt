@@ -38,7 +38,7 @@ use Rattle.d64_shell.specs.Transcript.{Progress, Line, Transcript, IsSilent, pri
 use Rattle.d64_script.specs.declared.status.Status.{Status}
 use Rattle.d64_script.specs.declared.status.Status.TheVariants.{LongLine}
 use Rattle.d64_shell.specs.declared.command_word.CommandWord.{CommandWord}
-use Rattle.d64_shell.specs.declared.command_word.CommandWord.TheVariants.{Block, BlockRead, BlockWrite, Crunch as CrunchWord, Delete, Format, ListHistory, ListDirectory, Petcat, Quit, Read, Redo as RedoWord, Rename, Save, Undo as UndoWord, Validate, Write}
+use Rattle.d64_shell.specs.declared.command_word.CommandWord.TheVariants.{Block, BlockRead, BlockWrite, Crunch as CrunchWord, Delete, Format, ListHistory, Keep, ListDirectory, Petcat, Quit, Read, Redo as RedoWord, Rename, Save, Undo as UndoWord, Validate, Write}
 
 -- what is known of the bytes that a call gives, whatever the host does
 abbrev Known : Call → List ℕ → Type 0
@@ -171,13 +171,13 @@ AsksFor command request = (command ≡ BlockWrite) ⊎ KeepsDisksSound request
 -- each command word asks for one request at most
 act-leads : (IsOne : Asked → Type 0) (home : List ℕ) (history : History) (command : CommandWord) (words : List (List ℕ))
     → ((request : Asked) → AsksFor command request → IsOne request) → Leads IsOne history (act_of home history command words)
-act-leads IsOne home history Block words is = after_any IsOne history (valid (block_in (word_at words 0) (word_at words 1))) _ (λ block. inl refl)
+act-leads IsOne home history Block words is = after_any IsOne history (valid (block_in (present history) (word_at words 0) (word_at words 1))) _ (λ block. inl refl)
 act-leads IsOne home history BlockRead words is =
     after_any IsOne history (valid (host_in (word_at words 0))) _
-    (λ name. after_any IsOne history (valid (block_in (word_at words 1) (word_at words 2))) _ (λ block stored known. inl refl))
+    (λ name. after_any IsOne history (valid (block_in (present history) (word_at words 1) (word_at words 2))) _ (λ block stored known. inl refl))
 act-leads IsOne home history BlockWrite words is =
     after_any IsOne history (valid (host_in (word_at words 0))) _
-    (λ name. after_any IsOne history (valid (block_in (word_at words 1) (word_at words 2))) _
+    (λ name. after_any IsOne history (valid (block_in (present history) (word_at words 1) (word_at words 2))) _
     (λ block bytes known. after_any IsOne history (need (length bytes == 256) _) _
     (λ _. run-leads IsOne history (changes.BlockWrite block bytes) (is _ (inl refl)))))
 act-leads IsOne home history CrunchWord words is =
@@ -189,6 +189,7 @@ act-leads IsOne home history Format words is =
     after_any IsOne history (valid (ok_or (at_comma (word_at words 0)) _)) _
     (λ parts name named id known. run-leads IsOne history (changes.Format name id) (is _ (inr (refl, (name-made name named, id-made id known)))))
 act-leads IsOne home history ListHistory words is = λ bytes known. inl refl
+act-leads IsOne home history Keep words is = after_any IsOne history (valid (host_in (word_at words 0))) _ (λ name made known stored kept. inl refl)
 act-leads IsOne home history ListDirectory words is =
     after_any IsOne history (allowed (directory_refusal (present history))) _ (λ _ bytes known. inl refl)
 act-leads IsOne home history Petcat words is =

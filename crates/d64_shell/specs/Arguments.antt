@@ -2,7 +2,7 @@
 use Rattle.std.specs.Prelude.{ℕ, ◌+◌, ◌==◌, nat_lt, nat_le, List, [], ◌∷◌, length, take, drop, find, position, codes, ◌&&◌, Bool, not, if◌then◌else◌, Option, Some, None, option_map, Result, Ok, Err, ok_or}
 use Rattle.std.specs.List.{after_last}
 use Rattle.std.specs.Str.{bytes_eq}
-use Rattle.d64_image.specs.Block.{block_of}
+use Rattle.d64_files.specs.Chain as chains
 use Rattle.d64_files.specs.Label.{holds_any_of}
 use Rattle.d64_files.specs.Name.{forbidden_in_names}
 use Rattle.d64_files.specs.declared.kind.Kind.{Kind}
@@ -21,15 +21,15 @@ host_in word = if nat_lt 0 (length word) && nat_le (length word) 255 then Ok wor
 unfoldable pub number_in : List ℕ → Result ℕ Status
 number_in word = ok_or (number_of word) SyntaxError
 
--- the block of a track and a sector, where both are numbers and the disk has that sector
-abbrev pub block_at : Result ℕ Status → Result ℕ Status → Result ℕ Status
-block_at (Err status) sector = Err status
-block_at (Ok track) (Err status) = Err status
-block_at (Ok track) (Ok sector) = ok_or (block_of track sector) (IllegalBlock track sector)
+-- the block of a track and a sector, where both are numbers and the image has that block
+abbrev pub block_at : List (List ℕ) → Result ℕ Status → Result ℕ Status → Result ℕ Status
+block_at image (Err status) sector = Err status
+block_at image (Ok track) (Err status) = Err status
+block_at image (Ok track) (Ok sector) = ok_or (chains.block_in image track sector) (IllegalBlock track sector)
 
--- the block of a track and a sector, each in a word
-unfoldable pub block_in : List ℕ → List ℕ → Result ℕ Status
-block_in track sector = block_at (number_in track) (number_in sector)
+-- the block of an image at a track and a sector, each in a word
+unfoldable pub block_in : List (List ℕ) → List ℕ → List ℕ → Result ℕ Status
+block_in image track sector = block_at image (number_in track) (number_in sector)
 
 -- how a fault of a word in text form is answered
 abbrev pub status_of_text : TextFault → Status

@@ -3,7 +3,7 @@ use Rattle.std.specs.Option.{option_map}
 use Rattle.std.specs.Str.{bytes_eq}
 use Rattle.d64_script.specs.declared.words.TheConstants.{MAX_WORDS}
 use Rattle.d64_shell.specs.declared.command_word.CommandWord.{CommandWord}
-use Rattle.d64_shell.specs.declared.command_word.CommandWord.TheVariants.{Block, BlockRead, BlockWrite, Crunch, Delete, Format, ListHistory, ListDirectory, Petcat, Quit, Read, Redo, Rename, Save, Undo, Validate, Write}
+use Rattle.d64_shell.specs.declared.command_word.CommandWord.TheVariants.{Block, BlockRead, BlockWrite, Crunch, Delete, Format, ListHistory, Keep, ListDirectory, Petcat, Quit, Read, Redo, Rename, Save, Undo, Validate, Write}
 
 -- the words that begin a line, and what each stands for
 abbrev pub command_words : List (List ℕ × CommandWord)
@@ -15,6 +15,7 @@ command_words =
     ∷ (codes "delete", Delete)
     ∷ (codes "format", Format)
     ∷ (codes "history", ListHistory)
+    ∷ (codes "keep", Keep)
     ∷ (codes "list", ListDirectory)
     ∷ (codes "petcat", Petcat)
     ∷ (codes "quit", Quit)
@@ -40,6 +41,7 @@ fewest home Crunch = 1
 fewest home Delete = 1
 fewest home Format = 1
 fewest home ListHistory = 0
+fewest home Keep = 1
 fewest home ListDirectory = 0
 fewest home Petcat = 1
 fewest home Quit = 0
@@ -61,6 +63,7 @@ most Crunch = 2
 most Delete = MAX_WORDS
 most Format = 1
 most ListHistory = 0
+most Keep = 1
 most ListDirectory = 0
 most Petcat = 1
 most Quit = 0

@@ -3,6 +3,7 @@ use Rattle.std.specs.Prelude.{◌≡◌, ℕ, nat_lt, nat_le, List, [], ◌∷�
 use Rattle.d64_files.specs.Name.{is_name}
 use Rattle.d64_image.specs.Image.{sector_at, bytes_of}
 use Rattle.d64_undo.specs.History.{History, present, added, undone, redone}
+use Rattle.d64_undo.specs.SessionFile.{file_of}
 use Rattle.d64_dos.specs.Command.{after, reply_to, refusal_of}
 use Rattle.d64_dos.specs.Listing.{listing_of}
 use Rattle.d64_dos.specs.Reading.{directory_refusal, read_refusal}
@@ -28,7 +29,7 @@ use Rattle.d64_dos.specs.declared.refusal.Refusal.TheVariants as refusals
 use Rattle.d64_script.specs.declared.status.Status.{Status}
 use Rattle.d64_script.specs.declared.status.Status.TheVariants.{Done, FilesScratched, SyntaxError, UnknownCommand, LongLine, BadName, MissingWord, WriteFileOpen, FileNotFound, FileExists, FileTypeMismatch, DirectoryError, DiskFull, NothingToUndo, NothingToRedo, NotOneBlock, OutOfMemory}
 use Rattle.d64_shell.specs.declared.command_word.CommandWord.{CommandWord}
-use Rattle.d64_shell.specs.declared.command_word.CommandWord.TheVariants.{Block, BlockRead, BlockWrite, Crunch, Delete, Format, ListHistory, ListDirectory, Petcat, Quit, Read, Redo, Rename, Save, Undo, Validate, Write}
+use Rattle.d64_shell.specs.declared.command_word.CommandWord.TheVariants.{Block, BlockRead, BlockWrite, Crunch, Delete, Format, ListHistory, Keep, ListDirectory, Petcat, Quit, Read, Redo, Rename, Save, Undo, Validate, Write}
 
 -- one of the words that follow the first
 abbrev pub word_at : List (List ℕ) → ℕ → List ℕ
@@ -78,14 +79,14 @@ run history change = do
 -- `block`: a block is shown
 abbrev pub block_act : History → List ℕ → List ℕ → Act Ending
 block_act history track sector = do
-  block ← valid (block_in track sector)
+  block ← valid (block_in (present history) track sector)
   show (dump (sector_at (present history) block)) history
 
 -- `bread`: a block is stored in a host file
 abbrev pub block_read_act : History → List ℕ → List ℕ → List ℕ → Act Ending
 block_read_act history host track sector = do
   name ← valid (host_in host)
-  block ← valid (block_in track sector)
+  block ← valid (block_in (present history) track sector)
   put history name (sector_at (present history) block)
 
 -- the most bytes that a command takes of a host file
@@ -102,7 +103,7 @@ write_one_block history block bytes = do
 abbrev pub block_write_act : History → List ℕ → List ℕ → List ℕ → Act Ending
 block_write_act history host track sector = do
   name ← valid (host_in host)
-  block ← valid (block_in track sector)
+  block ← valid (block_in (present history) track sector)
   bytes ← fetch name host_file_limit
   write_one_block history block bytes
 
@@ -139,6 +140,13 @@ abbrev pub history_act : History → Act Ending
 history_act history = do
   room
   show (history_text history) history
+
+-- `keep`: the session, the history with its cursor, is stored in a host file
+abbrev pub keep_act : History → List ℕ → Act Ending
+keep_act history host = do
+  name ← valid (host_in host)
+  room
+  put history name (file_of history)
 
 -- `list`: the directory is shown
 abbrev pub list_act : History → Act Ending
@@ -230,6 +238,7 @@ act_of home history Crunch words = crunch_act history (word_at words 0) (drop 1 
 act_of home history Delete words = delete_act history words
 act_of home history Format words = format_act history (word_at words 0)
 act_of home history ListHistory words = history_act history
+act_of home history Keep words = keep_act history (word_at words 0)
 act_of home history ListDirectory words = list_act history
 act_of home history Petcat words = petcat_act history (word_at words 0)
 act_of home history Quit words = quit_act history

@@ -1,6 +1,5 @@
 -- What the program does with its words, its streams and a host.
-use Rattle.std.specs.Prelude.{◌≡◌, ◌≢◌, ℕ, ◌*◌, ◌==◌, if◌then◌else◌, List, [], ◌∷◌, ◌++◌, length, replicate, codes, string_bytes, Option, Some, None, option_map, Result, Ok, Err, ◌⊎◌, ⊤}
-use Rattle.std.specs.declared.alloc.AllocError.{AllocError}
+use Rattle.std.specs.Prelude.{◌≡◌, ℕ, ◌==◌, false, if◌then◌else◌, List, [], ◌∷◌, ◌++◌, length, replicate, codes, string_bytes, Option, Some, None, option_map, Result, Ok, Err, ◌⊎◌, ⊤}
 use Rattle.std.specs.Fmt.{decimal}
 use Rattle.std.specs.Io.KnownBytes.{Appends, Keeps}
 use Rattle.d64_script.specs.Output.{AppendsPart}
@@ -11,8 +10,7 @@ use Rattle.d64_host.specs.declared.host.HostFault.TheVariants.{Missing, Device, 
 use Rattle.d64_host.specs.declared.host.HostFault.TheVariants as files
 use Rattle.d64_image.specs.declared.image.ImageFault.{ImageFault}
 use Rattle.d64_image.specs.declared.image.ImageFault.TheVariants as images
-use Rattle.d64_image.specs.Image.{IsImage, bytes_of}
-use Rattle.d64_image.specs.declared.block.TheConstants.{BLOCKS}
+use Rattle.d64_image.specs.Image.{IsImage, bytes_of, is_image_length}
 use Rattle.d64_image.specs.declared.image.TheConstants.{BLOCK_BYTES}
 use Rattle.d64_words.specs.Asked.{IsFault, IsJob, WasAskedFor}
 use Rattle.d64_words.specs.declared.asked.Job.{Job}
@@ -22,6 +20,10 @@ use Rattle.d64_words.specs.declared.asked.JobFault.TheVariants as words
 use Rattle.d64_shell.specs.Act.{HostState, FetchesFile}
 use Rattle.d64_shell.specs.BasicFiles.{status_of_basic, status_of_listing}
 use Rattle.d64_undo.specs.History.{History, begun}
+use Rattle.d64_undo.specs.ResumeFault.{fault_number, first_fault}
+use Rattle.d64_undo.specs.SessionFile.{IsSession, file_of}
+use Rattle.d64_undo.specs.declared.resume_fault.ResumeFault.{ResumeFault}
+use Rattle.d64_undo.specs.declared.resume_fault.ResumeFault.TheVariants as resumes
 use Rattle.d64_shell.specs.Runner.{Ran}
 use Rattle.d64_shell.specs.Tools.{HasWritten, RanTool}
 use Rattle.d64_shell.specs.declared.runner.Outcome.{Outcome}
@@ -32,7 +34,7 @@ use Rattle.d64_shell.specs.declared.tools.Tool.TheVariants as tools
 use Rattle.d64_shell.specs.declared.tools.ToolFault.{ToolFault}
 use Rattle.d64_shell.specs.declared.tools.ToolFault.TheVariants as tool_faults
 use Rattle.d64_shell.specs.declared.program_fault.ProgramFault.{ProgramFault}
-use Rattle.d64_shell.specs.declared.program_fault.ProgramFault.TheVariants.{UnreadableWords, Start, WrongLength, UnreadableImage, Read, Write, Memory}
+use Rattle.d64_shell.specs.declared.program_fault.ProgramFault.TheVariants.{UnreadableWords, Start, Tracks, Both, WrongLength, UnreadableImage, UnreadableSession, NoSession, Read, Write, Memory}
 
 -- where `save` stores by default: in the image file, where there is one
 abbrev pub home_of : Option (List ℕ) → List ℕ
@@ -52,20 +54,46 @@ pub record Outside : Type 0 where
 abbrev pub outside_of : Option (List ℕ) → Option (List ℕ) → Option Files → ℕ → Outside
 outside_of reader writer known failures = record { reader = reader; writer = writer; host = record { files = known; failures = failures } }
 
--- the image that a session begins with, and what the host shows then: a blank image, or that of a host file
-abbrev pub IsFirstImage : HostState → Option (List ℕ) → List (List ℕ) → HostState → Type 0
-IsFirstImage old None image new = (image ≡ replicate BLOCKS (replicate BLOCK_BYTES 0)) × (new ≡ old)
-IsFirstImage old (Some name) image new = IsImage image × FetchesFile old name file_limit (Ok (bytes_of image)) new
+-- the most bytes of a session file that are read
+abbrev pub session_limit : ℕ
+session_limit = 67108864
 
--- the script has run on the image of this name, or on a blank one, and ended so
-pub record RanShell (name : Option (List ℕ)) (old new : Outside) (ended : Result Outcome ShellFault) : Type 0 where
-  pub image : List (List ℕ)
+-- what a script begins with: a blank image of so many tracks, the image of a host file, or the session of one
+pub data Beginning : Type 0 where
+  Blank : ℕ → Beginning
+  ImageFile : List ℕ → Beginning
+  SessionFile : List ℕ → Beginning
+
+-- what the words ask the shell to begin with: of an image and a session file, the session file
+abbrev pub beginning_of : Option (List ℕ) → ℕ → Option (List ℕ) → Beginning
+beginning_of image tracks (Some file) = SessionFile file
+beginning_of (Some name) tracks None = ImageFile name
+beginning_of None tracks None = Blank tracks
+
+-- how many blocks a blank image has, of 40 tracks or of 35
+abbrev pub blank_count : ℕ → ℕ
+blank_count tracks = if tracks == 40 then 768 else 683
+
+-- a blank image
+unfoldable pub blank : ℕ → List (List ℕ)
+blank tracks = replicate (blank_count tracks) (replicate BLOCK_BYTES 0)
+
+-- the history that a script begins with, and what the host shows then
+abbrev pub IsFirstHistory : HostState → Beginning → History → HostState → Type 0
+IsFirstHistory old (Blank tracks) history new = (history ≡ begun (blank tracks)) × (new ≡ old)
+IsFirstHistory old (ImageFile name) history new =
+    (image : List (List ℕ)) × IsImage image × FetchesFile old name file_limit (Ok (bytes_of image)) new × (history ≡ begun image)
+IsFirstHistory old (SessionFile name) history new = IsSession history × FetchesFile old name session_limit (Ok (file_of history)) new
+
+-- the script has run from this beginning, and ended so
+pub record RanShell (beginning : Beginning) (home : List ℕ) (old new : Outside) (ended : Result Outcome ShellFault) : Type 0 where
+  pub first : History
   pub host : HostState
-  pub first : IsFirstImage old.host name image host
-  pub history : History
-  pub ran : Ran (home_of name) old.reader new.reader
-      (record { writer = old.writer; world = record { host = host; history = begun image } })
-      (record { writer = new.writer; world = record { host = new.host; history = history } }) ended
+  pub begins : IsFirstHistory old.host beginning first host
+  pub last : History
+  pub ran : Ran home old.reader new.reader
+      (record { writer = old.writer; world = record { host = host; history = first } })
+      (record { writer = new.writer; world = record { host = new.host; history = last } }) ended
 
 -- nothing of the input was read, and nothing was written
 abbrev pub HasNotBegun : Outside → Outside → Type 0
@@ -75,12 +103,21 @@ HasNotBegun old new = (new.reader ≡ old.reader) × Keeps old.writer new.writer
 abbrev pub status_of : Outcome → ℕ
 status_of outcome = if outcome.refused == 0 then 0 else 1
 
--- how the fault of an image file that cannot be fetched is told
-abbrev pub fault_of_file : HostFault → ProgramFault
-fault_of_file Missing = UnreadableImage
-fault_of_file Device = UnreadableImage
-fault_of_file TooLong = UnreadableImage
-fault_of_file (files.Memory error) = Memory
+-- how the fault of a file that cannot be fetched is told: the file is unreadable, or there is no memory
+abbrev pub fault_of_file : ProgramFault → HostFault → ProgramFault
+fault_of_file unreadable Missing = unreadable
+fault_of_file unreadable Device = unreadable
+fault_of_file unreadable TooLong = unreadable
+fault_of_file unreadable (files.Memory error) = Memory
+
+-- how the fault of the bytes of a session file is told: by its number
+abbrev pub fault_of_resume : ResumeFault → ProgramFault
+fault_of_resume resumes.NotSession = NoSession (fault_number resumes.NotSession)
+fault_of_resume resumes.Truncated = NoSession (fault_number resumes.Truncated)
+fault_of_resume resumes.Trailing = NoSession (fault_number resumes.Trailing)
+fault_of_resume resumes.BadCursor = NoSession (fault_number resumes.BadCursor)
+fault_of_resume resumes.BadRecord = NoSession (fault_number resumes.BadRecord)
+fault_of_resume (resumes.Memory error) = Memory
 
 -- how the fault of the bytes of an image file is told
 abbrev pub fault_of_image : ImageFault → ProgramFault
@@ -97,8 +134,12 @@ fault_of_run (runs.Memory error) = Memory
 abbrev pub fault_text : ProgramFault → List ℕ
 fault_text UnreadableWords = codes "usage: a word is no text in UTF-8"
 fault_text Start = codes "usage: --start takes one to four hexadecimal digits"
+fault_text Tracks = codes "usage: --tracks takes 35 or 40 and no IMAGE"
+fault_text Both = codes "usage: --resume and --tracks exclude each other"
 fault_text (WrongLength length) = codes "image: wrong length " ++ decimal length
 fault_text UnreadableImage = codes "image: cannot be read"
+fault_text UnreadableSession = codes "session: cannot be read"
+fault_text (NoSession fault) = codes "session: fault " ++ decimal fault
 fault_text Read = codes "read fault"
 fault_text Write = codes "write fault"
 fault_text Memory = codes "out of memory"
@@ -107,43 +148,46 @@ fault_text Memory = codes "out of memory"
 unfoldable pub fault_line : ProgramFault → List ℕ
 fault_line fault = codes "d64sh: " ++ fault_text fault ++ codes "\n"
 
--- why the session has no image to begin with, and what the host shows then: it refused to fetch the image file, or the
--- bytes are no image's, or there is no memory
-abbrev pub HasNoFirstImage : ProgramFault → HostState → Option (List ℕ) → HostState → Type 0
-HasNoFirstImage UnreadableImage old (Some name) new = (fault : HostFault) × FetchesFile old name file_limit (Err fault) new × (fault_of_file fault ≡ UnreadableImage)
-HasNoFirstImage UnreadableImage old None new = ⊥
-HasNoFirstImage (WrongLength n) old (Some name) new = (bytes : List ℕ) × FetchesFile old name file_limit (Ok bytes) new × (length bytes ≡ n) × (n ≢ BLOCKS * BLOCK_BYTES)
-HasNoFirstImage (WrongLength n) old None new = ⊥
-HasNoFirstImage Memory old name new = new ≡ old
-HasNoFirstImage UnreadableWords old name new = ⊥
-HasNoFirstImage Start old name new = ⊥
-HasNoFirstImage Read old name new = ⊥
-HasNoFirstImage Write old name new = ⊥
+-- why a host file that was fetched so gives no image: it was not fetched, or is of another length, or there is no memory
+abbrev pub GivesNoImage : Result (List ℕ) HostFault → ProgramFault → Type 0
+GivesNoImage (Err fault) told = told ≡ fault_of_file UnreadableImage fault
+GivesNoImage (Ok bytes) told = ((told ≡ WrongLength (length bytes)) × (is_image_length (length bytes) ≡ false)) ⊎ (told ≡ Memory)
 
--- no line has run for want of the image
-abbrev pub HasNotBegunFor : ProgramFault → Option (List ℕ) → Outside → Outside → Type 0
-HasNotBegunFor fault name old new = HasNoFirstImage fault old.host name new.host × HasNotBegun old new
+-- why a host file that was fetched so gives no session: it was not fetched, or its bytes are no session file, of which the first fault
+-- is told, or there is no memory
+abbrev pub GivesNoSession : Result (List ℕ) HostFault → ProgramFault → Type 0
+GivesNoSession (Err fault) told = told ≡ fault_of_file UnreadableSession fault
+GivesNoSession (Ok bytes) told = ((fault : ResumeFault) × (first_fault bytes ≡ Some fault) × (told ≡ fault_of_resume fault)) ⊎ (told ≡ Memory)
 
--- what a fault says of the run: no line has run where the image is not there; the script has run up to its read fault; it
--- has run to some end, and the output takes no more bytes; or there is no memory
-abbrev pub StoppedBy : ProgramFault → Option (List ℕ) → Outside → Outside → Type 0
-StoppedBy UnreadableWords name old new = ⊥
-StoppedBy Start name old new = ⊥
-StoppedBy (WrongLength n) name old new = HasNotBegunFor (WrongLength n) name old new
-StoppedBy UnreadableImage name old new = HasNotBegunFor UnreadableImage name old new
-StoppedBy Read name old new = RanShell name old new (Err runs.Read)
-StoppedBy Write name old new = (ended : Result Outcome ShellFault) × RanShell name old new ended
-StoppedBy Memory name old new = HasNotBegunFor Memory name old new ⊎ ((error : AllocError) × RanShell name old new (Err (runs.Memory error)))
+-- why there is no session to begin with, and what the host shows then
+abbrev pub HasNoHistory : ProgramFault → HostState → Beginning → HostState → Type 0
+HasNoHistory told old (Blank tracks) new = (told ≡ Memory) × (new ≡ old)
+HasNoHistory told old (ImageFile name) new = (fetched : Result (List ℕ) HostFault) × FetchesFile old name file_limit fetched new × GivesNoImage fetched told
+HasNoHistory told old (SessionFile name) new = (fetched : Result (List ℕ) HostFault) × FetchesFile old name session_limit fetched new × GivesNoSession fetched told
+
+-- no line has run for want of a session
+abbrev pub HasNotBegunFor : ProgramFault → Beginning → Outside → Outside → Type 0
+HasNotBegunFor fault beginning old new = HasNoHistory fault old.host beginning new.host × HasNotBegun old new
+
+-- why a run that ended so is told as this fault: it was stopped by it, or the output takes no more bytes
+abbrev pub IsToldOf : Result Outcome ShellFault → ProgramFault → Type 0
+IsToldOf (Ok outcome) told = told ≡ Write
+IsToldOf (Err fault) told = (told ≡ fault_of_run fault) ⊎ (told ≡ Write)
+
+-- what a fault says of the run: no line has run for want of a session; or the script has run to some end, and is told of by this fault
+abbrev pub StoppedBy : ProgramFault → Beginning → List ℕ → Outside → Outside → Type 0
+StoppedBy fault beginning home old new =
+    HasNotBegunFor fault beginning old new ⊎ ((ended : Result Outcome ShellFault) × RanShell beginning home old new ended × IsToldOf ended fault)
 
 -- the program answered with this fault: status 2, and its line, or a first part of it where a write failed
 abbrev pub Reports : ProgramFault → Option (List ℕ) → Option (List ℕ) → ℕ → Type 0
 Reports fault faults told status = (status ≡ 2) × AppendsPart faults told (fault_line fault)
 
 -- how a shell ended: the script ran to its end, and no fault is told; or a fault stopped it
-abbrev pub EndedShell : Option (List ℕ) → Outside → Outside → Option (List ℕ) → Option (List ℕ) → ℕ → Type 0
-EndedShell name old new faults told status =
-    ((outcome : Outcome) × RanShell name old new (Ok outcome) × (status ≡ status_of outcome) × (told ≡ faults))
-    ⊎ ((fault : ProgramFault) × StoppedBy fault name old new × Reports fault faults told status)
+abbrev pub EndedShell : Beginning → List ℕ → Outside → Outside → Option (List ℕ) → Option (List ℕ) → ℕ → Type 0
+EndedShell beginning home old new faults told status =
+    ((outcome : Outcome) × RanShell beginning home old new (Ok outcome) × (status ≡ status_of outcome) × (told ≡ faults))
+    ⊎ ((fault : ProgramFault) × StoppedBy fault beginning home old new × Reports fault faults told status)
 
 -- how the fault of a tool's file that cannot be fetched is told
 abbrev pub fault_of_fetch : HostFault → ToolFault
@@ -181,7 +225,9 @@ EndedTool tool name old new faults told status =
 
 -- how a job ended
 abbrev pub EndedJob : Job → Outside → Outside → Option (List ℕ) → Option (List ℕ) → ℕ → Type 0
-EndedJob (Shell image) old new faults told status = EndedShell (option_map string_bytes image) old new faults told status
+EndedJob (Shell image tracks resume) old new faults told status =
+    EndedShell (beginning_of (option_map string_bytes image) tracks (option_map string_bytes resume)) (home_of (option_map string_bytes image))
+    old new faults told status
 EndedJob (Petcat file) old new faults told status = EndedTool tools.Petcat (option_map string_bytes file) old new faults told status
 EndedJob (Crunch start file) old new faults told status = EndedTool (tools.Crunch start) (option_map string_bytes file) old new faults told status
 
@@ -202,6 +248,8 @@ AnswersWords (words.Words error) old new faults told status =
     ⊎ (¬ (WasAskedFor (words.Words error)) × (new ≡ old) × HasTold faults told status)
 AnswersWords words.Start old new faults told status = (new ≡ old) × Reports Start faults told status
 AnswersWords words.Memory old new faults told status = (new ≡ old) × Reports Memory faults told status
+AnswersWords words.Tracks old new faults told status = (new ≡ old) × Reports Tracks faults told status
+AnswersWords words.Both old new faults told status = (new ≡ old) × Reports Both faults told status
 
 -- the words with the program's name before them
 abbrev pub named : List (List ℕ) → List (List ℕ)
@@ -209,7 +257,7 @@ named after = codes "d64sh" ∷ after
 
 -- the job is the shell's, which tells nothing where its script runs to its end
 abbrev pub IsShell : Job → Type 0
-IsShell (Shell image) = ⊤
+IsShell (Shell image tracks resume) = ⊤
 IsShell (Petcat file) = ⊥
 IsShell (Crunch start file) = ⊥
 

@@ -1,7 +1,7 @@
 //! What the words of a line stand for.
 #![tactic(auto, unfolding(crate::specs::Arguments::host_in, crate::specs::Arguments::number_in, crate::specs::Arguments::block_in, crate::specs::Arguments::at_comma, crate::specs::Arguments::after_slash))]
 
-ghost use Rattle.std.specs.Prelude.{◌≡◌, ◌<◌, All, Result, ◌==◌, true, map, option_map, position};
+ghost use Rattle.std.specs.Prelude.{◌≡◌, ◌<◌, All, IfOk, Result, ◌==◌, true, length, map, option_map, position};
 ghost use Rattle.d64_shell.specs.Arguments.{host_in, number_in, block_in, can_be_id, at_comma, kind_of_letter, name_and_kind_in, after_slash, name_word, name_and_kind_of};
 ghost use Rattle.d64_script.specs.Words.{IsPrintable};
 ghost use Rattle.d64_shell.specs.ArgumentTexts.{texts, named, items, Reads, ReadsEach};
@@ -12,7 +12,7 @@ ghost use Rattle.d64_files.specs.Pattern.{is_pattern};
 use crate::status_from::of_text_fault;
 use cbm_text::{from_text, one_outcome};
 use d64_files::{Kind, Name, Pattern};
-use d64_image::BlockNo;
+use d64_image::{BlockNo, Image};
 use d64_script::number::number;
 use d64_script::status::Status;
 use std::alloc::Global;
@@ -39,13 +39,18 @@ pub(crate) fn number_in(word: &[u8]) -> Result<u8, Status>
     number(word).ok_or(Status::SyntaxError)
 }
 
-/// The block of a track and a sector. Both words are read before the disk is looked at.
-pub(crate) fn block_in(track: &[u8], sector: &[u8]) -> Result<BlockNo, Status>
-    ensures { result ≡ block_in track.now sector.now }
+/// The block of an image at a track and a sector. Both words are read before the image is looked at.
+#[tactic(auto, unfolding(crate::specs::Arguments::block_in, d64_files::specs::Chain::block_in))]
+pub(crate) fn block_in(image: &Image, track: &[u8], sector: &[u8]) -> Result<BlockNo, Status>
+    ensures block { result ≡ block_in image.now track.now sector.now }
+    ensures held { IfOk result (λ block. block < length image.now) }
 {
     let track = number_in(track)?;
     let sector = number_in(sector)?;
-    BlockNo::of(track, sector).ok_or(Status::IllegalBlock { track, sector })
+    match BlockNo::of(track, sector) {
+        Some(block) if image.holds(block) => Ok(block),
+        _ => Err(Status::IllegalBlock { track, sector }),
+    }
 }
 
 /// The bytes that a word stands for in text form.

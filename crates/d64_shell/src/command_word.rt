@@ -21,6 +21,8 @@ pub enum CommandWord {
     Format,
     /// `history`: shows the records of what was done and undone.
     ListHistory,
+    /// `keep host`: stores the session.
+    Keep,
     /// `list`: shows the directory.
     ListDirectory,
     /// `petcat name`: shows a BASIC program of the disk as text.
@@ -56,6 +58,7 @@ impl CommandWord {
             b"delete" => Some(CommandWord::Delete),
             b"format" => Some(CommandWord::Format),
             b"history" => Some(CommandWord::ListHistory),
+            b"keep" => Some(CommandWord::Keep),
             b"list" => Some(CommandWord::ListDirectory),
             b"petcat" => Some(CommandWord::Petcat),
             b"quit" => Some(CommandWord::Quit),
@@ -85,6 +88,7 @@ impl CommandWord {
             CommandWord::Crunch
             | CommandWord::Delete
             | CommandWord::Format
+            | CommandWord::Keep
             | CommandWord::Petcat
             | CommandWord::Read
             | CommandWord::Write => 1,
@@ -104,7 +108,7 @@ impl CommandWord {
             | CommandWord::Redo
             | CommandWord::Undo
             | CommandWord::Validate => 0,
-            CommandWord::Format | CommandWord::Petcat | CommandWord::Save => 1,
+            CommandWord::Format | CommandWord::Keep | CommandWord::Petcat | CommandWord::Save => 1,
             CommandWord::Block
             | CommandWord::Crunch
             | CommandWord::Read

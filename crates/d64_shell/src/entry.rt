@@ -14,6 +14,9 @@ use std::io::{Read, Write};
 /// The most bytes of an image, a program or a text that are read from a file.
 pub(crate) const FILE_BYTES: usize = 16_777_216;
 
+/// The most bytes of a session file that are read.
+pub(crate) const SESSION_BYTES: usize = 67_108_864;
+
 /// The exit status where all lines were accepted, or a tool's input.
 pub(crate) const ALL_ACCEPTED: u8 = 0;
 
@@ -27,8 +30,9 @@ pub(crate) const NOT_RUN: u8 = 2;
 /// tool's input were accepted, and after help; 1 where some line was refused, or a tool's input, which a status line on
 /// `faults` tells; 2 after a fault, or where the words are no use of the program, which `faults` is told.
 ///
-/// `shell` runs the script that `reader` gives on a blank image; `shell IMAGE` runs it on the image that the host has
-/// under this name, which is also where `save` stores it by default. `petcat` and `crunch` work on what `reader` gives, or on
+/// `shell` runs the script that `reader` gives on a blank image, of 40 tracks after `--tracks 40`; `shell IMAGE` runs it on the image that the host has
+/// under this name, which is also where `save` stores it by default; `shell --resume FILE` runs it on the session that the host
+/// has in this file, and an IMAGE beside it is where `save` stores by default, and isn't read. `petcat` and `crunch` work on what `reader` gives, or on
 /// the file that the host has under the name that they are given. The writer is flushed before a status comes; each answer
 /// is a few writes, so a writer that buffers is the faster one.
 pub fn program<R: Read, W: Write, F: Write, H: Host>(
@@ -71,7 +75,19 @@ fn do_job<R: Read, W: Write, F: Write, H: Host>(
     ensures script { IsShell job → result ≢ 2 → faults.new ≡ faults.old }
 {
     match job {
-        Job::Shell { image } => match shell(alloc, image.as_deref(), reader, writer, host) {
+        Job::Shell {
+            image,
+            tracks,
+            resume,
+        } => match shell(
+            alloc,
+            image.as_deref(),
+            tracks,
+            resume.as_deref(),
+            reader,
+            writer,
+            host,
+        ) {
             Ok(outcome) => exit_status(outcome),
             Err(fault) => fault.report(faults),
         },

@@ -4,12 +4,13 @@
 ghost use Rattle.std.specs.Prelude.{◌≡◌, ◌<◌, ◌≤◌, [], ◌∷◌, All, map, length};
 ghost use Rattle.d64_script.specs.Words.{IsPrintable};
 ghost use Rattle.d64_dos.specs.Change.{said};
+ghost use Rattle.d64_dos.specs.Command.{IsWithin};
 ghost use Rattle.d64_shell.specs.Act.{world_of};
 ghost use Rattle.d64_shell.specs.Response.{Responds, RespondsAlone};
 ghost use Rattle.petscii.specs.Spelling.{spelling};
 ghost use Rattle.d64_shell.specs.FoundFile.{is_file_name};
-ghost use Rattle.d64_undo.specs.History.{History};
-ghost use Rattle.d64_shell.specs.Line.{put, host_file_limit, block_act, block_read_act, block_write_act, crunch_act, write_program, delete_act, format_act, history_act, list_act, petcat_act, show_program, quit_act, read_act, read_to, redo_act, rename_act, save_act, undo_act, validate_act, write_act, run, write_one_block};
+ghost use Rattle.d64_undo.specs.History.{History, present};
+ghost use Rattle.d64_shell.specs.Line.{put, host_file_limit, block_act, block_read_act, block_write_act, crunch_act, write_program, delete_act, format_act, history_act, keep_act, list_act, petcat_act, show_program, quit_act, read_act, read_to, redo_act, rename_act, save_act, undo_act, validate_act, write_act, run, write_one_block};
 
 use crate::arguments::{
     at_comma, block_in, host_in, id_in, name_and_kind_of, name_in, name_word, pattern_in,
@@ -43,9 +44,10 @@ const PROGRAM_START: u16 = 0x0801;
 pub(crate) fn block(session: &Session, track: &[u8], sector: &[u8]) -> Result<Response, Status>
     ensures { RespondsAlone (block_act session.now track.now sector.now) session.now result session.now }
 {
-    let block = block_in(track, sector)?;
+    let image = session.image();
+    let block = block_in(image, track, sector)?;
     Ok(Response {
-        output: Output::Block(block),
+        output: Output::Block(*image.sector(block)),
         status: Status::Done,
         closes: false,
     })
@@ -67,8 +69,9 @@ pub(crate) fn block_read<H: Host>(
         (world_of (H.files host.new) (H.failure_count host.new) session.now) }
 {
     let name = host_in(name)?;
-    let block = block_in(track, sector)?;
-    store(alloc, host, name, session.image().sector(block))
+    let image = session.image();
+    let block = block_in(image, track, sector)?;
+    store(alloc, host, name, image.sector(block))
 }
 
 /// `bwrite`: a block replaced by a host file of one block.
@@ -87,15 +90,16 @@ pub(crate) fn block_write<H: Host>(
         (world_of (H.files host.new) (H.failure_count host.new) session.new) }
 {
     let name = host_in(name)?;
-    let at = block_in(track, sector)?;
+    let at = block_in(session.image(), track, sector)?;
     match fetch(alloc, host, name, HOST_FILE_BYTES) {
         Ok(bytes) => write_one_block(session, at, bytes.as_slice()),
         Err(fault) => Err(of_fault(fault)),
     }
 }
 
-/// A block replaced by the bytes of a host file.
+/// A block of the image replaced by the bytes of a host file.
 fn write_one_block(session: &mut Session, at: BlockNo, bytes: &[u8]) -> Result<Response, Status>
+    requires { at < length (present session.old) }
     ensures { RespondsAlone (write_one_block session.old at bytes.now) session.old result session.new }
 {
     match bytes.as_array() {
@@ -104,8 +108,9 @@ fn write_one_block(session: &mut Session, at: BlockNo, bytes: &[u8]) -> Result<R
     }
 }
 
-/// A command given to the session.
+/// A command given to the session. The image has the block that a block write names.
 fn run_command(session: &mut Session, command: &Command) -> Result<Response, Status>
+    requires { IsWithin (present session.old) (said command.now) }
     ensures { RespondsAlone (run session.old (said command.now)) session.old result session.new }
 {
     match session.run(command) {
@@ -197,6 +202,26 @@ pub(crate) fn history(alloc: Global, session: &Session) -> Result<Response, Stat
             status: Status::Done,
             closes: false,
         }),
+        Err(_) => Err(Status::OutOfMemory),
+    }
+}
+
+/// `keep`: the session stored in a host file.
+pub(crate) fn keep<H: Host>(
+    alloc: Global,
+    host: &mut H,
+    session: &Session,
+    name: &[u8],
+) -> Result<Response, Status>
+    requires { All IsPrintable name.now }
+    ensures { Responds (keep_act session.now name.now)
+        (world_of (H.files host.old) (H.failure_count host.old) session.now)
+        result
+        (world_of (H.files host.new) (H.failure_count host.new) session.now) }
+{
+    let name = host_in(name)?;
+    match session.keep(alloc) {
+        Ok(file) => store(alloc, host, name, file.as_slice()),
         Err(_) => Err(Status::OutOfMemory),
     }
 }

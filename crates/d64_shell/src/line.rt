@@ -4,7 +4,6 @@
 ghost use Rattle.std.specs.Prelude.{◌≡◌, ◌≤◌, All, map, length, Option, MatchOption};
 ghost use Rattle.d64_script.specs.Words.{IsPrintable};
 ghost use Rattle.d64_shell.specs.Act.{world_of};
-ghost use Rattle.d64_undo.specs.History.{present};
 ghost use Rattle.d64_shell.specs.Response.{shown, Responds};
 ghost use Rattle.d64_shell.specs.Line.{act_of_command, act_of_words, act_of_text, act_of_line, IsSkipped, IsAnswered};
 
@@ -37,7 +36,7 @@ pub(crate) fn answer_line<H: Host>(
         (world_of (H.files host.new) (H.failure_count host.new) session.new))
         (λ response. IsAnswered home.now session.old line.now
         (world_of (H.files host.old) (H.failure_count host.old) session.old)
-        (shown (present session.new) response)
+        (shown response)
         (world_of (H.files host.new) (H.failure_count host.new) session.new)) }
 {
     if raw_lines::is_too_long(line) {
@@ -147,6 +146,7 @@ fn answer_command<H: Host>(
         CommandWord::Delete => handlers::delete(alloc, session, words),
         CommandWord::Format => handlers::format(alloc, session, words[0]),
         CommandWord::ListHistory => handlers::history(alloc, session),
+        CommandWord::Keep => handlers::keep(alloc, host, session, words[0]),
         CommandWord::ListDirectory => handlers::list(alloc, session),
         CommandWord::Petcat => handlers::petcat(alloc, session, words[0]),
         CommandWord::Quit => handlers::quit(session),

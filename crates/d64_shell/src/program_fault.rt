@@ -1,7 +1,7 @@
 //! What stops the program, and how it is told.
 ghost use Rattle.std.specs.Prelude.{◌≡◌, ◌≤◌, ◌+◌, ◌++◌, length, codes};
 ghost use Rattle.arrayvec.specs.ArrayVec.{array_vec_len};
-ghost use Rattle.d64_shell.specs.Program.{Reports, fault_line, fault_of_file, fault_of_image, fault_of_run};
+ghost use Rattle.d64_shell.specs.Program.{Reports, fault_line, fault_of_file, fault_of_image, fault_of_resume, fault_of_run};
 ghost use Rattle.d64_shell.specs.declared.program_fault.ProgramFault.TheVariants.{Memory};
 
 use crate::entry::NOT_RUN;
@@ -10,6 +10,7 @@ use arrayvec::ArrayVec;
 use d64_host::HostFault;
 use d64_image::ImageFault;
 use d64_script::output::write_answer;
+use d64_undo::ResumeFault;
 use itoa::Buffer;
 use std::alloc::AllocError;
 use std::io::Write;
@@ -27,12 +28,24 @@ pub enum ProgramFault {
     /// What follows `--start` is other than one to four hexadecimal digits.
     #[error("usage: --start takes one to four hexadecimal digits")]
     Start,
-    /// The image file has this many bytes, and an image 174,848.
+    /// What follows `--tracks` is neither 35 nor 40, or there is an image beside it.
+    #[error("usage: --tracks takes 35 or 40 and no IMAGE")]
+    Tracks,
+    /// There is `--resume` beside `--tracks`.
+    #[error("usage: --resume and --tracks exclude each other")]
+    Both,
+    /// The image file has this many bytes, and an image 174,848 or 196,608.
     #[error("image: wrong length {0}")]
     WrongLength(usize),
     /// The image file is missing, cannot be read, or has more than 16,777,216 bytes.
     #[error("image: cannot be read")]
     UnreadableImage,
+    /// The session file is missing, cannot be read, or has more than 67,108,864 bytes.
+    #[error("session: cannot be read")]
+    UnreadableSession,
+    /// The bytes of the session file are none of one, for the fault of this number in reading them.
+    #[error("session: fault {0}")]
+    NoSession(u8),
     /// The input cannot be read to its end, or a tool's file cannot be read. Of a script, the lines that were ended before
     /// have run.
     #[error("read fault")]
@@ -64,26 +77,30 @@ impl ProgramFault {
                 b"usage: --start takes one to four hexadecimal digits",
                 b"",
             ),
+            ProgramFault::Tracks => { line_of(b"usage: --tracks takes 35 or 40 and no IMAGE", b"") }
+            ProgramFault::Both => line_of(b"usage: --resume and --tracks exclude each other", b""),
             ProgramFault::WrongLength(length) => line_of(
                 b"image: wrong length ",
                 Buffer::new().format(length).as_bytes(),
             ),
             ProgramFault::UnreadableImage => line_of(b"image: cannot be read", b""),
+            ProgramFault::UnreadableSession => line_of(b"session: cannot be read", b""),
+            ProgramFault::NoSession(fault) => {
+                line_of(b"session: fault ", Buffer::new().format(fault).as_bytes())
+            }
             ProgramFault::Read => line_of(b"read fault", b""),
             ProgramFault::Write => line_of(b"write fault", b""),
             ProgramFault::Memory => line_of(b"out of memory", b""),
         }
     }
 
-    /// The fault of an image file that cannot be fetched.
-    pub(crate) fn of_image_file(fault: HostFault) -> ProgramFault
-        ensures { result ≡ fault_of_file fault }
+    /// The fault of a file that cannot be fetched, where this one tells that it is unreadable.
+    pub(crate) fn of_file(fault: HostFault, unreadable: ProgramFault) -> ProgramFault
+        ensures { result ≡ fault_of_file unreadable fault }
     {
         match fault {
             HostFault::Memory(_) => ProgramFault::Memory,
-            HostFault::Missing | HostFault::Device | HostFault::TooLong => {
-                ProgramFault::UnreadableImage
-            }
+            HostFault::Missing | HostFault::Device | HostFault::TooLong => unreadable,
         }
     }
 }
@@ -125,6 +142,17 @@ impl From<ImageFault> for ProgramFault {
         match fault {
             ImageFault::WrongLength(length) => ProgramFault::WrongLength(length),
             ImageFault::Memory(_) => ProgramFault::Memory,
+        }
+    }
+}
+
+impl From<ResumeFault> for ProgramFault {
+    ghost from_gives = { λ fault told. told ≡ fault_of_resume fault };
+
+    fn from(fault: ResumeFault) -> ProgramFault {
+        match fault {
+            ResumeFault::Memory(_) => ProgramFault::Memory,
+            fault => ProgramFault::NoSession(fault.number()),
         }
     }
 }

@@ -8,7 +8,6 @@ ghost use Rattle.d64_shell.specs.Line.{IsSkipped, IsAnswered};
 ghost use Rattle.d64_shell.specs.Response.{shown};
 ghost use Rattle.d64_shell.specs.Runner.{Stand, stand_of, Ran, StoppedAt};
 ghost use Rattle.d64_shell.specs.LineByLine.{HasCome, ComesTo, EndsRun, RunsLine, StopsInLine};
-ghost use Rattle.d64_undo.specs.History.{present};
 
 use crate::line::answer_line;
 use crate::response::Response;
@@ -93,7 +92,7 @@ impl Tally {
     }
 }
 
-/// Runs a script. `home` is the name of the host file that the session's image came from, or empty.
+/// Runs a script. `home` is the name of the host file in which `save` stores by default, or empty.
 ///
 /// The answers are those of the transcript, however the script is cut into reads. A line is answered, and the writer
 /// flushed, before the next read, so that a person at a terminal sees an answer before typing on. After an accepted `quit`
@@ -255,7 +254,7 @@ fn run_line<W: Write, H: Host>(
         return Ok(());
     };
     tally.count(&response);
-    response.write(writer, session.image())
+    response.write(writer)
 }
 
 /// The response to a line that has come to its end, or None where it is skipped.
@@ -272,7 +271,7 @@ fn answer_held<H: Host>(
         (world_of (H.files host.new) (H.failure_count host.new) session.new))
         (λ response. IsAnswered home.now session.old raw
         (world_of (H.files host.old) (H.failure_count host.old) session.old)
-        (shown (present session.new) response)
+        (shown response)
         (world_of (H.files host.new) (H.failure_count host.new) session.new)) }
 {
     let Some(text) = line.text() else {

@@ -1,35 +1,41 @@
-//! The shell's job: a script on the image of a file, or on a blank one.
-ghost use Rattle.std.specs.Prelude.{◌≡◌, Ok, IfOk, IfErr, option_copied};
-ghost use Rattle.d64_shell.specs.Program.{IsFirstImage, HasNoFirstImage, RanShell, StoppedBy, outside_of, status_of};
+//! The shell's job: a script on the image of a file, on a blank one, or on a session that was kept.
+ghost use Rattle.std.specs.Prelude.{◌≡◌, ℕ, List, Result, Ok, IfOk, IfErr, option_copied};
+ghost use Rattle.d64_host.specs.declared.host.HostFault.{HostFault};
+ghost use Rattle.d64_image.specs.Image.{IsImage, bytes_of};
+ghost use Rattle.d64_undo.specs.SessionFile.{IsSession, file_of};
+ghost use Rattle.d64_shell.specs.Act.{FetchesFile};
+ghost use Rattle.d64_shell.specs.Program.{IsFirstHistory, HasNoHistory, GivesNoImage, GivesNoSession, RanShell, StoppedBy, beginning_of, blank, file_limit, home_of, outside_of, session_limit, status_of};
 
-use crate::entry::{ALL_ACCEPTED, FILE_BYTES, SOME_REFUSED};
+use crate::entry::{ALL_ACCEPTED, FILE_BYTES, SESSION_BYTES, SOME_REFUSED};
 use crate::host_file::fetch;
 use crate::program_fault::ProgramFault;
 use crate::runner::{Outcome, run};
 use d64_host::Host;
 use d64_image::Image;
-use d64_undo::Session;
-use std::alloc::Global;
+use d64_undo::{Session, resume};
+use std::alloc::{AllocError, Global};
 use std::io::{Read, Write};
 
-/// Runs the script on the image that the host has under this name, or on a blank one, and flushes the output.
+/// Runs the script on the session that the host has in the file `resume`; where there is no such name, on the image that it has in
+/// the file `image`; and else on a blank image of so many tracks. Then flushes the output.
 pub(crate) fn shell<R: Read, W: Write, H: Host>(
     alloc: Global,
-    image_name: Option<&str>,
+    image: Option<&str>,
+    tracks: u8,
+    resume: Option<&str>,
     reader: &mut R,
     writer: &mut W,
     host: &mut H,
 ) -> Result<Outcome, ProgramFault>
-    ensures ran { IfOk result (λ outcome. RanShell (option_copied image_name.entry)
+    ensures ran { IfOk result (λ outcome. RanShell (beginning_of (option_copied image.entry) tracks (option_copied resume.entry)) (home_of (option_copied image.entry))
         (outside_of (R.remaining reader.old) (W.contents writer.old) (H.files host.old) (H.failure_count host.old))
         (outside_of (R.remaining reader.new) (W.contents writer.new) (H.files host.new) (H.failure_count host.new)) (Ok outcome)) }
-    ensures stopped { IfErr result (λ fault. StoppedBy fault (option_copied image_name.entry)
+    ensures stopped { IfErr result (λ fault. StoppedBy fault (beginning_of (option_copied image.entry) tracks (option_copied resume.entry)) (home_of (option_copied image.entry))
         (outside_of (R.remaining reader.old) (W.contents writer.old) (H.files host.old) (H.failure_count host.old))
         (outside_of (R.remaining reader.new) (W.contents writer.new) (H.files host.new) (H.failure_count host.new))) }
 {
-    let image = first_image(alloc, host, image_name)?;
-    let mut session = Session::new(alloc, image);
-    let home = image_name.unwrap_or("");
+    let mut session = first_session(alloc, host, image, tracks, resume)?;
+    let home = image.unwrap_or("");
     let ran = run(alloc, reader, writer, host, home, &mut session);
     match writer.flush() {
         Ok(()) => Ok(ran?),
@@ -37,26 +43,81 @@ pub(crate) fn shell<R: Read, W: Write, H: Host>(
     }
 }
 
-/// The image that the session begins with: a host file, or a blank one.
-fn first_image<H: Host>(
+/// The session that the script runs on: of a session file, of an image file, or of a blank image.
+fn first_session<H: Host>(
     alloc: Global,
     host: &mut H,
-    name: Option<&str>,
-) -> Result<Image, ProgramFault>
-    ensures image { IfOk result (λ image. IsFirstImage
+    image: Option<&str>,
+    tracks: u8,
+    resume: Option<&str>,
+) -> Result<Session, ProgramFault>
+    ensures session { IfOk result (λ session. IsFirstHistory
         (record { files = H.files host.old; failures = H.failure_count host.old })
-        (option_copied name.entry) image
+        (beginning_of (option_copied image.entry) tracks (option_copied resume.entry)) session
         (record { files = H.files host.new; failures = H.failure_count host.new })) }
-    ensures no_image { IfErr result (λ fault. HasNoFirstImage fault
+    ensures none { IfErr result (λ fault. HasNoHistory fault
         (record { files = H.files host.old; failures = H.failure_count host.old })
-        (option_copied name.entry)
+        (beginning_of (option_copied image.entry) tracks (option_copied resume.entry))
         (record { files = H.files host.new; failures = H.failure_count host.new })) }
 {
-    let Some(name) = name else {
-        return Ok(Image::zeroed(alloc)?);
-    };
-    let bytes = fetch(alloc, host, name, FILE_BYTES).map_err(ProgramFault::of_image_file)?;
-    Ok(Image::from_bytes(alloc, bytes.as_slice())?)
+    if let Some(name) = resume {
+        return session_of_file(alloc, host, name);
+    }
+    match image {
+        Some(name) => Ok(Session::new(alloc, image_of_file(alloc, host, name)?)),
+        None => Ok(Session::new(alloc, blank_image(alloc, tracks)?)),
+    }
+}
+
+/// The session of a host file.
+fn session_of_file<H: Host>(
+    alloc: Global,
+    host: &mut H,
+    name: &str,
+) -> Result<Session, ProgramFault>
+    ensures session { IfOk result (λ session. IsSession session × FetchesFile
+        (record { files = H.files host.old; failures = H.failure_count host.old })
+        name.now session_limit (Ok (file_of session))
+        (record { files = H.files host.new; failures = H.failure_count host.new })) }
+    ensures none { IfErr result (λ fault. (fetched : Result (List ℕ) HostFault) × FetchesFile
+        (record { files = H.files host.old; failures = H.failure_count host.old })
+        name.now session_limit fetched
+        (record { files = H.files host.new; failures = H.failure_count host.new })
+        × GivesNoSession fetched fault) }
+{
+    match fetch(alloc, host, name, SESSION_BYTES) {
+        Ok(file) => Ok(resume(alloc, file.as_slice())?),
+        Err(fault) => Err(ProgramFault::of_file(fault, ProgramFault::UnreadableSession)),
+    }
+}
+
+/// A blank image of 40 tracks, or of 35.
+fn blank_image(alloc: Global, tracks: u8) -> Result<Image, AllocError>
+    ensures { IfOk result (λ image. image ≡ blank tracks) }
+{
+    if tracks == 40 {
+        Image::zeroed40(alloc)
+    } else {
+        Image::zeroed(alloc)
+    }
+}
+
+/// The image of a host file.
+fn image_of_file<H: Host>(alloc: Global, host: &mut H, name: &str) -> Result<Image, ProgramFault>
+    ensures image { IfOk result (λ image. IsImage image × FetchesFile
+        (record { files = H.files host.old; failures = H.failure_count host.old })
+        name.now file_limit (Ok (bytes_of image))
+        (record { files = H.files host.new; failures = H.failure_count host.new })) }
+    ensures none { IfErr result (λ fault. (fetched : Result (List ℕ) HostFault) × FetchesFile
+        (record { files = H.files host.old; failures = H.failure_count host.old })
+        name.now file_limit fetched
+        (record { files = H.files host.new; failures = H.failure_count host.new })
+        × GivesNoImage fetched fault) }
+{
+    match fetch(alloc, host, name, FILE_BYTES) {
+        Ok(bytes) => Ok(Image::from_bytes(alloc, bytes.as_slice())?),
+        Err(fault) => Err(ProgramFault::of_file(fault, ProgramFault::UnreadableImage)),
+    }
 }
 
 /// The exit status of a script that ran to its end.

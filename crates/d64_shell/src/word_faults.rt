@@ -43,6 +43,8 @@ pub(crate) fn answer_words<W: Write, F: Write>(
     match &fault {
         JobFault::Start => ProgramFault::Start.report(faults),
         JobFault::Memory => ProgramFault::Memory.report(faults),
+        JobFault::Tracks => ProgramFault::Tracks.report(faults),
+        JobFault::Both => ProgramFault::Both.report(faults),
         JobFault::Words(_) => {
             if fault.was_asked_for() {
                 show(alloc, &fault, writer, faults)

@@ -23,6 +23,9 @@ returns-in-format c = let word : c.args.word.now ≡ codes "format" = text_from_
 pub returns-in-history : goal.returns-in-history
 returns-in-history c = let word : c.args.word.now ≡ codes "history" = text_from_reads _ _ (omega arith) (search (rules, arith)) in rw word refl
 
+pub returns-in-keep : goal.returns-in-keep
+returns-in-keep c = let word : c.args.word.now ≡ codes "keep" = text_from_reads _ _ (omega arith) (search (rules, arith)) in rw word refl
+
 pub returns-in-list : goal.returns-in-list
 returns-in-list c = let word : c.args.word.now ≡ codes "list" = text_from_reads _ _ (omega arith) (search (rules, arith)) in rw word refl
 

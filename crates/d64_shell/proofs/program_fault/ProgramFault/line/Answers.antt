@@ -11,6 +11,14 @@ pub returns-in-Start : goal.returns-in-Start
 unfolding fault_line
 returns-in-Start c = search (rules, append_assoc)
 
+pub returns-in-Tracks : goal.returns-in-Tracks
+unfolding fault_line
+returns-in-Tracks c = search (rules, append_assoc)
+
+pub returns-in-Both : goal.returns-in-Both
+unfolding fault_line
+returns-in-Both c = search (rules, append_assoc)
+
 pub returns-in-WrongLength : goal.returns-in-WrongLength
 unfolding fault_line
 returns-in-WrongLength c = search (rules, append_assoc)
@@ -18,6 +26,14 @@ returns-in-WrongLength c = search (rules, append_assoc)
 pub returns-in-UnreadableImage : goal.returns-in-UnreadableImage
 unfolding fault_line
 returns-in-UnreadableImage c = search (rules, append_assoc)
+
+pub returns-in-UnreadableSession : goal.returns-in-UnreadableSession
+unfolding fault_line
+returns-in-UnreadableSession c = search (rules, append_assoc)
+
+pub returns-in-NoSession : goal.returns-in-NoSession
+unfolding fault_line
+returns-in-NoSession c = search (rules, append_assoc)
 
 pub returns-in-Read : goal.returns-in-Read
 unfolding fault_line
