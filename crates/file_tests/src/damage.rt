@@ -1,6 +1,19 @@
 //! How tests write bytes into images past any command.
+ghost use Rattle.std.specs.Prelude.{◌<◌, length, IfOk};
+
 use d64_image::{BlockNo, Image, Patch};
 use std::test::Fail;
+
+/// An error where the image has no such block.
+pub(crate) fn held(image: &Image, block: BlockNo) -> Result<(), Fail>
+    ensures { IfOk result (λ _. block < length image.now) }
+{
+    if image.holds(block) {
+        Ok(())
+    } else {
+        Err(Fail::new("the image has no such block"))
+    }
+}
 
 /// Writes bytes into a block, from a place on.
 fn put(
@@ -10,6 +23,7 @@ fn put(
     start: usize,
     bytes: &[u8],
 ) -> Result<(), Fail> {
+    held(image, block)?;
     let mut content = *image.sector(block);
     for (at, byte) in content.iter_mut().skip(start).zip(bytes.iter()) {
         *at = *byte;

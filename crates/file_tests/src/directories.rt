@@ -2,8 +2,7 @@
 
 use crate::damage::put_parts;
 use d64_files::{DirFault, Kind, Pattern, SlotNo, Slots, check, content, find, owned, slot_blocks};
-use d64_image::{BLOCKS, BlockNo, BlockSet, Image, Patch};
-use d64_map::{map_block, put_map};
+use d64_image::{BlockNo, Image};
 use std::test::Fail;
 
 /// The parts of a directory of two blocks and three entries.
@@ -54,10 +53,10 @@ fn shows_a_closed_file(rt: HostRuntime) -> Result<(), Fail> {
 fn shows_where_a_file_begins(rt: HostRuntime) -> Result<(), Fail> {
     let image = example(&rt)?;
     let first = walk(&image)?.nth(0).ok_or("no slot")?;
-    assert_eq!(rt; first.start().map(|block| block.index()), Some(336));
+    assert_eq!(rt; first.start(&image).map(|block| block.index()), Some(336));
     assert_eq!(rt; first.side_pair(), None);
     let third = walk(&image)?.nth(2).ok_or("no slot")?;
-    assert!(rt; third.start().is_none());
+    assert!(rt; third.start(&image).is_none());
     assert_eq!(rt; third.first_pair(), (36, 0));
     assert_eq!(rt; third.side_pair(), Some((17, 10)));
     Ok(())
@@ -125,17 +124,24 @@ fn refuses_damaged_directories(rt: HostRuntime) -> Result<(), Fail> {
     Ok(())
 }
 
-/// All blocks of the disk but the map's and the directory's first.
-fn free_blocks(directory: BlockNo) -> BlockSet {
-    let mut free = BlockSet::empty();
-    for index in 0..BLOCKS {
-        if let Some(block) = BlockNo::at(index) {
-            free.add(block);
+/// So many neighbouring tracks with the same entry in the map.
+const ZONES: [(usize, [u8; 4]); 5] = [
+    (17, [0x15, 0xFF, 0xFF, 0x1F]),
+    (1, [0x11, 0xFC, 0xFF, 0x07]),
+    (6, [0x13, 0xFF, 0xFF, 0x07]),
+    (6, [0x12, 0xFF, 0xFF, 0x03]),
+    (5, [0x11, 0xFF, 0xFF, 0x01]),
+];
+
+/// The map that marks all blocks free but the map's and the directory's first.
+fn fresh_map(rt: &HostRuntime) -> Result<Vec<u8>, Fail> {
+    let mut map = Vec::new(rt.alloc());
+    for (tracks, entry) in ZONES {
+        for _ in 0..tracks {
+            map.extend_from_slice(&entry)?;
         }
     }
-    free.remove(map_block());
-    free.remove(directory);
-    free
+    Ok(map)
 }
 
 /// The parts of a REL file: its data in 17/0, its side sector in 17/1, its entry in the first slot of 18/1.
@@ -155,8 +161,8 @@ const REL_FILE: [(u8, u8, usize, &[u8]); 5] = [
 /// A disk with a REL file. The map marks all blocks free but those of track 18, sectors 0 and 1.
 fn rel_disk(rt: &HostRuntime) -> Result<Image, Fail> {
     let mut image = Image::zeroed(rt.alloc())?;
-    let free = free_blocks(BlockNo::of(18, 1).ok_or("no 18/1")?);
-    put_map(&mut image, &mut Patch::new(rt.alloc()), &free)?;
+    let map = fresh_map(rt)?;
+    put_parts(rt, &mut image, &[(18, 0, 4, map.as_slice())])?;
     put_parts(rt, &mut image, &REL_FILE)?;
     Ok(image)
 }
@@ -175,7 +181,7 @@ fn a_rel_file_owns_its_side_sector(rt: HostRuntime) -> Result<(), Fail> {
 #[test]
 fn a_rel_file_is_sound_once_its_blocks_are_used(rt: HostRuntime) -> Result<(), Fail> {
     let mut image = rel_disk(&rt)?;
-    put_map(&mut image, &mut Patch::new(rt.alloc()), &BlockSet::empty())?;
+    put_parts(&rt, &mut image, &[(18, 0, 4, [0; 140].as_slice())])?;
     assert_eq!(rt; check(&image).map_err(|_| "refused")?.count(), 4);
     assert_eq!(rt; slot_blocks(&image, SlotNo::at(0)).count(), 2);
     Ok(())

@@ -1,6 +1,6 @@
 //! Calls that change an image as a command asks, or read from it.
 
-use crate::disk::{block, changed_blocks, disk, format, same, ten_blocks, write};
+use crate::disk::{block, changed_blocks, disk, format, same, ten_blocks, within, write};
 use crate::end::{Bench, End};
 use d64_dos::{Command, Refusal, Reply};
 use d64_files::{Name, Pattern, ReadFault, find};
@@ -38,6 +38,7 @@ pub fn apply(bench: &Bench, command: &str) -> Result<End, Fail> {
     let mut image = disk(bench.alloc())?;
     let before = image.try_clone(bench.alloc())?;
     let command = command_of(bench.alloc(), command)?;
+    within(&image, &command)?;
     let mut patch = Patch::new(bench.alloc());
     bench.begin()?;
     let answer = d64_dos::apply(&mut image, &mut patch, &command);

@@ -1,4 +1,8 @@
 //! The disk on which calls are made.
+ghost use Rattle.std.specs.Prelude.{◌≡◌, ◌<◌, [], length, IfOk};
+ghost use Rattle.d64_dos.specs.Change.{said};
+ghost use Rattle.d64_dos.specs.Command.{IsWithin};
+ghost use Rattle.d64_image.specs.Patch.{IsPatchOf};
 
 use d64_dos::{Command, apply};
 use d64_files::{Kind, Name};
@@ -22,6 +26,45 @@ pub fn changed_blocks(image: &Image, before: &Image) -> usize {
 /// The block of a track and a sector.
 pub fn block(track: u8, sector: u8) -> Result<BlockNo, Fail> {
     Ok(BlockNo::of(track, sector).ok_or("no such block")?)
+}
+
+/// The block of a track and a sector, which the image has.
+pub fn block_in(image: &Image, track: u8, sector: u8) -> Result<BlockNo, Fail>
+    ensures { IfOk result (λ block. block < length image.now) }
+{
+    let block = block(track, sector)?;
+    if image.holds(block) {
+        Ok(block)
+    } else {
+        Err(Fail::new("the image has no such block"))
+    }
+}
+
+/// An error where the image doesn't have the block that a command names.
+pub fn within(image: &Image, command: &Command) -> Result<(), Fail>
+    ensures { IfOk result (λ _. IsWithin image.now (said command.now)) }
+{
+    match command {
+        Command::BlockWrite { at, block: _ } if !image.holds(*at) => {
+            Err(Fail::new("the image has no such block"))
+        }
+        _ => Ok(()),
+    }
+}
+
+/// The patch of an image that keeps nothing.
+pub fn fresh(alloc: Global, _image: &Image) -> Patch
+    ensures patch { IsPatchOf _image.now result }
+    ensures empty { result ≡ [] }
+{
+    Patch::new(alloc)
+}
+
+/// Changes the image as a command asks, and forgets what was there before.
+fn make(alloc: Global, image: &mut Image, command: &Command) -> Result<(), Fail> {
+    within(image, command)?;
+    apply(image, &mut Patch::new(alloc), command)?;
+    Ok(())
 }
 
 /// The command that makes an empty disk.
@@ -49,14 +92,13 @@ pub fn ten_blocks(alloc: Global) -> Result<Vec<u8>, Fail> {
 /// A sound disk with the file `A` of ten blocks from 17/0 on, and the file `B` of one, which was never closed.
 pub fn disk(alloc: Global) -> Result<Image, Fail> {
     let mut image = Image::zeroed(alloc)?;
-    apply(&mut image, &mut Patch::new(alloc), &format()?)?;
-    let a = write(alloc, b"A", &ten_blocks(alloc)?)?;
-    apply(&mut image, &mut Patch::new(alloc), &a)?;
-    let b = write(alloc, b"B", &[7])?;
-    apply(&mut image, &mut Patch::new(alloc), &b)?;
-    let mut directory = *image.sector(block(18, 1)?);
+    make(alloc, &mut image, &format()?)?;
+    make(alloc, &mut image, &write(alloc, b"A", &ten_blocks(alloc)?)?)?;
+    make(alloc, &mut image, &write(alloc, b"B", &[7])?)?;
+    let first = block_in(&image, 18, 1)?;
+    let mut directory = *image.sector(first);
     directory[0x22] = 0x02;
-    Patch::new(alloc).write(&mut image, block(18, 1)?, &directory)?;
+    Patch::new(alloc).write(&mut image, first, &directory)?;
     Ok(image)
 }
 

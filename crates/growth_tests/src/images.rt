@@ -1,6 +1,6 @@
 //! Calls of images and patches.
 
-use crate::disk::{block, changed_blocks, disk, same};
+use crate::disk::{block_in, changed_blocks, disk, same};
 use crate::end::{Bench, End};
 use d64_image::{Image, ImageFault, Patch};
 use std::test::Fail;
@@ -23,6 +23,14 @@ pub fn zeroed(bench: &Bench) -> Result<End, Fail> {
     })
 }
 
+pub fn zeroed40(bench: &Bench) -> Result<End, Fail> {
+    bench.begin()?;
+    Ok(match Image::zeroed40(bench.alloc()) {
+        Ok(image) => End::Made(image.bytes().len()),
+        Err(_) => End::WantOfMemory,
+    })
+}
+
 pub fn try_clone(bench: &Bench) -> Result<End, Fail> {
     let lent = disk(bench.alloc())?;
     bench.begin()?;
@@ -36,11 +44,13 @@ pub fn try_clone(bench: &Bench) -> Result<End, Fail> {
 pub fn patch_write(bench: &Bench) -> Result<End, Fail> {
     let mut image = disk(bench.alloc())?;
     let mut patch = Patch::new(bench.alloc());
-    patch.write(&mut image, block(17, 0)?, &[1; 256])?;
-    patch.write(&mut image, block(35, 0)?, &[1; 256])?;
+    let first = block_in(&image, 17, 0)?;
+    patch.write(&mut image, first, &[1; 256])?;
+    let second = block_in(&image, 35, 0)?;
+    patch.write(&mut image, second, &[1; 256])?;
     let before = image.try_clone(bench.alloc())?;
     let kept = Vec::from_slice(bench.alloc(), patch.blocks())?;
-    let third = block(18, 1)?;
+    let third = block_in(&image, 18, 1)?;
     bench.begin()?;
     Ok(match patch.write(&mut image, third, &[1; 256]) {
         Ok(()) => End::Changed(changed_blocks(&image, &before)),

@@ -36,6 +36,7 @@ fn end_of_call(bench: &Bench) -> Result<End, Fail> {
     match call {
         "Image::from_bytes" => images::from_bytes(bench),
         "Image::zeroed" => images::zeroed(bench),
+        "Image::zeroed40" => images::zeroed40(bench),
         "Image::try_clone" => images::try_clone(bench),
         "Patch::write" => images::patch_write(bench),
         "put_map" => writers::map(bench),
@@ -50,6 +51,8 @@ fn end_of_call(bench: &Bench) -> Result<End, Fail> {
         "listing" => commands::listing(bench),
         "Session::run" => sessions::run(bench, given),
         "Session::new,run" => sessions::first_block_write(bench),
+        "Session::keep" => sessions::keep(bench),
+        "resume" => sessions::resume(bench),
         "to_text" => texts::to_text(bench),
         "from_text" => texts::from_text(bench),
         "crunch" => texts::crunch(bench),

@@ -1,11 +1,11 @@
 //! Calls of sessions.
 
 use crate::commands::{block_write, command_of};
-use crate::disk::{PROGRAM, changed_blocks, disk, same, write};
+use crate::disk::{PROGRAM, changed_blocks, disk, same, within, write};
 use crate::end::{Bench, End};
-use d64_dos::Refusal;
+use d64_dos::{Command, Refusal};
 use d64_image::Image;
-use d64_undo::Session;
+use d64_undo::{ResumeFault, Session};
 use std::alloc::Global;
 use std::test::Fail;
 
@@ -18,17 +18,24 @@ pub struct Beside {
     last: Image,
 }
 
+/// Runs a command on a session, whose image has the block that the command names.
+fn make(session: &mut Session, command: &Command) -> Result<(), Fail> {
+    within(session.image(), command)?;
+    session.run(command)?;
+    Ok(())
+}
+
 impl Beside {
     /// The session begins with the disk; two blocks were written, then `P`, a BASIC program, and then `X`, which was undone.
     /// For a fifth record its list has to grow.
     pub fn new(alloc: Global) -> Result<Beside, Fail> {
         let mut session = Session::new(alloc, disk(alloc)?);
-        session.run(&block_write(35, 0)?)?;
-        session.run(&block_write(35, 1)?)?;
+        make(&mut session, &block_write(35, 0)?)?;
+        make(&mut session, &block_write(35, 1)?)?;
         let first = session.image().try_clone(alloc)?;
-        session.run(&write(alloc, b"P", PROGRAM)?)?;
+        make(&mut session, &write(alloc, b"P", PROGRAM)?)?;
         let present = session.image().try_clone(alloc)?;
-        session.run(&write(alloc, b"X", &[7])?)?;
+        make(&mut session, &write(alloc, b"X", &[7])?)?;
         let last = session.image().try_clone(alloc)?;
         session.undo()?;
         Ok(Beside {
@@ -64,6 +71,7 @@ impl Beside {
 pub fn run(bench: &Bench, command: &str) -> Result<End, Fail> {
     let mut beside = Beside::new(bench.alloc())?;
     let command = command_of(bench.alloc(), command)?;
+    within(beside.session.image(), &command)?;
     bench.begin()?;
     Ok(match beside.session.run(&command) {
         Ok(_) if beside.has_one_more() => End::Changed(beside.changed()),
@@ -75,11 +83,41 @@ pub fn run(bench: &Bench, command: &str) -> Result<End, Fail> {
     })
 }
 
+/// The file of a session of which three records are done and one is undone.
+pub fn keep(bench: &Bench) -> Result<End, Fail> {
+    let mut beside = Beside::new(bench.alloc())?;
+    bench.begin()?;
+    Ok(match beside.session.keep(bench.alloc()) {
+        Ok(file) => End::Made(file.len()),
+        Err(_) => End::want_of_memory(beside.is_as_it_was(), "the session is not as it was"),
+    })
+}
+
+/// The session of that file.
+pub fn resume(bench: &Bench) -> Result<End, Fail> {
+    let mut beside = Beside::new(bench.alloc())?;
+    let file = beside.session.keep(bench.alloc())?;
+    bench.begin()?;
+    Ok(match d64_undo::resume(bench.alloc(), file.as_slice()) {
+        Ok(session) => {
+            beside.session = session;
+            if beside.is_as_it_was() {
+                End::Accepted
+            } else {
+                End::Wrong("the session is another one")
+            }
+        }
+        Err(ResumeFault::Memory(_)) => End::WantOfMemory,
+        Err(_) => End::Refused,
+    })
+}
+
 /// A block write on a session that was just made from a blank image.
 pub fn first_block_write(bench: &Bench) -> Result<End, Fail> {
     let blank = Image::zeroed(bench.alloc())?;
     let mut session = Session::new(bench.alloc(), blank.try_clone(bench.alloc())?);
     let command = command_of(bench.alloc(), "BlockWrite")?;
+    within(session.image(), &command)?;
     bench.begin()?;
     Ok(match session.run(&command) {
         Ok(_) => End::Changed(changed_blocks(session.image(), &blank)),

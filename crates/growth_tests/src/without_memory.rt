@@ -1,6 +1,6 @@
 //! Calls that take no memory.
 
-use crate::disk::{block, disk};
+use crate::disk::{block, block_in, disk, fresh};
 use crate::end::{Bench, End};
 use crate::hosts::host;
 use crate::sessions::Beside;
@@ -19,7 +19,7 @@ pub fn end_of_call(bench: &Bench) -> Result<End, Fail> {
     match bench.words() {
         ("BlockNo", _) => block_numbers(bench),
         ("BlockSet", _) => block_sets(bench),
-        ("Image::bytes,sector", _) => images(bench),
+        ("Image::bytes,sector,tracks,holds", _) => images(bench),
         ("Patch", _) => patches(bench),
         ("Patch::write,again", _) => kept_block(bench),
         ("is_free,free_count,blocks_free,counts_fit", _) => map(bench),
@@ -39,12 +39,12 @@ pub fn end_of_call(bench: &Bench) -> Result<End, Fail> {
 /// `of`, `at`, `index`, `track` and `sector`.
 fn block_numbers(bench: &Bench) -> Result<End, Fail> {
     bench.begin()?;
-    let last = BlockNo::of(35, 16).ok_or("no 35/16")?;
+    let last = BlockNo::of(40, 16).ok_or("no 40/16")?;
     Ok(End::answered(
-        BlockNo::at(682) == Some(last)
-            && (last.index(), last.track(), last.sector()) == (682, 35, 16)
+        BlockNo::at(767) == Some(last)
+            && (last.index(), last.track(), last.sector()) == (767, 40, 16)
             && BlockNo::of(35, 17).is_none()
-            && BlockNo::at(683).is_none(),
+            && BlockNo::at(768).is_none(),
     ))
 }
 
@@ -62,16 +62,25 @@ fn block_sets(bench: &Bench) -> Result<End, Fail> {
 fn images(bench: &Bench) -> Result<End, Fail> {
     let image = disk(bench.alloc())?;
     let directory = block(18, 1)?;
+    let beyond = block(36, 0)?;
     bench.begin()?;
-    Ok(End::answered(image.bytes().len() == 174_848 && image.sector(directory)[2] == 0x82))
+    Ok(End::answered(
+        image.bytes().len() == 174_848
+            && image.tracks() == 35
+            && image.holds(directory)
+            && image.sector(directory)[2] == 0x82
+            && !image.holds(beyond),
+    ))
 }
 
 /// `new`, `swap`, `trim`, `clear`, `len` and `blocks`.
 fn patches(bench: &Bench) -> Result<End, Fail> {
     let mut image = disk(bench.alloc())?;
-    let mut patch = Patch::new(bench.alloc());
-    patch.write(&mut image, block(1, 0)?, &[1; 256])?;
-    patch.write(&mut image, block(1, 1)?, &[0; 256])?;
+    let mut patch = fresh(bench.alloc(), &image);
+    let first = block_in(&image, 1, 0)?;
+    patch.write(&mut image, first, &[1; 256])?;
+    let second = block_in(&image, 1, 1)?;
+    patch.write(&mut image, second, &[0; 256])?;
     bench.begin()?;
     let counts = (Patch::new(bench.alloc()).len(), patch.len());
     patch.trim(&image);
@@ -85,16 +94,19 @@ fn patches(bench: &Bench) -> Result<End, Fail> {
 fn kept_block(bench: &Bench) -> Result<End, Fail> {
     let mut image = disk(bench.alloc())?;
     let mut patch = Patch::new(bench.alloc());
-    let first = block(1, 0)?;
+    let first = block_in(&image, 1, 0)?;
     patch.write(&mut image, first, &[1; 256])?;
+    let again = block_in(&image, 1, 0)?;
     bench.begin()?;
-    let answer = patch.write(&mut image, first, &[2; 256]);
-    Ok(End::answered(answer.is_ok() && image.sector(first)[0] == 2 && patch.len() == 1))
+    let answer = patch.write(&mut image, again, &[2; 256]);
+    Ok(End::answered(
+        answer.is_ok() && image.holds(first) && image.sector(first)[0] == 2 && patch.len() == 1,
+    ))
 }
 
 fn map(bench: &Bench) -> Result<End, Fail> {
     let image = disk(bench.alloc())?;
-    let first = block(17, 0)?;
+    let first = block_in(&image, 17, 0)?;
     bench.begin()?;
     Ok(End::answered(
         !is_free(&image, first)
@@ -153,11 +165,11 @@ fn entries(bench: &Bench) -> Result<End, Fail> {
     bench.begin()?;
     let mut walk = Slots::of(&image)?;
     let first = walk.next().ok_or("there is no slot")?;
-    Ok(End::answered(is_entry_of_a(&first) && walk.count() == 7))
+    Ok(End::answered(is_entry_of_a(&image, &first) && walk.count() == 7))
 }
 
-/// Whether an entry is that of the file `A`.
-fn is_entry_of_a(entry: &Entry) -> bool {
+/// Whether an entry of the image is that of the file `A`.
+fn is_entry_of_a(image: &Image, entry: &Entry) -> bool {
     entry.slot().place() == 0
         && entry.used()
         && entry.kind() == Kind::Prg
@@ -165,7 +177,7 @@ fn is_entry_of_a(entry: &Entry) -> bool {
         && !entry.locked()
         && entry.field().len() == 16
         && entry.name() == b"A".as_slice()
-        && entry.start() == BlockNo::of(17, 0)
+        && entry.start(image) == BlockNo::of(17, 0)
         && entry.first_pair() == (17, 0)
         && entry.side_pair().is_none()
         && entry.blocks() == 10

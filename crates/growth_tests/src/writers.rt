@@ -3,8 +3,9 @@
 //! After want of memory some blocks may be written; the image with the patch put back is the one from before in any case.
 ghost use Rattle.std.specs.Prelude.{◌≢◌, ◌<◌, [], length, IfOk};
 ghost use Rattle.d64_files.specs.Directory.{directory, slots};
+ghost use Rattle.d64_image.specs.Patch.{IsPatchOf};
 
-use crate::disk::{block, changed_blocks, disk, same};
+use crate::disk::{block, block_in, changed_blocks, disk, fresh, same};
 use crate::end::{Bench, End};
 use d64_files::{
     Kind, Name, Pattern, SlotNo, clear_slot, find, grow, put_chain, put_entry, set_name,
@@ -20,7 +21,9 @@ fn end_of(
     image: &mut Image,
     patch: &mut Patch,
     before: &Image,
-) -> End {
+) -> End
+    requires { IsPatchOf image.old patch.old }
+{
     let changed = changed_blocks(image, before);
     patch.swap(image);
     if !same(image, before) {
@@ -48,7 +51,7 @@ fn slot_of_a(image: &Image) -> Result<SlotNo, Fail>
 pub fn map(bench: &Bench) -> Result<End, Fail> {
     let mut image = disk(bench.alloc())?;
     let before = image.try_clone(bench.alloc())?;
-    let mut patch = Patch::new(bench.alloc());
+    let mut patch = fresh(bench.alloc(), &image);
     bench.begin()?;
     let answer = put_map(&mut image, &mut patch, &BlockSet::empty());
     Ok(end_of(answer, &mut image, &mut patch, &before))
@@ -57,7 +60,7 @@ pub fn map(bench: &Bench) -> Result<End, Fail> {
 pub fn entry(bench: &Bench) -> Result<End, Fail> {
     let mut image = disk(bench.alloc())?;
     let before = image.try_clone(bench.alloc())?;
-    let mut patch = Patch::new(bench.alloc());
+    let mut patch = fresh(bench.alloc(), &image);
     let slot = slot_of_a(&image)?;
     let name = Name::new(b"Y")?;
     let first = block(17, 0)?;
@@ -69,7 +72,7 @@ pub fn entry(bench: &Bench) -> Result<End, Fail> {
 pub fn cleared_slot(bench: &Bench) -> Result<End, Fail> {
     let mut image = disk(bench.alloc())?;
     let before = image.try_clone(bench.alloc())?;
-    let mut patch = Patch::new(bench.alloc());
+    let mut patch = fresh(bench.alloc(), &image);
     let slot = slot_of_a(&image)?;
     bench.begin()?;
     let answer = clear_slot(&mut image, &mut patch, slot);
@@ -79,7 +82,7 @@ pub fn cleared_slot(bench: &Bench) -> Result<End, Fail> {
 pub fn name(bench: &Bench) -> Result<End, Fail> {
     let mut image = disk(bench.alloc())?;
     let before = image.try_clone(bench.alloc())?;
-    let mut patch = Patch::new(bench.alloc());
+    let mut patch = fresh(bench.alloc(), &image);
     let slot = slot_of_a(&image)?;
     let name = Name::new(b"Y")?;
     bench.begin()?;
@@ -91,13 +94,13 @@ pub fn name(bench: &Bench) -> Result<End, Fail> {
 pub fn chain(bench: &Bench) -> Result<End, Fail> {
     let mut image = disk(bench.alloc())?;
     let before = image.try_clone(bench.alloc())?;
-    let mut patch = Patch::new(bench.alloc());
+    let mut patch = fresh(bench.alloc(), &image);
     let blocks = [
-        block(1, 0)?,
-        block(2, 0)?,
-        block(3, 0)?,
-        block(4, 0)?,
-        block(5, 0)?,
+        block_in(&image, 1, 0)?,
+        block_in(&image, 2, 0)?,
+        block_in(&image, 3, 0)?,
+        block_in(&image, 4, 0)?,
+        block_in(&image, 5, 0)?,
     ];
     let bytes = [1; 1270];
     bench.begin()?;
@@ -108,9 +111,9 @@ pub fn chain(bench: &Bench) -> Result<End, Fail> {
 pub fn growth(bench: &Bench) -> Result<End, Fail> {
     let mut image = disk(bench.alloc())?;
     let before = image.try_clone(bench.alloc())?;
-    let mut patch = Patch::new(bench.alloc());
+    let mut patch = fresh(bench.alloc(), &image);
     let _slot = slot_of_a(&image)?;
-    let new = block(18, 4)?;
+    let new = block_in(&image, 18, 4)?;
     bench.begin()?;
     let answer = grow(&mut image, &mut patch, new);
     Ok(end_of(answer, &mut image, &mut patch, &before))

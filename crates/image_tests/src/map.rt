@@ -1,4 +1,7 @@
 //! The block allocation map, and the order of search.
+ghost use Rattle.std.specs.Prelude.{◌≡◌, ◌<◌, length, IfOk};
+ghost use Rattle.d64_image.specs.BlockSet.{MembersAreBelow};
+ghost use Rattle.d64_map.specs.Map.{free_blocks};
 
 use d64_image::{BLOCKS, BlockNo, BlockSet, Image, Patch};
 use d64_map::{
@@ -7,10 +10,13 @@ use d64_map::{
 };
 use std::test::Fail;
 
-/// All blocks of the disk.
-fn all_blocks() -> BlockSet {
+/// How many blocks a disk of 35 tracks has.
+const BLOCKS_OF_35: usize = 683;
+
+/// The blocks from one place up to another.
+fn blocks_between(start: usize, end: usize) -> BlockSet {
     let mut blocks = BlockSet::empty();
-    for index in 0..BLOCKS {
+    for index in start..end {
         if let Some(block) = BlockNo::at(index) {
             blocks.add(block);
         }
@@ -18,10 +24,21 @@ fn all_blocks() -> BlockSet {
     blocks
 }
 
-/// The track and the sector at a place of the order after a block: what is picked once all before it are taken.
+/// All blocks of a disk of 35 tracks.
+fn all_blocks() -> BlockSet {
+    blocks_between(0, BLOCKS_OF_35)
+}
+
+/// The track and the sector at a place of the order of search on 35 tracks after a block: what is picked once all before it
+/// are taken.
 fn next_at(track: u8, sector: u8, place: usize) -> Option<(u8, u8)> {
+    next_of(all_blocks(), track, sector, place)
+}
+
+/// The same among these blocks.
+fn next_of(all: BlockSet, track: u8, sector: u8, place: usize) -> Option<(u8, u8)> {
     let last = BlockNo::of(track, sector)?;
-    let mut free = all_blocks();
+    let mut free = all;
     for _ in 0..place {
         if let Some(block) = pick_next(&free, last) {
             free.remove(block);
@@ -30,7 +47,7 @@ fn next_at(track: u8, sector: u8, place: usize) -> Option<(u8, u8)> {
     pick_next(&free, last).map(|block| (block.track(), block.sector()))
 }
 
-/// The same for the directory.
+/// The same on 35 tracks for the directory.
 fn dir_at(track: u8, sector: u8, place: usize) -> Option<(u8, u8)> {
     let last = BlockNo::of(track, sector)?;
     let mut free = all_blocks();
@@ -55,14 +72,57 @@ impl Noise {
     }
 }
 
+/// Adds the block of a place to others, where the image has it.
+fn add_held(free: &mut BlockSet, image: &Image, index: usize)
+    requires { MembersAreBelow (length image.now) free.old }
+    ensures { MembersAreBelow (length image.now) free.new }
+{
+    match BlockNo::at(index) {
+        Some(block) => {
+            if image.holds(block) {
+                free.add(block);
+            }
+        }
+        None => {}
+    }
+}
+
+/// All blocks of the image.
+fn all_held(image: &Image) -> BlockSet
+    ensures { MembersAreBelow (length image.now) result }
+{
+    let mut free = BlockSet::empty();
+    for index in 0..BLOCKS {
+        add_held(&mut free, image, index);
+    }
+    free
+}
+
+/// All blocks of the image but those of the map and of the directory.
+fn free_when_fresh(image: &Image) -> Result<BlockSet, Fail>
+    ensures { IfOk result (λ free. MembersAreBelow (length image.now) free) }
+{
+    let mut free = all_held(image);
+    free.remove(BlockNo::of(18, 0).ok_or("no 18/0")?);
+    free.remove(BlockNo::of(18, 1).ok_or("no 18/1")?);
+    Ok(free)
+}
+
+/// Writes the map of a fresh disk, and answers its block.
+fn with_fresh_map(rt: &HostRuntime, image: &mut Image) -> Result<[u8; 256], Fail> {
+    let free = free_when_fresh(image)?;
+    put_map(image, &mut Patch::new(rt.alloc()), &free)?;
+    let block = BlockNo::of(18, 0).ok_or("no 18/0")?;
+    if !image.holds(block) {
+        return Err(Fail::new("the image has no 18/0"));
+    }
+    Ok(*image.sector(block))
+}
+
 #[test]
 fn a_fresh_disk_has_the_map_of_the_manual(rt: HostRuntime) -> Result<(), Fail> {
     let mut image = Image::zeroed(rt.alloc())?;
-    let mut free = all_blocks();
-    free.remove(BlockNo::of(18, 0).ok_or("no 18/0")?);
-    free.remove(BlockNo::of(18, 1).ok_or("no 18/1")?);
-    put_map(&mut image, &mut Patch::new(rt.alloc()), &free)?;
-    let map = image.sector(BlockNo::of(18, 0).ok_or("no 18/0")?);
+    let map = with_fresh_map(&rt, &mut image)?;
     let table = [
         (1u8, [0x15, 0xFF, 0xFF, 0x1F]),
         (17, [0x15, 0xFF, 0xFF, 0x1F]),
@@ -83,9 +143,35 @@ fn a_fresh_disk_has_the_map_of_the_manual(rt: HostRuntime) -> Result<(), Fail> {
     assert!(rt; map[..4].iter().all(|byte| *byte == 0));
     assert!(rt; map[144..].iter().all(|byte| *byte == 0));
     assert_eq!(rt; blocks_free(&image), 664);
+    assert!(rt; 18 <= image.tracks());
     assert_eq!(rt; free_count(&image, 18), 17);
     assert!(rt; counts_fit(&image));
     Ok(())
+}
+
+#[test]
+fn a_fresh_disk_of_40_tracks_has_five_entries_beyond_the_name(rt: HostRuntime) -> Result<(), Fail> {
+    let mut image = Image::zeroed40(rt.alloc())?;
+    let map = with_fresh_map(&rt, &mut image)?;
+    for entry in map[0xC0..0xD4].chunks(4) {
+        assert!(rt; entry == [0x11, 0xFF, 0xFF, 0x01].as_slice());
+    }
+    assert!(rt; map[0x90..0xC0].iter().all(|byte| *byte == 0));
+    assert!(rt; map[0xD4..].iter().all(|byte| *byte == 0));
+    assert_eq!(rt; blocks_free(&image), 749);
+    assert!(rt; 40 <= image.tracks());
+    assert_eq!(rt; free_count(&image, 36), 17);
+    assert_eq!(rt; free_count(&image, 40), 17);
+    assert!(rt; counts_fit(&image));
+    Ok(())
+}
+
+/// The blocks that the map marks free. The image has each.
+fn free_of(image: &Image) -> BlockSet
+    ensures value { result ≡ free_blocks image.now }
+    ensures held { MembersAreBelow (length image.now) result }
+{
+    free_set(image)
 }
 
 #[test]
@@ -98,6 +184,7 @@ fn a_random_map_is_read_as_a_plain_count_reads_it(rt: HostRuntime) -> Result<(),
     for byte in old.iter_mut() {
         *byte = noise.next();
     }
+    assert!(rt; image.holds(block));
     patch.write(&mut image, block, &old)?;
     let mut ones = 0u32;
     let mut counts = 0u32;
@@ -116,10 +203,11 @@ fn a_random_map_is_read_as_a_plain_count_reads_it(rt: HostRuntime) -> Result<(),
             counts = u32::from(old[4 * track]).wrapping_add(counts);
         }
     }
-    let free = free_set(&image);
+    let free = free_of(&image);
     assert_eq!(rt; free.count(), ones as usize);
     assert_eq!(rt; blocks_free(&image), counts);
     assert!(rt; !counts_fit(&image));
+    assert!(rt; image.holds(block));
     assert_eq!(rt; is_free(&image, block), old[4 * 18 + 1] & 1 == 1);
     put_map(&mut image, &mut patch, &free)?;
     assert!(rt; counts_fit(&image));
@@ -165,6 +253,30 @@ fn next_blocks_come_in_the_written_order(rt: HostRuntime) {
 }
 
 #[test]
+fn tracks_36_to_40_come_in_the_written_order(rt: HostRuntime) {
+    let table = [
+        (17, 0, 663, 35, 16),
+        (17, 0, 664, 36, 0),
+        (17, 0, 748, 40, 16),
+        (18, 18, 663, 35, 16),
+        (18, 18, 664, 36, 0),
+        (18, 18, 748, 40, 16),
+        (35, 16, 17, 36, 0),
+        (35, 16, 102, 17, 0),
+        (36, 16, 85, 17, 0),
+        (40, 16, 748, 39, 16),
+    ];
+    for (track, sector, place, want_track, want_sector) in table {
+        assert_eq!(rt;
+            next_of(blocks_between(0, BLOCKS), track, sector, place),
+            Some((want_track, want_sector)),
+            "place {place} after {track}/{sector}"
+        );
+    }
+    assert_eq!(rt; next_of(blocks_between(0, BLOCKS), 17, 0, 749), None);
+}
+
+#[test]
 fn directory_blocks_come_in_the_written_order(rt: HostRuntime) {
     let table = [
         (18, 1, 0, 4),
@@ -191,5 +303,8 @@ fn directory_blocks_come_in_the_written_order(rt: HostRuntime) {
 fn the_first_pick_is_the_nearest(rt: HostRuntime) {
     let first = pick_first(&all_blocks()).map(|block| (block.track(), block.sector()));
     assert_eq!(rt; first, Some((17, 0)));
+    let beyond = blocks_between(BLOCKS_OF_35, BLOCKS);
+    let last = pick_first(&beyond).map(|block| (block.track(), block.sector()));
+    assert_eq!(rt; last, Some((36, 0)));
     assert_eq!(rt; pick_first(&BlockSet::empty()), None);
 }

@@ -13,12 +13,18 @@ fn asks_for(rt: &HostRuntime, words: &[&str], wanted: &str) -> Result<bool, Fail
 #[test]
 fn takes_each_subcommand(rt: HostRuntime) -> Result<(), Fail> {
     let rt = &rt;
-    assert!(rt; asks_for(rt, &["d64sh", "shell"], "Shell { image: None }")?);
+    assert!(rt;
+        asks_for(
+            rt,
+            &["d64sh", "shell"],
+            "Shell { image: None, tracks: 35, resume: None }"
+        )?
+    );
     assert!(rt;
         asks_for(
             rt,
             &["d64sh", "shell", "my disk"],
-            "Shell { image: Some(\"my disk\") }"
+            "Shell { image: Some(\"my disk\"), tracks: 35, resume: None }"
         )?
     );
     assert!(rt;
@@ -50,6 +56,38 @@ fn takes_each_subcommand(rt: HostRuntime) -> Result<(), Fail> {
         )?
     );
     Ok(())
+}
+
+#[test]
+fn takes_the_options_of_the_shell(rt: HostRuntime) -> Result<(), Fail> {
+    let rt = &rt;
+    let tracks = "Shell { image: None, tracks: 40, resume: None }";
+    assert!(rt; asks_for(rt, &["d64sh", "shell", "--tracks", "40"], tracks)?);
+    let resume = "Shell { image: None, tracks: 35, resume: Some(\"s\") }";
+    assert!(rt; asks_for(rt, &["d64sh", "shell", "--resume=s"], resume)?);
+    let both = "Shell { image: Some(\"disk\"), tracks: 35, resume: Some(\"s\") }";
+    assert!(rt; asks_for(rt, &["d64sh", "shell", "disk", "--resume", "s"], both)?);
+    Ok(())
+}
+
+#[test]
+fn refuses_other_tracks(rt: HostRuntime) {
+    for tracks in ["36", "035", "+35", "", "3 5"] {
+        let fault = job(rt.alloc(), &["d64sh", "shell", "--tracks", tracks]);
+        assert!(rt; matches!(&fault, Err(JobFault::Tracks)));
+        let fault = job(
+            rt.alloc(),
+            &["d64sh", "shell", "--resume", "s", "--tracks", tracks],
+        );
+        assert!(rt; matches!(&fault, Err(JobFault::Tracks)));
+    }
+    let fault = job(rt.alloc(), &["d64sh", "shell", "--tracks", "40", "disk"]);
+    assert!(rt; matches!(&fault, Err(JobFault::Tracks)));
+    let fault = job(
+        rt.alloc(),
+        &["d64sh", "shell", "--tracks", "40", "--resume", "s"],
+    );
+    assert!(rt; matches!(&fault, Err(JobFault::Both)));
 }
 
 #[test]
@@ -94,7 +132,7 @@ fn tells_what_is_wrong(rt: HostRuntime) -> Result<(), Fail> {
         is_told(
             rt,
             &["d64sh", "shell", "a", "b"],
-            "Usage: d64sh shell [IMAGE]",
+            "Usage: d64sh shell [--tracks N] [IMAGE]",
             false
         )?
     );

@@ -1,4 +1,8 @@
 //! Commands on images, and the texts of their refusals.
+ghost use Rattle.std.specs.Prelude.{ℕ, List, IfOk};
+ghost use Rattle.d64_image.specs.Patch.{IsPatchOf};
+ghost use Rattle.d64_dos.specs.Change.{said};
+ghost use Rattle.d64_dos.specs.Command.{IsWithin};
 
 use d64_dos::{Command, Refusal, Reply, apply};
 use d64_files::{DirFault, Kind, Name};
@@ -12,22 +16,30 @@ const DATA: usize = 336;
 const MAP: usize = 357;
 
 /// The command that makes an empty disk.
-fn format() -> Result<Command, Fail> {
+fn format() -> Result<Command, Fail>
+    ensures { IfOk result (λ command. (image : List (List ℕ)) → IsWithin image (said command)) }
+{
     Ok(Command::Format {
         name: Name::new(b"D")?,
         id: *b"01",
     })
 }
 
-/// Applies a command, and forgets what was there before.
-fn run(rt: &HostRuntime, image: &mut Image, command: &Command) -> Result<Reply, Fail> {
-    Ok(apply(image, &mut Patch::new(rt.alloc()), command)?)
+/// Applies a command, and answers what was there before.
+fn run(rt: &HostRuntime, image: &mut Image, command: &Command) -> Result<Patch, Fail>
+    requires { IsWithin image.old (said command.now) }
+    ensures { IfOk result (λ patch. IsPatchOf image.new patch) }
+{
+    let mut patch = Patch::new(rt.alloc());
+    apply(image, &mut patch, command)?;
+    Ok(patch)
 }
 
 /// An empty disk.
 fn fresh(rt: &HostRuntime) -> Result<Image, Fail> {
     let mut image = Image::zeroed(rt.alloc())?;
-    run(rt, &mut image, &format()?)?;
+    let command = format()?;
+    run(rt, &mut image, &command)?;
     Ok(image)
 }
 
@@ -35,14 +47,17 @@ fn fresh(rt: &HostRuntime) -> Result<Image, Fail> {
 fn a_command_that_changes_nothing_leaves_an_empty_patch(rt: HostRuntime) -> Result<(), Fail> {
     let mut image = fresh(&rt)?;
     let mut patch = Patch::new(rt.alloc());
-    let reply = apply(&mut image, &mut patch, &format()?)?;
+    let command = format()?;
+    let reply = apply(&mut image, &mut patch, &command)?;
     assert_eq!(rt; reply, Reply::Done);
     assert_eq!(rt; patch.len(), 0);
     Ok(())
 }
 
 /// The command that writes a file of one byte as `X`.
-fn write_x(rt: &HostRuntime) -> Result<Command, Fail> {
+fn write_x(rt: &HostRuntime) -> Result<Command, Fail>
+    ensures { IfOk result (λ command. (image : List (List ℕ)) → IsWithin image (said command)) }
+{
     Ok(Command::Write {
         name: Name::new(b"X")?,
         kind: Kind::Prg,
@@ -53,8 +68,8 @@ fn write_x(rt: &HostRuntime) -> Result<Command, Fail> {
 #[test]
 fn a_write_keeps_the_blocks_that_it_changes(rt: HostRuntime) -> Result<(), Fail> {
     let mut image = fresh(&rt)?;
-    let mut patch = Patch::new(rt.alloc());
-    apply(&mut image, &mut patch, &write_x(&rt)?)?;
+    let command = write_x(&rt)?;
+    let patch = run(&rt, &mut image, &command)?;
     assert_eq!(rt; patch.len(), 3);
     for (kept, place) in patch.blocks().iter().zip([DATA, MAP, MAP + 1]) {
         assert_eq!(rt; kept.0.index(), place);
@@ -68,8 +83,8 @@ fn a_write_keeps_the_blocks_that_it_changes(rt: HostRuntime) -> Result<(), Fail>
 fn the_patch_of_a_write_leads_back_and_on(rt: HostRuntime) -> Result<(), Fail> {
     let mut image = fresh(&rt)?;
     let before = image.try_clone(rt.alloc())?;
-    let mut patch = Patch::new(rt.alloc());
-    apply(&mut image, &mut patch, &write_x(&rt)?)?;
+    let command = write_x(&rt)?;
+    let mut patch = run(&rt, &mut image, &command)?;
     let after = image.try_clone(rt.alloc())?;
     patch.swap(&mut image);
     assert!(rt; image.bytes() == before.bytes());

@@ -3,8 +3,14 @@
 use d64_dos::Command;
 use d64_files::{Kind, Name};
 use d64_image::Image;
-use d64_undo::Session;
+use d64_undo::{ResumeFault, Session, resume};
 use std::test::Fail;
+
+/// Where the block of `x`, 17/0, lies in the image of a file.
+const IMAGE_BLOCK: usize = 5 + 336 * 256;
+
+/// Where the first block of the second record lies in the file of a format and a write.
+const RECORD_BLOCK: usize = 175_391;
 
 /// A session on a blank image after a format and a write of the byte $51 as `x`.
 fn with_x(rt: &HostRuntime) -> Result<Session, Fail> {
@@ -58,11 +64,129 @@ fn file_of_an_undone_write(rt: HostRuntime) -> Result<(), Fail> {
     assert!(rt; has_at(&undone, 174_853, &[1, 0, 0, 0, 0, 0, 0, 0])?);
     assert!(rt; has_at(&undone, 174_861, &[2, 0, 0, 0, 0, 0, 0, 0])?);
     // The block of `x`, 17/0, is written in the image of the one and in the record of the other.
-    let image_block = 5 + 336 * 256;
-    let record_block = 175_391;
-    assert!(rt; has_at(&done, image_block, &[0x00, 0x02, 0x51])?);
-    assert!(rt; has_at(&done, record_block, &[0x00, 0x00, 0x00])?);
-    assert!(rt; has_at(&undone, image_block, &[0x00, 0x00, 0x00])?);
-    assert!(rt; has_at(&undone, record_block, &[0x00, 0x02, 0x51])?);
+    assert!(rt; has_at(&done, IMAGE_BLOCK, &[0x00, 0x02, 0x51])?);
+    assert!(rt; has_at(&done, RECORD_BLOCK, &[0x00, 0x00, 0x00])?);
+    assert!(rt; has_at(&undone, IMAGE_BLOCK, &[0x00, 0x00, 0x00])?);
+    assert!(rt; has_at(&undone, RECORD_BLOCK, &[0x00, 0x02, 0x51])?);
+    Ok(())
+}
+
+/// The session files of a blank image, and of a format and a write.
+fn two_files(rt: &HostRuntime) -> Result<[Vec<u8>; 2], Fail> {
+    let alloc = rt.alloc();
+    let blank = Session::new(alloc, Image::zeroed(alloc)?).keep(alloc)?;
+    Ok([blank, with_x(rt)?.keep(alloc)?])
+}
+
+/// Why bytes are no session file.
+fn fault_of(rt: &HostRuntime, bytes: &[u8]) -> Option<ResumeFault> {
+    resume(rt.alloc(), bytes).err()
+}
+
+/// A file with other bytes from a place on.
+fn with_bytes_at(
+    rt: &HostRuntime,
+    file: &[u8],
+    place: usize,
+    bytes: &[u8],
+) -> Result<Vec<u8>, Fail> {
+    let (before, rest) = file.split_at_checked(place).ok_or("the file is too short")?;
+    let (_, after) = rest
+        .split_at_checked(bytes.len())
+        .ok_or("the file is too short")?;
+    let mut other = Vec::from_slice(rt.alloc(), before)?;
+    other.extend_from_slice(bytes)?;
+    other.extend_from_slice(after)?;
+    Ok(other)
+}
+
+#[test]
+fn files_are_resumed(rt: HostRuntime) -> Result<(), Fail> {
+    for file in &two_files(&rt)? {
+        let session = resume(rt.alloc(), file)?;
+        assert!(rt; session.keep(rt.alloc())? == *file);
+    }
+    Ok(())
+}
+
+#[test]
+fn an_undone_write_is_resumed(rt: HostRuntime) -> Result<(), Fail> {
+    let mut session = with_x(&rt)?;
+    session.undo()?;
+    let mut resumed = resume(rt.alloc(), &session.keep(rt.alloc())?)?;
+    assert_eq!(rt; resumed.done(), 1);
+    assert_eq!(rt; resumed.undone(), 1);
+    session.redo()?;
+    resumed.redo()?;
+    assert!(rt; resumed.redo().is_err());
+    assert!(rt; resumed.image().bytes() == session.image().bytes());
+    assert!(rt; resumed.keep(rt.alloc())? == session.keep(rt.alloc())?);
+    Ok(())
+}
+
+#[test]
+fn a_byte_after_the_end_is_trailing(rt: HostRuntime) -> Result<(), Fail> {
+    for file in &two_files(&rt)? {
+        let mut longer = Vec::from_slice(rt.alloc(), file)?;
+        longer.push(0)?;
+        assert_eq!(rt; fault_of(&rt, &longer), Some(ResumeFault::Trailing));
+    }
+    Ok(())
+}
+
+#[test]
+fn a_byte_less_is_truncated(rt: HostRuntime) -> Result<(), Fail> {
+    for file in &two_files(&rt)? {
+        let (_, shorter) = file.split_last().ok_or("the file is empty")?;
+        assert_eq!(rt; fault_of(&rt, shorter), Some(ResumeFault::Truncated));
+    }
+    Ok(())
+}
+
+#[test]
+fn other_bytes_are_no_session(rt: HostRuntime) {
+    assert_eq!(rt; fault_of(&rt, b"D64T"), Some(ResumeFault::NotSession));
+    assert_eq!(rt; fault_of(&rt, b"D64S\x24"), Some(ResumeFault::NotSession));
+    assert_eq!(rt; fault_of(&rt, b""), Some(ResumeFault::Truncated));
+}
+
+#[test]
+fn a_cursor_above_the_count_is_bad(rt: HostRuntime) -> Result<(), Fail> {
+    let file = with_x(&rt)?.keep(rt.alloc())?;
+    let other = with_bytes_at(&rt, &file, 174_853, &[3])?;
+    assert_eq!(rt; fault_of(&rt, &other), Some(ResumeFault::BadCursor));
+    Ok(())
+}
+
+#[test]
+fn a_block_that_the_image_has_is_bad(rt: HostRuntime) -> Result<(), Fail> {
+    let file = with_x(&rt)?.keep(rt.alloc())?;
+    let (_, from_block) = file
+        .split_at_checked(IMAGE_BLOCK)
+        .ok_or("the file is too short")?;
+    let (block, _) = from_block
+        .split_at_checked(256)
+        .ok_or("the file is too short")?;
+    let other = with_bytes_at(&rt, &file, RECORD_BLOCK, block)?;
+    assert_eq!(rt; fault_of(&rt, &other), Some(ResumeFault::BadRecord));
+    Ok(())
+}
+
+#[test]
+fn indices_that_do_not_rise_are_bad(rt: HostRuntime) -> Result<(), Fail> {
+    let file = with_x(&rt)?.keep(rt.alloc())?;
+    // The index of the second record's second block, as that of its first, and as the first that no image has.
+    for index in [[0x50, 0x01], [0xab, 0x02]] {
+        let other = with_bytes_at(&rt, &file, RECORD_BLOCK + 256, &index)?;
+        assert_eq!(rt; fault_of(&rt, &other), Some(ResumeFault::BadRecord));
+    }
+    Ok(())
+}
+
+#[test]
+fn a_count_that_no_file_has_is_truncated(rt: HostRuntime) -> Result<(), Fail> {
+    let file = Session::new(rt.alloc(), Image::zeroed(rt.alloc())?).keep(rt.alloc())?;
+    let other = with_bytes_at(&rt, &file, 174_868, &[0xff])?;
+    assert_eq!(rt; fault_of(&rt, &other), Some(ResumeFault::Truncated));
     Ok(())
 }

@@ -14,21 +14,26 @@ fn write_undo_redo(rt: HostRuntime) -> Result<(), Fail> {
     let first = BlockNo::of(17, 0).ok_or("no block")?;
     let second = BlockNo::of(17, 1).ok_or("no block")?;
     let block = [1; 256];
+    assert!(rt; session.image().holds(first));
     let reply = session.run(&Command::BlockWrite { at: first, block })?;
     assert_eq!(rt; reply, Reply::Done);
     session.undo()?;
+    assert!(rt; session.image().holds(first));
     assert_eq!(rt;
         session.image().sector(first).as_slice(),
         [0; 256].as_slice()
     );
     session.redo()?;
+    assert!(rt; session.image().holds(first));
     assert_eq!(rt;
         session.image().sector(first).as_slice(),
         [1; 256].as_slice()
     );
     session.undo()?;
+    assert!(rt; session.image().holds(second));
     session.run(&Command::BlockWrite { at: second, block })?;
     assert_eq!(rt; session.redo(), Err(NothingToRedo));
+    assert!(rt; session.image().holds(first) && session.image().holds(second));
     assert_eq!(rt;
         session.image().sector(first).as_slice(),
         [0; 256].as_slice()
@@ -70,6 +75,9 @@ fn write(alloc: Global, beside: &mut Beside, random: u32) -> Result<(), Fail> {
     block[255] = (random >> 24) as u8 % 2;
     let present = beside.copies.get(beside.cursor).ok_or("no copy")?;
     let next = with_block(alloc, present, at, &block)?;
+    if !beside.session.image().holds(at) {
+        return Err(Fail::new("the image has no such block"));
+    }
     beside.session.run(&Command::BlockWrite { at, block })?;
     beside.cursor = beside.cursor.saturating_add(1);
     beside.copies.truncate(beside.cursor);
@@ -181,6 +189,7 @@ fn lends_x(rt: &impl Abort, session: &Session, image: &Image) -> Result<(), Fail
         let block = BlockNo::of(track, sector).ok_or("no block")?;
         let entry = record.next().ok_or("a block is left out")?;
         assert_eq!(rt; entry.0, block);
+        assert!(rt; image.holds(block));
         assert_eq!(rt; entry.1.as_slice(), image.sector(block).as_slice());
     }
     assert!(rt; record.next().is_none());
@@ -238,6 +247,7 @@ fn answers_in_turn(rt: HostRuntime) -> Result<(), Fail> {
         Request::Undo,
         Request::Redo,
     ];
+    assert!(rt; session.image().holds(at));
     let answers = run_all(rt.alloc(), &mut session, &requests)?;
     let expected = [
         Answer::NothingToRedo,

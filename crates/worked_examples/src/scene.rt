@@ -142,7 +142,11 @@ impl<'r, R: Files + AllocGlobal> Scene<'r, R> {
                 let Some(block) = BlockNo::of(*track, *sector) else {
                     return Err(CaseFault::NoBlock);
                 };
-                let found = from(self.session.image().sector(block).as_slice(), *place);
+                let image = self.session.image();
+                if !image.holds(block) {
+                    return Err(CaseFault::NoBlock);
+                }
+                let found = from(image.sector(block).as_slice(), *place);
                 let found = up_to(found, bytes.len());
                 Ok(differences.look_at_bytes(step.line, "block", found, bytes.as_slice())?)
             }
