@@ -1,13 +1,18 @@
 """A plain model of disks and of the shell's lines, written from the specification and not from the code. It is slow and simple: an image is its
-bytes, a session a list of images, and each line is worked out anew.
+bytes, whose number tells its kind, a session a list of images, and each line is worked out anew.
 """
 import basic_model
+import session_model
 from text_form import from_text, to_text
 
 BLOCK = 256
-SECTORS = {track: 21 if track < 18 else 19 if track < 25 else 18 if track < 31 else 17 for track in range(1, 36)}
-PAIRS = [(track, sector) for track, count in SECTORS.items() for sector in range(count)]
-PLACES = {pair: place for place, pair in enumerate(PAIRS)}
+KINDS = (35, 40)
+SECTORS = {track: 21 if track < 18 else 19 if track < 25 else 18 if track < 31 else 17 for track in range(1, 41)}
+PAIRS_OF = {tracks: [(track, sector) for track in range(1, tracks + 1) for sector in range(SECTORS[track])] for tracks in KINDS}
+BLANK = {tracks: bytes(BLOCK * len(pairs)) for tracks, pairs in PAIRS_OF.items()}
+TRACKS = {len(image): tracks for tracks, image in BLANK.items()}
+PAIRS = PAIRS_OF[35]
+PLACES = {pair: place for place, pair in enumerate(PAIRS_OF[40])}
 MAP, DIRECTORY = (18, 0), (18, 1)
 DEL, SEQ, PRG, USR, REL = range(5)
 FORBIDDEN = b'*?=:,"\x0d\xa0'
@@ -71,9 +76,19 @@ def filled(name):
     return name.ljust(16, b"\xa0")
 
 
+def entry_of(track):
+    """Where a track's entry stands in the map's block: those of tracks 36 to 40 stand apart."""
+    return 4 * track if track <= 35 else 0xC0 + 4 * (track - 36)
+
+
 class Disk:
     def __init__(self, image):
-        self.image = image
+        self.image, self.tracks = image, TRACKS[len(image)]
+        self.pairs = PAIRS_OF[self.tracks]
+
+    def holds(self, pair):
+        track, sector = pair
+        return 1 <= track <= self.tracks and sector < SECTORS[track]
 
     def block(self, pair):
         start = BLOCK * PLACES[pair]
@@ -91,7 +106,7 @@ class Disk:
     def chain(self, pair):
         """The chain from a block, or None."""
         blocks = []
-        while pair in PLACES and pair not in blocks:
+        while self.holds(pair) and pair not in blocks:
             blocks.append(pair)
             link = self.block(pair)
             if link[0] == 0:
@@ -105,14 +120,19 @@ class Disk:
 
     def free(self):
         bits = self.block(MAP)
-        return {(track, sector) for track, sector in PAIRS if bits[4 * track + 1 + sector // 8] >> sector % 8 & 1}
+        return {(track, sector) for track, sector in self.pairs if bits[entry_of(track) + 1 + sector // 8] >> sector % 8 & 1}
 
     def with_free(self, free):
         block = bytearray(self.block(MAP))
-        for track, count in SECTORS.items():
-            bits = sum(1 << sector for sector in range(count) if (track, sector) in free)
-            block[4 * track:4 * track + 4] = bytes([bits.bit_count()]) + bits.to_bytes(3, "little")
+        for track in range(1, self.tracks + 1):
+            bits, place = sum(1 << sector for sector in range(SECTORS[track]) if (track, sector) in free), entry_of(track)
+            block[place:place + 4] = bytes([bits.bit_count()]) + bits.to_bytes(3, "little")
         return self.with_block(MAP, block)
+
+    def counts(self):
+        """The count of free blocks that the map has for each track."""
+        block = self.block(MAP)
+        return {track: block[entry_of(track)] for track in range(1, self.tracks + 1)}
 
     def slots(self):
         for pair in self.chain(DIRECTORY):
@@ -140,8 +160,8 @@ class Disk:
         return set(owned)
 
     def refuse_unsound(self):
-        free, counts = self.free(), self.block(MAP)
-        if any(counts[4 * track] != sum(pair[0] == track for pair in free) for track in SECTORS):
+        free = self.free()
+        if any(count != sum(pair[0] == track for pair in free) for track, count in self.counts().items()):
             raise Refused(71, 1)
         if free & self.owned():
             raise Refused(71, 6)
@@ -196,7 +216,7 @@ class Disk:
         for slot in self.slots():
             if slot.used and not slot.closed:
                 disk = disk.with_bytes(slot, 2, b"\x00")
-        return disk.with_free(set(PAIRS) - owned)
+        return disk.with_free(set(self.pairs) - owned)
 
     def read(self, pattern):
         self.refuse_directory()
@@ -220,17 +240,17 @@ class Disk:
             if slot.used:
                 quoted, kind = f'"{to_text(slot.name)}"', ("del", "seq", "prg", "usr", "rel")[slot.kind]
                 lines.append(f'{slot.size:<5} {quoted:18}{" " if slot.closed else "*"}{kind}{"<" if slot.locked else ""}\n')
-        lines.append(f"{sum(head[4 * track] for track in SECTORS if track != 18)} blocks free.\n")
+        lines.append(f"{sum(count for track, count in self.counts().items() if track != 18)} blocks free.\n")
         return "".join(lines)
 
 
-def formatted(name, disk_id):
+def formatted(name, disk_id, tracks=35):
     head = b"\x12\x01\x41\x00" + bytes(140) + filled(name) + b"\xa0\xa0" + disk_id + b"\xa02A" + b"\xa0" * 4 + bytes(85)
-    disk = Disk(bytes(BLOCK * len(PAIRS))).with_block(MAP, head).with_block(DIRECTORY, b"\x00\xff" + bytes(254))
-    return disk.with_free(set(PAIRS) - {MAP, DIRECTORY})
+    disk = Disk(BLANK[tracks]).with_block(MAP, head).with_block(DIRECTORY, b"\x00\xff" + bytes(254))
+    return disk.with_free(set(disk.pairs) - {MAP, DIRECTORY})
 
 
-# The order of search
+# The order of search, on both kinds: where there are 35 tracks no block of another is free
 
 def along(tracks):
     return [(track, sector) for track in tracks for sector in range(SECTORS[track])]
@@ -245,15 +265,15 @@ def from_sector(track, sector, interleave):
     return [(track, (start + step) % count) for step in range(count)]
 
 
-FIRST_ORDER = along(track for distance in range(1, 18) for track in (18 - distance, 18 + distance))
+FIRST_ORDER = along([track for distance in range(1, 18) for track in (18 - distance, 18 + distance)] + [*range(36, 41)])
 
 
 def next_order(last):
     track, sector = last
     if track < 18:
-        rest = [*range(track - 1, 0, -1), *range(19, 36), *range(17, track, -1)]
+        rest = [*range(track - 1, 0, -1), *range(19, 41), *range(17, track, -1)]
     else:
-        rest = [*range(track + 1, 36), *range(17, 0, -1), *range(19, track)]
+        rest = [*range(track + 1, 41), *range(17, 0, -1), *range(19, track)]
     return from_sector(track, sector, 10) + along(rest)
 
 
@@ -280,7 +300,7 @@ def plan(free, count):
 # Lines
 
 FEWEST_AND_MOST = {"format": (1, 1), "list": (0, 0), "read": (1, 2), "write": (1, 2), "crunch": (1, 2), "petcat": (1, 1), "delete": (1, 1_024), "rename": (2, 2), "validate": (0, 0),
-                   "block": (2, 2), "bread": (3, 3), "bwrite": (3, 3), "undo": (0, 0), "redo": (0, 0), "history": (0, 0), "save": (0, 1), "quit": (0, 0)}
+                   "block": (2, 2), "bread": (3, 3), "bwrite": (3, 3), "undo": (0, 0), "redo": (0, 0), "history": (0, 0), "save": (0, 1), "keep": (1, 1), "quit": (0, 0)}
 
 
 def words_of(line):
@@ -307,9 +327,9 @@ def number_in(word):
     return int(word)
 
 
-def block_in(track, sector):
+def block_in(disk, track, sector):
     pair = (number_in(track), number_in(sector))
-    if pair not in PLACES:
+    if not disk.holds(pair):
         raise Refused(66, *pair)
     return pair
 
@@ -326,6 +346,18 @@ class Shell:
     def __init__(self, image, files, folders, home):
         self.images, self.cursor, self.files, self.folders, self.home = [Disk(image)], 0, dict(files), {".", "..", *folders}, home
         self.accepted = self.refused = 0
+
+    @classmethod
+    def started(cls, words, files, folders=()):
+        """The shell that begins where these words follow `shell`: that of an image, a blank one, or the session of a file, if it is one."""
+        if words[:1] == ["--resume"]:
+            images, cursor = session_model.resumed(files[words[1]])
+            shell = cls(images[0], files, folders, "".join(words[2:]))
+            shell.images, shell.cursor = [Disk(image) for image in images], cursor
+            return shell
+        if words[:1] == ["--tracks"]:
+            return cls(BLANK[int(words[1])], files, folders, "")
+        return cls(files[words[0]] if words else BLANK[35], files, folders, "".join(words))
 
     def fetch(self, name):
         if name in self.folders or name.rpartition("/")[0] in self.files:
@@ -359,14 +391,14 @@ class Shell:
         shown = getattr(self, f"do_{word}")(self.images[self.cursor], *arguments)
         return status(1, shown) if isinstance(shown, int) else (shown or "") + status(0)
 
-    def do_format(self, _, word):
+    def do_format(self, disk, word):
         name, comma, disk_id = word.partition(",")
         if not comma:
             raise Refused(30)
         name, disk_id = name_in(name), from_text(disk_id)
         if disk_id is None or len(disk_id) != 2 or any(byte in FORBIDDEN for byte in disk_id):
             raise Refused(33)
-        self.add(formatted(name, disk_id))
+        self.add(formatted(name, disk_id, disk.tracks))
 
     def do_list(self, disk):
         return disk.listing()
@@ -422,16 +454,16 @@ class Shell:
         self.add(disk.validated())
 
     def do_block(self, disk, track, sector):
-        data = disk.block(block_in(track, sector))
+        data = disk.block(block_in(disk, track, sector))
         return "".join(f"{start:02x}:" + "".join(f" {byte:02x}" for byte in data[start:start + 16]) + "\n" for start in range(0, BLOCK, 16))
 
     def do_bread(self, disk, host, track, sector):
         host_in(host)
-        self.store(host, disk.block(block_in(track, sector)))
+        self.store(host, disk.block(block_in(disk, track, sector)))
 
     def do_bwrite(self, disk, host, track, sector):
         host_in(host)
-        pair, data = block_in(track, sector), self.fetch(host)
+        pair, data = block_in(disk, track, sector), self.fetch(host)
         if len(data) != BLOCK:
             raise Refused(83)
         self.add(disk.with_block(pair, data))
@@ -448,11 +480,14 @@ class Shell:
 
     def do_history(self, _):
         pairs = zip(self.images, self.images[1:])
-        counts = [sum(before.block(pair) != after.block(pair) for pair in PAIRS) for before, after in pairs]
+        counts = [sum(before.block(pair) != after.block(pair) for pair in before.pairs) for before, after in pairs]
         return "".join(f"{number} {count} {'done' if number <= self.cursor else 'undone'}\n" for number, count in enumerate(counts, 1))
 
     def do_save(self, disk, host=None):
         self.store(self.home if host is None else host_in(host), disk.image)
+
+    def do_keep(self, _, host):
+        self.store(host_in(host), session_model.kept([disk.image for disk in self.images], self.cursor))
 
     def do_quit(self, _):
         pass
