@@ -115,12 +115,12 @@ pub fn run<R: Read, W: Write, H: Host>(
     let mut room = SCRIPT_BYTES;
     let mut flushed = 0;
     let mut buffer = [0; READ_BYTES];
-    for _ in 0..SCRIPT_READS {
+    for reads in 1..=SCRIPT_READS {
         let answers = tally.answers();
-        let Ok(()) = flush_answers(writer, flushed < answers) else {
+        let Ok(()) = flush_answers(writer, &mut flushed, answers) else {
             return Err(ShellFault::Write);
         };
-        flushed = answers;
+        prove!(1 <= reads && reads <= SCRIPT_READS && answers <= flushed);
         let count = match reader.read(&mut buffer) {
             Ok(0) => return run_last(alloc, writer, host, home, session, &line, &mut tally),
             Ok(count) => count,
@@ -143,13 +143,21 @@ pub fn run<R: Read, W: Write, H: Host>(
     Err(ShellFault::Read)
 }
 
-/// Flushes the writer, where it is needed.
-fn flush_answers<W: Write>(writer: &mut W, needed: bool) -> Result<(), WriteFault>
+/// Flushes the writer, where more answers were written than were flushed before.
+fn flush_answers<W: Write>(
+    writer: &mut W,
+    flushed: &mut u64,
+    answers: u64,
+) -> Result<(), WriteFault>
     ensures kept { Keeps (W.contents writer.old) (W.contents writer.new) }
-    ensures failed { OnErr result (needed ≡ true) }
+    ensures all { OnOk result (answers ≤ flushed.new) }
+    ensures failed { OnErr result (flushed.old < answers) }
 {
-    if needed && writer.flush().is_err() {
-        return Err(WriteFault);
+    if *flushed < answers {
+        if writer.flush().is_err() {
+            return Err(WriteFault);
+        }
+        *flushed = answers;
     }
     Ok(())
 }

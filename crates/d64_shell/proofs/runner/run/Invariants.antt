@@ -7,8 +7,8 @@ use Rattle.d64_shell.specs.Runner.{stand_of}
 use Rattle.d64_shell.proofs.runner.run.Given as goal
 
 -- the bytes so far are all that the reader lost, and the run has come through them
-abbrev pub invariant-loop : goal.invariant-loop
-invariant-loop g l = record {
+abbrev pub invariant-loop-reads : goal.invariant-loop-reads
+invariant-loop-reads g l = record {
   bytes : List ℕ;
   lost : Consumes (g.R.Read.remaining l.initial.reader) (g.R.Read.remaining l.reader) bytes;
   within : length bytes + l.room ≡ script_limit;
