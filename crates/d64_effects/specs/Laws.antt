@@ -1,8 +1,9 @@
 -- What follows from the definitions of the effects.
-use Rattle.std.specs.Prelude.{◌≡◌, ◌≢◌, ℕ, ◌<◌, ◌≤◌, ◌==◌, if◌then◌else◌, List, All, length, filter, None}
+use Rattle.std.specs.Prelude.{◌≡◌, ◌≢◌, ℕ, ◌-◌, ◌<◌, ◌≤◌, List, All, length, filter, None}
 use Rattle.d64_files.specs.Name.{IsName}
 use Rattle.d64_files.specs.Directory.{slots, AllHold}
 use Rattle.d64_files.specs.Writing.{blocks_for, first_unused, dir_last}
+use Rattle.d64_image.specs.Block.{sectors_on}
 use Rattle.d64_image.specs.Image.{IsSize, IsImage}
 use Rattle.d64_map.specs.Map.{free_blocks, blocks_free, CountsFit}
 use Rattle.d64_map.specs.Plan.{room}
@@ -34,9 +35,9 @@ FormattedIsFree = (count : ℕ) (name id : List ℕ) → IsSize count → free_b
 abbrev pub FormattedCountsFit : Type 0
 FormattedCountsFit = (count : ℕ) (name id : List ℕ) → IsSize count → CountsFit (formatted count name id)
 
--- how many blocks are free on a formatted disk of so many: 664 on 35 tracks, and 749 on 40
+-- how many blocks the directory of a formatted disk of so many shows as free: all but those of track 18, so 664 on 35 tracks, and 749 on 40
 abbrev pub free_count_of : ℕ → ℕ
-free_count_of count = if count == 768 then 749 else 664
+free_count_of count = count - sectors_on 18
 
 -- the directory shows so many free blocks
 abbrev pub FormattedShowsItsFree : Type 0

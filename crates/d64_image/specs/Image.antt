@@ -15,6 +15,10 @@ IsSize count = (count ≡ 683) ⊎ (count ≡ 768)
 abbrev pub tracks_of : ℕ → ℕ
 tracks_of count = if count == 768 then 40 else 35
 
+-- how many blocks an image has, of 40 tracks or of 35
+abbrev pub count_of_tracks : ℕ → ℕ
+count_of_tracks tracks = if tracks == 40 then 768 else 683
+
 -- how many blocks an image of so many tracks has; none where no image has so many
 abbrev pub blocks_of : ℕ → Option ℕ
 blocks_of tracks = if tracks == 35 then Some 683 else (if tracks == 40 then Some 768 else None)

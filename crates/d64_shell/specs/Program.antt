@@ -10,7 +10,7 @@ use Rattle.d64_host.specs.declared.host.HostFault.TheVariants.{Missing, Device, 
 use Rattle.d64_host.specs.declared.host.HostFault.TheVariants as files
 use Rattle.d64_image.specs.declared.image.ImageFault.{ImageFault}
 use Rattle.d64_image.specs.declared.image.ImageFault.TheVariants as images
-use Rattle.d64_image.specs.Image.{IsImage, bytes_of, is_image_length}
+use Rattle.d64_image.specs.Image.{IsImage, bytes_of, count_of_tracks, is_image_length}
 use Rattle.d64_image.specs.declared.image.TheConstants.{BLOCK_BYTES}
 use Rattle.d64_words.specs.Asked.{IsFault, IsJob, WasAskedFor}
 use Rattle.d64_words.specs.declared.asked.Job.{Job}
@@ -70,13 +70,9 @@ beginning_of image tracks (Some file) = SessionFile file
 beginning_of (Some name) tracks None = ImageFile name
 beginning_of None tracks None = Blank tracks
 
--- how many blocks a blank image has, of 40 tracks or of 35
-abbrev pub blank_count : ℕ → ℕ
-blank_count tracks = if tracks == 40 then 768 else 683
-
 -- a blank image
 unfoldable pub blank : ℕ → List (List ℕ)
-blank tracks = replicate (blank_count tracks) (replicate BLOCK_BYTES 0)
+blank tracks = replicate (count_of_tracks tracks) (replicate BLOCK_BYTES 0)
 
 -- the history that a script begins with, and what the host shows then
 abbrev pub IsFirstHistory : HostState → Beginning → History → HostState → Type 0

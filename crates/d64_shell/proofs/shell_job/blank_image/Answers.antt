@@ -2,11 +2,12 @@ use Rattle.std.proofs.Common.{◌≡◌, ℕ, Result, IfOk, List, replicate, ap,
 use Rattle.std.proofs.lemmas.Result.{IfOk-weaker}
 use Rattle.std.proofs.lemmas.Bool.Decides.{nat_tests}
 use Rattle.d64_image.specs.declared.image.TheConstants.{BLOCK_BYTES}
-use Rattle.d64_shell.specs.Program.{blank, blank_count}
+use Rattle.d64_image.specs.Image.{count_of_tracks}
+use Rattle.d64_shell.specs.Program.{blank}
 use Rattle.d64_shell.proofs.shell_job.blank_image.Goals as goal
 
 -- as many blocks as the tracks have
-of_count : {E : Type 0} (tracks count : ℕ) (r : Result (List (List ℕ)) E) → count ≡ blank_count tracks
+of_count : {E : Type 0} (tracks count : ℕ) (r : Result (List (List ℕ)) E) → count ≡ count_of_tracks tracks
     → IfOk r (λ image. image ≡ replicate count (replicate BLOCK_BYTES 0)) → IfOk r (λ image. image ≡ blank tracks)
 unfolding blank
 of_count tracks count r same made = IfOk-weaker r _ _ (λ image is. is ∙ ap (λ n. replicate n (replicate BLOCK_BYTES 0)) same) made
