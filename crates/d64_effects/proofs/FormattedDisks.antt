@@ -16,7 +16,7 @@ use Rattle.std.proofs.lemmas.Map.Keys.{IsDistinct-cons}
 use Rattle.d64_image.specs.declared.image.TheConstants.{BLOCK_BYTES}
 use Rattle.d64_image.specs.Image.{IsBlock, IsSize, tracks_of, sector_at, with_sector}
 use Rattle.d64_map.specs.Map.{map_block, is_entry, map_for, free_blocks}
-use Rattle.d64_map.proofs.Maps.{elsewhere, length-map_for, sector_at-with_map, sector_at-with_map-other, length-with_map}
+use Rattle.d64_map.proofs.Maps.{elsewhere, length-map_for, sector_at-with_map, sector_at-with_map-other}
 use Rattle.d64_files.specs.Chain.{chain, held, block_in, led_by}
 use Rattle.d64_files.specs.Directory.{directory, slots, slots_in, owned_blocks, Holds}
 use Rattle.d64_files.specs.Name.{IsName, filled}

@@ -1,11 +1,10 @@
 -- the effects keep the number of blocks
 use Rattle.std.proofs.Common.{◌≡◌, ℕ, List, [], ◌∷◌, length, Option, Some, None, refl, ◌∙◌}
-use Rattle.std.specs.Prelude.{fold}
 use Rattle.std.proofs.lemmas.List.{length-set}
 use Rattle.d64_map.proofs.Maps.{length-with_map}
 use Rattle.d64_files.specs.Clearing.{with_cleared_slot, with_name}
 use Rattle.d64_files.specs.Directory.{slots}
-use Rattle.d64_files.specs.Writing.{with_bytes, with_chain, first_unused, with_growth}
+use Rattle.d64_files.specs.Writing.{with_bytes, first_unused, with_growth}
 use Rattle.d64_files.specs.declared.kind.Kind.{Kind}
 use Rattle.d64_effects.specs.Clear.{with_cleared}
 use Rattle.d64_effects.specs.Delete.{without_files, scratched, scratched_slots}

@@ -1,6 +1,6 @@
 -- where the entries of the tracks stand in the map's block
-use Rattle.std.proofs.Common.{◌≡◌, ◌≢◌, ℕ, ◌+◌, ◌-◌, ◌*◌, ◌/◌, ◌%◌, ◌<◌, ◌≤◌, ◌==◌, ◌&&◌, ◌⊎◌, Bool, true, false, leb, ltb, eqb, sym, ap, ◌∙◌, subst, inl, inr, arith}
-use Rattle.std.proofs.lemmas.Bool.{cases_lt, cases_Bool, and_parts, and_from, or_cases, or_left, or_right, eq-eqb, eqb-true, leb-true, ltb-true, le-leb, lt-ltb, le-ltb, cond-true, cond-false}
+use Rattle.std.proofs.Common.{◌≡◌, ℕ, ◌+◌, ◌-◌, ◌*◌, ◌/◌, ◌%◌, ◌<◌, ◌≤◌, ◌==◌, ◌&&◌, ◌⊎◌, true, false, leb, ltb, sym, ap, ◌∙◌, inl, inr, arith}
+use Rattle.std.proofs.lemmas.Bool.{cases_lt, and_parts, and_from, or_cases, or_left, or_right, eq-eqb, eqb-true, leb-true, ltb-true, le-leb, lt-ltb, le-ltb, cond-true, cond-false}
 use Rattle.d64_image.specs.Image.{IsSize, tracks_of}
 use Rattle.d64_map.specs.Map.{entry_of, IsOfTrack, entry_track, is_entry}
 

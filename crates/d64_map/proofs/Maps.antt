@@ -1,5 +1,5 @@
 -- what the map that is written for a set says
-use Rattle.std.proofs.Common.{◌≡◌, ◌≢◌, ℕ, ◌+◌, ◌-◌, ◌*◌, ◌/◌, ◌%◌, ◌<◌, ◌≤◌, true, false, cond, nat_eq, List, [], length, get_or, refl, sym, ap, ◌∙◌, subst, inl, inr, arith}
+use Rattle.std.proofs.Common.{◌≡◌, ◌≢◌, ℕ, ◌+◌, ◌-◌, ◌*◌, ◌/◌, ◌%◌, ◌<◌, ◌≤◌, true, false, cond, nat_eq, List, [], length, get_or, sym, ap, ◌∙◌, subst, inl, inr, arith}
 use Rattle.std.specs.List.{range_with_len, slice_set}
 use Rattle.std.specs.Int.{bit_at}
 use Rattle.std.specs.Ordering.{nat_cmp}

@@ -1,5 +1,5 @@
 -- what a session file says is read from it again
-use Rattle.std.proofs.Common.{◌≡◌, ℕ, suc, ◌+◌, ◌*◌, ◌<◌, ◌≤◌, ◌^◌, ◌==◌, ◌&&◌, Bool, true, false, cond, not, nat_lt, nat_eq, List, [], ◌∷◌, ◌++◌, length, reverse, take, drop, Result, Ok, Err, refl, sym, ap, ap₂, ◌∙◌, subst, inl, inr, arith, append_assoc, eq-eqb}
+use Rattle.std.proofs.Common.{◌≡◌, ℕ, suc, ◌+◌, ◌*◌, ◌<◌, ◌≤◌, ◌^◌, ◌&&◌, Bool, true, false, cond, not, nat_lt, nat_eq, List, [], ◌∷◌, ◌++◌, length, reverse, take, drop, Result, Ok, Err, refl, sym, ap, ap₂, ◌∙◌, inl, inr, arith, append_assoc, eq-eqb}
 use Rattle.std.specs.Int.{w16, w64, byte_len, to_le_bytes}
 use Rattle.std.specs.List.{All, filter, flat_map, list_all, range_with_len}
 use Rattle.std.specs.Cmp.Lexicographic.{pointwise}

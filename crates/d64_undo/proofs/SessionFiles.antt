@@ -1,5 +1,5 @@
 -- session files: what a session holds is what the file of its history says
-use Rattle.std.proofs.Common.{◌≡◌, ℕ, ◌+◌, ◌-◌, ◌<◌, ◌≤◌, ◌^◌, Bool, cond, nat_lt, true, false, List, [], ◌∷◌, ◌++◌, length, map, reverse, take, drop, get_or, set, ◌==◌, refl, sym, ap, ap₂, ◌∙◌, subst, inl, inr, arith}
+use Rattle.std.proofs.Common.{◌≡◌, ℕ, ◌+◌, ◌-◌, ◌<◌, ◌≤◌, ◌^◌, Bool, cond, nat_lt, true, false, List, [], ◌∷◌, ◌++◌, length, map, reverse, take, drop, get_or, set, refl, sym, ap, ap₂, ◌∙◌, subst, inl, inr, arith}
 use Rattle.std.specs.Int.{w64, to_le_bytes}
 use Rattle.std.specs.List.{All, flat_map, range_with_len}
 use Rattle.std.proofs.lemmas.Bool.{cases_lt}

@@ -1,4 +1,4 @@
-use Rattle.std.proofs.Common.{◌≡◌, ℕ, ◌+◌, ◌-◌, ◌++◌, List, refl, sym, ap, ◌∙◌, arith}
+use Rattle.std.proofs.Common.{◌≡◌, ℕ, ◌+◌, ◌-◌, ◌++◌, List, sym, ap, ◌∙◌, arith}
 use Rattle.std.specs.List.{range_with_len, flat_map, find}
 use Rattle.std.specs.FinSet as set
 use Rattle.d64_map.specs.Track.{blocks_on}

@@ -1,4 +1,4 @@
-use Rattle.std.proofs.Common.{◌≡◌, ℕ, ◌<◌, List, length, take, refl, sym, ap, ◌∙◌, subst}
+use Rattle.std.proofs.Common.{ℕ, ◌<◌, List, length, take, refl, sym, ap, ◌∙◌, subst}
 use Rattle.d64_image.specs.Patch.{RisesBetween, back}
 use Rattle.d64_image.proofs.Patches.{exchanged-image, kept_below, length-back}
 use Rattle.d64_image.proofs.patch.Patch.put_back.Goals as goal
