@@ -101,12 +101,12 @@ pub fn apply(image: &mut Image, patch: &mut Patch, command: &Command) -> Result<
     answer
 }
 
-// The bytes of a slice are known to be bytes.
+/// The bytes of a slice are known to be bytes.
 fn known_bytes(_bytes: &[u8])
     ensures { AreBytes _bytes.now }
 {}
 
-// The parts of a command are known to be what they should.
+/// The parts of a command are known to be what they should.
 fn known_command(command: &Command)
     ensures { IsMade (said command.now) }
 {

@@ -46,7 +46,7 @@ fn is_scratched(patterns: &[Pattern], entry: &Entry) -> bool
     entry.used() && entry.closed() && !entry.locked() && is_named_by(patterns, entry.name())
 }
 
-// The members of a set of blocks are blocks of the disk.
+/// The members of a set of blocks are blocks of the disk.
 fn known_members(blocks: &BlockSet)
     ensures { MembersAreBlocks blocks.now }
 {
@@ -118,7 +118,7 @@ pub(crate) fn clear_slots(
 /// Refused with `Directory` and the first condition of a sound image that fails, and else with `Memory` where there is no
 /// memory to keep the bytes of a block. After a refusal some blocks may be written; the image with the patch put back
 /// stays the same in any case.
-// Apart, so that the room for the places of all slots is no part of the frames of its callers.
+/// Apart, so that the room for the places of all slots is no part of the frames of its callers.
 #[inline(never)]
 pub(crate) fn scratch(
     image: &mut Image,

@@ -52,7 +52,7 @@ fn all_but(image: &Image, owned: &BlockSet) -> BlockSet
 /// Refused with `Directory` and the first condition that fails of those on the directory, the files and their chains,
 /// whatever the map says, and else with `Memory` where there is no memory to keep the bytes of a block. After a refusal
 /// some blocks may be written; the image with the patch put back stays the same in any case.
-// Apart, as `scratch` is.
+/// Apart, as `scratch` is.
 #[inline(never)]
 pub(crate) fn validate(image: &mut Image, patch: &mut Patch) -> Result<(), Refusal>
     ensures refused { refused_by result ≡ validate_refusal image.old }

@@ -52,7 +52,7 @@ pub fn replace_by<D: Draft>(draft: &mut D, bytes: &[u8]) -> Result<(), HostFault
     }
 }
 
-// Writes the new file, waits for the disk, and only then puts it in the place of the old one.
+/// Writes the new file, waits for the disk, and only then puts it in the place of the old one.
 fn write_and_publish<D: Draft>(draft: &mut D, bytes: &[u8]) -> Result<(), HostFault>
     ensures replaced { OnOk result (D.place draft.new ≡ option_map (λ place. alone bytes.now) (D.place draft.old)) }
     ensures kept { OnErr result (content_of (D.place draft.new) ≡ content_of (D.place draft.old)) }
@@ -76,7 +76,7 @@ mod tests {
         Publish,
     }
 
-    // A file in memory and the new one beside it. It tells both, and one of its steps can be made to fail.
+    /// A file in memory and the new one beside it. It tells both, and one of its steps can be made to fail.
     #[derive(Drop)]
     struct Sketch {
         alloc: Global,

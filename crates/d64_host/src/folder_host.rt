@@ -63,7 +63,7 @@ impl<R: Files + Drop> Host for FolderHost<R> {
     }
 }
 
-// Counts an outcome that is the device's fault.
+/// Counts an outcome that is the device's fault.
 fn count_failure<T>(failures: &mut u64, outcome: &Result<T, HostFault>)
     ensures { failures.new ≡ failures_after failures.old outcome.now }
 {
@@ -72,7 +72,7 @@ fn count_failure<T>(failures: &mut u64, outcome: &Result<T, HostFault>)
     }
 }
 
-// The bytes of the file at this path.
+/// The bytes of the file at this path.
 fn read_file<R: Files>(
     rt: &R,
     alloc: Global,
@@ -87,7 +87,7 @@ fn read_file<R: Files>(
     }
 }
 
-// Why a file could not be opened: the system says of a path that it leads to no file, or has another fault.
+/// Why a file could not be opened: the system says of a path that it leads to no file, or has another fault.
 fn open_fault(kind: ErrorKind) -> HostFault
     ensures missing { (result ≡ HostFault.Missing) ↔ (kind ≡ ErrorKind.NotFound) }
     ensures device { kind ≢ ErrorKind.NotFound → result ≡ HostFault.Device }
@@ -98,7 +98,7 @@ fn open_fault(kind: ErrorKind) -> HostFault
     }
 }
 
-// All that a file has left. The read that passes the limit is the last one.
+/// All that a file has left. The read that passes the limit is the last one.
 fn read_to_end<F: Read>(file: &mut F, alloc: Global, limit: usize) -> Result<Vec<u8>, HostFault>
     ensures within { IfOk result (λ bytes. length bytes.items ≤ limit) }
     ensures whole { IfOk result (λ bytes. IfSome (F.remaining file.old) (λ rest. bytes.items ≡ rest)) }
@@ -121,7 +121,7 @@ fn read_to_end<F: Read>(file: &mut F, alloc: Global, limit: usize) -> Result<Vec
     Err(HostFault::Device)
 }
 
-// Adds a piece that was read, where with it there are at most `limit` bytes.
+/// Adds a piece that was read, where with it there are at most `limit` bytes.
 fn add_piece(bytes: &mut Vec<u8>, piece: &[u8], limit: usize) -> Result<(), HostFault>
     requires { vec_len bytes.old ≤ limit }
     ensures added { OnOk result (bytes.new.items ≡ bytes.old.items ++ piece.now) }
@@ -142,7 +142,7 @@ mod tests {
     use std::test::Fail;
     use std::{fs, io};
 
-    // A reader of some bytes, one a read, of which each read is interrupted once.
+    /// A reader of some bytes, one a read, of which each read is interrupted once.
     #[derive(Drop)]
     struct Stutter {
         left: u8,

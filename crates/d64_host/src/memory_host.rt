@@ -71,7 +71,7 @@ impl MemoryHost {
         self.countdown = k;
     }
 
-    // Counts a fetch or a store, and says whether it is the one to fail.
+    /// Counts a fetch or a store, and says whether it is the one to fail.
     fn count_call(&mut self) -> bool
         ensures fails { IsTrue result ↔ (self.old.countdown ≡ 1) }
         ensures counted { self.new ≡ after_call self.old }

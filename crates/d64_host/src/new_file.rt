@@ -90,7 +90,7 @@ pub fn write_to_end<F: Write>(file: &mut F, bytes: &[u8]) -> Result<(), HostFaul
     file.flush().map_err(|_| HostFault::Device)
 }
 
-// The path of a new file in the folder of this one.
+/// The path of a new file in the folder of this one.
 fn draft_path(alloc: Global, path: Path<'_>, number: u32) -> Result<PathBuf, HostFault>
     ensures { IfErr result IsOfDeviceOrMemory }
 {
@@ -99,7 +99,7 @@ fn draft_path(alloc: Global, path: Path<'_>, number: u32) -> Result<PathBuf, Hos
         .map_err(HostFault::Memory)
 }
 
-// Makes a file under a name that no file has. Only its owner can open it.
+/// Makes a file under a name that no file has. Only its owner can open it.
 fn open_new<R: Files>(rt: &R, path: Path<'_>) -> io::Result<R::File> {
     OpenOptions::new()
         .write(true)
@@ -108,12 +108,12 @@ fn open_new<R: Files>(rt: &R, path: Path<'_>) -> io::Result<R::File> {
         .open(rt, path)
 }
 
-// Gives the new file the permissions of the old one.
+/// Gives the new file the permissions of the old one.
 fn copy_permissions<F: OpenFile>(old: &F, new: &F) -> io::Result<()> {
     new.set_permissions(old.metadata()?.permissions())
 }
 
-// Waits until the disk has the folder's new entry, where the system can tell: the file is whole either way.
+/// Waits until the disk has the folder's new entry, where the system can tell: the file is whole either way.
 fn sync_folder_of<R: Files>(rt: &R, path: Path<'_>) {
     let folder = match path.parent() {
         Some(parent) if parent.to_str() != Some("") => parent,

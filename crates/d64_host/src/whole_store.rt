@@ -18,7 +18,7 @@ use std::rt::Files;
 /// How many links are followed from a name, as many as the system follows.
 const MOST_LINKS: u32 = 40;
 
-// What a name leads to.
+/// What a name leads to.
 #[derive(Drop)]
 enum Goal {
     // Nothing yet: a file can be made at this path.
@@ -48,7 +48,7 @@ pub fn store_file<R: Files>(
     }
 }
 
-// Makes a new file. It waits for no disk.
+/// Makes a new file. It waits for no disk.
 fn make<R: Files>(rt: &R, path: Path<'_>, bytes: &[u8]) -> Result<(), HostFault>
     ensures { IfErr result (λ fault. fault ≡ HostFault.Device) }
 {
@@ -63,7 +63,7 @@ fn make<R: Files>(rt: &R, path: Path<'_>, bytes: &[u8]) -> Result<(), HostFault>
     outcome
 }
 
-// Replaces a file by a new one beside it.
+/// Replaces a file by a new one beside it.
 fn replace<R: Files>(rt: &R, alloc: Global, path: Path<'_>, bytes: &[u8]) -> Result<(), HostFault>
     ensures { IfErr result IsOfDeviceOrMemory }
 {
@@ -71,7 +71,7 @@ fn replace<R: Files>(rt: &R, alloc: Global, path: Path<'_>, bytes: &[u8]) -> Res
     replace_by(&mut file, bytes)
 }
 
-// Writes to what isn't a file, as a pipe or a device.
+/// Writes to what isn't a file, as a pipe or a device.
 fn write_in_place<R: Files>(rt: &R, name: &str, bytes: &[u8]) -> Result<(), HostFault>
     ensures { IfErr result (λ fault. fault ≡ HostFault.Device) }
 {
@@ -81,7 +81,7 @@ fn write_in_place<R: Files>(rt: &R, name: &str, bytes: &[u8]) -> Result<(), Host
     }
 }
 
-// Follows the links from a name to what they lead to.
+/// Follows the links from a name to what they lead to.
 fn goal_of<R: Files>(rt: &R, alloc: Global, name: &str) -> Result<Goal, HostFault>
     ensures { IfErr result IsOfDeviceOrMemory }
 {
@@ -100,13 +100,13 @@ fn goal_of<R: Files>(rt: &R, alloc: Global, name: &str) -> Result<Goal, HostFaul
     Err(HostFault::Device)
 }
 
-// Whether a link is one of the system's own, as those that stand for the streams of a process: what they
-// lead to is open already, and a new file in its place would not be.
+/// Whether a link is one of the system's own, as those that stand for the streams of a process: what they
+/// lead to is open already, and a new file in its place would not be.
 fn is_of_the_system(path: Path<'_>) -> bool {
     path.starts_with("/dev") || path.starts_with("/proc")
 }
 
-// The path that the link at this path names.
+/// The path that the link at this path names.
 fn linked<R: Files>(rt: &R, alloc: Global, mut path: PathBuf) -> Result<PathBuf, HostFault>
     ensures { IfErr result IsOfDeviceOrMemory }
 {

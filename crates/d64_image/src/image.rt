@@ -47,12 +47,12 @@ impl Model for Image {
     ghost invariant = { λ image. IsSize (length image.sectors.items) };
 }
 
-// The sectors of a slice are known to have the bytes of a block.
+/// The sectors of a slice are known to have the bytes of a block.
 fn known_lengths(_sectors: &[[u8; BLOCK_BYTES]])
     ensures { All (λ sector. length sector ≡ BLOCK_BYTES) _sectors.now }
 {}
 
-// The bytes of a slice are known to be bytes.
+/// The bytes of a slice are known to be bytes.
 fn known_bytes(_bytes: &[u8])
     ensures { All (λ byte. byte < 256) _bytes.now }
 {}
@@ -69,7 +69,7 @@ pub fn blocks_of(tracks: u8) -> Option<usize>
     }
 }
 
-// So many blocks, all of whose bytes are 0.
+/// So many blocks, all of whose bytes are 0.
 fn blank(alloc: Global, count: usize) -> Result<Vec<[u8; BLOCK_BYTES]>, AllocError>
     ensures { IfOk result (λ sectors. sectors.items ≡ replicate count (replicate BLOCK_BYTES 0)) }
 {
@@ -171,7 +171,7 @@ impl Image {
         sector
     }
 
-    // The 256 bytes of a block that the image has, to be written in place. No other block changes.
+    /// The 256 bytes of a block that the image has, to be written in place. No other block changes.
     pub(crate) fn sector_mut(&mut self, block: BlockNo) -> &mut [u8; BLOCK_BYTES]
         requires { block < length self.old }
         ensures* written { sem 𝓛 (LendsSector self.entry block result) }

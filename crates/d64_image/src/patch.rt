@@ -29,7 +29,7 @@ impl Model for Patch {
     ghost invariant = { λ patch. IsPatch patch.kept.items };
 }
 
-// Makes room for one more. Where there is none, room for one is asked for first, and then for as many again as there are.
+/// Makes room for one more. Where there is none, room for one is asked for first, and then for as many again as there are.
 fn make_room(kept: &mut Vec<(BlockNo, [u8; BLOCK_BYTES])>) -> Result<(), AllocError>
     ensures same { kept.new.items ≡ kept.old.items }
     ensures room { OnOk result (vec_len kept.new < vec_capacity kept.new) }
@@ -72,14 +72,14 @@ impl Patch {
         self.kept.clear();
     }
 
-    // Whether a block is kept.
+    /// Whether a block is kept.
     fn keeps(&self, block: BlockNo) -> bool
         ensures { result ≡ is_kept self.now block }
     {
         self.kept.iter().any(|entry| entry.0 == block)
     }
 
-    // How many of the kept blocks come before a block.
+    /// How many of the kept blocks come before a block.
     fn place_of(&self, block: BlockNo) -> usize
         ensures place { result ≡ count_by (λ entry. nat_lt entry.0 block) self.now }
         ensures within { result ≤ length self.now }
@@ -92,7 +92,7 @@ impl Patch {
             .count()
     }
 
-    // Keeps the bytes of a block that isn't kept yet.
+    /// Keeps the bytes of a block that isn't kept yet.
     fn keep(&mut self, block: BlockNo, bytes: &[u8; BLOCK_BYTES]) -> Result<(), AllocError>
         requires { is_kept self.old block ≡ false }
         ensures kept { OnOk result (self.new ≡ with_kept self.old block bytes.now) }

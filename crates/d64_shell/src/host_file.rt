@@ -27,7 +27,7 @@ pub(crate) fn fetch<H: Host>(
     }
 }
 
-// The bytes of a slice are known to be bytes.
+/// The bytes of a slice are known to be bytes.
 fn known_bytes(_bytes: &[u8])
     ensures { AreBytes _bytes.now }
 {}

@@ -13,19 +13,19 @@ pub(crate) const MAGIC: [u8; 4] = [0x44, 0x36, 0x34, 0x53];
 /// How many bytes a file has besides its image and its records: its beginning, the number of tracks and two counts.
 const COUNT_BYTES: usize = MAGIC.len() + 1 + 2 * size_of::<u64>();
 
-// The bytes of a slice are known to be bytes.
+/// The bytes of a slice are known to be bytes.
 fn known_bytes(_bytes: &[u8])
     ensures { All (λ byte. byte < 256) _bytes.now }
 {}
 
-// The bytes of a block are known to be those of one.
+/// The bytes of a block are known to be those of one.
 fn known_block(bytes: &[u8; BLOCK_BYTES])
     ensures { IsBlock bytes.now }
 {
     known_bytes(bytes);
 }
 
-// How many bytes the file has, or the most that can be counted.
+/// How many bytes the file has, or the most that can be counted.
 fn file_len(image: &[u8], records: &[Patch]) -> usize {
     let mut len = image.len().saturating_add(COUNT_BYTES);
     for patch in records {
@@ -35,7 +35,7 @@ fn file_len(image: &[u8], records: &[Patch]) -> usize {
     len
 }
 
-// Adds a record's blocks to the file.
+/// Adds a record's blocks to the file.
 fn put_blocks(file: &mut Vec<u8>, blocks: &[(BlockNo, [u8; BLOCK_BYTES])]) -> Result<(), AllocError>
     ensures file { OnOk result (file.new.items ≡ file.old.items ++ flat_map block_file blocks.now) }
     ensures blocks { OnOk result (HaveBlocks blocks.now) }
@@ -48,7 +48,7 @@ fn put_blocks(file: &mut Vec<u8>, blocks: &[(BlockNo, [u8; BLOCK_BYTES])]) -> Re
     Ok(())
 }
 
-// Adds a record to the file.
+/// Adds a record to the file.
 fn put_record(file: &mut Vec<u8>, patch: &Patch) -> Result<(), AllocError>
     ensures file { OnOk result (file.new.items ≡ file.old.items ++ record_file patch.now) }
     ensures blocks { OnOk result (HaveBlocks patch.now) }
@@ -58,7 +58,7 @@ fn put_record(file: &mut Vec<u8>, patch: &Patch) -> Result<(), AllocError>
     put_blocks(file, blocks)
 }
 
-// Adds records to the file.
+/// Adds records to the file.
 fn put_records(file: &mut Vec<u8>, records: &[Patch]) -> Result<(), AllocError>
     ensures file { OnOk result (file.new.items ≡ file.old.items ++ flat_map record_file records.now) }
     ensures blocks { OnOk result (All HaveBlocks records.now) }

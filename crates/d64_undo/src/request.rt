@@ -27,7 +27,7 @@ pub enum Answer {
     NothingToRedo,
 }
 
-// The answer to one request.
+/// The answer to one request.
 fn run_one(session: &mut Session, request: &Request) -> Answer
     requires { IsAskedOf (present session.old) (asked request.now) }
     ensures step { Step session.old (asked request.now) result session.new }

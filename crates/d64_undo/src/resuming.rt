@@ -25,7 +25,7 @@ struct FileParts {
     records: Vec<Patch>,
 }
 
-// So many bytes, and those after them.
+/// So many bytes, and those after them.
 fn take_bytes(bytes: &[u8], count: usize) -> Result<(&[u8], &[u8]), ResumeFault>
     ensures { Gives (λ x. (x.0.now, x.1.now)) result (bytes_at count bytes.now) }
 {
@@ -35,7 +35,7 @@ fn take_bytes(bytes: &[u8], count: usize) -> Result<(&[u8], &[u8]), ResumeFault>
     Ok(bytes.split_at(count))
 }
 
-// A number of two bytes.
+/// A number of two bytes.
 fn read_u16(bytes: &[u8]) -> Result<(u16, &[u8]), ResumeFault>
     ensures { Gives (λ x. (x.0, x.1.now)) result (number_at w16 bytes.now) }
 {
@@ -45,7 +45,7 @@ fn read_u16(bytes: &[u8]) -> Result<(u16, &[u8]), ResumeFault>
     }
 }
 
-// A number of eight bytes.
+/// A number of eight bytes.
 fn read_u64(bytes: &[u8]) -> Result<(u64, &[u8]), ResumeFault>
     ensures { Gives (λ x. (x.0, x.1.now)) result (number_at w64 bytes.now) }
 {
@@ -55,7 +55,7 @@ fn read_u64(bytes: &[u8]) -> Result<(u64, &[u8]), ResumeFault>
     }
 }
 
-// The bytes after those with which each session file begins.
+/// The bytes after those with which each session file begins.
 #[tactic(auto, unfolding(crate::specs::ResumeFault::after_magic))]
 fn skip_magic(bytes: &[u8]) -> Result<&[u8], ResumeFault>
     ensures { Gives (λ x. x.now) result (after_magic magic bytes.now) }
@@ -75,7 +75,7 @@ fn skip_magic(bytes: &[u8]) -> Result<&[u8], ResumeFault>
     Ok(rest)
 }
 
-// How many blocks the image has, by how many tracks its disk has.
+/// How many blocks the image has, by how many tracks its disk has.
 #[tactic(auto, unfolding(crate::specs::ResumeFault::block_count_at))]
 fn read_block_count(bytes: &[u8]) -> Result<(usize, &[u8]), ResumeFault>
     ensures count { Gives (λ x. (x.0, x.1.now)) result (block_count_at bytes.now) }
@@ -90,7 +90,7 @@ fn read_block_count(bytes: &[u8]) -> Result<(usize, &[u8]), ResumeFault>
     }
 }
 
-// The image of so many blocks that has these bytes.
+/// The image of so many blocks that has these bytes.
 fn image_of(alloc: Global, blocks: usize, bytes: &[u8]) -> Result<Image, ResumeFault>
     requires size { IsSize blocks }
     requires len { length bytes.now ≡ blocks * BLOCK_BYTES }
@@ -104,7 +104,7 @@ fn image_of(alloc: Global, blocks: usize, bytes: &[u8]) -> Result<Image, ResumeF
     }
 }
 
-// The beginning, and the image.
+/// The beginning, and the image.
 #[tactic(auto, unfolding(crate::specs::ResumeFault::image_at))]
 fn read_image(alloc: Global, bytes: &[u8]) -> Result<(Image, &[u8]), ResumeFault>
     ensures { Gives (λ x. (x.0, x.1.now)) result (image_at bytes.now) }
@@ -117,7 +117,7 @@ fn read_image(alloc: Global, bytes: &[u8]) -> Result<(Image, &[u8]), ResumeFault
     }
 }
 
-// How many records are done, and how many there are.
+/// How many records are done, and how many there are.
 #[tactic(auto, unfolding(crate::specs::ResumeFault::counts_at))]
 fn read_counts(bytes: &[u8]) -> Result<((u64, u64), &[u8]), ResumeFault>
     ensures { Gives (λ x. ((x.0.0, x.0.1), x.1.now)) result (counts_at bytes.now) }
@@ -130,7 +130,7 @@ fn read_counts(bytes: &[u8]) -> Result<((u64, u64), &[u8]), ResumeFault>
     Ok(((done, count), rest))
 }
 
-// The index of a block that lies from one on in an image of so many blocks.
+/// The index of a block that lies from one on in an image of so many blocks.
 #[tactic(auto, unfolding(crate::specs::ResumeFault::index_at))]
 fn read_index(bytes: &[u8], low: usize, blocks: usize) -> Result<(BlockNo, &[u8]), ResumeFault>
     requires { blocks ≤ BLOCKS }
@@ -147,7 +147,7 @@ fn read_index(bytes: &[u8], low: usize, blocks: usize) -> Result<(BlockNo, &[u8]
     }
 }
 
-// Such a block, with its bytes.
+/// Such a block, with its bytes.
 #[tactic(auto, unfolding(crate::specs::ResumeFault::block_at))]
 fn read_block<'a>(
     bytes: &'a [u8],
@@ -166,7 +166,7 @@ fn read_block<'a>(
     }
 }
 
-// So many ascending blocks.
+/// So many ascending blocks.
 fn read_blocks(
     alloc: Global,
     count: u16,
@@ -192,7 +192,7 @@ fn read_blocks(
     Ok((patch, rest))
 }
 
-// A record: how many blocks it has, and these.
+/// A record: how many blocks it has, and these.
 #[tactic(auto, unfolding(crate::specs::ResumeFault::record_file_at))]
 fn read_record(alloc: Global, blocks: usize, bytes: &[u8]) -> Result<(Patch, &[u8]), ResumeFault>
     requires { blocks ≤ BLOCKS }
@@ -202,8 +202,8 @@ fn read_record(alloc: Global, blocks: usize, bytes: &[u8]) -> Result<(Patch, &[u
     read_blocks(alloc, count, blocks, rest)
 }
 
-// So many records. Room is made for each as it is read: each has bytes of its own in the file, and there may be fewer than the
-// file counts.
+/// So many records. Room is made for each as it is read: each has bytes of its own in the file, and there may be fewer than the
+/// file counts.
 fn read_records(
     alloc: Global,
     count: u64,
@@ -224,7 +224,7 @@ fn read_records(
     Ok((records, rest))
 }
 
-// How many blocks an image has.
+/// How many blocks an image has.
 fn block_count(image: &Image) -> usize
     ensures count { result ≡ length image.now }
     ensures within { result ≤ BLOCKS }
@@ -232,7 +232,7 @@ fn block_count(image: &Image) -> usize
     image.bytes().len() / BLOCK_BYTES
 }
 
-// All parts in their order, with no bytes after them.
+/// All parts in their order, with no bytes after them.
 #[tactic(auto, unfolding(crate::specs::ResumeFault::parts_at))]
 fn read_parts(alloc: Global, bytes: &[u8]) -> Result<FileParts, ResumeFault>
     ensures { Gives parts_seen result (parts_at bytes.now) }
@@ -250,7 +250,7 @@ fn read_parts(alloc: Global, bytes: &[u8]) -> Result<FileParts, ResumeFault>
     })
 }
 
-// Whether each block of a record differs from that of an image.
+/// Whether each block of a record differs from that of an image.
 #[tactic(auto, unfolding(crate::specs::ResumeFault::all_differ))]
 fn is_difference(image: &Image, patch: &Patch) -> bool
     ensures { result ≡ all_differ image.now patch.now }
@@ -261,7 +261,7 @@ fn is_difference(image: &Image, patch: &Patch) -> bool
         .all(|entry| !image.has_bytes(entry.0, &entry.1))
 }
 
-// Whether each block of records that lead on from an image differs from that of the image at its moment.
+/// Whether each block of records that lead on from an image differs from that of the image at its moment.
 fn lead_on(mut image: Image, records: &[Patch]) -> bool
     requires { All (IsPatchOf image) records.now }
     ensures { result ≡ differ_along image records.now }
@@ -275,7 +275,7 @@ fn lead_on(mut image: Image, records: &[Patch]) -> bool
     true
 }
 
-// Whether each block of records that lead back from an image, the last one first, differs from that of the image at its moment.
+/// Whether each block of records that lead back from an image, the last one first, differs from that of the image at its moment.
 fn lead_back(mut image: Image, records: &[Patch]) -> bool
     requires { All (IsPatchOf image) records.now }
     ensures { result ≡ differ_along image (reverse records.now) }
@@ -289,7 +289,7 @@ fn lead_back(mut image: Image, records: &[Patch]) -> bool
     true
 }
 
-// Whether each block of the records differs from that of the image at its moment, both ways from the present image.
+/// Whether each block of the records differs from that of the image at its moment, both ways from the present image.
 fn lead_away(alloc: Global, parts: &FileParts) -> Result<bool, AllocError>
     requires done { parts.now.done ≤ length parts.now.records.items }
     requires records { All (IsPatchOf parts.now.image) parts.now.records.items }

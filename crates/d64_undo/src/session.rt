@@ -68,7 +68,7 @@ impl Session {
         }
     }
 
-    // The session that holds a present image, and records that lead away from it, so many of which are done.
+    /// The session that holds a present image, and records that lead away from it, so many of which are done.
     pub(crate) fn of_records(
         alloc: Global,
         present: Image,
@@ -179,7 +179,7 @@ impl Session {
         Ok(())
     }
 
-    // The cursor one record back.
+    /// The cursor one record back.
     fn step_back(&mut self)
         requires { 0 < self.old.cursor }
         ensures moved { self.new ≡ undone self.old }
@@ -204,7 +204,7 @@ impl Session {
         Ok(())
     }
 
-    // The cursor one record on.
+    /// The cursor one record on.
     fn step_on(&mut self)
         requires { self.old.cursor + 1 < length self.old.images }
         ensures moved { self.new ≡ redone self.old }

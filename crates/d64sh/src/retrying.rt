@@ -58,7 +58,7 @@ mod tests {
     use super::*;
     use std::test::Fail;
 
-    // A stream that fails once with an error of some kind, and then gives or takes one byte a call.
+    /// A stream that fails once with an error of some kind, and then gives or takes one byte a call.
     #[derive(Drop)]
     struct FailsOnce {
         kind: Option<ErrorKind>,
