@@ -1,94 +1,96 @@
 -- The rows of the slots along a walk, the name of the slot of a number, and what a listing has beside its rows.
 use Rattle.std.proofs.Common.{◌≡◌, ℕ, suc, ◌+◌, ◌≤◌, ◌==◌, not, Bool, true, false, cond, List, [], ◌∷◌, length, take, drop, get_or, Option, Some, refl, sym, ap, ◌∙◌, arith}
 use Rattle.std.specs.Prelude.{map, filter, find, take_while, slice_get, slice_range, option_map}
-use Rattle.std.specs.List.{enumerate_from}
 use Rattle.std.specs.Option.{option_map_or}
 use Rattle.std.proofs.lemmas.List.{drop_more}
 use Rattle.d64_image.specs.Image.{sector_at}
 use Rattle.d64_map.specs.Map.{map_block, blocks_free}
-use Rattle.d64_files.specs.Slot.{is_used, name_of}
-use Rattle.d64_files.specs.Directory.{slots, numbered, is_named, first_named}
-use Rattle.d64_files.proofs.SlotLists.{found-numbered}
+use Rattle.d64_files.specs.Slot.{EntryView, is_used, name_of}
+use Rattle.d64_files.specs.Directory.{slots, entry_of, entries, is_named, first_named}
+use Rattle.d64_files.proofs.Owners.{entries_from}
+use Rattle.d64_files.proofs.SlotLists.{found-entry}
 use Rattle.d64_effects.specs.View.{disk_field, disk_id}
 use Rattle.d64_dos.specs.Listing.{RowView, row_of, rows_of, listing_of}
 use Rattle.d64_dos.specs.Reading.{name_at}
 
 -- an entry of a used slot
-abbrev used_entry : ℕ × List ℕ → Bool
-used_entry entry = is_used entry.1
+abbrev used_entry : EntryView → Bool
+used_entry entry = is_used entry.bytes
 
--- the rows of numbered slots are those of the slots, from any number on
-rows_from : (n : ℕ) (cells : List (List ℕ)) → rows_of (enumerate_from n cells) ≡ map row_of (filter is_used cells)
-rows_from n [] = refl
-rows_from n (cell ∷ cells) = by_test (is_used cell) (rows_from (n + 1) cells)
+-- the rows of entries are those of the slots, from any number on
+rows_from : (image : List (List ℕ)) (n : ℕ) (cells : List (List ℕ)) → rows_of (entries_from image n cells) ≡ map row_of (filter is_used cells)
+rows_from image n [] = refl
+rows_from image n (cell ∷ cells) = by_test (is_used cell) (rows_from image (n + 1) cells)
   where
-    rest : List (ℕ × List ℕ)
-    rest = filter used_entry (enumerate_from (n + 1) cells)
+    rest : List EntryView
+    rest = filter used_entry (entries_from image (n + 1) cells)
 
-    by_test : (used : Bool) → map (λ (entry : ℕ × List ℕ). row_of entry.1) rest ≡ map row_of (filter is_used cells)
-        → map (λ (entry : ℕ × List ℕ). row_of entry.1) (cond used ((n, cell) ∷ rest) rest)
+    by_test : (used : Bool) → map (λ (entry : EntryView). row_of entry.bytes) rest ≡ map row_of (filter is_used cells)
+        → map (λ (entry : EntryView). row_of entry.bytes) (cond used (entry_of image (n, cell) ∷ rest) rest)
         ≡ map row_of (cond used (cell ∷ filter is_used cells) (filter is_used cells))
     by_test true same = ap (λ (rows : List RowView). row_of cell ∷ rows) same
     by_test false same = same
 
 -- so for all slots of a directory
-pub rows-numbered : (image : List (List ℕ)) → rows_of (numbered (slots image)) ≡ map row_of (filter is_used (slots image))
-rows-numbered image = rows_from 0 (slots image)
+pub rows-entries : (image : List (List ℕ)) → rows_of (entries image (slots image)) ≡ map row_of (filter is_used (slots image))
+rows-entries image = rows_from image 0 (slots image)
 
 -- an entry among those that are numbered from another one on: its number, and its bytes
-record StandsAt (k : ℕ) (cells : List (List ℕ)) (entry : ℕ × List ℕ) : Type 0 where
+record StandsAt (k : ℕ) (cells : List (List ℕ)) (entry : EntryView) : Type 0 where
   index : ℕ
-  number : entry.0 ≡ k + index
-  bytes : slice_get cells index ≡ Some entry.1
+  number : entry.slot ≡ k + index
+  bytes : slice_get cells index ≡ Some entry.bytes
 
 -- an entry that was found by a test of its bytes
-found_from : (test : List ℕ → Bool) (k : ℕ) (cells : List (List ℕ)) (entry : ℕ × List ℕ)
-    → Some entry ≡ find (λ (e : ℕ × List ℕ). test e.1) (enumerate_from k cells) → StandsAt k cells entry
-found_from test k [] entry e = absurd (cc)
-found_from test k (cell ∷ cells) entry e = by_test (test cell) (found_from test (k + 1) cells entry) e
+found_from : (test : List ℕ → Bool) (image : List (List ℕ)) (k : ℕ) (cells : List (List ℕ)) (entry : EntryView)
+    → Some entry ≡ find (λ (e : EntryView). test e.bytes) (entries_from image k cells) → StandsAt k cells entry
+found_from test image k [] entry e = absurd (cc)
+found_from test image k (cell ∷ cells) entry e = by_test (test cell) (found_from test image (k + 1) cells entry) e
   where
-    rest : Option (ℕ × List ℕ)
-    rest = find (λ (e : ℕ × List ℕ). test e.1) (enumerate_from (k + 1) cells)
+    rest : Option EntryView
+    rest = find (λ (e : EntryView). test e.bytes) (entries_from image (k + 1) cells)
 
-    by_test : (passes : Bool) → (Some entry ≡ rest → StandsAt (k + 1) cells entry) → Some entry ≡ cond passes (Some (k, cell)) rest
+    by_test : (passes : Bool) → (Some entry ≡ rest → StandsAt (k + 1) cells entry) → Some entry ≡ cond passes (Some (entry_of image (k, cell))) rest
         → StandsAt k (cell ∷ cells) entry
     by_test true later same =
-        let is : entry ≡ (k, cell) = cc in
-        record { index = 0; number = let n = ap (λ (e : ℕ × List ℕ). e.0) is in omega arith; bytes = ap (λ (e : ℕ × List ℕ). Some e.1) (sym is) }
+        let is : entry ≡ entry_of image (k, cell) = cc in
+        record { index = 0; number = let n = ap (λ (e : EntryView). e.slot) is in omega arith; bytes = ap (λ (e : EntryView). Some e.bytes) (sym is) }
     by_test false later same =
         let there = later same in
         record { index = suc there.index; number = let n = there.number in omega arith; bytes = there.bytes }
 
+-- the entry that a pattern finds in the directory of an image
+abbrev pub entry_named : List (List ℕ) → List ℕ → Option EntryView
+entry_named image pattern = find (λ (e : EntryView). is_named pattern e.bytes) (entries image (slots image))
+
 -- the bytes of the entry that a pattern finds are those of the slot of its number
-bytes_of_named : (image : List (List ℕ)) (pattern : List ℕ) (entry : ℕ × List ℕ)
-    → Some entry ≡ find (λ (e : ℕ × List ℕ). is_named pattern e.1) (numbered (slots image)) → slice_get (slots image) entry.0 ≡ Some entry.1
+bytes_of_named : (image : List (List ℕ)) (pattern : List ℕ) (entry : EntryView)
+    → Some entry ≡ entry_named image pattern → slice_get (slots image) entry.slot ≡ Some entry.bytes
 bytes_of_named image pattern entry e =
-    let found = found_from (is_named pattern) 0 (slots image) entry e in
+    let found = found_from (is_named pattern) image 0 (slots image) entry e in
     let n = found.number in
-    let same : entry.0 ≡ found.index = omega arith in
+    let same : entry.slot ≡ found.index = omega arith in
     ap (slice_get (slots image)) same ∙ found.bytes
 
 -- and its number is that of the first slot that the pattern matches
-pub number_of_named : (image : List (List ℕ)) (pattern : List ℕ) (found : Option (ℕ × List ℕ))
-    → found ≡ find (λ (e : ℕ × List ℕ). is_named pattern e.1) (numbered (slots image))
-    → option_map (λ (e : ℕ × List ℕ). e.0) found ≡ first_named pattern (slots image)
+pub number_of_named : (image : List (List ℕ)) (pattern : List ℕ) (found : Option EntryView)
+    → found ≡ entry_named image pattern → option_map (λ (e : EntryView). e.slot) found ≡ first_named pattern (slots image)
 number_of_named image pattern found e =
-    ap (option_map (λ (e : ℕ × List ℕ). e.0)) e ∙ found-numbered (is_named pattern) (slots image)
+    ap (option_map (λ (e : EntryView). e.slot)) e ∙ found-entry (is_named pattern) image (slots image)
 
 -- the slot that a pattern finds: its number, and its bytes
-pub record NamedSlot (image : List (List ℕ)) (pattern : List ℕ) (entry : ℕ × List ℕ) : Type 0 where
-  pub number : Some entry.0 ≡ first_named pattern (slots image)
-  pub bytes : slice_get (slots image) entry.0 ≡ Some entry.1
+pub record NamedSlot (image : List (List ℕ)) (pattern : List ℕ) (entry : EntryView) : Type 0 where
+  pub number : Some entry.slot ≡ first_named pattern (slots image)
+  pub bytes : slice_get (slots image) entry.slot ≡ Some entry.bytes
 
-pub named_slot : (image directory : List (List ℕ)) (pattern : List ℕ) (entry : ℕ × List ℕ) → directory ≡ image
-    → Some entry ≡ find (λ (e : ℕ × List ℕ). is_named pattern e.1) (numbered (slots directory)) → NamedSlot image pattern entry
+pub named_slot : (image directory : List (List ℕ)) (pattern : List ℕ) (entry : EntryView) → directory ≡ image
+    → Some entry ≡ entry_named directory pattern → NamedSlot image pattern entry
 named_slot image directory pattern entry same e =
-    let found : Some entry ≡ find (λ (e : ℕ × List ℕ). is_named pattern e.1) (numbered (slots image)) =
-    e ∙ ap (λ (i : List (List ℕ)). find (λ (e : ℕ × List ℕ). is_named pattern e.1) (numbered (slots i))) same in
+    let found : Some entry ≡ entry_named image pattern = e ∙ ap (λ (i : List (List ℕ)). entry_named i pattern) same in
     record { number = number_of_named image pattern (Some entry) found; bytes = bytes_of_named image pattern entry found }
 
 -- the name in the slot of that number
-pub name_of_named : (image : List (List ℕ)) (entry : ℕ × List ℕ) → slice_get (slots image) entry.0 ≡ Some entry.1 → name_of entry.1 ≡ name_at image entry.0
+pub name_of_named : (image : List (List ℕ)) (entry : EntryView) → slice_get (slots image) entry.slot ≡ Some entry.bytes → name_of entry.bytes ≡ name_at image entry.slot
 name_of_named image entry e = ap (λ (cell : Option (List ℕ)). option_map_or name_of cell []) (sym e)
 
 -- two bytes next to each other

@@ -2,6 +2,7 @@
 use Rattle.std.proofs.Common.{◌≡◌, ℕ, List, Option, Some, None, Err, sym, ap, ◌∙◌}
 use Rattle.std.specs.Prelude.{slice_get, option_map}
 use Rattle.std.specs.Option.{option_or}
+use Rattle.d64_files.specs.Slot.{EntryView}
 use Rattle.d64_files.specs.Directory.{slots, first_named, AllHold, IsFirstFault}
 use Rattle.d64_files.specs.Reading.{file_refusal, slot_refusal}
 use Rattle.d64_files.specs.Reading as files
@@ -48,19 +49,19 @@ cause_of_fault faults.WrongType refusal e = ap (option_map of_read_fault) e
 cause_of_fault (faults.Memory error) refusal e = ap (option_map of_read_fault) e
 
 -- what keeps the content of the entry that was found from being read keeps its file from it
-pub refused_entry : (image : List (List ℕ)) (pattern : List ℕ) (entry : ℕ × List ℕ) (fault : ReadFault) → AllHold image 2 3
-    → Some entry.0 ≡ first_named pattern (slots image) → slice_get (slots image) entry.0 ≡ Some entry.1
-    → files.refused_by {A = List ℕ} (Err fault) ≡ file_refusal image entry.1 → cause_of (of_read_fault fault) ≡ read_refusal image pattern
+pub refused_entry : (image : List (List ℕ)) (pattern : List ℕ) (entry : EntryView) (fault : ReadFault) → AllHold image 2 3
+    → Some entry.slot ≡ first_named pattern (slots image) → slice_get (slots image) entry.slot ≡ Some entry.bytes
+    → files.refused_by {A = List ℕ} (Err fault) ≡ file_refusal image entry.bytes → cause_of (of_read_fault fault) ≡ read_refusal image pattern
 refused_entry image pattern entry fault h found bytes e =
-    cause_of_fault fault (file_refusal image entry.1) e
+    cause_of_fault fault (file_refusal image entry.bytes) e
     ∙ ap (λ (cell : Option (List ℕ)). option_map of_read_fault (slot_refusal image cell)) (sym bytes)
-    ∙ sym (refused_found image pattern (Some entry.0) h found)
+    ∙ sym (refused_found image pattern (Some entry.slot) h found)
 
 -- and where nothing does, the file is read
-pub not_refused : (image : List (List ℕ)) (pattern : List ℕ) (entry : ℕ × List ℕ) → AllHold image 2 3
-    → Some entry.0 ≡ first_named pattern (slots image) → slice_get (slots image) entry.0 ≡ Some entry.1
-    → None ≡ file_refusal image entry.1 → read_refusal image pattern ≡ None
+pub not_refused : (image : List (List ℕ)) (pattern : List ℕ) (entry : EntryView) → AllHold image 2 3
+    → Some entry.slot ≡ first_named pattern (slots image) → slice_get (slots image) entry.slot ≡ Some entry.bytes
+    → None ≡ file_refusal image entry.bytes → read_refusal image pattern ≡ None
 not_refused image pattern entry h found bytes e =
-    refused_found image pattern (Some entry.0) h found
+    refused_found image pattern (Some entry.slot) h found
     ∙ ap (λ (cell : Option (List ℕ)). option_map of_read_fault (slot_refusal image cell)) bytes
     ∙ ap (option_map of_read_fault) (sym e)

@@ -4,7 +4,7 @@ use Rattle.d64_image.specs.Image.{IsSize, sector_at}
 use Rattle.d64_map.specs.Map.{map_block, blocks_free}
 use Rattle.d64_files.specs.Directory.{slots}
 use Rattle.d64_files.specs.Name.{IsName}
-use Rattle.d64_files.specs.Slot.{is_used, name_of, is_closed, is_locked, kind_of, size_of}
+use Rattle.d64_files.specs.Slot.{EntryView, is_used, name_of, is_closed, is_locked, kind_of, size_of}
 use Rattle.d64_files.specs.declared.kind.Kind.{Kind}
 use Rattle.d64_effects.specs.Format.{formatted}
 use Rattle.d64_effects.specs.Laws.{AreTwoBytes, free_count_of}
@@ -32,9 +32,9 @@ pub record ListingView : Type 0 where
 abbrev pub row_of : List ℕ → RowView
 row_of cell = record { blocks = size_of cell; name = name_of cell; closed = is_closed cell; kind = kind_of cell; locked = is_locked cell }
 
--- the rows of the used ones among numbered slots
-abbrev pub rows_of : List (ℕ × List ℕ) → List RowView
-rows_of walk = map (λ (entry : ℕ × List ℕ). row_of entry.1) (filter (λ (entry : ℕ × List ℕ). is_used entry.1) walk)
+-- the rows of the used ones among entries
+abbrev pub rows_of : List EntryView → List RowView
+rows_of walk = map (λ (entry : EntryView). row_of entry.bytes) (filter (λ (entry : EntryView). is_used entry.bytes) walk)
 
 -- what the directory of an image lists
 unfoldable pub listing_of : List (List ℕ) → ListingView

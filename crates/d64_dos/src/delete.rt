@@ -41,7 +41,7 @@ fn is_named_by(patterns: &[Pattern], name: &[u8]) -> bool
 
 /// Whether patterns scratch the file of an entry: it is closed and not locked, and one of them matches its name or more.
 fn is_scratched(patterns: &[Pattern], entry: &Entry) -> bool
-    ensures { result ≡ is_scratched_slot patterns.now entry.now.1 }
+    ensures { result ≡ is_scratched_slot patterns.now entry.now.bytes }
 {
     entry.used() && entry.closed() && !entry.locked() && is_named_by(patterns, entry.name())
 }

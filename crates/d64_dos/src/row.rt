@@ -37,7 +37,7 @@ pub struct Listing {
 
 /// The row of an entry.
 fn row_of(alloc: Global, entry: &Entry) -> Result<Row, AllocError>
-    ensures { IfOk result (λ row. shown_row row ≡ row_of entry.now.1) }
+    ensures { IfOk result (λ row. shown_row row ≡ row_of entry.now.bytes) }
 {
     Ok(Row {
         blocks: entry.blocks(),

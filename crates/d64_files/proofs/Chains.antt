@@ -281,11 +281,6 @@ exists image start None none = (λ (s : false ≡ true). cc, λ some. absurd (so
 exists image start (Some blocks) h =
     (λ _. subst (λ (bs : List ℕ). bs ≢ []) (sym (chain-is image start blocks h)) (not_empty image start blocks h), λ _. refl)
 
--- the block of a track and a sector is one that the image has
-pub block_in-within : (image : List (List ℕ)) (track sector block : ℕ) → Some block ≡ block_in image track sector → block < length image
-unfolding block_in
-block_in-within image track sector block e = leads_within image false (block_of track sector) block (sym (ap link_to e))
-
 -- the image has each block of its chains
 chain-lies : (image : List (List ℕ)) (start : ℕ) (blocks : List ℕ) → chain image start ≡ blocks → LieIn image blocks
 chain-lies image start [] e = All-nil (λ (b : ℕ). b < length image)

@@ -1,68 +1,73 @@
 -- What keeps a file from being read.
 use Rattle.std.proofs.Common.{◌≡◌, ◌≢◌, ℕ, zero, suc, ◌+◌, ◌≤◌, Bool, true, false, cond, not, eqb, List, [], ◌∷◌, Option, Some, None, refl, sym, ap, ◌∙◌, subst, inl, inr, arith}
 use Rattle.std.specs.Prelude.{All, find, nat_le, slice_get, option_map}
-use Rattle.std.specs.List.{enumerate_from, list_all}
+use Rattle.std.specs.List.{list_all}
 use Rattle.std.specs.Option.{option_or, option_map_or}
 use Rattle.std.proofs.lemmas.Bool.{eq-eqb, ne_eqb, cases_Bool, and_parts, and_from}
 use Rattle.std.proofs.lemmas.Bool.Decides.{nat_tests}
 use Rattle.std.proofs.lemmas.List.Elements.{All-nil, All-cons, All-head, All-tail}
-use Rattle.d64_files.specs.Slot.{HasKind, is_used, is_closed, kind_number, kind_of, first_pair}
+use Rattle.d64_files.specs.Slot.{EntryView, HasKind, is_used, is_closed, kind_number, kind_of, first_pair}
 use Rattle.d64_files.specs.Ownership.{chain_at, owned_by}
-use Rattle.d64_files.specs.Directory.{directory, slots, slot_owns, numbered, AllHold, IsFirstFault}
+use Rattle.d64_files.specs.Directory.{directory, slots, slot_owns, entry_of, entries, AllHold, IsFirstFault}
 use Rattle.d64_files.specs.Reading.{is_nil, is_del, unreadable, file_refusal, file_content, content_at, slot_refusal, content_refusal}
 use Rattle.d64_files.specs.declared.dir_fault.DirFault.{DirFault}
 use Rattle.d64_files.specs.declared.dir_fault.DirFault.TheVariants.{WrongCounts, NoDirectory, UnknownKind, NoChain, CrossLinked, MarkedFree}
 use Rattle.d64_files.specs.declared.reading.ReadFault.{ReadFault}
 use Rattle.d64_files.specs.declared.reading.ReadFault.TheVariants.{Directory, NotFound, NotClosed, WrongType}
+use Rattle.d64_files.proofs.Owners.{entries_from}
 
--- the slot of a number, among those that are numbered from another one on
-slot_from : (k i : ℕ) (cells : List (List ℕ))
-    → find (λ (e : ℕ × List ℕ). eqb e.0 (k + i)) (enumerate_from k cells) ≡ option_map (λ (c : List ℕ). (k + i, c)) (slice_get cells i)
-slot_from k i [] = refl
-slot_from k zero (c ∷ cells) =
+-- the entry of a number, among those that are numbered from another one on
+entry_from : (image : List (List ℕ)) (k i : ℕ) (cells : List (List ℕ))
+    → find (λ (e : EntryView). eqb e.slot (k + i)) (entries_from image k cells) ≡ option_map (λ (c : List ℕ). entry_of image (k + i, c)) (slice_get cells i)
+entry_from image k i [] = refl
+entry_from image k zero (c ∷ cells) =
     let e : k + 0 ≡ k = omega arith in
-    let P : ℕ → Type 0 = λ n. cond (eqb k n) (Some (k, c)) (find (λ (e : ℕ × List ℕ). eqb e.0 n) (enumerate_from (k + 1) cells)) ≡ Some (n, c) in
+    let rest : List EntryView = entries_from image (k + 1) cells in
+    let P : ℕ → Type 0 = λ n. cond (eqb k n) (Some (entry_of image (k, c))) (find (λ (e : EntryView). eqb e.slot n) rest) ≡ Some (entry_of image (n, c)) in
     subst P (sym e)
-    (ap (λ (b : Bool). cond b (Some (k, c)) (find (λ (e : ℕ × List ℕ). eqb e.0 k) (enumerate_from (k + 1) cells))) (eq-eqb k k refl))
-slot_from k (suc i) (c ∷ cells) =
+    (ap (λ (b : Bool). cond b (Some (entry_of image (k, c))) (find (λ (e : EntryView). eqb e.slot k) rest)) (eq-eqb k k refl))
+entry_from image k (suc i) (c ∷ cells) =
     let e : k + suc i ≡ k + 1 + i = omega arith in
-    ap (λ (b : Bool). cond b (Some (k, c)) (find (λ (e : ℕ × List ℕ). eqb e.0 (k + suc i)) (enumerate_from (k + 1) cells))) (ne_eqb k (k + suc i) (λ e. omega arith))
-    ∙ ap (λ (n : ℕ). find (λ (e : ℕ × List ℕ). eqb e.0 n) (enumerate_from (k + 1) cells)) e
-    ∙ slot_from (k + 1) i cells
-    ∙ ap (λ (n : ℕ). option_map (λ (c : List ℕ). (n, c)) (slice_get cells i)) (sym e)
+    let rest : List EntryView = entries_from image (k + 1) cells in
+    ap (λ (b : Bool). cond b (Some (entry_of image (k, c))) (find (λ (e : EntryView). eqb e.slot (k + suc i)) rest)) (ne_eqb k (k + suc i) (λ e. omega arith))
+    ∙ ap (λ (n : ℕ). find (λ (e : EntryView). eqb e.slot n) rest) e
+    ∙ entry_from image (k + 1) i cells
+    ∙ ap (λ (n : ℕ). option_map (λ (c : List ℕ). entry_of image (n, c)) (slice_get cells i)) (sym e)
 
--- the slot of a number
-slot_of_number : (cells : List (List ℕ)) (slot : ℕ)
-    → find (λ (e : ℕ × List ℕ). eqb e.0 slot) (numbered cells) ≡ option_map (λ (c : List ℕ). (slot, c)) (slice_get cells slot)
-slot_of_number cells slot =
+-- the entry of a number
+entry_of_number : (image cells : List (List ℕ)) (slot : ℕ)
+    → find (λ (e : EntryView). eqb e.slot slot) (entries image cells) ≡ option_map (λ (c : List ℕ). entry_of image (slot, c)) (slice_get cells slot)
+entry_of_number image cells slot =
     let e : slot ≡ 0 + slot = omega arith in
-    ap (λ (n : ℕ). find (λ (e : ℕ × List ℕ). eqb e.0 n) (numbered cells)) e
-    ∙ slot_from 0 slot cells
-    ∙ ap (λ (n : ℕ). option_map (λ (c : List ℕ). (n, c)) (slice_get cells slot)) (sym e)
+    ap (λ (n : ℕ). find (λ (e : EntryView). eqb e.slot n) (entries image cells)) e
+    ∙ entry_from image 0 slot cells
+    ∙ ap (λ (n : ℕ). option_map (λ (c : List ℕ). entry_of image (n, c)) (slice_get cells slot)) (sym e)
 
--- a slot that was found by its number has these bytes
-pub bytes_of_found : (slot : ℕ) (bytes : Option (List ℕ)) (entry : ℕ × List ℕ) → Some entry ≡ option_map (λ (c : List ℕ). (slot, c)) bytes → bytes ≡ Some entry.1
-bytes_of_found slot None entry e = cc
-bytes_of_found slot (Some c) entry e = let f : entry ≡ (slot, c) = cc in ap (λ (x : ℕ × List ℕ). Some x.1) (sym f)
+-- an entry that was found by its number has these bytes
+bytes_of_found : (image : List (List ℕ)) (slot : ℕ) (bytes : Option (List ℕ)) (entry : EntryView)
+    → Some entry ≡ option_map (λ (c : List ℕ). entry_of image (slot, c)) bytes → bytes ≡ Some entry.bytes
+bytes_of_found image slot None entry e = cc
+bytes_of_found image slot (Some c) entry e = let f : entry ≡ entry_of image (slot, c) = cc in ap (λ (x : EntryView). Some x.bytes) (sym f)
 
 -- and where none was found there is none
-pub none_of_found : (slot : ℕ) (bytes : Option (List ℕ)) → ◌≡◌ {A = Option (ℕ × List ℕ)} None (option_map (λ (c : List ℕ). (slot, c)) bytes) → bytes ≡ None
-none_of_found slot None e = refl
-none_of_found slot (Some c) e = cc
+none_of_found : (image : List (List ℕ)) (slot : ℕ) (bytes : Option (List ℕ))
+    → ◌≡◌ {A = Option EntryView} None (option_map (λ (c : List ℕ). entry_of image (slot, c)) bytes) → bytes ≡ None
+none_of_found image slot None e = refl
+none_of_found image slot (Some c) e = cc
 
--- the bytes of a slot that was found along a walk
-pub found_bytes : (image : List (List ℕ)) (slot : ℕ) (walk : List (ℕ × List ℕ)) (entry : ℕ × List ℕ) → walk ≡ numbered (slots image)
-    → Some entry ≡ find (λ (e : ℕ × List ℕ). eqb e.0 slot) walk → slice_get (slots image) slot ≡ Some entry.1
+-- the bytes of an entry that was found along a walk
+pub found_bytes : (image : List (List ℕ)) (slot : ℕ) (walk : List EntryView) (entry : EntryView) → walk ≡ entries image (slots image)
+    → Some entry ≡ find (λ (e : EntryView). eqb e.slot slot) walk → slice_get (slots image) slot ≡ Some entry.bytes
 found_bytes image slot walk entry e found =
-    bytes_of_found slot (slice_get (slots image) slot) entry
-    (found ∙ ap (find (λ (e : ℕ × List ℕ). eqb e.0 slot)) e ∙ slot_of_number (slots image) slot)
+    bytes_of_found image slot (slice_get (slots image) slot) entry
+    (found ∙ ap (find (λ (e : EntryView). eqb e.slot slot)) e ∙ entry_of_number image (slots image) slot)
 
 -- none where none was found
-pub no_bytes : (image : List (List ℕ)) (slot : ℕ) (walk : List (ℕ × List ℕ)) → walk ≡ numbered (slots image)
-    → None ≡ find (λ (e : ℕ × List ℕ). eqb e.0 slot) walk → slice_get (slots image) slot ≡ None
+pub no_bytes : (image : List (List ℕ)) (slot : ℕ) (walk : List EntryView) → walk ≡ entries image (slots image)
+    → None ≡ find (λ (e : EntryView). eqb e.slot slot) walk → slice_get (slots image) slot ≡ None
 no_bytes image slot walk e found =
-    none_of_found slot (slice_get (slots image) slot)
-    (found ∙ ap (find (λ (e : ℕ × List ℕ). eqb e.0 slot)) e ∙ slot_of_number (slots image) slot)
+    none_of_found image slot (slice_get (slots image) slot)
+    (found ∙ ap (find (λ (e : EntryView). eqb e.slot slot)) e ∙ entry_of_number image (slots image) slot)
 
 -- a list that isn't the empty one
 pub not_nil : (blocks : List ℕ) → blocks ≢ [] → is_nil blocks ≡ false

@@ -1,11 +1,11 @@
 -- The lists of slots: those of a block, those of blocks, and those that are left of a walk.
-use Rattle.std.proofs.Common.{◌≡◌, ℕ, ◌+◌, ◌-◌, ◌*◌, ◌/◌, ◌%◌, ◌<◌, ◌≤◌, ◌||◌, Bool, true, false, cond, List, [], ◌∷◌, length, get_or, take, drop, Some, refl, sym, ap, ap₂, ◌∙◌, subst, inl, inr, arith, length-append}
+use Rattle.std.proofs.Common.{◌≡◌, ℕ, ◌+◌, ◌-◌, ◌*◌, ◌/◌, ◌%◌, ◌<◌, ◌≤◌, ◌||◌, Bool, true, false, cond, List, [], ◌∷◌, length, get_or, take, drop, Option, Some, refl, sym, ap, ap₂, ◌∙◌, subst, inl, inr, arith, length-append}
 use Rattle.std.specs.Prelude.{All, find, position, option_map}
-use Rattle.std.specs.List.{enumerate_from, list_any, position_from}
+use Rattle.std.specs.List.{list_any, position_from}
 use Rattle.std.proofs.Math.Nat.{div-add-mod}
 use Rattle.std.proofs.Math.ListN.{drop_of_length-le}
 use Rattle.std.proofs.lemmas.Bool.{cases_lt}
-use Rattle.std.proofs.lemmas.List.{drop_more, length-take-le, get_or_past}
+use Rattle.std.proofs.lemmas.List.{drop_more, length-map, get_or-map, length-take-le, get_or_past}
 use Rattle.std.proofs.lemmas.List.Concat.{get_or-flat_map, flat_map-cons}
 use Rattle.std.proofs.lemmas.List.Elements.{All-get_or, All-from_get_or}
 use Rattle.std.proofs.lemmas.List.FromFn.{length-map-range_with_len, get_or-map-range_with_len, length-enumerate_from, get_or-enumerate_from}
@@ -13,10 +13,11 @@ use Rattle.std.proofs.lemmas.Grind.{get_or_default_zero}
 use Rattle.std.proofs.lemmas.Iterator.Adapters.{position_from-zero}
 use Rattle.d64_image.specs.Image.{sector_at}
 use Rattle.d64_files.specs.Chain.{LieIn}
-use Rattle.d64_files.specs.Slot.{cell, cells, HasKind}
-use Rattle.d64_files.specs.Directory.{directory, slots, slots_in, numbered}
+use Rattle.d64_files.specs.Slot.{EntryView, cell, cells, HasKind}
+use Rattle.d64_files.specs.Directory.{directory, slots, slots_in, numbered, entry_of, entries}
 use Rattle.d64_files.specs.Writing.{dir_last, slot_block}
 use Rattle.d64_files.proofs.Chains.{chain_from-lies}
+use Rattle.d64_files.proofs.Owners.{entries_from}
 
 -- a block has eight slots
 pub length-cells : (bytes : List ℕ) → length (cells bytes) ≡ 8
@@ -63,22 +64,29 @@ slot_at_place image blocks place within =
 within_slots : (image : List (List ℕ)) (blocks : List ℕ) (place : ℕ) → place / 8 < length blocks → place < length (slots_in image blocks)
 within_slots image blocks place within = omega (arith, length-slots_in image blocks)
 
--- what is left of a walk begins with the slot of its place
-pub next_slot : (image : List (List ℕ)) (blocks : List ℕ) (place : ℕ) → place / 8 < length blocks
-    → drop place (numbered (slots_in image blocks))
-    ≡ (place, cell (sector_at image (get_or blocks (place / 8) 0)) (place % 8)) ∷ drop (place + 1) (numbered (slots_in image blocks))
-next_slot image blocks place within =
+-- what is left of a walk begins with the entry of its place
+pub next_entry : (image : List (List ℕ)) (blocks : List ℕ) (place : ℕ) → place / 8 < length blocks
+    → drop place (entries image (slots_in image blocks))
+    ≡ entry_of image (place, cell (sector_at image (get_or blocks (place / 8) 0)) (place % 8)) ∷ drop (place + 1) (entries image (slots_in image blocks))
+next_entry image blocks place within =
+    let cells = slots_in image blocks in
     let inside = within_slots image blocks place within in
-    let long : place < length (numbered (slots_in image blocks)) = omega (arith, length-enumerate_from 0 (slots_in image blocks)) in
-    drop_more (numbered (slots_in image blocks)) place (0, []) long
-    ∙ ap (λ (e : ℕ × List ℕ). e ∷ drop (place + 1) (numbered (slots_in image blocks)))
-    (get_or-enumerate_from 0 (slots_in image blocks) place (0, []) inside
-    ∙ ap₂ (λ (n : ℕ) (s : List ℕ). (n, s)) (let e : 0 + place ≡ place = omega arith in e) (slot_at_place image blocks place within))
+    let long : place < length (numbered cells) = omega (arith, length-enumerate_from 0 cells) in
+    let all : place < length (entries image cells) = omega (arith, length-map (numbered cells) (entry_of image)) in
+    drop_more (entries image cells) place (entry_of image (0, [])) all
+    ∙ ap (λ (e : EntryView). e ∷ drop (place + 1) (entries image cells))
+    (get_or-map (entry_of image) (numbered cells) place (0, []) (entry_of image (0, [])) long
+    ∙ ap (entry_of image) (get_or-enumerate_from 0 cells place (0, []) inside
+    ∙ ap₂ (λ (n : ℕ) (s : List ℕ). (n, s)) (let e : 0 + place ≡ place = omega arith in e) (slot_at_place image blocks place within)))
+
+-- slots have an entry each
+pub length-entries : (image cells : List (List ℕ)) → length (entries image cells) ≡ length cells
+length-entries image cells = length-map (numbered cells) (entry_of image) ∙ length-enumerate_from 0 cells
 
 -- past the last block nothing is left of a walk
-pub no_slot : (image : List (List ℕ)) (blocks : List ℕ) (place : ℕ) → length blocks ≤ place / 8 → drop place (numbered (slots_in image blocks)) ≡ []
-no_slot image blocks place past =
-    drop_of_length-le (numbered (slots_in image blocks)) (omega (arith, length-enumerate_from 0 (slots_in image blocks), length-slots_in image blocks))
+pub no_entry : (image : List (List ℕ)) (blocks : List ℕ) (place : ℕ) → length blocks ≤ place / 8 → drop place (entries image (slots_in image blocks)) ≡ []
+no_entry image blocks place past =
+    drop_of_length-le (entries image (slots_in image blocks)) (omega (arith, length-entries image (slots_in image blocks), length-slots_in image blocks))
 
 -- the bytes of the slot of a place, step by step
 pub bytes_at_place : (image : List (List ℕ)) (blocks items : List ℕ) (place block : ℕ) (sector bytes : List ℕ) → items ≡ blocks → place / 8 < length items
@@ -123,27 +131,30 @@ kinds_of_block image blocks q within all =
     subst HasKind (get_or-slots_in image blocks q r within small)
     (All-get_or HasKind (slots_in image blocks) (8 * q + r) [] (omega (arith, length-slots_in image blocks)) all))
 
--- the first numbered slot that passes has the number of the first slot that passes
-found_from : (test : List ℕ → Bool) (n : ℕ) (cells : List (List ℕ))
-    → option_map (λ (e : ℕ × List ℕ). e.0) (find (λ (e : ℕ × List ℕ). test e.1) (enumerate_from n cells)) ≡ position_from test n cells
-found_from test n [] = refl
-found_from test n (c ∷ cells) = by_test (test c) (found_from test (n + 1) cells)
+-- the first entry that passes has the number of the first slot that passes
+found_from : (test : List ℕ → Bool) (image : List (List ℕ)) (n : ℕ) (cells : List (List ℕ))
+    → option_map (λ (e : EntryView). e.slot) (find (λ (e : EntryView). test e.bytes) (entries_from image n cells)) ≡ position_from test n cells
+found_from test image n [] = refl
+found_from test image n (c ∷ cells) = by_test (test c) (found_from test image (n + 1) cells)
   where
-    by_test : (b : Bool) → option_map (λ (e : ℕ × List ℕ). e.0) (find (λ (e : ℕ × List ℕ). test e.1) (enumerate_from (n + 1) cells)) ≡ position_from test (n + 1) cells
-        → option_map (λ (e : ℕ × List ℕ). e.0) (cond b (Some (n, c)) (find (λ (e : ℕ × List ℕ). test e.1) (enumerate_from (n + 1) cells)))
-        ≡ cond b (Some n) (position_from test (n + 1) cells)
-    by_test true rest = refl
-    by_test false rest = rest
+    rest : Option EntryView
+    rest = find (λ (e : EntryView). test e.bytes) (entries_from image (n + 1) cells)
+
+    by_test : (b : Bool) → option_map (λ (e : EntryView). e.slot) rest ≡ position_from test (n + 1) cells
+        → option_map (λ (e : EntryView). e.slot) (cond b (Some (entry_of image (n, c))) rest) ≡ cond b (Some n) (position_from test (n + 1) cells)
+    by_test true same = refl
+    by_test false same = same
 
 -- so from 0 on
-pub found-numbered : (test : List ℕ → Bool) (cells : List (List ℕ))
-    → option_map (λ (e : ℕ × List ℕ). e.0) (find (λ (e : ℕ × List ℕ). test e.1) (numbered cells)) ≡ position test cells
-found-numbered test cells = found_from test 0 cells ∙ sym (position_from-zero test cells)
+pub found-entry : (test : List ℕ → Bool) (image cells : List (List ℕ))
+    → option_map (λ (e : EntryView). e.slot) (find (λ (e : EntryView). test e.bytes) (entries image cells)) ≡ position test cells
+found-entry test image cells = found_from test image 0 cells ∙ sym (position_from-zero test cells)
 
--- a numbered slot passes where a slot does
-pub any-numbered : (test : List ℕ → Bool) (n : ℕ) (cells : List (List ℕ)) → list_any (λ (e : ℕ × List ℕ). test e.1) (enumerate_from n cells) ≡ list_any test cells
-any-numbered test n [] = refl
-any-numbered test n (c ∷ cells) = ap (λ (b : Bool). test c || b) (any-numbered test (n + 1) cells)
+-- an entry passes where a slot does
+pub any-entry : (test : List ℕ → Bool) (image : List (List ℕ)) (n : ℕ) (cells : List (List ℕ))
+    → list_any (λ (e : EntryView). test e.bytes) (entries_from image n cells) ≡ list_any test cells
+any-entry test image n [] = refl
+any-entry test image n (c ∷ cells) = ap (λ (b : Bool). test c || b) (any-entry test image (n + 1) cells)
 
 -- the image has the blocks of its directory
 pub directory-lies : (image : List (List ℕ)) → LieIn image (directory image)

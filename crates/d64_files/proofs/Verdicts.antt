@@ -11,18 +11,19 @@ use Rattle.std.proofs.lemmas.List.Elements.{All-from_get_or, All-head, All-tail}
 use Rattle.d64_map.specs.Map.{map_block, CountsFit, free_blocks}
 use Rattle.d64_files.specs.Ownership.{owned_by, HasItsChains, NoneIsFree}
 use Rattle.d64_files.specs.Claims.{claims_of}
-use Rattle.d64_files.specs.Directory.{directory, slots, numbered, owned_blocks, number_of, Holds, AllHold, IsFirstFault}
+use Rattle.d64_files.specs.Slot.{EntryView}
+use Rattle.d64_files.specs.Directory.{directory, slots, entries, owned_blocks, number_of, Holds, AllHold, IsFirstFault}
 use Rattle.d64_files.specs.declared.dir_fault.DirFault.{DirFault}
 use Rattle.d64_files.specs.declared.dir_fault.DirFault.TheVariants.{WrongCounts, NoDirectory, UnknownKind, NoChain, CrossLinked, MarkedFree}
-use Rattle.d64_files.proofs.Owners.{numbered_owned}
+use Rattle.d64_files.proofs.Owners.{entries_owned}
 
--- the map's block, the directory's and those of the numbered slots are the owned ones
-pub all_claimed : (image : List (List ℕ)) (walk : List (ℕ × List ℕ)) → walk ≡ numbered (slots image)
-    → claims_of (((map_block ∷ []) ++ directory image) ++ flat_map (λ (slot : ℕ × List ℕ). owned_by image slot.1) walk) ≡ claims_of (owned_blocks image)
+-- the map's block, the directory's and those of the entries are the owned ones
+pub all_claimed : (image : List (List ℕ)) (walk : List EntryView) → walk ≡ entries image (slots image)
+    → claims_of (((map_block ∷ []) ++ directory image) ++ flat_map (λ (entry : EntryView). owned_by image entry.bytes) walk) ≡ claims_of (owned_blocks image)
 unfolding owned_blocks
 all_claimed image walk e =
     ap (λ (bs : List ℕ). claims_of (map_block ∷ (directory image ++ bs)))
-    (ap (flat_map (λ (slot : ℕ × List ℕ). owned_by image slot.1)) e ∙ numbered_owned (owned_by image) 0 (slots image))
+    (ap (flat_map (λ (entry : EntryView). owned_by image entry.bytes)) e ∙ entries_owned (owned_by image) image 0 (slots image))
 
 -- the conditions 2 to 5 hold where 2 and 3 do, each chain is there, and no block is owned twice
 pub files_hold : (image : List (List ℕ)) → AllHold image 2 3 → All (HasItsChains image) (slots image) → IsDistinct eqb (owned_blocks image) → AllHold image 2 5

@@ -1,5 +1,5 @@
 -- The directory of an image, its slots, and the conditions of a sound image.
-use Rattle.std.specs.Prelude.{◌≢◌, ℕ, ◌<◌, ◌≤◌, ◌&&◌, nat_eq, Bool, List, [], ◌∷◌, ◌++◌, All, position, flat_map, bytes_eq, Option}
+use Rattle.std.specs.Prelude.{◌≢◌, ℕ, ◌<◌, ◌≤◌, ◌&&◌, nat_eq, Bool, List, [], ◌∷◌, ◌++◌, All, position, map, flat_map, bytes_eq, Option}
 use Rattle.std.specs.List.{enumerate_from, list_any, IsDistinct, slice_get}
 use Rattle.std.specs.Option.{option_map_or}
 use Rattle.d64_image.specs.Image.{sector_at}
@@ -7,7 +7,7 @@ use Rattle.d64_map.specs.Map.{map_block, CountsFit}
 use Rattle.d64_files.specs.Chain.{chain_from}
 use Rattle.d64_files.specs.Ownership.{owned_by, HasItsChains, NoneIsFree}
 use Rattle.d64_files.specs.Pattern.{matches}
-use Rattle.d64_files.specs.Slot.{cells, HasKind, is_used, name_of}
+use Rattle.d64_files.specs.Slot.{EntryView, cells, HasKind, is_used, name_of}
 use Rattle.d64_files.specs.declared.dir_fault.DirFault.{DirFault}
 use Rattle.d64_files.specs.declared.dir_fault.DirFault.TheVariants.{WrongCounts, NoDirectory, UnknownKind, NoChain, CrossLinked, MarkedFree}
 
@@ -34,6 +34,14 @@ slot_owns image slot = option_map_or (owned_by image) (slice_get (slots image) s
 -- slots with their numbers, from 0
 abbrev pub numbered : List (List ℕ) → List (ℕ × List ℕ)
 numbered cells = enumerate_from 0 cells
+
+-- the entry of a numbered slot of an image
+abbrev pub entry_of : List (List ℕ) → ℕ × List ℕ → EntryView
+entry_of image slot = record { slot = slot.0; bytes = slot.1; image = image }
+
+-- the entries of slots of an image
+abbrev pub entries : List (List ℕ) → List (List ℕ) → List EntryView
+entries image cells = map (entry_of image) (numbered cells)
 
 -- a used slot whose name the pattern matches
 abbrev pub is_named : List ℕ → List ℕ → Bool

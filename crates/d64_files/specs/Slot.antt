@@ -4,6 +4,12 @@ use Rattle.std.specs.List.{range_with_len}
 use Rattle.d64_files.specs.declared.kind.Kind.{Kind}
 use Rattle.d64_files.specs.declared.kind.Kind.TheVariants.{Del, Seq, Prg, Usr, Rel}
 
+-- an entry of a directory: the number of its slot, from 0, the 32 bytes there, and the image that it stands in
+pub record EntryView : Type 0 where
+  pub slot : ℕ
+  pub bytes : List ℕ
+  pub image : List (List ℕ)
+
 -- the bytes of one slot of a block
 abbrev pub cell : List ℕ → ℕ → List ℕ
 cell bytes index = take 32 (drop (32 * index) bytes)

@@ -1,5 +1,5 @@
 //! Chains of blocks: directories and files.
-ghost use Rattle.std.specs.Prelude.{◌≡◌, ◌≢◌, ◌<◌, ◌↔◌, [], List, ℕ, length, IsSome, MatchOption, unwrap_or};
+ghost use Rattle.std.specs.Prelude.{◌≡◌, ◌≢◌, ◌<◌, ◌↔◌, [], List, ℕ, length, IfSome, IsSome, MatchOption, unwrap_or};
 ghost use Rattle.d64_files.specs.Chain.{Chain, chain as chain_of, chain_from as chain_of_pair, block_in as block_of_pair};
 
 use crate::block_list::BlockList;
@@ -18,8 +18,9 @@ pub(crate) enum Link {
 
 /// The block of a track (from 1) and a sector (from 0), or None where the image has no such block.
 #[tactic(auto, unfolding(crate::specs::Chain::block_in))]
-pub(crate) fn block_in(image: &Image, track: u8, sector: u8) -> Option<BlockNo>
-    ensures { result ≡ block_of_pair image.now track sector }
+pub fn block_in(image: &Image, track: u8, sector: u8) -> Option<BlockNo>
+    ensures block { result ≡ block_of_pair image.now track sector }
+    ensures held { IfSome result (λ block. block < length image.now) }
 {
     let block = BlockNo::of(track, sector)?;
     if image.holds(block) {

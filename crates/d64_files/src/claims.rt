@@ -74,8 +74,8 @@ impl Claims {
     /// Claims what an entry owns: the chain of a closed SEQ, PRG, USR or REL file, and the side chain of a REL file that
     /// has one. Answers `NoChain` where one of them is missing.
     pub(crate) fn claim_file(&mut self, image: &Image, entry: &Entry) -> Result<(), DirFault>
-        ensures chains { MatchResult result (λ _. HasItsChains image.now entry.now.1) (λ fault. (fault ≡ NoChain) × ¬ (HasItsChains image.now entry.now.1)) }
-        ensures claimed { OnOk result ((before : List ℕ) → self.old ≡ claims_of before → self.new ≡ claims_of (before ++ owned_by image.now entry.now.1)) }
+        ensures chains { MatchResult result (λ _. HasItsChains image.now entry.now.bytes) (λ fault. (fault ≡ NoChain) × ¬ (HasItsChains image.now entry.now.bytes)) }
+        ensures claimed { OnOk result ((before : List ℕ) → self.old ≡ claims_of before → self.new ≡ claims_of (before ++ owned_by image.now entry.now.bytes)) }
     {
         if !entry.closed() {
             return Ok(());
@@ -95,8 +95,8 @@ impl Claims {
 
     /// Claims what the slots own, or answers `NoChain` where a chain of one of them is missing.
     pub(crate) fn claim_files(&mut self, image: &Image, slots: Slots) -> Result<(), DirFault>
-        ensures chains { MatchResult result (λ _. All (λ slot. HasItsChains image.now slot.1) slots.entry) (λ fault. (fault ≡ NoChain) × ¬ (All (λ slot. HasItsChains image.now slot.1) slots.entry)) }
-        ensures claimed { OnOk result ((before : List ℕ) → self.old ≡ claims_of before → self.new ≡ claims_of (before ++ flat_map (λ slot. owned_by image.now slot.1) slots.entry)) }
+        ensures chains { MatchResult result (λ _. All (λ entry. HasItsChains image.now entry.bytes) slots.entry) (λ fault. (fault ≡ NoChain) × ¬ (All (λ entry. HasItsChains image.now entry.bytes) slots.entry)) }
+        ensures claimed { OnOk result ((before : List ℕ) → self.old ≡ claims_of before → self.new ≡ claims_of (before ++ flat_map (λ entry. owned_by image.now entry.bytes) slots.entry)) }
     {
         for entry in slots {
             match self.claim_file(image, &entry) {

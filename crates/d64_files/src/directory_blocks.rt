@@ -1,7 +1,7 @@
 //! The directory of an image: the blocks of its chain.
 ghost use Rattle.std.specs.Prelude.{◌≡◌, ◌≢◌, ◌*◌, ◌%◌, ◌<◌, ◌≤◌, ◌↔◌, [], length, IfOk, IsSome, MatchResult, unwrap_or};
 ghost use Rattle.d64_image.specs.declared.block.TheConstants.{BLOCKS};
-ghost use Rattle.d64_files.specs.Directory.{directory, slots, numbered, AllHold, IsFirstFault};
+ghost use Rattle.d64_files.specs.Directory.{directory, slots, entries, AllHold, IsFirstFault};
 ghost use Rattle.d64_files.specs.Writing.{dir_last, slot_block};
 
 use crate::block_list::BlockList;
@@ -75,7 +75,7 @@ impl<'a> Directory<'a> {
 
     /// All slots of the directory.
     pub fn slots(&self) -> Slots<'a>
-        ensures slots { result ≡ numbered (slots self.now) }
+        ensures slots { result ≡ entries self.now (slots self.now) }
         ensures len { length result ≤ 8 * BLOCKS }
     {
         Slots::along(self.image, self.blocks.copy())

@@ -52,46 +52,47 @@ impl SlotNo {
 pub struct Entry<'a> {
     slot: SlotNo,
     bytes: &'a [u8],
+    image: &'a Image,
 }
 
 impl<'a> Model for Entry<'a> {
-    ghost use Rattle.std.specs.Prelude.{◌≡◌, ℕ, List, length};
-    ghost use Rattle.d64_files.specs.Slot.{HasKind};
+    ghost use Rattle.std.specs.Prelude.{◌≡◌, length};
+    ghost use Rattle.d64_files.specs.Slot.{EntryView, HasKind};
 
-    ghost Value = { ℕ × List ℕ };
+    ghost Value = { EntryView };
 
-    ghost view = { λ entry. (entry.slot, entry.bytes.now) };
+    ghost view = { λ entry. record { slot = entry.slot; bytes = entry.bytes.now; image = entry.image.now } };
 
     ghost invariant = { λ entry. (length entry.bytes.now ≡ 32) × HasKind entry.bytes.now };
 }
 
 impl<'a> Entry<'a> {
-    /// The entry of a slot with these 32 bytes.
-    pub(crate) fn of(slot: SlotNo, bytes: &'a [u8]) -> Entry<'a>
+    /// The entry of a slot of an image with these 32 bytes.
+    pub(crate) fn of(image: &'a Image, slot: SlotNo, bytes: &'a [u8]) -> Entry<'a>
         requires len { length bytes.now ≡ 32 }
         requires kind { HasKind bytes.now }
-        ensures { result ≡ (slot, bytes.now) }
+        ensures { result ≡ record { slot = slot; bytes = bytes.now; image = image.now } }
     {
-        Entry { slot, bytes }
+        Entry { slot, bytes, image }
     }
 
     /// The slot of the entry.
     pub fn slot(&self) -> SlotNo
-        ensures { result ≡ self.now.0 }
+        ensures { result ≡ self.now.slot }
     {
         self.slot
     }
 
     /// Whether the slot is used: its type byte isn't $00.
     pub fn used(&self) -> bool
-        ensures { result ≡ is_used self.now.1 }
+        ensures { result ≡ is_used self.now.bytes }
     {
         self.bytes[2] != 0
     }
 
     /// The kind of the file, the low four bits of the type byte.
     pub fn kind(&self) -> Kind
-        ensures { result ≡ kind_of self.now.1 }
+        ensures { result ≡ kind_of self.now.bytes }
     {
         match self.bytes[2] % 16 {
             0 => Kind::Del,
@@ -104,21 +105,21 @@ impl<'a> Entry<'a> {
 
     /// Whether the file was closed: bit 7 of the type byte is 1.
     pub fn closed(&self) -> bool
-        ensures { result ≡ is_closed self.now.1 }
+        ensures { result ≡ is_closed self.now.bytes }
     {
         self.bytes[2] & (1 << 7) != 0
     }
 
     /// Whether the file is locked, so that it isn't deleted: bit 6 of the type byte is 1.
     pub fn locked(&self) -> bool
-        ensures { result ≡ is_locked self.now.1 }
+        ensures { result ≡ is_locked self.now.bytes }
     {
         self.bytes[2] & (1 << 6) != 0
     }
 
     /// The field of the name: 16 bytes, of which the first $A0 ends the name.
     pub fn field(&self) -> &'a [u8]
-        ensures value { result.now ≡ field_of self.now.1 }
+        ensures value { result.now ≡ field_of self.now.bytes }
         ensures len { length result.now ≡ 16 }
     {
         &self.bytes[5..21]
@@ -126,7 +127,7 @@ impl<'a> Entry<'a> {
 
     /// The name: the field up to its first $A0, or all of it.
     pub fn name(&self) -> &'a [u8]
-        ensures { result.now ≡ name_of self.now.1 }
+        ensures { result.now ≡ name_of self.now.bytes }
     {
         let field = self.field();
         match field.iter().position(|byte| *byte == FILLER) {
@@ -136,16 +137,16 @@ impl<'a> Entry<'a> {
     }
 
     /// The first block of the file, or None where the image that the entry stands in has no block of that track and sector.
-    pub fn start(&self, image: &Image) -> Option<BlockNo>
-        ensures { result ≡ block_in image.now (first_pair self.now.1).0 (first_pair self.now.1).1 }
+    pub fn start(&self) -> Option<BlockNo>
+        ensures { result ≡ block_in self.now.image (first_pair self.now.bytes).0 (first_pair self.now.bytes).1 }
     {
         let (track, sector) = self.first_pair();
-        block_in(image, track, sector)
+        block_in(self.image, track, sector)
     }
 
     /// The track (from 1) and the sector (from 0) of the first block, as they stand in the entry.
     pub fn first_pair(&self) -> (u8, u8)
-        ensures { result ≡ first_pair self.now.1 }
+        ensures { result ≡ first_pair self.now.bytes }
     {
         (self.bytes[3], self.bytes[4])
     }
@@ -153,7 +154,7 @@ impl<'a> Entry<'a> {
     /// The track (from 1) and the sector (from 0) of the first side block of a REL file, as they stand in the entry, or
     /// None where the track is 0: then there are no side blocks.
     pub fn side_pair(&self) -> Option<(u8, u8)>
-        ensures { result ≡ side_pair self.now.1 }
+        ensures { result ≡ side_pair self.now.bytes }
     {
         if self.bytes[0x15] == 0 {
             None
@@ -164,7 +165,7 @@ impl<'a> Entry<'a> {
 
     /// The size of the file in blocks that the directory shows.
     pub fn blocks(&self) -> u16
-        ensures { result ≡ size_of self.now.1 }
+        ensures { result ≡ size_of self.now.bytes }
     {
         u16::from_le_bytes([self.bytes[0x1E], self.bytes[0x1F]])
     }

@@ -1,6 +1,7 @@
 //! The slots of the directory that commands ask for.
-ghost use Rattle.std.specs.Prelude.{◌≡◌, ℕ, List, find, IfOk, MatchResult};
-ghost use Rattle.d64_files.specs.Directory.{slots, numbered, is_named, first_named, AllHold, IsFirstFault};
+ghost use Rattle.std.specs.Prelude.{◌≡◌, find, IfOk, MatchResult};
+ghost use Rattle.d64_files.specs.Slot.{EntryView};
+ghost use Rattle.d64_files.specs.Directory.{slots, entries, is_named, first_named, AllHold, IsFirstFault};
 
 use crate::dir_fault::DirFault;
 use crate::directory_blocks::Directory;
@@ -11,7 +12,7 @@ use d64_image::Image;
 impl<'a> Directory<'a> {
     /// The entry of the first used slot whose name the pattern matches, or None where there is none.
     pub fn named(&self, pattern: &Pattern) -> Option<Entry<'a>>
-        ensures { result ≡ find (λ (entry : ℕ × List ℕ). is_named pattern.now entry.1) (numbered (slots self.now)) }
+        ensures { result ≡ find (λ (entry : EntryView). is_named pattern.now entry.bytes) (entries self.now (slots self.now)) }
     {
         for entry in self.slots() {
             if entry.used() && matches(pattern, entry.name()) {

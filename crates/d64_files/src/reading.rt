@@ -1,6 +1,6 @@
 //! The contents of files.
-ghost use Rattle.std.specs.Prelude.{◌≡◌, ◌==◌, ℕ, List, find, IfOk};
-ghost use Rattle.d64_files.specs.Slot.{first_pair};
+ghost use Rattle.std.specs.Prelude.{◌≡◌, ◌==◌, find, IfOk};
+ghost use Rattle.d64_files.specs.Slot.{EntryView, first_pair};
 ghost use Rattle.d64_files.specs.Ownership.{chain_at};
 ghost use Rattle.d64_files.specs.Reading.{is_del, refused_by, file_refusal, file_content, content_refusal, content_at};
 
@@ -38,7 +38,7 @@ pub enum ReadFault {
 
 /// The entry of a slot, among those that are left of a walk.
 pub(crate) fn entry_at<'a>(walk: Slots<'a>, slot: SlotNo) -> Option<Entry<'a>>
-    ensures { result ≡ find (λ (entry : ℕ × List ℕ). entry.0 == slot) walk.entry }
+    ensures { result ≡ find (λ (entry : EntryView). entry.slot == slot) walk.entry }
 {
     for entry in walk {
         if entry.slot().place() == slot.place() {
@@ -60,8 +60,8 @@ fn is_del(kind: Kind) -> bool
 
 /// The chain of a file that can be read.
 fn readable_chain(image: &Image, entry: &Entry) -> Result<BlockList, ReadFault>
-    ensures refused { refused_by result ≡ file_refusal image.now entry.now.1 }
-    ensures chain { IfOk result (λ blocks. blocks ≡ chain_at image.now (first_pair entry.now.1)) }
+    ensures refused { refused_by result ≡ file_refusal image.now entry.now.bytes }
+    ensures chain { IfOk result (λ blocks. blocks ≡ chain_at image.now (first_pair entry.now.bytes)) }
 {
     if !entry.used() {
         return Err(ReadFault::NotFound);
@@ -85,8 +85,8 @@ fn readable_chain(image: &Image, entry: &Entry) -> Result<BlockList, ReadFault>
 /// entry; with `Directory` where there is no chain from the file's first block (`NoChain`); with `Memory` where the
 /// content has no room.
 pub fn entry_content(alloc: Global, image: &Image, entry: &Entry) -> Result<Vec<u8>, ReadFault>
-    ensures refused { refused_by result ≡ file_refusal image.now entry.now.1 }
-    ensures bytes { IfOk result (λ bytes. bytes.items ≡ file_content image.now entry.now.1) }
+    ensures refused { refused_by result ≡ file_refusal image.now entry.now.bytes }
+    ensures bytes { IfOk result (λ bytes. bytes.items ≡ file_content image.now entry.now.bytes) }
 {
     let blocks = match readable_chain(image, entry) {
         Ok(blocks) => blocks,

@@ -4,7 +4,7 @@ ghost use Rattle.std.specs.Iterator.{YieldsFirst, item_count};
 ghost use Rattle.d64_image.specs.declared.block.TheConstants.{BLOCKS};
 ghost use Rattle.d64_files.specs.Chain.{LieIn};
 ghost use Rattle.d64_files.specs.Slot.{HasKind, cell as slot_bytes, cells};
-ghost use Rattle.d64_files.specs.Directory.{slots, slots_in, numbered, AllHold, IsFirstFault};
+ghost use Rattle.d64_files.specs.Directory.{slots, slots_in, entries, AllHold, IsFirstFault};
 
 use crate::block_list::BlockList;
 use crate::dir_fault::DirFault;
@@ -29,14 +29,14 @@ pub struct Slots<'a> {
 }
 
 impl<'a> Model for Slots<'a> {
-    ghost use Rattle.std.specs.Prelude.{ℕ, List, All, drop};
+    ghost use Rattle.std.specs.Prelude.{List, All, drop};
     ghost use Rattle.d64_files.specs.Chain.{LieIn};
-    ghost use Rattle.d64_files.specs.Slot.{HasKind};
-    ghost use Rattle.d64_files.specs.Directory.{slots_in, numbered};
+    ghost use Rattle.d64_files.specs.Slot.{EntryView, HasKind};
+    ghost use Rattle.d64_files.specs.Directory.{slots_in, entries};
 
-    ghost Value = { List (ℕ × List ℕ) };
+    ghost Value = { List EntryView };
 
-    ghost view = { λ walk. drop walk.place (numbered (slots_in walk.image.now walk.directory)) };
+    ghost view = { λ walk. drop walk.place (entries walk.image.now (slots_in walk.image.now walk.directory)) };
 
     ghost invariant = { λ walk. LieIn walk.image.now walk.directory × All HasKind (slots_in walk.image.now walk.directory) };
 }
@@ -69,7 +69,7 @@ impl<'a> Slots<'a> {
     /// Refused with `NoDirectory` where there is no chain of blocks from track 18, sector 1, and else with
     /// `UnknownKind` where the low four bits of a slot's type byte are above 4.
     pub fn of(image: &'a Image) -> Result<Slots<'a>, DirFault>
-        ensures slots { IfOk result (λ walk. walk ≡ numbered (slots image.now)) }
+        ensures slots { IfOk result (λ walk. walk ≡ entries image.now (slots image.now)) }
         ensures len { IfOk result (λ walk. length walk ≤ 8 * BLOCKS) }
         ensures conditions { MatchResult result (λ _. AllHold image.now 2 3) (IsFirstFault image.now 2 3) }
     {
@@ -85,7 +85,7 @@ impl<'a> Slots<'a> {
     pub(crate) fn along(image: &'a Image, blocks: BlockList) -> Slots<'a>
         requires blocks { LieIn image.now blocks }
         requires kinds { All HasKind (slots_in image.now blocks) }
-        ensures slots { result ≡ numbered (slots_in image.now blocks) }
+        ensures slots { result ≡ entries image.now (slots_in image.now blocks) }
         ensures len { length result ≤ 8 * BLOCKS }
     {
         let _ = blocks.as_slice();
@@ -114,6 +114,6 @@ impl<'a> Iterator for Slots<'a> {
         }
         let bytes = slot_of(image.sector(blocks[index]), place % SLOTS_PER_BLOCK);
         self.place += 1;
-        Some(Entry::of(SlotNo::at(place), bytes))
+        Some(Entry::of(image, SlotNo::at(place), bytes))
     }
 }

@@ -89,8 +89,8 @@ pub fn check(image: &Image) -> Result<BlockSet, DirFault>
 
 /// The blocks that an entry owns.
 fn blocks_of(image: &Image, entry: &Entry) -> BlockSet
-    requires { HasItsChains image.now entry.now.1 }
-    ensures { result ≡ set.from_list (owned_by image.now entry.now.1) }
+    requires { HasItsChains image.now entry.now.bytes }
+    ensures { result ≡ set.from_list (owned_by image.now entry.now.bytes) }
 {
     let mut claims = Claims::none();
     match claims.claim_file(image, entry) {

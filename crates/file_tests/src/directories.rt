@@ -53,10 +53,10 @@ fn shows_a_closed_file(rt: HostRuntime) -> Result<(), Fail> {
 fn shows_where_a_file_begins(rt: HostRuntime) -> Result<(), Fail> {
     let image = example(&rt)?;
     let first = walk(&image)?.nth(0).ok_or("no slot")?;
-    assert_eq!(rt; first.start(&image).map(|block| block.index()), Some(336));
+    assert_eq!(rt; first.start().map(|block| block.index()), Some(336));
     assert_eq!(rt; first.side_pair(), None);
     let third = walk(&image)?.nth(2).ok_or("no slot")?;
-    assert!(rt; third.start(&image).is_none());
+    assert!(rt; third.start().is_none());
     assert_eq!(rt; third.first_pair(), (36, 0));
     assert_eq!(rt; third.side_pair(), Some((17, 10)));
     Ok(())

@@ -165,11 +165,11 @@ fn entries(bench: &Bench) -> Result<End, Fail> {
     bench.begin()?;
     let mut walk = Slots::of(&image)?;
     let first = walk.next().ok_or("there is no slot")?;
-    Ok(End::answered(is_entry_of_a(&image, &first) && walk.count() == 7))
+    Ok(End::answered(is_entry_of_a(&first) && walk.count() == 7))
 }
 
-/// Whether an entry of the image is that of the file `A`.
-fn is_entry_of_a(image: &Image, entry: &Entry) -> bool {
+/// Whether an entry is that of the file `A`.
+fn is_entry_of_a(entry: &Entry) -> bool {
     entry.slot().place() == 0
         && entry.used()
         && entry.kind() == Kind::Prg
@@ -177,7 +177,7 @@ fn is_entry_of_a(image: &Image, entry: &Entry) -> bool {
         && !entry.locked()
         && entry.field().len() == 16
         && entry.name() == b"A".as_slice()
-        && entry.start(image) == BlockNo::of(17, 0)
+        && entry.start() == BlockNo::of(17, 0)
         && entry.first_pair() == (17, 0)
         && entry.side_pair().is_none()
         && entry.blocks() == 10

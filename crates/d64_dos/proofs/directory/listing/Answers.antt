@@ -5,7 +5,7 @@ use Rattle.d64_image.proofs.Sizes.{size_least}
 use Rattle.d64_map.specs.Map.{map_block}
 use Rattle.d64_dos.specs.Listing.{rows_of}
 use Rattle.d64_dos.specs.Refusal.{refused_by}
-use Rattle.d64_dos.proofs.ListedRows.{rows-numbered, two_bytes, listing_by_fields}
+use Rattle.d64_dos.proofs.ListedRows.{rows-entries, two_bytes, listing_by_fields}
 use Rattle.d64_dos.proofs.Refusals.{readable}
 use Rattle.d64_dos.proofs.directory.listing.Goals as goal
 
@@ -33,7 +33,7 @@ returns-clause-listing c =
     ∙ ap (λ (bytes : List ℕ). take_while (λ byte. not (byte == 0xA0)) (slice_range bytes 0x90 0xA0)) same)
     (two_bytes header 0xA2 (omega (arith, long)) ∙ ap (λ (bytes : List ℕ). slice_range bytes 0xA2 0xA4) same)
     (two_bytes header 0xA5 (omega (arith, long)) ∙ ap (λ (bytes : List ℕ). slice_range bytes 0xA5 0xA7) same)
-    (c.in_ok-rows_of.ensures ∙ ap rows_of c.in-Ok.ensures.slots ∙ rows-numbered image)
+    (c.in_ok-rows_of.ensures ∙ ap rows_of c.in-Ok.ensures.slots ∙ rows-entries image)
     c.blocks_free.ensures
 
 -- the image has the map's block

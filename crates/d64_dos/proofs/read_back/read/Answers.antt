@@ -1,9 +1,7 @@
 use Rattle.std.proofs.Common.{◌≡◌, ℕ, List, None, sym, ap, ◌∙◌, rules}
-use Rattle.std.specs.Prelude.{find}
-use Rattle.d64_files.specs.Directory.{slots, numbered, is_named}
 use Rattle.d64_files.proofs.Contents.{content_of_bytes}
 use Rattle.d64_dos.specs.Refusal.{cause_of, refused_by}
-use Rattle.d64_dos.proofs.ListedRows.{named_slot, number_of_named, name_of_named}
+use Rattle.d64_dos.proofs.ListedRows.{entry_named, named_slot, number_of_named, name_of_named}
 use Rattle.d64_dos.proofs.Refusals.{refused_pattern, refused_found, refused_entry, not_refused}
 use Rattle.d64_dos.proofs.read_back.read.Goals as goal
 
@@ -12,8 +10,7 @@ returns-in-Err-clause-refused c = sym (refused_pattern c.args.image.now c.args.p
 
 pub returns-in-None-clause-refused : goal.returns-in-None-clause-refused
 returns-in-None-clause-refused c =
-    let found = c.in-None.ensures
-    ∙ ap (λ (image : List (List ℕ)). find (λ (e : ℕ × List ℕ). is_named c.args.pattern.now e.1) (numbered (slots image))) c.in-Ok.ensures.image in
+    let found = c.in-None.ensures ∙ ap (λ (image : List (List ℕ)). entry_named image c.args.pattern.now) c.in-Ok.ensures.image in
     sym (refused_found c.args.image.now c.args.pattern.now None c.in-Ok.ensures.conditions (number_of_named c.args.image.now c.args.pattern.now None found))
 
 pub returns-in-Err-entry_content-clause-refused : goal.returns-in-Err-entry_content-clause-refused
@@ -41,8 +38,8 @@ returns-clause-back c =
     let entry = c.in-Some.entry in
     let slot = named_slot image c.in-Ok.directory c.args.pattern.now entry c.in-Ok.ensures.image c.in-Some.ensures in
     record {
-      slot = entry.0;
+      slot = entry.slot;
       found = sym slot.number;
       is_name = c.in_ok-name.ensures.items ∙ c.name.ensures ∙ name_of_named image entry slot.bytes;
-      is_content = c.in-Ok-entry_content.ensures.bytes ∙ sym (content_of_bytes image entry.0 entry.1 slot.bytes);
+      is_content = c.in-Ok-entry_content.ensures.bytes ∙ sym (content_of_bytes image entry.slot entry.bytes slot.bytes);
     }

@@ -1,22 +1,23 @@
 use Rattle.std.proofs.Common.{ℕ, List, Option, Some, ap, ◌∙◌}
 use Rattle.std.specs.Prelude.{option_map}
+use Rattle.d64_files.specs.Slot.{EntryView}
 use Rattle.d64_files.specs.Directory.{slots, is_named, first_named}
-use Rattle.d64_files.proofs.SlotLists.{found-numbered}
+use Rattle.d64_files.proofs.SlotLists.{found-entry}
 use Rattle.d64_files.proofs.lookup.find.Goals as goal
 
 -- the number of the entry that was found
-abbrev slot_of : Option (ℕ × List ℕ) → Option ℕ
-slot_of found = option_map (λ (e : ℕ × List ℕ). e.0) found
+abbrev slot_of : Option EntryView → Option ℕ
+slot_of found = option_map (λ (e : EntryView). e.slot) found
 
 pub returns-in-Some-clause-slot : goal.returns-in-Some-clause-slot
 returns-in-Some-clause-slot c =
     ap Some c.slot.ensures
     ∙ ap slot_of c.in-Some.ensures
-    ∙ found-numbered (is_named c.args.pattern.now) (slots c.in-Ok.directory)
+    ∙ found-entry (is_named c.args.pattern.now) c.in-Ok.directory (slots c.in-Ok.directory)
     ∙ ap (λ (image : List (List ℕ)). first_named c.args.pattern.now (slots image)) c.in-Ok.ensures.image
 
 pub returns-in-None-clause-slot : goal.returns-in-None-clause-slot
 returns-in-None-clause-slot c =
     ap slot_of c.in-None.ensures
-    ∙ found-numbered (is_named c.args.pattern.now) (slots c.in-Ok.directory)
+    ∙ found-entry (is_named c.args.pattern.now) c.in-Ok.directory (slots c.in-Ok.directory)
     ∙ ap (λ (image : List (List ℕ)). first_named c.args.pattern.now (slots image)) c.in-Ok.ensures.image

@@ -1,7 +1,8 @@
 use Rattle.std.proofs.Common.{◌≡◌, ℕ, List}
 use Rattle.std.specs.Prelude.{find, ◌==◌}
+use Rattle.d64_files.specs.Slot.{EntryView}
 use Rattle.d64_files.proofs.reading.entry_at.Given as goal
 
 abbrev pub invariant-loop-entry : goal.invariant-loop-entry
 invariant-loop-entry l =
-    find (λ (e : ℕ × List ℕ). e.0 == l.slot) l.entry-iterator ≡ find (λ (e : ℕ × List ℕ). e.0 == l.slot) l.fn.walk
+    find (λ (e : EntryView). e.slot == l.slot) l.entry-iterator ≡ find (λ (e : EntryView). e.slot == l.slot) l.fn.walk

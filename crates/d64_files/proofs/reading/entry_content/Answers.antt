@@ -13,5 +13,5 @@ returns-in-Ok-data_along-clause-bytes c =
 -- the image has the blocks of the file
 pub data_along-requires : goal.data_along-requires
 data_along-requires c =
-    let root = first_pair c.args.entry.now.1 in
+    let root = first_pair c.args.entry.now.bytes in
     subst (LieIn c.args.image.now) (sym (c.as_slice.ensures.value ∙ c.in-Ok.ensures.chain)) (chain_from-lies c.args.image.now root.0 root.1)

@@ -1,8 +1,9 @@
 use Rattle.std.proofs.Common.{◌≡◌, ℕ, List}
 use Rattle.std.specs.Prelude.{find}
-use Rattle.d64_files.specs.Directory.{slots, numbered, is_named}
+use Rattle.d64_files.specs.Slot.{EntryView}
+use Rattle.d64_files.specs.Directory.{slots, entries, is_named}
 use Rattle.d64_files.proofs.directory_blocks.Directory.named.Given as goal
 
 abbrev pub invariant-loop-entry : goal.invariant-loop-entry
 invariant-loop-entry l =
-    find (λ (e : ℕ × List ℕ). is_named l.pattern e.1) l.entry-iterator ≡ find (λ (e : ℕ × List ℕ). is_named l.pattern e.1) (numbered (slots l.self))
+    find (λ (e : EntryView). is_named l.pattern e.bytes) l.entry-iterator ≡ find (λ (e : EntryView). is_named l.pattern e.bytes) (entries l.self (slots l.self))

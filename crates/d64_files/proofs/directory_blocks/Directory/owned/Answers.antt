@@ -2,28 +2,29 @@ use Rattle.std.proofs.Common.{◌≡◌, ℕ, List, [], ◌∷◌, ◌++◌, sym
 use Rattle.std.specs.Prelude.{All}
 use Rattle.std.specs.List.{flat_map}
 use Rattle.d64_map.specs.Map.{map_block}
+use Rattle.d64_files.specs.Slot.{EntryView}
 use Rattle.d64_files.specs.Ownership.{owned_by, HasItsChains}
 use Rattle.d64_files.specs.Claims.{claims_of}
-use Rattle.d64_files.specs.Directory.{directory, slots, numbered, owned_blocks, IsFirstFault}
-use Rattle.d64_files.proofs.Owners.{numbered_all, all_numbered}
+use Rattle.d64_files.specs.Directory.{directory, slots, entries, owned_blocks, IsFirstFault}
+use Rattle.d64_files.proofs.Owners.{entries_all, all_entries}
 use Rattle.d64_files.proofs.Verdicts.{all_claimed, missing_chain, finished}
 use Rattle.d64_files.proofs.directory_blocks.Directory.owned.Goals as goal
 
--- the chains of the numbered slots of an image are those of its slots
-chains_there : (image given : List (List ℕ)) (walk : List (ℕ × List ℕ)) → given ≡ image → walk ≡ numbered (slots image)
-    → All (λ (slot : ℕ × List ℕ). HasItsChains given slot.1) walk → All (HasItsChains image) (slots image)
+-- the chains of the entries of an image are those of its slots
+chains_there : (image given : List (List ℕ)) (walk : List EntryView) → given ≡ image → walk ≡ entries image (slots image)
+    → All (λ (entry : EntryView). HasItsChains given entry.bytes) walk → All (HasItsChains image) (slots image)
 chains_there image given walk same all there =
-    all_numbered (HasItsChains image) 0 (slots image)
-    (subst (λ (slots : List (ℕ × List ℕ)). All (λ (slot : ℕ × List ℕ). HasItsChains image slot.1) slots) all
-    (subst (λ (i : List (List ℕ)). All (λ (slot : ℕ × List ℕ). HasItsChains i slot.1) walk) same there))
+    all_entries (HasItsChains image) image 0 (slots image)
+    (subst (λ (walk : List EntryView). All (λ (entry : EntryView). HasItsChains image entry.bytes) walk) all
+    (subst (λ (i : List (List ℕ)). All (λ (entry : EntryView). HasItsChains i entry.bytes) walk) same there))
 
 -- and the other way round
-chains_given : (image given : List (List ℕ)) (walk : List (ℕ × List ℕ)) → given ≡ image → walk ≡ numbered (slots image)
-    → All (HasItsChains image) (slots image) → All (λ (slot : ℕ × List ℕ). HasItsChains given slot.1) walk
+chains_given : (image given : List (List ℕ)) (walk : List EntryView) → given ≡ image → walk ≡ entries image (slots image)
+    → All (HasItsChains image) (slots image) → All (λ (entry : EntryView). HasItsChains given entry.bytes) walk
 chains_given image given walk same all there =
-    subst (λ (i : List (List ℕ)). All (λ (slot : ℕ × List ℕ). HasItsChains i slot.1) walk) (sym same)
-    (subst (λ (slots : List (ℕ × List ℕ)). All (λ (slot : ℕ × List ℕ). HasItsChains image slot.1) slots) (sym all)
-    (numbered_all (HasItsChains image) 0 (slots image) there))
+    subst (λ (i : List (List ℕ)). All (λ (entry : EntryView). HasItsChains i entry.bytes) walk) (sym same)
+    (subst (λ (walk : List EntryView). All (λ (entry : EntryView). HasItsChains image entry.bytes) walk) (sym all)
+    (entries_all (HasItsChains image) image 0 (slots image) there))
 
 pub returns-in-Ok : goal.returns-in-Ok
 returns-in-Ok c =
@@ -34,7 +35,7 @@ returns-in-Ok c =
     c.claim_all.ensures (map_block ∷ []) first ∙ ap (λ (bs : List ℕ). claims_of ((map_block ∷ []) ++ bs)) c.blocks-2.ensures.blocks in
     let all : c.claim_files.new.self ≡ claims_of (owned_blocks image) =
     c.in-Ok.ensures.claimed ((map_block ∷ []) ++ directory image) second
-    ∙ ap (λ (i : List (List ℕ)). claims_of (((map_block ∷ []) ++ directory image) ++ flat_map (λ (slot : ℕ × List ℕ). owned_by i slot.1) c.slots.result)) c.image.ensures
+    ∙ ap (λ (i : List (List ℕ)). claims_of (((map_block ∷ []) ++ directory image) ++ flat_map (λ (entry : EntryView). owned_by i entry.bytes) c.slots.result)) c.image.ensures
     ∙ all_claimed image c.slots.result c.slots.ensures.slots in
     finished image c.finish.result c.blocks-2.ensures.conditions
     (chains_there image c.image.result.now c.slots.result c.image.ensures c.slots.ensures.slots c.in-Ok.ensures.chains) (c.finish.ensures (owned_blocks image) all)

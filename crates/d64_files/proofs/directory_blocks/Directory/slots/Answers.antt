@@ -2,7 +2,7 @@ use Rattle.std.proofs.Common.{ℕ, List, sym, ap, ◌∙◌, subst}
 use Rattle.std.specs.Prelude.{All}
 use Rattle.d64_files.specs.Chain.{LieIn}
 use Rattle.d64_files.specs.Slot.{HasKind}
-use Rattle.d64_files.specs.Directory.{slots, slots_in, numbered}
+use Rattle.d64_files.specs.Directory.{slots, slots_in, entries}
 use Rattle.d64_files.proofs.SlotLists.{directory-lies}
 use Rattle.d64_files.proofs.directory_blocks.Directory.slots.Goals as goal
 
@@ -17,5 +17,5 @@ along-requires-clause-kinds c =
 pub returns-clause-slots : goal.returns-clause-slots
 returns-clause-slots c =
     c.along.ensures.slots
-    ∙ ap (λ (bs : List ℕ). numbered (slots_in c.self.inside.image.now bs)) (c.copy.ensures ∙ c.self.invariant.0)
-    ∙ ap (λ (image : List (List ℕ)). numbered (slots image)) c.self.view_is
+    ∙ ap (λ (bs : List ℕ). entries c.self.inside.image.now (slots_in c.self.inside.image.now bs)) (c.copy.ensures ∙ c.self.invariant.0)
+    ∙ ap (λ (image : List (List ℕ)). entries image (slots image)) c.self.view_is

@@ -1,8 +1,8 @@
 use Rattle.std.proofs.Common.{◌≡◌, ℕ, ◌+◌, ◌/◌, ◌<◌, ◌≤◌, List, [], ◌∷◌, length, drop, sym, ap, ap₂, ◌∙◌, subst, rules}
 use Rattle.d64_files.specs.Chain.{LieIn}
-use Rattle.d64_files.specs.Slot.{HasKind}
-use Rattle.d64_files.specs.Directory.{slots_in, numbered}
-use Rattle.d64_files.proofs.SlotLists.{next_slot, no_slot, bytes_at_place, kind_at_place}
+use Rattle.d64_files.specs.Slot.{EntryView, HasKind}
+use Rattle.d64_files.specs.Directory.{slots_in, entry_of, entries}
+use Rattle.d64_files.proofs.SlotLists.{next_entry, no_entry, bytes_at_place, kind_at_place}
 use Rattle.d64_files.proofs.slots.SlotsIterator.next.Goals as goal
 
 pub returns-then-index-blocks-clause-steps : goal.returns-then-index-blocks-clause-steps
@@ -10,7 +10,7 @@ returns-then-index-blocks-clause-steps c =
     let place = c.self.inside.place in
     let blocks = c.self.inside.directory in
     let past : length blocks ≤ place / 8 = subst (λ (bs : List ℕ). length bs ≤ place / 8) c.as_slice-blocks.ensures.value c.if-index-blocks.true in
-    let gone : c.args.self.now ≡ [] = sym c.self.view_is ∙ no_slot c.self.inside.image.now blocks place past in
+    let gone : c.args.self.now ≡ [] = sym c.self.view_is ∙ no_entry c.self.inside.image.now blocks place past in
     (gone, gone)
 
 -- the image has the block of the next slot
@@ -32,7 +32,7 @@ of-requires-clause-kind c =
     subst HasKind (sym bytes) (kind_at_place image blocks place within c.self.invariant.1)
 
 -- what was left is the entry and what is left now
-stepped : (c : goal.After-of) → c.args.self.now ≡ c.of.result ∷ drop (c.self.inside.place + 1) (numbered (slots_in c.self.inside.image.now c.self.inside.directory))
+stepped : (c : goal.After-of) → c.args.self.now ≡ c.of.result ∷ drop (c.self.inside.place + 1) (entries c.self.inside.image.now (slots_in c.self.inside.image.now c.self.inside.directory))
 stepped c =
     let image = c.self.inside.image.now in
     let place = c.self.inside.place in
@@ -40,8 +40,8 @@ stepped c =
     let bytes = bytes_at_place image blocks c.as_slice-blocks.result.now place c.index-blocks-index.result c.sector.result.now c.slot_of-bytes.result.now
     c.as_slice-blocks.ensures.value c.if-index-blocks.false c.index-blocks-index.is c.sector.ensures.value c.slot_of-bytes.ensures.value in
     let within = subst (λ (bs : List ℕ). place / 8 < length bs) c.as_slice-blocks.ensures.value c.if-index-blocks.false in
-    let entry = c.of.ensures ∙ ap₂ (λ (n : ℕ) (s : List ℕ). (n, s)) c.at.ensures bytes in
-    sym c.self.view_is ∙ next_slot image blocks place within ∙ ap (λ (e : ℕ × List ℕ). e ∷ drop (place + 1) (numbered (slots_in image blocks))) (sym entry)
+    let entry = c.of.ensures ∙ ap₂ (λ (n : ℕ) (s : List ℕ). entry_of image (n, s)) c.at.ensures bytes in
+    sym c.self.view_is ∙ next_entry image blocks place within ∙ ap (λ (e : EntryView). e ∷ drop (place + 1) (entries image (slots_in image blocks))) (sym entry)
 
 pub returns-clause-steps : goal.returns-clause-steps
 returns-clause-steps c = stepped c
