@@ -8,6 +8,4 @@
 #[cfg(test)]
 mod dos;
 #[cfg(test)]
-mod session_files;
-#[cfg(test)]
 mod undo;
