@@ -11,6 +11,12 @@ const BYTES_OF_LINE: usize = 16;
 /// The lines of a block.
 const LINES: usize = 16;
 
+/// The two hexadecimal digits of each byte, from 0 on.
+const DIGITS: &[u8; 512] = b"000102030405060708090a0b0c0d0e0f101112131415161718191a1b1c1d1e1f202122232425262728292a2b2c2d2e2f303132333435363738393a3b3c3d3e3f\
+      404142434445464748494a4b4c4d4e4f505152535455565758595a5b5c5d5e5f606162636465666768696a6b6c6d6e6f707172737475767778797a7b7c7d7e7f\
+      808182838485868788898a8b8c8d8e8f909192939495969798999a9b9c9d9e9fa0a1a2a3a4a5a6a7a8a9aaabacadaeafb0b1b2b3b4b5b6b7b8b9babbbcbdbebf\
+      c0c1c2c3c4c5c6c7c8c9cacbcccdcecfd0d1d2d3d4d5d6d7d8d9dadbdcdddedfe0e1e2e3e4e5e6e7e8e9eaebecedeeeff0f1f2f3f4f5f6f7f8f9fafbfcfdfeff";
+
 /// The room for the lines of a block, in bytes: 52 for each line.
 pub const DUMP_LEN: usize = 832;
 
@@ -54,14 +60,7 @@ fn push_hex(lines: &mut ArrayVec<u8, DUMP_LEN>, byte: u8)
     ensures digits { lines.new.items ≡ lines.old.items ++ hex_digits byte }
     ensures len { array_vec_len lines.new ≡ array_vec_len lines.old + 2 }
 {
-    lines.push(digit(byte / 16));
-    lines.push(digit(byte % 16));
-}
-
-/// A hexadecimal digit.
-fn digit(number: u8) -> u8
-    requires { number < 16 }
-    ensures { result ≡ hex_digit number }
-{
-    b"0123456789abcdef"[usize::from(number)]
+    let at = 2 * usize::from(byte);
+    lines.push(DIGITS[at]);
+    lines.push(DIGITS[at + 1]);
 }

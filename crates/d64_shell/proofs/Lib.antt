@@ -3,6 +3,7 @@ pub mod BasicActs
 pub mod ScriptRuns
 pub mod Transcripts
 pub mod TextArguments
+pub mod WordRows
 pub mod LastParts
 pub mod AsciiTexts
 pub mod FoundFiles

@@ -47,10 +47,7 @@ pub(crate) fn block_in(image: &Image, track: &[u8], sector: &[u8]) -> Result<Blo
 {
     let track = number_in(track)?;
     let sector = number_in(sector)?;
-    match BlockNo::of(track, sector) {
-        Some(block) if image.holds(block) => Ok(block),
-        _ => Err(Status::IllegalBlock { track, sector }),
-    }
+    d64_files::block_in(image, track, sector).ok_or(Status::IllegalBlock { track, sector })
 }
 
 /// The bytes that a word stands for in text form.

@@ -44,10 +44,9 @@ const PROGRAM_START: u16 = 0x0801;
 pub(crate) fn block(session: &Session, track: &[u8], sector: &[u8]) -> Result<Response, Status>
     ensures { RespondsAlone (block_act session.now track.now sector.now) session.now result session.now }
 {
-    let image = session.image();
-    let block = block_in(image, track, sector)?;
+    let block = block_in(session.image(), track, sector)?;
     Ok(Response {
-        output: Output::Block(*image.sector(block)),
+        output: Output::Block(block),
         status: Status::Done,
         closes: false,
     })

@@ -3,6 +3,7 @@
 
 ghost use Rattle.std.specs.Prelude.{◌≡◌, ◌≤◌, All, map, length, Option, MatchOption};
 ghost use Rattle.d64_script.specs.Words.{IsPrintable};
+ghost use Rattle.d64_undo.specs.History.{present};
 ghost use Rattle.d64_shell.specs.Act.{world_of};
 ghost use Rattle.d64_shell.specs.Response.{shown, Responds};
 ghost use Rattle.d64_shell.specs.Line.{act_of_command, act_of_words, act_of_text, act_of_line, IsSkipped, IsAnswered};
@@ -36,7 +37,7 @@ pub(crate) fn answer_line<H: Host>(
         (world_of (H.files host.new) (H.failure_count host.new) session.new))
         (λ response. IsAnswered home.now session.old line.now
         (world_of (H.files host.old) (H.failure_count host.old) session.old)
-        (shown response)
+        (shown (present session.new) response)
         (world_of (H.files host.new) (H.failure_count host.new) session.new)) }
 {
     if raw_lines::is_too_long(line) {
@@ -73,9 +74,30 @@ fn answer_text<H: Host>(
         let few = held::<FEW_WORDS>(words);
         answer_words(alloc, host, home, session, few.as_slice())
     } else {
-        let many = held::<MAX_WORDS>(words);
-        answer_words(alloc, host, home, session, many.as_slice())
+        answer_many(alloc, host, home, session, words)
     }
+}
+
+/// The response to the words of a line, as many as it may have.
+///
+/// It is a call of its own: room for so many words would else be cleared for each line.
+#[inline(never)]
+fn answer_many<H: Host>(
+    alloc: Global,
+    host: &mut H,
+    home: &str,
+    session: &mut Session,
+    words: Words,
+) -> Result<Response, Status>
+    requires len { length words ≤ 512 }
+    requires printable { All (All IsPrintable) words }
+    ensures { Responds (act_of_words home.now session.old words.entry)
+        (world_of (H.files host.old) (H.failure_count host.old) session.old)
+        result
+        (world_of (H.files host.new) (H.failure_count host.new) session.new) }
+{
+    let many = held::<MAX_WORDS>(words);
+    answer_words(alloc, host, home, session, many.as_slice())
 }
 
 /// The words in a row, in a room that is large enough.

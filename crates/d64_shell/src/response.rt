@@ -3,7 +3,7 @@ ghost use Rattle.std.specs.Prelude.{◌≡◌, OnOk, OnErr};
 ghost use Rattle.std.specs.Io.KnownBytes.{Appends};
 ghost use Rattle.d64_script.specs.Output.{AppendsPart};
 
-use d64_image::BLOCK_BYTES;
+use d64_image::{BlockNo, Image};
 use d64_script::dump::dump;
 use d64_script::output::{WriteFault, write_answer};
 use d64_script::status::Status;
@@ -13,8 +13,8 @@ use std::io::Write;
 #[derive(Drop)]
 pub(crate) enum Output {
     Nothing,
-    /// The sixteen lines that show a block with these bytes.
-    Block([u8; BLOCK_BYTES]),
+    /// The sixteen lines that show a block of the present image. Its number costs less to hand on than its bytes.
+    Block(BlockNo),
     /// Other lines.
     Text(Vec<u8>),
 }
@@ -22,14 +22,16 @@ pub(crate) enum Output {
 impl Output {
     ghost use Rattle.d64_shell.specs.Response.{output_bytes};
 
-    /// Writes the output.
-    fn write<W: Write>(&self, writer: &mut W) -> Result<(), WriteFault>
-        ensures ok { OnOk result (Appends (W.contents writer.old) (W.contents writer.new) (output_bytes self.now)) }
-        ensures err { OnErr result (AppendsPart (W.contents writer.old) (W.contents writer.new) (output_bytes self.now)) }
+    /// Writes the output, where this is the present image.
+    fn write<W: Write>(&self, writer: &mut W, image: &Image) -> Result<(), WriteFault>
+        ensures ok { OnOk result (Appends (W.contents writer.old) (W.contents writer.new) (output_bytes image.now self.now)) }
+        ensures err { OnErr result (AppendsPart (W.contents writer.old) (W.contents writer.new) (output_bytes image.now self.now)) }
     {
         match self {
-            Output::Nothing => write_answer(writer, b""),
-            Output::Block(bytes) => write_answer(writer, dump(bytes).as_slice()),
+            Output::Block(at) if image.holds(*at) => {
+                write_answer(writer, dump(image.sector(*at)).as_slice())
+            }
+            Output::Nothing | Output::Block(_) => write_answer(writer, b""),
             Output::Text(text) => write_answer(writer, text.as_slice()),
         }
     }
@@ -45,13 +47,14 @@ pub(crate) struct Response {
 }
 
 impl Response {
+    ghost use Rattle.std.specs.Prelude.{List, ℕ};
     ghost use Rattle.d64_shell.specs.Act.{plain};
     ghost use Rattle.d64_shell.specs.Response.{shown};
     ghost use Rattle.d64_shell.specs.Transcript.{printed};
 
     /// A status with no output.
     pub(crate) fn plain(status: Status) -> Response
-        ensures { shown result ≡ plain status }
+        ensures { (image : List (List ℕ)) → shown image result ≡ plain status }
     {
         Response {
             output: Output::Nothing,
@@ -60,12 +63,13 @@ impl Response {
         }
     }
 
-    /// Writes the output and the status line. Where a write fails, a part of them is written.
-    pub(crate) fn write<W: Write>(&self, writer: &mut W) -> Result<(), WriteFault>
-        ensures ok { OnOk result (Appends (W.contents writer.old) (W.contents writer.new) (printed (shown self.now))) }
-        ensures err { OnErr result (AppendsPart (W.contents writer.old) (W.contents writer.new) (printed (shown self.now))) }
+    /// Writes the output and the status line, where this is the present image. Where a write fails, a part of them is
+    /// written.
+    pub(crate) fn write<W: Write>(&self, writer: &mut W, image: &Image) -> Result<(), WriteFault>
+        ensures ok { OnOk result (Appends (W.contents writer.old) (W.contents writer.new) (printed (shown image.now self.now))) }
+        ensures err { OnErr result (AppendsPart (W.contents writer.old) (W.contents writer.new) (printed (shown image.now self.now))) }
     {
-        match self.output.write(writer) {
+        match self.output.write(writer, image) {
             Ok(()) => write_answer(writer, self.status.line().as_slice()),
             Err(fault) => Err(fault),
         }

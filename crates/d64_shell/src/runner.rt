@@ -3,6 +3,7 @@ ghost use Rattle.std.specs.Prelude.{◌≡◌, ◌≤◌, ◌<◌, ◌^◌, ◌+
 ghost use Rattle.std.specs.Io.KnownBytes.{Keeps};
 ghost use Rattle.d64_script.specs.HeldLine.{Says};
 ghost use Rattle.d64_script.specs.RawLines.{lines_of};
+ghost use Rattle.d64_undo.specs.History.{present};
 ghost use Rattle.d64_shell.specs.Act.{world_of};
 ghost use Rattle.d64_shell.specs.Line.{IsSkipped, IsAnswered};
 ghost use Rattle.d64_shell.specs.Response.{shown};
@@ -262,7 +263,7 @@ fn run_line<W: Write, H: Host>(
         return Ok(());
     };
     tally.count(&response);
-    response.write(writer)
+    response.write(writer, session.image())
 }
 
 /// The response to a line that has come to its end, or None where it is skipped.
@@ -279,7 +280,7 @@ fn answer_held<H: Host>(
         (world_of (H.files host.new) (H.failure_count host.new) session.new))
         (λ response. IsAnswered home.now session.old raw
         (world_of (H.files host.old) (H.failure_count host.old) session.old)
-        (shown response)
+        (shown (present session.new) response)
         (world_of (H.files host.new) (H.failure_count host.new) session.new)) }
 {
     let Some(text) = line.text() else {

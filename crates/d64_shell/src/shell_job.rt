@@ -11,7 +11,7 @@ use crate::host_file::fetch;
 use crate::program_fault::ProgramFault;
 use crate::runner::{Outcome, run};
 use d64_host::Host;
-use d64_image::Image;
+use d64_image::{BLOCKS, Image, blocks_of};
 use d64_undo::{Session, resume};
 use std::alloc::{AllocError, Global};
 use std::io::{Read, Write};
@@ -91,11 +91,11 @@ fn session_of_file<H: Host>(
     }
 }
 
-/// A blank image of 40 tracks, or of 35.
+/// A blank image of so many tracks.
 fn blank_image(alloc: Global, tracks: u8) -> Result<Image, AllocError>
     ensures { IfOk result (λ image. image ≡ blank tracks) }
 {
-    if tracks == 40 {
+    if blocks_of(tracks) == Some(BLOCKS) {
         Image::zeroed40(alloc)
     } else {
         Image::zeroed(alloc)

@@ -1,5 +1,6 @@
 use Rattle.std.proofs.Common.{[], Ok, Err, refl}
 use Rattle.d64_shell.specs.Act.{Does, Store, Gives, HostState, World}
+use Rattle.d64_undo.specs.History.{present}
 use Rattle.d64_shell.specs.Line.{leave}
 use Rattle.d64_shell.specs.Response.{shown}
 use Rattle.d64_shell.proofs.Acts.{Does-given, Does-refused}
@@ -13,8 +14,8 @@ returns-in-Ok g c = λ history.
     let after : World = record { host = new; history = history } in
     let gives : Gives (Store c.args.name.now c.args.bytes.now) old (Ok []) new =
     (Ok tt, record { answer = c.in-Ok.ensures.stored; counted = c.in-Ok.ensures.counted }, refl) in
-    let done : Does (leave history) after (shown c.plain.result) after = (c.plain.ensures, refl) in
-    Does-given (Store c.args.name.now c.args.bytes.now) (λ stored. leave history) [] old new history (shown c.plain.result) after gives done
+    let done : Does (leave history) after (shown (present history) c.plain.result) after = (c.plain.ensures (present history), refl) in
+    Does-given (Store c.args.name.now c.args.bytes.now) (λ stored. leave history) [] old new history (shown (present history) c.plain.result) after gives done
 
 pub returns-in-Err : goal.returns-in-Err
 returns-in-Err g c = λ history.

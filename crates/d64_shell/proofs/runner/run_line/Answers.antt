@@ -1,3 +1,4 @@
+use Rattle.d64_undo.specs.History.{present}
 use Rattle.d64_shell.specs.Response.{shown}
 use Rattle.d64_shell.proofs.LinesSoFar.{RunsLine-skipped, RunsLine-answered, StopsInLine-answered}
 use Rattle.d64_shell.proofs.runner.run_line.Goals as goal
@@ -8,10 +9,10 @@ returns-in_default-clause-ran g c raw says open_run =
 
 pub returns-clause-ran : goal.returns-clause-ran
 returns-clause-ran g c raw says open_run =
-    RunsLine-answered c.args.home.now raw _ _ _ _ c.args.tally.now c.count.new.self (shown c.in-Some.response) c.write.result
-    (c.in-Some.ensures raw says) c.count.ensures.closed c.count.ensures.accepted c.count.ensures.refused c.write.ensures.ok
+    RunsLine-answered c.args.home.now raw _ _ _ _ c.args.tally.now c.count.new.self (shown (present c.answer_held.new.session) c.in-Some.response) c.write.result
+    (c.in-Some.ensures raw says) c.count.ensures.closed c.count.ensures.accepted c.count.ensures.refused (rw c.image.ensures.present at c.write.ensures.ok)
 
 pub returns-clause-stopped : goal.returns-clause-stopped
 returns-clause-stopped g c raw says open_run =
-    StopsInLine-answered c.args.home.now raw _ _ _ _ c.args.tally.now (shown c.in-Some.response) c.write.result
-    (c.in-Some.ensures raw says) c.write.ensures.err
+    StopsInLine-answered c.args.home.now raw _ _ _ _ c.args.tally.now (shown (present c.answer_held.new.session) c.in-Some.response) c.write.result
+    (c.in-Some.ensures raw says) (rw c.image.ensures.present at c.write.ensures.err)

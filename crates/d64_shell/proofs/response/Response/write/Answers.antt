@@ -25,7 +25,7 @@ returns-in-Err-clause-err g c =
 -- the output and a part of the status line were written
 pub returns-in-Ok-clause-err : goal.returns-in-Ok-clause-err
 returns-in-Ok-clause-err g c =
-    let output = output_bytes c.args.self.now.output in
+    let output = output_bytes c.args.image.now c.args.self.now.output in
     let whole = c.in-Ok.ensures.ok in
     OnErr-map c.write_answer.result _ _
     (λ second. record {
