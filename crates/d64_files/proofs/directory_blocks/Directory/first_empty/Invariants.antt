@@ -1,4 +1,4 @@
-use Rattle.std.proofs.Common.{◌≡◌, ℕ, List}
+use Rattle.std.proofs.Common.{◌≡◌}
 use Rattle.std.specs.Prelude.{not, find, option_map}
 use Rattle.d64_files.specs.Slot.{EntryView, is_used}
 use Rattle.d64_files.specs.Directory.{slots}

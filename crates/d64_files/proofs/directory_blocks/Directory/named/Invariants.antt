@@ -1,4 +1,4 @@
-use Rattle.std.proofs.Common.{◌≡◌, ℕ, List}
+use Rattle.std.proofs.Common.{◌≡◌}
 use Rattle.std.specs.Prelude.{find}
 use Rattle.d64_files.specs.Slot.{EntryView}
 use Rattle.d64_files.specs.Directory.{slots, entries, is_named}
