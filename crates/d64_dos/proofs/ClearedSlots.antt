@@ -1,8 +1,9 @@
 -- The slots of a walk that pass a test, and slots that are cleared one after another.
-use Rattle.std.proofs.Common.{◌≡◌, ℕ, ◌+◌, ◌<◌, Bool, true, false, cond, List, [], ◌∷◌, length, map, refl, ap, arith, ◌∙◌}
+use Rattle.std.proofs.Common.{◌≡◌, ℕ, ◌+◌, ◌*◌, ◌<◌, ◌≤◌, Bool, true, false, cond, List, [], ◌∷◌, ◌++◌, length, map, refl, ap, ap₂, arith, ◌∙◌}
 use Rattle.std.specs.Prelude.{All, filter}
 use Rattle.std.specs.List.{enumerate_from}
 use Rattle.std.proofs.lemmas.List.Elements.{All-nil, All-cons}
+use Rattle.d64_image.specs.declared.block.TheConstants.{BLOCKS}
 use Rattle.d64_image.specs.Image.{IsImage}
 use Rattle.d64_files.specs.Clearing.{with_cleared_slot}
 use Rattle.d64_files.specs.Slot.{EntryView}
@@ -36,6 +37,20 @@ passing_from test image n (c ∷ cells) = by_test (test c) (passing_from test im
 -- so for a walk along all slots
 pub passing-entries : (test : List ℕ → Bool) (image cells : List (List ℕ)) → passing test (entries image cells) ≡ slots_where test cells
 passing-entries test image cells = passing_from test image 0 cells
+
+-- what holds as a walk along all slots begins, while no number is taken
+pub record Begins (test : List ℕ → Bool) (image : List (List ℕ)) (places : List ℕ) (walk : List EntryView) : Type 0 where
+  pub passes : passing test walk ≡ slots_where test (slots image)
+  pub taken : places ++ passing test walk ≡ slots_where test (slots image)
+  pub room : length places + length walk ≤ 8 * BLOCKS
+
+pub begins : (test : List ℕ → Bool) (image : List (List ℕ)) (places : List ℕ) (items walk : List EntryView)
+    → places ≡ [] → walk ≡ items → items ≡ entries image (slots image) → length items ≤ 8 * BLOCKS → Begins test image places walk
+begins test image places items walk none same all few =
+    let passes = ap (passing test) (same ∙ all) ∙ passing-entries test image (slots image) in
+    let empty = ap (length {A = ℕ}) none in
+    let long = ap (length {A = EntryView}) same in
+    record { passes = passes; taken = ap₂ (λ (done left : List ℕ). done ++ left) none passes; room = omega arith }
 
 -- an image that has as many slots as another
 pub record HasSlotsOf (image next : List (List ℕ)) : Type 0 where
