@@ -99,10 +99,7 @@ impl Claims {
         ensures claimed { OnOk result ((before : List ℕ) → self.old ≡ claims_of before → self.new ≡ claims_of (before ++ flat_map (λ entry. owned_by image.now entry.bytes) slots.entry)) }
     {
         for entry in slots {
-            match self.claim_file(image, &entry) {
-                Ok(()) => {}
-                Err(fault) => return Err(fault),
-            }
+            self.claim_file(image, &entry)?;
         }
         Ok(())
     }

@@ -31,11 +31,7 @@ pub fn find(image: &Image, pattern: &Pattern) -> Result<Option<SlotNo>, DirFault
     ensures slot { IfOk result (λ slot. slot ≡ first_named pattern.now (slots image.now)) }
     ensures conditions { MatchResult result (λ _. AllHold image.now 2 3) (IsFirstFault image.now 2 3) }
 {
-    let directory = match Directory::of(image) {
-        Ok(directory) => directory,
-        Err(fault) => return Err(fault),
-    };
-    match directory.named(pattern) {
+    match Directory::of(image)?.named(pattern) {
         Some(entry) => Ok(Some(entry.slot())),
         None => Ok(None),
     }

@@ -36,6 +36,28 @@ pub enum ReadFault {
     Memory(AllocError),
 }
 
+impl From<DirFault> for ReadFault {
+    ghost use Rattle.std.specs.Prelude.{◌≡◌};
+    ghost use Rattle.d64_files.specs.declared.reading.ReadFault.TheVariants.{Directory};
+
+    ghost from_gives = { λ error fault. fault ≡ Directory error };
+
+    fn from(error: DirFault) -> ReadFault {
+        ReadFault::Directory(error)
+    }
+}
+
+impl From<AllocError> for ReadFault {
+    ghost use Rattle.std.specs.Prelude.{◌≡◌};
+    ghost use Rattle.d64_files.specs.declared.reading.ReadFault.TheVariants.{Memory};
+
+    ghost from_gives = { λ error fault. fault ≡ Memory error };
+
+    fn from(error: AllocError) -> ReadFault {
+        ReadFault::Memory(error)
+    }
+}
+
 /// The entry of a slot, among those that are left of a walk.
 pub(crate) fn entry_at<'a>(walk: Slots<'a>, slot: SlotNo) -> Option<Entry<'a>>
     ensures { result ≡ find (λ (entry : EntryView). entry.slot == slot) walk.entry }
@@ -88,14 +110,8 @@ pub fn entry_content(alloc: Global, image: &Image, entry: &Entry) -> Result<Vec<
     ensures refused { refused_by result ≡ file_refusal image.now entry.now.bytes }
     ensures bytes { IfOk result (λ bytes. bytes.items ≡ file_content image.now entry.now.bytes) }
 {
-    let blocks = match readable_chain(image, entry) {
-        Ok(blocks) => blocks,
-        Err(fault) => return Err(fault),
-    };
-    match data_along(alloc, image, blocks.as_slice()) {
-        Ok(bytes) => Ok(bytes),
-        Err(fault) => Err(ReadFault::Memory(fault)),
-    }
+    let blocks = readable_chain(image, entry)?;
+    Ok(data_along(alloc, image, blocks.as_slice())?)
 }
 
 /// The content of the file of a slot: the data of its chain of blocks, without a REL file's side blocks.
@@ -108,10 +124,7 @@ pub fn content(alloc: Global, image: &Image, slot: SlotNo) -> Result<Vec<u8>, Re
     ensures refused { refused_by result ≡ content_refusal image.now slot }
     ensures bytes { IfOk result (λ bytes. bytes.items ≡ content_at image.now slot) }
 {
-    let directory = match Directory::of(image) {
-        Ok(directory) => directory,
-        Err(fault) => return Err(ReadFault::Directory(fault)),
-    };
+    let directory = Directory::of(image)?;
     match entry_at(directory.slots(), slot) {
         Some(entry) => entry_content(alloc, image, &entry),
         None => Err(ReadFault::NotFound),

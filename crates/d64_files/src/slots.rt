@@ -73,10 +73,7 @@ impl<'a> Slots<'a> {
         ensures len { IfOk result (λ walk. length walk ≤ 8 * BLOCKS) }
         ensures conditions { MatchResult result (λ _. AllHold image.now 2 3) (IsFirstFault image.now 2 3) }
     {
-        match Directory::of(image) {
-            Ok(directory) => Ok(directory.slots()),
-            Err(fault) => Err(fault),
-        }
+        Ok(Directory::of(image)?.slots())
     }
 
     /// The slots of blocks of the image, eight a block.

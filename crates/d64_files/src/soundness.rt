@@ -24,10 +24,8 @@ impl Directory<'_> {
         let mut claims = Claims::none();
         claims.claim(map_block());
         claims.claim_all(self.blocks());
-        match claims.claim_files(self.image(), self.slots()) {
-            Ok(()) => claims.finish(),
-            Err(fault) => Err(fault),
-        }
+        claims.claim_files(self.image(), self.slots())?;
+        claims.finish()
     }
 }
 
@@ -41,10 +39,7 @@ pub fn owned(image: &Image) -> Result<BlockSet, DirFault>
     ensures verdict { MatchResult result (λ blocks. AllHold image.now 2 5 × (blocks ≡ set.from_list (owned_blocks image.now))) (IsFirstFault image.now 2 5) }
     ensures first { err_of result ≡ first_fault image.now owning_conditions }
 {
-    match Directory::of(image) {
-        Ok(directory) => directory.owned(),
-        Err(fault) => Err(fault),
-    }
+    Directory::of(image)?.owned()
 }
 
 /// The directory of a sound image, and the blocks that are owned. It takes no memory.
@@ -58,14 +53,8 @@ pub fn checked(image: &Image) -> Result<(Directory<'_>, BlockSet), DirFault>
     if !counts_fit(image) {
         return Err(DirFault::WrongCounts);
     }
-    let directory = match Directory::of(image) {
-        Ok(directory) => directory,
-        Err(fault) => return Err(fault),
-    };
-    let blocks = match directory.owned() {
-        Ok(blocks) => blocks,
-        Err(fault) => return Err(fault),
-    };
+    let directory = Directory::of(image)?;
+    let blocks = directory.owned()?;
     if none_is_free(image, &blocks) {
         Ok((directory, blocks))
     } else {
@@ -81,10 +70,8 @@ pub fn check(image: &Image) -> Result<BlockSet, DirFault>
     ensures verdict { MatchResult result (λ blocks. AllHold image.now 1 6 × (blocks ≡ set.from_list (owned_blocks image.now))) (IsFirstFault image.now 1 6) }
     ensures first { err_of result ≡ first_fault image.now sound_conditions }
 {
-    match checked(image) {
-        Ok((_directory, blocks)) => Ok(blocks),
-        Err(fault) => Err(fault),
-    }
+    let (_directory, blocks) = checked(image)?;
+    Ok(blocks)
 }
 
 /// The blocks that an entry owns.

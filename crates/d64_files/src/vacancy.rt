@@ -44,10 +44,7 @@ pub fn first_empty(image: &Image) -> Result<Option<SlotNo>, DirFault>
     ensures slot { IfOk result (λ slot. slot ≡ first_unused (slots image.now)) }
     ensures conditions { MatchResult result (λ _. AllHold image.now 2 3) (IsFirstFault image.now 2 3) }
 {
-    match Directory::of(image) {
-        Ok(directory) => Ok(directory.first_empty()),
-        Err(fault) => Err(fault),
-    }
+    Ok(Directory::of(image)?.first_empty())
 }
 
 /// Whether a used slot has exactly this name. It takes no memory.
@@ -58,10 +55,7 @@ pub fn is_taken(image: &Image, name: &Name) -> Result<bool, DirFault>
     ensures taken { IfOk result (λ taken. taken ≡ is_name_taken name.now (slots image.now)) }
     ensures conditions { MatchResult result (λ _. AllHold image.now 2 3) (IsFirstFault image.now 2 3) }
 {
-    match Directory::of(image) {
-        Ok(directory) => Ok(directory.is_taken(name)),
-        Err(fault) => Err(fault),
-    }
+    Ok(Directory::of(image)?.is_taken(name))
 }
 
 /// The directory's last block. It takes no memory.
@@ -72,8 +66,5 @@ pub fn dir_last(image: &Image) -> Result<BlockNo, DirFault>
     ensures block { IfOk result (λ block. block ≡ dir_last image.now) }
     ensures conditions { MatchResult result (λ _. AllHold image.now 2 3) (IsFirstFault image.now 2 3) }
 {
-    match Directory::of(image) {
-        Ok(directory) => Ok(directory.last()),
-        Err(fault) => Err(fault),
-    }
+    Ok(Directory::of(image)?.last())
 }

@@ -13,11 +13,11 @@ pub returns-in-Some-clause-slot : goal.returns-in-Some-clause-slot
 returns-in-Some-clause-slot c =
     ap Some c.slot.ensures
     ∙ ap slot_of c.in-Some.ensures
-    ∙ found-entry (is_named c.args.pattern.now) c.in-Ok.directory (slots c.in-Ok.directory)
-    ∙ ap (λ (image : List (List ℕ)). first_named c.args.pattern.now (slots image)) c.in-Ok.ensures.image
+    ∙ found-entry (is_named c.args.pattern.now) c.in_ok-of.field-0 (slots c.in_ok-of.field-0)
+    ∙ ap (λ (image : List (List ℕ)). first_named c.args.pattern.now (slots image)) c.in_ok-of.ensures.image
 
 pub returns-in-None-clause-slot : goal.returns-in-None-clause-slot
 returns-in-None-clause-slot c =
     ap slot_of c.in-None.ensures
-    ∙ found-entry (is_named c.args.pattern.now) c.in-Ok.directory (slots c.in-Ok.directory)
-    ∙ ap (λ (image : List (List ℕ)). first_named c.args.pattern.now (slots image)) c.in-Ok.ensures.image
+    ∙ found-entry (is_named c.args.pattern.now) c.in_ok-of.field-0 (slots c.in_ok-of.field-0)
+    ∙ ap (λ (image : List (List ℕ)). first_named c.args.pattern.now (slots image)) c.in_ok-of.ensures.image

@@ -1,4 +1,4 @@
-use Rattle.std.proofs.Common.{◌≡◌, ℕ, true, false, List, None, sym, ◌∙◌, subst}
+use Rattle.std.proofs.Common.{◌≡◌, ℕ, true, false, List, None, sym, ◌∙◌, subst, rules}
 use Rattle.std.specs.Ordering.{nat_cmp}
 use Rattle.std.specs.FinSet as set
 use Rattle.d64_map.specs.Map.{CountsFit}
@@ -22,29 +22,48 @@ returns-then-not-counts_fit-clause-first c =
     let f : true ≡ false = sym told ∙ c.if-not-counts_fit.true in
     cc))
 
-pub returns-in-Err-clause-verdict : goal.returns-in-Err-clause-verdict
-returns-in-Err-clause-verdict c =
+pub returns-in_err-directory-clause-verdict : goal.returns-in_err-directory-clause-verdict
+returns-in_err-directory-clause-verdict c =
     let counts : CountsFit c.args.image.now = c.counts_fit.ensures.0 c.if-not-counts_fit.false in
-    file_fault_first c.args.image.now c.in-Err.fault counts (dir_fault_first c.args.image.now c.in-Err.fault c.in-Err.ensures.conditions)
+    let fault = c.in_err-directory.field-0.0 in
+    let told : IsFirstFault c.args.image.now 1 6 fault =
+    file_fault_first c.args.image.now fault counts (dir_fault_first c.args.image.now fault c.in_err-directory.ensures.conditions) in
+    search rules
 
-pub returns-in-Err-clause-first : goal.returns-in-Err-clause-first
-returns-in-Err-clause-first c = sound_first c.args.image.now c.in-Err.fault (returns-in-Err-clause-verdict c)
-
-pub returns-in-Err-owned-clause-verdict : goal.returns-in-Err-owned-clause-verdict
-returns-in-Err-owned-clause-verdict c =
+pub returns-in_err-directory-clause-first : goal.returns-in_err-directory-clause-first
+returns-in_err-directory-clause-first c =
     let counts : CountsFit c.args.image.now = c.counts_fit.ensures.0 c.if-not-counts_fit.false in
-    file_fault_first c.args.image.now c.in-Err-owned.fault counts
-    (subst (λ (image : List (List ℕ)). IsFirstFault image 2 5 c.in-Err-owned.fault) c.in-Ok.ensures.image c.in-Err-owned.ensures)
+    let fault = c.in_err-directory.field-0.0 in
+    let told =
+    sound_first c.args.image.now fault
+    (file_fault_first c.args.image.now fault counts (dir_fault_first c.args.image.now fault c.in_err-directory.ensures.conditions)) in
+    search rules
 
-pub returns-in-Err-owned-clause-first : goal.returns-in-Err-owned-clause-first
-returns-in-Err-owned-clause-first c = sound_first c.args.image.now c.in-Err-owned.fault (returns-in-Err-owned-clause-verdict c)
+pub returns-in_err-blocks-clause-verdict : goal.returns-in_err-blocks-clause-verdict
+returns-in_err-blocks-clause-verdict c =
+    let counts : CountsFit c.args.image.now = c.counts_fit.ensures.0 c.if-not-counts_fit.false in
+    let fault = c.in_err-blocks.field-0.0 in
+    let told : IsFirstFault c.args.image.now 1 6 fault =
+    file_fault_first c.args.image.now fault counts
+    (subst (λ (image : List (List ℕ)). IsFirstFault image 2 5 fault) c.in_ok-directory.ensures.image c.in_err-blocks.ensures) in
+    search rules
+
+pub returns-in_err-blocks-clause-first : goal.returns-in_err-blocks-clause-first
+returns-in_err-blocks-clause-first c =
+    let counts : CountsFit c.args.image.now = c.counts_fit.ensures.0 c.if-not-counts_fit.false in
+    let fault = c.in_err-blocks.field-0.0 in
+    let told =
+    sound_first c.args.image.now fault
+    (file_fault_first c.args.image.now fault counts
+    (subst (λ (image : List (List ℕ)). IsFirstFault image 2 5 fault) c.in_ok-directory.ensures.image c.in_err-blocks.ensures)) in
+    search rules
 
 pub returns-then-none_is_free-clause-verdict : goal.returns-then-none_is_free-clause-verdict
 returns-then-none_is_free-clause-verdict c =
     let none = c.none_is_free.ensures.0 c.if-none_is_free.true in
     let counts : CountsFit c.args.image.now = c.counts_fit.ensures.0 c.if-not-counts_fit.false in
-    let owned = owned_of c.args.image.now c.in-Ok.directory c.in-Ok-owned.blocks c.in-Ok.ensures.image c.in-Ok-owned.ensures in
-    (all_hold c.args.image.now counts owned.0 (blocks_too c.args.image.now (owned_blocks c.args.image.now) c.in-Ok-owned.blocks owned.1 none), owned.1)
+    let owned = owned_of c.args.image.now c.in_ok-directory.directory c.in_ok-blocks.blocks c.in_ok-directory.ensures.image c.in_ok-blocks.ensures in
+    (all_hold c.args.image.now counts owned.0 (blocks_too c.args.image.now (owned_blocks c.args.image.now) c.in_ok-blocks.blocks owned.1 none), owned.1)
 
 pub returns-then-none_is_free-clause-first : goal.returns-then-none_is_free-clause-first
 returns-then-none_is_free-clause-first c =
@@ -54,9 +73,9 @@ returns-then-none_is_free-clause-first c =
 pub returns-else-none_is_free-clause-verdict : goal.returns-else-none_is_free-clause-verdict
 returns-else-none_is_free-clause-verdict c =
     let counts : CountsFit c.args.image.now = c.counts_fit.ensures.0 c.if-not-counts_fit.false in
-    let owned = owned_of c.args.image.now c.in-Ok.directory c.in-Ok-owned.blocks c.in-Ok.ensures.image c.in-Ok-owned.ensures in
+    let owned = owned_of c.args.image.now c.in_ok-directory.directory c.in_ok-blocks.blocks c.in_ok-directory.ensures.image c.in_ok-blocks.ensures in
     marked_free c.args.image.now counts owned.0 (λ all.
-    let told = c.none_is_free.ensures.1 (members_too c.args.image.now (owned_blocks c.args.image.now) c.in-Ok-owned.blocks owned.1 all) in
+    let told = c.none_is_free.ensures.1 (members_too c.args.image.now (owned_blocks c.args.image.now) c.in_ok-blocks.blocks owned.1 all) in
     let f : true ≡ false = sym told ∙ c.if-none_is_free.false in
     cc)
 

@@ -14,7 +14,7 @@ loop-entry-preserved c =
       split = invariant.split
           ∙ ap (λ (left : List EntryView). c.loop-entry.yielded ++ left) c.in-Some.ensures.steps
           ∙ sym (append_assoc c.loop-entry.yielded (c.in-Some.entry ∷ []) c.next.new.self);
-      chains = All-push (λ (entry : EntryView). HasItsChains c.args.image.now entry.bytes) c.loop-entry.yielded c.in-Some.entry invariant.chains c.in-Ok.ensures.chains;
-      claimed = λ before is. c.in-Ok.ensures.claimed (before ++ flat_map (λ (entry : EntryView). owned_by c.args.image.now entry.bytes) c.loop-entry.yielded) (invariant.claimed before is)
+      chains = All-push (λ (entry : EntryView). HasItsChains c.args.image.now entry.bytes) c.loop-entry.yielded c.in-Some.entry invariant.chains c.in_ok-claim_file.ensures.chains;
+      claimed = λ before is. c.in_ok-claim_file.ensures.claimed (before ++ flat_map (λ (entry : EntryView). owned_by c.args.image.now entry.bytes) c.loop-entry.yielded) (invariant.claimed before is)
           ∙ ap claims_of (owned_more (λ (entry : EntryView). owned_by c.args.image.now entry.bytes) before c.loop-entry.yielded c.in-Some.entry);
     }
