@@ -151,22 +151,22 @@ fn carried_out(image: &mut Image, patch: &mut Patch, command: &Command) -> Resul
             format(image, patch, name, id)?;
             Ok(Reply::Done)
         }
-        Command::Write { name, kind, bytes } => match write(image, patch, name, *kind, bytes) {
-            Ok(()) => Ok(Reply::Done),
-            Err(refusal) => Err(refusal),
-        },
-        Command::Delete { patterns } => match scratch(image, patch, patterns) {
-            Ok(count) => Ok(Reply::Scratched(count)),
-            Err(refusal) => Err(refusal),
-        },
-        Command::Rename { old, new } => match rename(image, patch, old, new) {
-            Ok(()) => Ok(Reply::Done),
-            Err(refusal) => Err(refusal),
-        },
-        Command::Validate => match validate(image, patch) {
-            Ok(()) => Ok(Reply::Done),
-            Err(refusal) => Err(refusal),
-        },
+        Command::Write { name, kind, bytes } => {
+            write(image, patch, name, *kind, bytes)?;
+            Ok(Reply::Done)
+        }
+        Command::Delete { patterns } => {
+            let count = scratch(image, patch, patterns)?;
+            Ok(Reply::Scratched(count))
+        }
+        Command::Rename { old, new } => {
+            rename(image, patch, old, new)?;
+            Ok(Reply::Done)
+        }
+        Command::Validate => {
+            validate(image, patch)?;
+            Ok(Reply::Done)
+        }
         Command::BlockWrite { at, block } => {
             patch.write(image, *at, block)?;
             Ok(Reply::Done)

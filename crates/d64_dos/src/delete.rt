@@ -133,10 +133,8 @@ pub(crate) fn scratch(
 {
     clearing_keeps_the_directory();
     let _ = image.bytes();
-    let found = match checked(image) {
-        Ok((directory, _owned)) => find_scratched(&directory, patterns),
-        Err(fault) => return Err(Refusal::Directory(fault)),
-    };
+    let (directory, _owned) = checked(image)?;
+    let found = find_scratched(&directory, patterns);
     if found.places.is_empty() {
         return Ok(0);
     }

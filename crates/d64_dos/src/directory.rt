@@ -34,10 +34,7 @@ pub fn listing(alloc: Global, image: &Image) -> Result<Listing, Refusal>
     ensures refused { refused_by result ≡ directory_refusal image.now }
     ensures listing { IfOk result (λ listing. shown_listing listing ≡ listing_of image.now) }
 {
-    let walk = match Slots::of(image) {
-        Ok(walk) => walk,
-        Err(fault) => return Err(Refusal::Directory(fault)),
-    };
+    let walk = Slots::of(image)?;
     let _ = image.tracks();
     let header = image.sector(map_block());
     Ok(Listing {

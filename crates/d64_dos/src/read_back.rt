@@ -3,7 +3,7 @@ ghost use Rattle.std.specs.Prelude.{◌≡◌, IfOk};
 ghost use Rattle.d64_dos.specs.Reading.{read_refusal, IsReadBack};
 ghost use Rattle.d64_dos.specs.Refusal.{refused_by};
 
-use crate::refusal::{Refusal, of_read_fault};
+use crate::refusal::Refusal;
 use d64_files::{Directory, Pattern, entry_content};
 use d64_image::Image;
 use std::alloc::Global;
@@ -28,18 +28,11 @@ pub fn read(alloc: Global, image: &Image, pattern: &Pattern) -> Result<ReadBack,
     ensures refused { refused_by result ≡ read_refusal image.now pattern.now }
     ensures back { IfOk result (λ back. IsReadBack image.now pattern.now back.name.items back.bytes.items) }
 {
-    let directory = match Directory::of(image) {
-        Ok(directory) => directory,
-        Err(fault) => return Err(Refusal::Directory(fault)),
+    let directory = Directory::of(image)?;
+    let Some(entry) = directory.named(pattern) else {
+        return Err(Refusal::NotFound);
     };
-    let entry = match directory.named(pattern) {
-        Some(entry) => entry,
-        None => return Err(Refusal::NotFound),
-    };
-    let bytes = match entry_content(alloc, image, &entry) {
-        Ok(bytes) => bytes,
-        Err(fault) => return Err(of_read_fault(fault)),
-    };
+    let bytes = entry_content(alloc, image, &entry)?;
     let name = Vec::from_slice(alloc, entry.name())?;
     Ok(ReadBack { name, bytes })
 }

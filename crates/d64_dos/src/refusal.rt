@@ -1,7 +1,4 @@
 //! Why a command or a request is refused.
-ghost use Rattle.std.specs.Prelude.{◌≡◌};
-ghost use Rattle.d64_dos.specs.Refusal.{of_read_fault};
-
 use d64_files::{DirFault, ReadFault};
 use std::alloc::AllocError;
 use thiserror::Error;
@@ -42,15 +39,30 @@ impl From<AllocError> for Refusal {
     }
 }
 
-/// The refusal for a file that can't be read.
-pub(crate) fn of_read_fault(fault: ReadFault) -> Refusal
-    ensures { result ≡ of_read_fault fault }
-{
-    match fault {
-        ReadFault::Directory(fault) => Refusal::Directory(fault),
-        ReadFault::NotFound => Refusal::NotFound,
-        ReadFault::NotClosed => Refusal::NotClosed,
-        ReadFault::WrongType => Refusal::WrongType,
-        ReadFault::Memory(_) => Refusal::Memory,
+impl From<DirFault> for Refusal {
+    ghost use Rattle.std.specs.Prelude.{◌≡◌};
+    ghost use Rattle.d64_dos.specs.declared.refusal.Refusal.TheVariants.{Directory};
+
+    ghost from_gives = { λ fault refusal. refusal ≡ Directory fault };
+
+    fn from(fault: DirFault) -> Refusal {
+        Refusal::Directory(fault)
+    }
+}
+
+impl From<ReadFault> for Refusal {
+    ghost use Rattle.std.specs.Prelude.{◌≡◌};
+    ghost use Rattle.d64_dos.specs.Refusal.{of_read_fault};
+
+    ghost from_gives = { λ fault refusal. refusal ≡ of_read_fault fault };
+
+    fn from(fault: ReadFault) -> Refusal {
+        match fault {
+            ReadFault::Directory(fault) => Refusal::Directory(fault),
+            ReadFault::NotFound => Refusal::NotFound,
+            ReadFault::NotClosed => Refusal::NotClosed,
+            ReadFault::WrongType => Refusal::WrongType,
+            ReadFault::Memory(_) => Refusal::Memory,
+        }
     }
 }

@@ -30,10 +30,7 @@ fn slot_to_rename(image: &Image, old: &Name, new: &Name) -> Result<SlotNo, Refus
     ensures slot { IfOk result (λ slot. first_of_name old.now (slots image.now) ≡ Some slot) }
     ensures within { IfOk result (λ slot. slot < length (slots image.now)) }
 {
-    let directory = match checked(image) {
-        Ok((directory, _owned)) => directory,
-        Err(fault) => return Err(Refusal::Directory(fault)),
-    };
+    let (directory, _owned) = checked(image)?;
     let Some(first) = slot_of_name(&directory, old) else {
         return Err(Refusal::NotFound);
     };
@@ -60,10 +57,7 @@ pub(crate) fn rename(
     ensures back { back image.new patch.new ≡ back image.old patch.old }
     ensures held { IsPatchOf image.old patch.old → IsPatchOf image.new patch.new }
 {
-    let slot = match slot_to_rename(image, old, new) {
-        Ok(slot) => slot,
-        Err(refusal) => return Err(refusal),
-    };
+    let slot = slot_to_rename(image, old, new)?;
     set_name(image, patch, slot, new)?;
     Ok(())
 }

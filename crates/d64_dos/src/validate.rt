@@ -61,14 +61,8 @@ pub(crate) fn validate(image: &mut Image, patch: &mut Patch) -> Result<(), Refus
     ensures held { IsPatchOf image.old patch.old → IsPatchOf image.new patch.new }
 {
     clearing_keeps_the_directory();
-    let owned = match owned(image) {
-        Ok(owned) => owned,
-        Err(fault) => return Err(Refusal::Directory(fault)),
-    };
-    let unclosed = match Directory::of(image) {
-        Ok(directory) => unclosed_slots(&directory),
-        Err(fault) => return Err(Refusal::Directory(fault)),
-    };
+    let owned = owned(image)?;
+    let unclosed = unclosed_slots(&Directory::of(image)?);
     let others = all_but(image, &owned);
     clear_slots(image, patch, unclosed.as_slice())?;
     put_map(image, patch, &others)?;

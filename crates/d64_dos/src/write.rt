@@ -97,17 +97,11 @@ fn space_for(image: &Image, name: &Name, kind: Kind, bytes: usize) -> Result<Spa
     if !is_writable(kind) {
         return Err(Refusal::WrongType);
     }
-    let directory = match checked(image) {
-        Ok((directory, _owned)) => directory,
-        Err(fault) => return Err(Refusal::Directory(fault)),
-    };
+    let (directory, _owned) = checked(image)?;
     if directory.is_taken(name) {
         return Err(Refusal::Exists);
     }
-    match find_space(&directory, bytes) {
-        Some(space) => Ok(space),
-        None => Err(Refusal::DiskFull),
-    }
+    find_space(&directory, bytes).ok_or(Refusal::DiskFull)
 }
 
 /// Writes the entry of a new file into its place.
@@ -184,10 +178,7 @@ pub(crate) fn write(
     ensures back { back image.new patch.new ≡ back image.old patch.old }
     ensures held { IsPatchOf image.old patch.old → IsPatchOf image.new patch.new }
 {
-    let space = match space_for(image, name, kind, bytes.len()) {
-        Ok(space) => space,
-        Err(refusal) => return Err(refusal),
-    };
+    let space = space_for(image, name, kind, bytes.len())?;
     put_file(image, patch, &space, name, kind, bytes)?;
     Ok(())
 }

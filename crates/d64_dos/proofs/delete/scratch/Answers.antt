@@ -15,7 +15,7 @@ pub returns-then-is_empty-clause-image : goal.returns-then-is_empty-clause-image
 returns-then-is_empty-clause-image c =
     let patterns = c.args.patterns.now in
     none_scratched c.args.image.now patterns c.find_scratched-found.result.places.items
-    (c.find_scratched-found.ensures.places ∙ ap (λ (image : List (List ℕ)). scratched_slots image patterns) c.in-Ok.ensures.image) c.if-is_empty.ensures
+    (c.find_scratched-found.ensures.places ∙ ap (λ (image : List (List ℕ)). scratched_slots image patterns) c.in_ok-directory.ensures.image) c.if-is_empty.ensures
 
 pub returns-clause-image : goal.returns-clause-image
 returns-clause-image c =
@@ -23,10 +23,10 @@ returns-clause-image c =
     let patterns = c.args.patterns.now in
     let found = c.find_scratched-found in
     some_scratched image patterns c.clear_slots.new.image c.put_map.new.image found.result.places.items found.result.free
-    (found.ensures.places ∙ ap (λ (one : List (List ℕ)). scratched_slots one patterns) c.in-Ok.ensures.image) c.if-is_empty.ensures
+    (found.ensures.places ∙ ap (λ (one : List (List ℕ)). scratched_slots one patterns) c.in_ok-directory.ensures.image) c.if-is_empty.ensures
     (c.in_ok-clear_slots.ensures.cleared ∙ ap (with_cleared image) c.as_slice.ensures.value)
     (found.ensures.free
-    ∙ ap (λ (one : List (List ℕ)). with_freed (free_blocks one) (flat_map (slot_owns one) (scratched_slots one patterns))) c.in-Ok.ensures.image)
+    ∙ ap (λ (one : List (List ℕ)). with_freed (free_blocks one) (flat_map (slot_owns one) (scratched_slots one patterns))) c.in_ok-directory.ensures.image)
     c.in_ok-put_map.ensures.written
 
 -- what is free without the files are blocks of the image
@@ -35,9 +35,9 @@ put_map-requires c =
     let image = c.args.image.now in
     let patterns = c.args.patterns.now in
     let found = c.find_scratched-found in
-    let sound : IsSound image = c.in-Ok.ensures.verdict.0 in
+    let sound : IsSound image = c.in_ok-directory.ensures.verdict.0 in
     let free = found.ensures.free
-    ∙ ap (λ (one : List (List ℕ)). with_freed (free_blocks one) (flat_map (slot_owns one) (scratched_slots one patterns))) c.in-Ok.ensures.image in
+    ∙ ap (λ (one : List (List ℕ)). with_freed (free_blocks one) (flat_map (slot_owns one) (scratched_slots one patterns))) c.in_ok-directory.ensures.image in
     let long = ap length c.in_ok-clear_slots.ensures.cleared ∙ length-with_cleared image c.as_slice.result.now in
     record {
       members = subst (λ (n : ℕ). MembersAreBelow n found.result.free) (sym long)

@@ -11,15 +11,15 @@ use Rattle.d64_dos.proofs.directory.listing.Goals as goal
 
 pub returns-in_err-from_slice-clause-refused : goal.returns-in_err-from_slice-clause-refused
 returns-in_err-from_slice-clause-refused c =
-    let wants_memory : refused_by c.from_residual.result ≡ None = search rules in wants_memory ∙ sym (readable c.args.image.now c.in-Ok.ensures.conditions)
+    let wants_memory : refused_by c.from_residual-in_err-from_slice.result ≡ None = search rules in wants_memory ∙ sym (readable c.args.image.now c.in_ok-walk.ensures.conditions)
 
 pub returns-in_err-rows_of-clause-refused : goal.returns-in_err-rows_of-clause-refused
 returns-in_err-rows_of-clause-refused c =
     let wants_memory : refused_by c.from_residual-in_err-rows_of.result ≡ None = search rules in
-    wants_memory ∙ sym (readable c.args.image.now c.in-Ok.ensures.conditions)
+    wants_memory ∙ sym (readable c.args.image.now c.in_ok-walk.ensures.conditions)
 
 pub returns-clause-refused : goal.returns-clause-refused
-returns-clause-refused c = sym (readable c.args.image.now c.in-Ok.ensures.conditions)
+returns-clause-refused c = sym (readable c.args.image.now c.in_ok-walk.ensures.conditions)
 
 pub returns-clause-listing : goal.returns-clause-listing
 returns-clause-listing c =
@@ -33,7 +33,7 @@ returns-clause-listing c =
     ∙ ap (λ (bytes : List ℕ). take_while (λ byte. not (byte == 0xA0)) (slice_range bytes 0x90 0xA0)) same)
     (two_bytes header 0xA2 (omega (arith, long)) ∙ ap (λ (bytes : List ℕ). slice_range bytes 0xA2 0xA4) same)
     (two_bytes header 0xA5 (omega (arith, long)) ∙ ap (λ (bytes : List ℕ). slice_range bytes 0xA5 0xA7) same)
-    (c.in_ok-rows_of.ensures ∙ ap rows_of c.in-Ok.ensures.slots ∙ rows-entries image)
+    (c.in_ok-rows_of.ensures ∙ ap rows_of c.in_ok-walk.ensures.slots ∙ rows-entries image)
     c.blocks_free.ensures
 
 -- the image has the map's block

@@ -6,4 +6,4 @@ pub returns-clause-image : goal.returns-clause-image
 unfolding renamed
 returns-clause-image c =
     c.in_ok-set_name.ensures.named
-    ∙ ap (λ (found : Option ℕ). with_name_in c.args.image.now found c.args.new.now) (sym c.in-Ok.ensures.slot)
+    ∙ ap (λ (found : Option ℕ). with_name_in c.args.image.now found c.args.new.now) (sym c.in_ok-slot.ensures.slot)

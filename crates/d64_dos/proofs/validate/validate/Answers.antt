@@ -13,9 +13,9 @@ unfolding validated
 returns-clause-image c =
     let image = c.args.image.now in
     let places : c.as_slice.result.now ≡ unclosed_slots image =
-    c.as_slice.ensures.value ∙ c.unclosed_slots-unclosed.ensures ∙ ap (λ (one : List (List ℕ)). unclosed_slots one) c.in-Ok-of.ensures.image in
+    c.as_slice.ensures.value ∙ c.unclosed_slots-unclosed.ensures ∙ ap (λ (one : List (List ℕ)). unclosed_slots one) c.in_ok-of.ensures.image in
     c.in_ok-put_map.ensures.written
-    ∙ ap₂ with_map (c.in_ok-clear_slots.ensures.cleared ∙ ap (with_cleared image) places) (c.all_but-others.ensures (owned_blocks image) c.in-Ok.ensures.verdict.1)
+    ∙ ap₂ with_map (c.in_ok-clear_slots.ensures.cleared ∙ ap (with_cleared image) places) (c.all_but-others.ensures (owned_blocks image) c.in_ok-owned.ensures.verdict.1)
 
 -- what nobody owns are blocks of the image
 pub put_map-requires : goal.put_map-requires
@@ -24,5 +24,5 @@ put_map-requires c =
     let long = ap length c.in_ok-clear_slots.ensures.cleared ∙ length-with_cleared image c.as_slice.result.now in
     record {
       members = subst (λ (n : ℕ). MembersAreBelow n c.all_but-others.result) (sym long)
-          (subst (MembersAreBelow (length image)) (sym (c.all_but-others.ensures (owned_blocks image) c.in-Ok.ensures.verdict.1)) (members-all_but (length image) (owned_blocks image)));
+          (subst (MembersAreBelow (length image)) (sym (c.all_but-others.ensures (owned_blocks image) c.in_ok-owned.ensures.verdict.1)) (members-all_but (length image) (owned_blocks image)));
     }
