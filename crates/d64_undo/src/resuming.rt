@@ -111,10 +111,8 @@ fn read_image(alloc: Global, bytes: &[u8]) -> Result<(Image, &[u8]), ResumeFault
 {
     let rest = skip_magic(bytes)?;
     let (blocks, rest) = read_block_count(rest)?;
-    match take_bytes(rest, blocks * BLOCK_BYTES) {
-        Ok((content, rest)) => Ok((image_of(alloc, blocks, content)?, rest)),
-        Err(fault) => Err(fault),
-    }
+    let (content, rest) = take_bytes(rest, blocks * BLOCK_BYTES)?;
+    Ok((image_of(alloc, blocks, content)?, rest))
 }
 
 /// How many records are done, and how many there are.
