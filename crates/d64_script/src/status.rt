@@ -5,6 +5,7 @@ ghost use Rattle.d64_script.specs.Status.{IsAccepted, status_number, status_text
 
 use arrayvec::ArrayVec;
 use itoa::Buffer;
+use std::alloc::AllocError;
 
 /// The room for a status line, in bytes.
 pub const MAX_STATUS_LINE: usize = 128;
@@ -58,6 +59,17 @@ pub enum Status {
     NotBasic { fault: u8 },
     /// 90: there is no memory.
     OutOfMemory,
+}
+
+impl From<AllocError> for Status {
+    ghost use Rattle.std.specs.Prelude.{◌≡◌};
+    ghost use Rattle.d64_script.specs.declared.status.Status.TheVariants.{OutOfMemory};
+
+    ghost from_gives = { λ _ status. status ≡ OutOfMemory };
+
+    fn from(_error: AllocError) -> Status {
+        Status::OutOfMemory
+    }
 }
 
 impl Status {

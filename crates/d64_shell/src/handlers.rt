@@ -171,10 +171,8 @@ pub(crate) fn delete(
 ) -> Result<Response, Status>
     ensures { RespondsAlone (delete_act session.old (map (λ word. word.now) words.now)) session.old result session.new }
 {
-    match patterns_in(alloc, words) {
-        Ok(patterns) => run_command(session, &Command::Delete { patterns }),
-        Err(status) => Err(status),
-    }
+    let patterns = patterns_in(alloc, words)?;
+    run_command(session, &Command::Delete { patterns })
 }
 
 /// `format`: the disk made an empty one. The word is cut at its first comma, into the name and the id.
@@ -185,24 +183,16 @@ pub(crate) fn format(alloc: Global, session: &mut Session, word: &[u8]) -> Resul
         return Err(Status::SyntaxError);
     };
     let name = name_in(alloc, name)?;
-    match id_in(alloc, id) {
-        Ok(id) => run_command(session, &Command::Format { name, id }),
-        Err(status) => Err(status),
-    }
+    let id = id_in(alloc, id)?;
+    run_command(session, &Command::Format { name, id })
 }
 
 /// `history`: the lines that show the records.
 pub(crate) fn history(alloc: Global, session: &Session) -> Result<Response, Status>
     ensures { RespondsAlone (history_act session.now) session.now result session.now }
 {
-    match history_text(alloc, session) {
-        Ok(text) => Ok(Response {
-            output: Output::Text(text),
-            status: Status::Done,
-            closes: false,
-        }),
-        Err(_) => Err(Status::OutOfMemory),
-    }
+    let text = history_text(alloc, session)?;
+    Ok(Response::text(text))
 }
 
 /// `keep`: the session stored in a host file.
@@ -219,54 +209,34 @@ pub(crate) fn keep<H: Host>(
         (world_of (H.files host.new) (H.failure_count host.new) session.now) }
 {
     let name = host_in(name)?;
-    match session.keep(alloc) {
-        Ok(file) => store(alloc, host, name, file.as_slice()),
-        Err(_) => Err(Status::OutOfMemory),
-    }
+    let file = session.keep(alloc)?;
+    store(alloc, host, name, file.as_slice())
 }
 
 /// `list`: the lines that show the directory.
 pub(crate) fn list(alloc: Global, session: &Session) -> Result<Response, Status>
     ensures { RespondsAlone (list_act session.now) session.now result session.now }
 {
-    let listing = match d64_dos::listing(alloc, session.image()) {
-        Ok(listing) => listing,
-        Err(refusal) => return Err(of_refusal(refusal)),
-    };
-    match listing_text(alloc, &listing) {
-        Ok(text) => Ok(Response {
-            output: Output::Text(text),
-            status: Status::Done,
-            closes: false,
-        }),
-        Err(_) => Err(Status::OutOfMemory),
-    }
+    let listing = d64_dos::listing(alloc, session.image()).map_err(of_refusal)?;
+    let text = listing_text(alloc, &listing)?;
+    Ok(Response::text(text))
 }
 
 /// `petcat`: the text of a BASIC program of the disk.
 pub(crate) fn petcat(alloc: Global, session: &Session, name: &[u8]) -> Result<Response, Status>
     ensures { RespondsAlone (petcat_act session.now name.now) session.now result session.now }
 {
-    match pattern_in(alloc, name) {
-        Ok(pattern) => show_program(alloc, session, &pattern),
-        Err(status) => Err(status),
-    }
+    let pattern = pattern_in(alloc, name)?;
+    show_program(alloc, session, &pattern)
 }
 
 /// The text of the BASIC program that a pattern finds.
 fn show_program(alloc: Global, session: &Session, pattern: &Pattern) -> Result<Response, Status>
     ensures { RespondsAlone (show_program session.now pattern.now) session.now result session.now }
 {
-    let file = match d64_dos::read(alloc, session.image(), pattern) {
-        Ok(file) => file,
-        Err(refusal) => return Err(of_refusal(refusal)),
-    };
+    let file = d64_dos::read(alloc, session.image(), pattern).map_err(of_refusal)?;
     match cbm_text::list(alloc, file.bytes.as_slice()) {
-        Ok(text) => Ok(Response {
-            output: Output::Text(text),
-            status: Status::Done,
-            closes: false,
-        }),
+        Ok(text) => Ok(Response::text(text)),
         Err(fault) => Err(of_list_fault(fault)),
     }
 }
@@ -337,14 +307,8 @@ fn read_as_found<H: Host>(
         result
         (world_of (H.files host.new) (H.failure_count host.new) session.now) }
 {
-    let file = match d64_dos::read(alloc, session.image(), pattern) {
-        Ok(file) => file,
-        Err(refusal) => return Err(of_refusal(refusal)),
-    };
-    let name = match to_text(alloc, file.name.as_slice()) {
-        Ok(name) => name,
-        Err(_) => return Err(Status::OutOfMemory),
-    };
+    let file = d64_dos::read(alloc, session.image(), pattern).map_err(of_refusal)?;
+    let name = to_text(alloc, file.name.as_slice())?;
     spelling_is_ascii(file.name.as_slice());
     if !is_file_name(name.as_slice()) {
         return Err(Status::BadName);
@@ -371,10 +335,8 @@ pub(crate) fn rename(
     ensures { RespondsAlone (rename_act session.old old.now new.now) session.old result session.new }
 {
     let old = name_in(alloc, old)?;
-    match name_in(alloc, new) {
-        Ok(new) => run_command(session, &Command::Rename { old, new }),
-        Err(status) => Err(status),
-    }
+    let new = name_in(alloc, new)?;
+    run_command(session, &Command::Rename { old, new })
 }
 
 /// `save`: the image stored in a host file, by default its own.

@@ -47,7 +47,8 @@ pub(crate) struct Response {
 }
 
 impl Response {
-    ghost use Rattle.std.specs.Prelude.{List, ℕ};
+    ghost use Rattle.std.specs.Prelude.{List, ℕ, false};
+    ghost use Rattle.d64_script.specs.declared.status.Status.TheVariants.{Done};
     ghost use Rattle.d64_shell.specs.Act.{plain};
     ghost use Rattle.d64_shell.specs.Response.{shown};
     ghost use Rattle.d64_shell.specs.Transcript.{printed};
@@ -63,15 +64,24 @@ impl Response {
         }
     }
 
+    /// Lines of text, for a line that was accepted.
+    pub(crate) fn text(text: Vec<u8>) -> Response
+        ensures { (image : List (List ℕ)) → shown image result ≡ record { output = text.items; status = Done; closes = false } }
+    {
+        Response {
+            output: Output::Text(text),
+            status: Status::Done,
+            closes: false,
+        }
+    }
+
     /// Writes the output and the status line, where this is the present image. Where a write fails, a part of them is
     /// written.
     pub(crate) fn write<W: Write>(&self, writer: &mut W, image: &Image) -> Result<(), WriteFault>
         ensures ok { OnOk result (Appends (W.contents writer.old) (W.contents writer.new) (printed (shown image.now self.now))) }
         ensures err { OnErr result (AppendsPart (W.contents writer.old) (W.contents writer.new) (printed (shown image.now self.now))) }
     {
-        match self.output.write(writer, image) {
-            Ok(()) => write_answer(writer, self.status.line().as_slice()),
-            Err(fault) => Err(fault),
-        }
+        self.output.write(writer, image)?;
+        write_answer(writer, self.status.line().as_slice())
     }
 }

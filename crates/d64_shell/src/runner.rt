@@ -226,10 +226,7 @@ fn run_piece<W: Write, H: Host>(
             continue;
         }
         line.end_with_line_feed();
-        match run_line(alloc, writer, host, home, session, line, tally) {
-            Ok(()) => {}
-            Err(fault) => return Err(fault),
-        }
+        run_line(alloc, writer, host, home, session, line, tally)?;
         if tally.closed {
             return Ok(());
         }

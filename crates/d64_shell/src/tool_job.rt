@@ -30,10 +30,7 @@ pub(crate) fn run_tool<R: Read, W: Write, H: Host>(
         (outside_of (R.remaining reader.new) (W.contents writer.new) (H.files host.new) (H.failure_count host.new)) result }
     ensures line { IfErr result TellsSmallLine }
 {
-    match write_result(alloc, tool, name, reader, writer, host) {
-        Ok(()) => {}
-        Err(fault) => return Err(fault),
-    }
+    write_result(alloc, tool, name, reader, writer, host)?;
     match writer.flush() {
         Ok(()) => Ok(()),
         Err(_) => Err(ToolFault::Write),

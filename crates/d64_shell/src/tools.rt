@@ -74,10 +74,7 @@ impl Tool {
         ensures ran { RanTool self (R.remaining reader.old) (R.remaining reader.new) (W.contents writer.old) (W.contents writer.new) result }
         ensures line { IfErr result TellsSmallLine }
     {
-        let input = match whole_input(alloc, reader) {
-            Ok(input) => input,
-            Err(fault) => return Err(fault),
-        };
+        let input = whole_input(alloc, reader)?;
         self.write(alloc, &input, writer)
     }
 
@@ -92,10 +89,7 @@ impl Tool {
         ensures written { HasWritten self input.now (W.contents writer.old) (W.contents writer.new) result }
         ensures line { IfErr result TellsSmallLine }
     {
-        let output = match self.output(alloc, input) {
-            Ok(output) => output,
-            Err(fault) => return Err(fault),
-        };
+        let output = self.output(alloc, input)?;
         match write_answer(writer, &output) {
             Ok(()) => Ok(()),
             Err(_) => Err(ToolFault::Write),

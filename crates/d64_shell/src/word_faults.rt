@@ -74,10 +74,7 @@ fn write_whole<W: Write>(writer: &mut W, text: &[u8]) -> Result<(), WriteFault>
     ensures ok { OnOk result (Appends (W.contents writer.old) (W.contents writer.new) text.now) }
     ensures err { OnErr result (AppendsPart (W.contents writer.old) (W.contents writer.new) text.now) }
 {
-    match write_answer(writer, text) {
-        Ok(()) => {}
-        Err(fault) => return Err(fault),
-    }
+    write_answer(writer, text)?;
     match writer.flush() {
         Ok(()) => Ok(()),
         Err(_) => Err(WriteFault),

@@ -1,13 +1,8 @@
-use Rattle.d64_shell.proofs.TextArguments.{Does-read, Does-unread}
+use Rattle.d64_shell.proofs.TextArguments.{Does-read}
 use Rattle.d64_shell.proofs.handlers.format.Goals as goal
 
-pub returns-in-Err : goal.returns-in-Err
-returns-in-Err c = λ host.
-    rw (← c.in-Some.ensures)
-    (Does-read _ _ _ c.in_ok-name.name host _ _ _ c.in_ok-name.ensures (Does-unread _ _ _ c.in-Err.status host _ c.in-Err.ensures))
-
-pub returns-in-Ok : goal.returns-in-Ok
-returns-in-Ok c = λ host.
+pub returns : goal.returns
+returns c = λ host.
     rw (← c.in-Some.ensures)
     (Does-read _ _ _ c.in_ok-name.name host _ _ _ c.in_ok-name.ensures
-    (Does-read _ _ _ c.in-Ok.id host _ _ _ c.in-Ok.ensures (c.run_command.ensures host)))
+    (Does-read _ _ _ c.in_ok-id.id host _ _ _ c.in_ok-id.ensures (c.run_command.ensures host)))

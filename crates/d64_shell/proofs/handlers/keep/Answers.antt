@@ -3,8 +3,8 @@ use Rattle.d64_shell.specs.Act.{HostState}
 use Rattle.d64_shell.proofs.Acts.{Does-given}
 use Rattle.d64_shell.proofs.handlers.keep.Goals as goal
 
-pub returns-in-Ok : goal.returns-in-Ok
-returns-in-Ok g c =
+pub returns : goal.returns
+returns g c =
     let host : HostState = record { files = g.H.Host.files c.args.host.now; failures = g.H.Host.failure_count c.args.host.now } in
-    rw (← c.in_ok-name.ensures, ← c.in-Ok.ensures.file, ← c.as_slice.ensures.value)
+    rw (← c.in_ok-name.ensures, ← c.in_ok-file.ensures.file, ← c.as_slice.ensures.value)
     (Does-given _ _ [] host host _ _ _ (refl, refl) (c.store.ensures c.args.session.now))

@@ -1,4 +1,5 @@
 use Rattle.std.proofs.Common.{◌≡◌, ◌++◌, length, true, false, ap, length-append, arith, rules}
+use Rattle.std.proofs.lemmas.Result.{err_from_is_err_and}
 use Rattle.d64_script.specs.RawLines.{is_ended}
 use Rattle.d64_script.proofs.OpenLines.{IsRaw-first, append-lines_of}
 use Rattle.d64_shell.proofs.PieceSteps.{came_line, came_more, came_to_quit, came_whole, has_byte, none_left, piece_goes_on, piece_is, stopped_at_line}
@@ -20,8 +21,8 @@ loop-part-preserved-then-not-is_ended g c =
       few = omega (arith, i.few, length-append i.done part);
     }
 
-pub returns-in-Err-clause-few : goal.returns-in-Err-clause-few
-returns-in-Err-clause-few g c =
+pub returns-in_err-run_line-clause-few : goal.returns-in_err-run_line-clause-few
+returns-in_err-run_line-clause-few g c =
     let i = c.loop-part.invariant in
     let part = c.in-Some.part.now in
     let rest = c.next.new.self.0.now in
@@ -31,8 +32,8 @@ returns-in-Err-clause-few g c =
     let split = piece_goes_on i.done part rest _ c.args.piece.now next i.split in
     omega (arith, i.few, c.run_line.ensures.few, has_byte part raw ended, ap length split, length-append (i.done ++ part) rest, length-append i.done part)
 
-pub returns-in-Err-clause-stopped : goal.returns-in-Err-clause-stopped
-returns-in-Err-clause-stopped g c first before come more =
+pub returns-in_err-run_line-clause-stopped : goal.returns-in_err-run_line-clause-stopped
+returns-in_err-run_line-clause-stopped g c first before come =
     let i = c.loop-part.invariant in
     let part = c.in-Some.part.now in
     let rest = c.next.new.self.0.now in
@@ -40,8 +41,10 @@ returns-in-Err-clause-stopped g c first before come more =
     let next = append-lines_of c.loop-part.part-iterator.0.now part rest c.in-Some.ensures.steps in
     let ended : is_ended part ≡ true = search rules in
     let split = piece_goes_on i.done part rest _ c.args.piece.now next i.split in
-    stopped_at_line c.args.home.now first _ _ c.loop-part.tally c.loop-part.line c.push.new.self c.end_with_line_feed.new.self before i.done part c.before_end.result.now rest
-    c.args.piece.now more (i.came first before come) raw ended c.before_end.ensures c.push.ensures c.end_with_line_feed.ensures c.in-Err.ensures.stopped split
+    let p = err_from_is_err_and c.from_residual.result c.from_residual.ensures.1 in
+    rw p.1
+    (λ more. stopped_at_line c.args.home.now first _ _ c.loop-part.tally c.loop-part.line c.push.new.self c.end_with_line_feed.new.self before i.done part c.before_end.result.now rest
+    c.args.piece.now more (i.came first before come) raw ended c.before_end.ensures c.push.ensures c.end_with_line_feed.ensures c.in_err-run_line.ensures.stopped split)
 
 pub returns-then-tally-clause-few : goal.returns-then-tally-clause-few
 returns-then-tally-clause-few g c =
@@ -65,7 +68,7 @@ returns-then-tally-clause-came g c first before come =
     let split = piece_goes_on i.done part rest _ c.args.piece.now next i.split in
     came_to_quit c.args.home.now first _ _ c.loop-part.tally c.run_line.new.tally c.loop-part.line c.push.new.self c.end_with_line_feed.new.self c.end_with_line_feed.new.self
     before i.done part c.before_end.result.now rest c.args.piece.now
-    (i.came first before come) raw ended c.before_end.ensures c.push.ensures c.end_with_line_feed.ensures c.in-Ok.ensures.ran c.if-tally.true split
+    (i.came first before come) raw ended c.before_end.ensures c.push.ensures c.end_with_line_feed.ensures c.in_ok-run_line.ensures.ran c.if-tally.true split
 
 pub loop-part-preserved : goal.loop-part-preserved
 loop-part-preserved g c =
@@ -81,7 +84,7 @@ loop-part-preserved g c =
       came = λ first before come.
           came_line c.args.home.now first _ _ c.loop-part.tally c.run_line.new.tally c.loop-part.line c.push.new.self c.end_with_line_feed.new.self c.clear.new.self
           before i.done part c.before_end.result.now
-          (i.came first before come) raw ended c.before_end.ensures c.push.ensures c.end_with_line_feed.ensures c.in-Ok.ensures.ran c.if-tally.false c.clear.ensures;
+          (i.came first before come) raw ended c.before_end.ensures c.push.ensures c.end_with_line_feed.ensures c.in_ok-run_line.ensures.ran c.if-tally.false c.clear.ensures;
       few = omega (arith, i.few, c.run_line.ensures.few, has_byte part raw ended, length-append i.done part);
     }
 

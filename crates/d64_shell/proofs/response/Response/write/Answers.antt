@@ -1,5 +1,6 @@
 use Rattle.std.proofs.Common.{◌++◌, Result, Ok, Err, ap, sym, ◌∙◌, append_assoc}
 use Rattle.std.specs.Prelude.{OnErr}
+use Rattle.std.proofs.lemmas.Result.{err_from_is_err_and}
 use Rattle.std.proofs.KnownBytes.{Appends-trans}
 use Rattle.d64_script.specs.Status.{status_line}
 use Rattle.d64_shell.specs.Response.{output_bytes}
@@ -11,22 +12,24 @@ OnErr-map (Ok value) P Q f p = tt
 OnErr-map (Err fault) P Q f p = f p
 
 -- a part of the output was written
-pub returns-in-Err-clause-err : goal.returns-in-Err-clause-err
-returns-in-Err-clause-err g c =
-    let first = c.in-Err.ensures.err in
+pub returns-in_err-write-clause-err : goal.returns-in_err-write-clause-err
+returns-in_err-write-clause-err g c =
+    let first = c.in_err-write.ensures.err in
     let status = status_line c.args.self.now.status in
-    record {
+    let p = err_from_is_err_and c.from_residual.result c.from_residual.ensures.1 in
+    rw p.1
+    (record {
       part = first.part;
       rest = first.rest ++ status;
       all = sym (append_assoc first.part first.rest status) ∙ ap (λ l. l ++ status) first.all;
       gained = first.gained;
-    }
+    })
 
 -- the output and a part of the status line were written
-pub returns-in-Ok-clause-err : goal.returns-in-Ok-clause-err
-returns-in-Ok-clause-err g c =
+pub returns-clause-err : goal.returns-clause-err
+returns-clause-err g c =
     let output = output_bytes c.args.image.now c.args.self.now.output in
-    let whole = c.in-Ok.ensures.ok in
+    let whole = c.in_ok-write.ensures.ok in
     OnErr-map c.write_answer.result _ _
     (λ second. record {
       part = output ++ second.part;
