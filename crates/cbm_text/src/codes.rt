@@ -45,10 +45,7 @@ fn next_code(mode: Mode, text: &[u8]) -> Option<(u8, &[u8])>
     match mode {
         Mode::Free => match first_token(text) {
             Some(found) => Some(found),
-            None => match code_of_byte(*first) {
-                Some(code) => Some((code, rest)),
-                None => None,
-            },
+            None => Some((code_of_byte(*first)?, rest)),
         },
         Mode::Quoted | Mode::Remark | Mode::Data | Mode::QuotedData => Some((*first, rest)),
     }

@@ -110,10 +110,7 @@ fn read_to_end<F: Read>(file: &mut F, alloc: Global, limit: usize) -> Result<Vec
     for _ in 0..u64::MAX {
         match file.read(&mut buffer) {
             Ok(0) => return Ok(bytes),
-            Ok(count) => match add_piece(&mut bytes, &buffer[..count], limit) {
-                Ok(()) => {}
-                Err(fault) => return Err(fault),
-            },
+            Ok(count) => add_piece(&mut bytes, &buffer[..count], limit)?,
             Err(error) if error.kind() == ErrorKind::Interrupted => {}
             Err(_) => return Err(HostFault::Device),
         }

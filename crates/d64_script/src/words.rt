@@ -152,10 +152,8 @@ fn first_word(text: &[u8]) -> Option<(&[u8], &[u8])>
 fn quoted_word(text: &[u8]) -> Option<(&[u8], &[u8])>
     ensures { option_map (λ first. (first.0.now, first.1.now)) result ≡ quoted_word text.now }
 {
-    match closing_quote(text) {
-        Some(end) => word_before(&text[..end], &text[end + 1..]),
-        None => None,
-    }
+    let end = closing_quote(text)?;
+    word_before(&text[..end], &text[end + 1..])
 }
 
 /// The place of the next quote.

@@ -1,7 +1,6 @@
 use Rattle.std.specs.Prelude.{ℕ, List, [], ◌∷◌, Option, find, codes}
 use Rattle.std.specs.Option.{option_map}
 use Rattle.std.specs.Str.{bytes_eq}
-use Rattle.d64_script.specs.declared.words.TheConstants.{MAX_WORDS}
 use Rattle.d64_shell.specs.declared.command_word.CommandWord.{CommandWord}
 use Rattle.d64_shell.specs.declared.command_word.CommandWord.TheVariants.{Block, BlockRead, BlockWrite, Crunch, Delete, Format, ListHistory, Keep, ListDirectory, Petcat, Quit, Read, Redo, Rename, Save, Undo, Validate, Write}
 
@@ -54,13 +53,13 @@ fewest home Undo = 0
 fewest home Validate = 0
 fewest home Write = 1
 
--- how many words follow at most; after `delete` as many as a line holds
+-- how many words follow at most; after `delete` as many as a line of 1,024 bytes holds
 abbrev pub most : CommandWord → ℕ
 most Block = 2
 most BlockRead = 3
 most BlockWrite = 3
 most Crunch = 2
-most Delete = MAX_WORDS
+most Delete = 512
 most Format = 1
 most ListHistory = 0
 most Keep = 1

@@ -18,13 +18,9 @@ pub(crate) fn fetch<H: Host>(
         name.now limit (fetched result)
         (record { files = H.files host.new; failures = H.failure_count host.new }) }
 {
-    match host.fetch(alloc, name, limit) {
-        Ok(bytes) => {
-            known_bytes(&bytes);
-            Ok(bytes)
-        }
-        Err(fault) => Err(fault),
-    }
+    let bytes = host.fetch(alloc, name, limit)?;
+    known_bytes(&bytes);
+    Ok(bytes)
 }
 
 /// The bytes of a slice are known to be bytes.

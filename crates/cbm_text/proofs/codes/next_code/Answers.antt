@@ -8,9 +8,11 @@ returns-in_default c = nothing_first c.args.mode c.args.text.now c.in_default.le
 pub returns-in-Some : goal.returns-in-Some
 returns-in-Some c = token_first c.args.mode c.args.text.now c.in-Some.found.0 c.in-Some.found.1.now c.in-Free.is c.in-len1-up.len_at_least c.in-Some.ensures
 
-pub returns-in-Some-code_of_byte : goal.returns-in-Some-code_of_byte
-returns-in-Some-code_of_byte c =
-    single_at c.args.mode c.args.text.now (Some c.in-Some-code_of_byte.code) c.in-Free.is c.in-len1-up.len_at_least c.in-None.ensures c.in-Some-code_of_byte.ensures
+pub returns-in_ok-code_of_byte-in-None : goal.returns-in_ok-code_of_byte-in-None
+returns-in_ok-code_of_byte-in-None c =
+    single_at c.args.mode c.args.text.now (Some c.in_ok-code_of_byte-in-None.field-0) c.in-Free.is c.in-len1-up.len_at_least c.in-None.ensures c.in_ok-code_of_byte-in-None.ensures
 
-pub returns-in-None-code_of_byte : goal.returns-in-None-code_of_byte
-returns-in-None-code_of_byte c = single_at c.args.mode c.args.text.now None c.in-Free.is c.in-len1-up.len_at_least c.in-None.ensures c.in-None-code_of_byte.ensures
+pub returns-in_err-code_of_byte-in-None : goal.returns-in_err-code_of_byte-in-None
+returns-in_err-code_of_byte-in-None c =
+    rw c.from_residual.ensures
+    (single_at c.args.mode c.args.text.now None c.in-Free.is c.in-len1-up.len_at_least c.in-None.ensures c.in_err-code_of_byte-in-None.ensures)
