@@ -1,5 +1,7 @@
 //! Listing the directory.
 ghost use Rattle.std.specs.Prelude.{◌≡◌, ◌==◌, not, take_while, slice_range, IfOk};
+ghost use Rattle.d64_image.specs.Image.{IsBlock, sector_at};
+ghost use Rattle.d64_map.specs.Map.{map_block};
 ghost use Rattle.d64_dos.specs.Listing.{listing_of, shown_listing};
 ghost use Rattle.d64_dos.specs.Reading.{directory_refusal};
 ghost use Rattle.d64_dos.specs.Refusal.{refused_by};
@@ -26,6 +28,15 @@ fn disk_name(header: &[u8; BLOCK_BYTES]) -> &[u8]
     }
 }
 
+/// The map's block of an image, in which the disk's name and id stand too.
+fn header_of(image: &Image) -> &[u8; BLOCK_BYTES]
+    ensures value { result.now ≡ sector_at image.now map_block }
+    ensures block { IsBlock result.now }
+{
+    let _ = image.tracks();
+    image.sector(map_block())
+}
+
 /// What the directory of an image lists. Neither the map's counts nor the files' chains need be as they should.
 ///
 /// Refused with `Directory` where there is no chain of blocks from track 18, sector 1 (`NoDirectory`), or else the low
@@ -35,8 +46,7 @@ pub fn listing(alloc: Global, image: &Image) -> Result<Listing, Refusal>
     ensures listing { IfOk result (λ listing. shown_listing listing ≡ listing_of image.now) }
 {
     let walk = Slots::of(image)?;
-    let _ = image.tracks();
-    let header = image.sector(map_block());
+    let header = header_of(image);
     Ok(Listing {
         name: Vec::from_slice(alloc, disk_name(header))?,
         id: [header[ID_START], header[ID_START + 1]],

@@ -4,7 +4,7 @@ ghost use Rattle.std.specs.Int.{bit_at};
 ghost use Rattle.std.specs.FinSet as set;
 ghost use Rattle.d64_image.specs.Block.{first_block};
 ghost use Rattle.d64_image.specs.BlockSet.{MembersAreBelow};
-ghost use Rattle.d64_image.specs.Image.{IsBlock, tracks_of, sector_at};
+ghost use Rattle.d64_image.specs.Image.{IsBlock, IsSize, tracks_of, sector_at};
 ghost use Rattle.d64_image.specs.Patch.{IsPatchOf, back};
 ghost use Rattle.d64_map.specs.Track.{members_on};
 ghost use Rattle.d64_map.specs.Map.{map_block, entry_of, IsOfTrack, count_of, bit_in, is_free, free_below, free_blocks, NoneIsFreeBetween, blocks_free, CountsFit, map_byte, with_map};
@@ -30,6 +30,7 @@ pub fn map_block() -> BlockNo
 fn map_of(image: &Image) -> &[u8; BLOCK_BYTES]
     ensures value { result.now ≡ sector_at image.now map_block }
     ensures block { IsBlock result.now }
+    ensures size { IsSize (length image.now) }
 {
     let _ = image.tracks();
     image.sector(map_block())
@@ -81,7 +82,6 @@ pub fn free_count(image: &Image, track: u8) -> u8
     requires track { (1 ≤ track) × (track ≤ tracks_of (length image.now)) }
     ensures count { result ≡ count_of image.now track }
 {
-    let _ = image.tracks();
     map_of(image)[entry_of(track)]
 }
 

@@ -1,7 +1,6 @@
-use Rattle.std.proofs.Common.{◌≡◌, ◌==◌, not, ℕ, List, None, length, sym, ap, ◌∙◌, arith, rules}
+use Rattle.std.proofs.Common.{◌≡◌, ◌==◌, not, ℕ, List, None, sym, ap, ◌∙◌, arith, rules}
 use Rattle.std.specs.Prelude.{take_while, slice_range}
 use Rattle.d64_image.specs.Image.{sector_at}
-use Rattle.d64_image.proofs.Sizes.{size_least}
 use Rattle.d64_map.specs.Map.{map_block}
 use Rattle.d64_dos.specs.Listing.{rows_of}
 use Rattle.d64_dos.specs.Refusal.{refused_by}
@@ -24,9 +23,9 @@ returns-clause-refused c = sym (readable c.args.image.now c.in_ok-walk.ensures.c
 pub returns-clause-listing : goal.returns-clause-listing
 returns-clause-listing c =
     let image = c.args.image.now in
-    let header = c.sector-header.result.now in
-    let same : header ≡ sector_at image map_block = c.sector-header.ensures.value ∙ ap (sector_at image) c.map_block.ensures in
-    let long = c.sector-header.ensures.block.0 in
+    let header = c.header_of-header.result.now in
+    let same : header ≡ sector_at image map_block = c.header_of-header.ensures.value in
+    let long = c.header_of-header.ensures.block.0 in
     listing_by_fields image _ _ _ _ _
     (c.in_ok-from_slice.ensures.items
     ∙ c.disk_name.ensures
@@ -35,10 +34,3 @@ returns-clause-listing c =
     (two_bytes header 0xA5 (omega (arith, long)) ∙ ap (λ (bytes : List ℕ). slice_range bytes 0xA5 0xA7) same)
     (c.in_ok-rows_of.ensures ∙ ap rows_of c.in_ok-walk.ensures.slots ∙ rows-entries image)
     c.blocks_free.ensures
-
--- the image has the map's block
-pub sector-header-requires : goal.sector-header-requires
-sector-header-requires c =
-    let least = size_least (length c.args.image.now) c.tracks.ensures.size in
-    let e = c.map_block.ensures in
-    omega arith
