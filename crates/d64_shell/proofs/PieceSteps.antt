@@ -7,7 +7,7 @@ use Rattle.d64_script.specs.HeldLine.{Holds, IsOpen, Says}
 use Rattle.d64_script.specs.RawLines.{before_end, is_ended, lines_of}
 use Rattle.d64_script.specs.declared.held_line.HeldLine.{HeldLine}
 use Rattle.d64_script.proofs.LineCuts.{flat_map-lines_of}
-use Rattle.d64_script.proofs.OpenLines.{IsOpen-append, IsRaw}
+use Rattle.d64_script.proofs.OpenLines.{IsOpen-append, IsRaw, IsRaw-first, append-lines_of}
 use Rattle.d64_shell.specs.Runner.{Stand, StoppedAt}
 use Rattle.d64_shell.specs.LineByLine.{HasCome, HasClosed, ComesTo, RunsLine, StopsInLine}
 use Rattle.d64_shell.specs.declared.runner.Tally.{Tally}
@@ -53,6 +53,17 @@ piece_is done rest piece split none = sym (ap (λ l. done ++ l) none ∙ append-
 -- one step more into a piece
 pub piece_goes_on : (done part rest old piece : List ℕ) → part ++ rest ≡ old → done ++ old ≡ piece → (done ++ part) ++ rest ≡ piece
 piece_goes_on done part rest old piece step split = append_assoc done part rest ∙ ap (λ l. done ++ l) step ∙ split
+
+-- the first part of what is left of a piece is a raw line, and what was done goes on by it
+pub record FirstPart (done part rest piece : List ℕ) : Type 0 where
+  pub raw : IsRaw part
+  pub split : (done ++ part) ++ rest ≡ piece
+
+pub first_part : (done left part rest piece : List ℕ) → lines_of left ≡ part ∷ lines_of rest → done ++ left ≡ piece → FirstPart done part rest piece
+first_part done left part rest piece steps split = record {
+  raw = IsRaw-first left part (lines_of rest) steps;
+  split = piece_goes_on done part rest left piece (append-lines_of left part rest steps) split;
+}
 
 -- an open run comes to the end of a piece
 ComesTo-open : (home : List ℕ) (first stand : Stand) (tally : Tally) (line : HeldLine) (bytes : List ℕ)

@@ -31,6 +31,21 @@ pub image_count : (records : List Kept) (image : List (List ℕ)) (done : ℕ) (
 image_count records image done history within is =
     (ap (λ (h : History). h.cursor) (sym is), ap (λ (h : History). length h.images) (sym is) ∙ length-images records image done within)
 
+-- where there is something to undo, there is a record before the cursor
+pub record_before : (records : List Kept) (image : List (List ℕ)) (done : ℕ) (history : History) → done ≤ length records
+    → history_of records image done ≡ history → 0 < history.cursor → (done ≡ (done - 1) + 1) × (done - 1 < length records)
+record_before records image done history within is some =
+    let cursor = (image_count records image done history within is).0 in (omega arith, omega arith)
+
+-- and where there is something to redo, one after it
+pub record_after : (records : List Kept) (image : List (List ℕ)) (done : ℕ) (history : History) → done ≤ length records
+    → history_of records image done ≡ history → history.cursor + 1 < length history.images → done < length records
+record_after records image done history within is some =
+    let count = image_count records image done history within is in
+    let cursor = count.0 in
+    let images = count.1 in
+    omega arith
+
 pub stands : (records : List Kept) (image : List (List ℕ)) (done : ℕ) (history : History) → done ≤ length records
     → history_of records image done ≡ history → IsHistory history
 stands records image done history within is =

@@ -1,10 +1,10 @@
-use Rattle.std.proofs.Common.{◌≡◌, ◌+◌, ◌-◌, ◌<◌, length, refl, sym, ap, ◌∙◌, subst, arith}
+use Rattle.std.proofs.Common.{◌≡◌, ◌-◌, length, refl, sym, ap, ◌∙◌, subst, arith}
 use Rattle.std.proofs.lemmas.List.{length-set}
 use Rattle.d64_image.specs.Patch.{changed}
 use Rattle.d64_image.proofs.Patches.{length-back, rises-difference}
 use Rattle.d64_undo.specs.Records.{AreRecords}
 use Rattle.d64_undo.proofs.Records.{last_done, records_undone}
-use Rattle.d64_undo.proofs.Sessions.{present_is, image_count, history-undone}
+use Rattle.d64_undo.proofs.Sessions.{present_is, record_before, history-undone}
 use Rattle.d64_undo.proofs.session.Session.step_back.Goals as goal
 
 -- the record before the cursor leads on now
@@ -12,11 +12,7 @@ pub invariant_of-self : goal.invariant_of-self
 invariant_of-self c =
     let s = c.self.inside in
     let n = s.done - 1 in
-    let within = c.self.invariant.0 in
-    let cursor = (image_count s.records.items s.image s.done c.args.self.now within c.self.view_is).0 in
-    let some = c.requires in
-    let one : s.done ≡ n + 1 = omega arith in
-    let h : n < length s.records.items = omega arith in
+    let (one, h) = record_before s.records.items s.image s.done c.args.self.now c.self.invariant.0 c.self.view_is c.requires in
     let leads = subst (AreRecords s.records.items s.image) one c.self.invariant.1 in
     let is = c.index_mut.ensures.value in
     let here = c.swap.ensures.back in
@@ -32,11 +28,7 @@ pub returns-clause-moved : goal.returns-clause-moved
 returns-clause-moved c =
     let s = c.self.inside in
     let n = s.done - 1 in
-    let within = c.self.invariant.0 in
-    let cursor = (image_count s.records.items s.image s.done c.args.self.now within c.self.view_is).0 in
-    let some = c.requires in
-    let one : s.done ≡ n + 1 = omega arith in
-    let h : n < length s.records.items = omega arith in
+    let (one, h) = record_before s.records.items s.image s.done c.args.self.now c.self.invariant.0 c.self.view_is c.requires in
     history-undone s.records.items s.image c.swap.new.image s.done n c.index_mut.result.now c.swap.new.self c.args.self.now h one c.self.view_is
     c.index_mut.ensures.value c.swap.ensures.image c.swap.ensures.back
 
@@ -45,11 +37,7 @@ pub swap-requires : goal.swap-requires
 swap-requires c =
     let s = c.self.inside in
     let n = s.done - 1 in
-    let within = c.self.invariant.0 in
-    let cursor = (image_count s.records.items s.image s.done c.args.self.now within c.self.view_is).0 in
-    let some = c.requires in
-    let one : s.done ≡ n + 1 = omega arith in
-    let h : n < length s.records.items = omega arith in
+    let (one, h) = record_before s.records.items s.image s.done c.args.self.now c.self.invariant.0 c.self.view_is c.requires in
     let leads = subst (AreRecords s.records.items s.image) one c.self.invariant.1 in
     rises-difference s.image c.index_mut.result.now (last_done s.records.items s.image n c.index_mut.result.now h c.index_mut.ensures.value leads)
 
