@@ -2,7 +2,7 @@
 use Rattle.std.proofs.Common.{◌≡◌, ℕ, List, [], ◌++◌, take, Bor, Option, None, Some, Result, Ok, Err, IfErr, inr, refl, sym, subst, option_copied, unwrap_or}
 use Rattle.std.specs.Result.{IsErrAnd}
 use Rattle.std.specs.Io.KnownBytes.{Keeps}
-use Rattle.std.proofs.KnownBytes.{Appends-kept, Keeps-trans}
+use Rattle.std.proofs.KnownBytes.{Appends-kept}
 use Rattle.d64_script.specs.RawLines.{lines_of, ended_lines}
 use Rattle.d64_script.specs.Script.{script_limit}
 use Rattle.d64_shell.specs.Act.{HostState}
@@ -80,10 +80,7 @@ Ran-flushed home reader left old new flushed (Err Write) ran kept = record {
   all = ran.all;
   stopped = StoppedAt-flushed home old new (lines_of ran.script) flushed ran.stopped kept;
 }
-Ran-flushed home reader left old new flushed (Err (Memory error)) ran kept = record {
-  written = Keeps-trans old.writer new.writer flushed ran.written kept;
-  world = ran.world;
-}
+Ran-flushed home reader left old new flushed (Err (Memory error)) ran kept = ran
 
 -- a script has run from a beginning, and then its output was flushed
 pub RanShell-flushed : (old new : Outside) (ended : Result Outcome ShellFault)

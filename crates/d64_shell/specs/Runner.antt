@@ -1,6 +1,6 @@
 -- What a run of a script leaves, however it ends.
 use Rattle.std.specs.Prelude.{◌≡◌, ℕ, List, ◌∷◌, ◌++◌, take, false, Option, IfSome, Result, Ok, Err}
-use Rattle.std.specs.Io.KnownBytes.{Appends, Keeps, Consumes}
+use Rattle.std.specs.Io.KnownBytes.{Appends, Consumes}
 use Rattle.d64_script.specs.RawLines.{lines_of, ended_lines}
 use Rattle.d64_shell.specs.Act.{World}
 use Rattle.d64_shell.specs.Transcript.{Progress, Line, Transcript}
@@ -76,14 +76,9 @@ pub record RanUpTo (home : List ℕ) (reader : Option (List ℕ)) (old new : Sta
   pub all : IfSome reader (λ bytes. script ≡ bytes)
   pub stopped : StoppedAt home old new (lines_of script)
 
--- memory was wanting for the script itself: no line has run
-pub record RanNothing (old new : Stand) : Type 0 where
-  pub written : Keeps old.writer new.writer
-  pub world : new.world ≡ old.world
-
--- what a run leaves, by how it ends
+-- what a run leaves, by how it ends; it takes no memory but in commands, so it never wants any
 abbrev pub Ran : List ℕ → Option (List ℕ) → Option (List ℕ) → Stand → Stand → Result Outcome ShellFault → Type 0
 Ran home reader left old new (Ok outcome) = RanWhole home reader old new outcome
 Ran home reader left old new (Err Read) = RanRead home reader left old new
 Ran home reader left old new (Err Write) = RanUpTo home reader old new
-Ran home reader left old new (Err (Memory error)) = RanNothing old new
+Ran home reader left old new (Err (Memory error)) = ⊥

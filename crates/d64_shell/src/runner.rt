@@ -40,7 +40,7 @@ pub enum ShellFault {
     /// A write failed, or took nothing. A part of the answers was written.
     #[error("the answers cannot be written")]
     Write,
-    /// There is no memory for the script. No line has run.
+    /// There is no memory but for a command, whose line answers that. It never comes, since reading takes no memory.
     #[error("out of memory")]
     Memory(AllocError),
 }
