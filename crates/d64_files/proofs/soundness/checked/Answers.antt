@@ -4,6 +4,7 @@ use Rattle.std.specs.FinSet as set
 use Rattle.d64_map.specs.Map.{CountsFit}
 use Rattle.d64_files.specs.Directory.{owned_blocks, AllHold, IsFirstFault}
 use Rattle.d64_files.specs.FirstFault.{first_fault, sound_conditions}
+use Rattle.d64_files.specs.declared.dir_fault.DirFault.{DirFault}
 use Rattle.d64_files.specs.declared.dir_fault.DirFault.TheVariants.{WrongCounts, MarkedFree}
 use Rattle.d64_files.proofs.FirstFaults.{one_verdict, sound_verdict, sound_first}
 use Rattle.d64_files.proofs.Verdicts.{wrong_counts, dir_fault_first, file_fault_first, all_hold, marked_free, members_too, blocks_too}
@@ -15,6 +16,15 @@ owned_of : (image directory : List (List ℕ)) (blocks : set.FinSet nat_cmp) →
 owned_of image directory blocks same owned =
     subst (λ (i : List (List ℕ)). AllHold i 2 5 × (blocks ≡ set.from_list (owned_blocks i))) same owned
 
+-- the first fault of the directory is that of an image whose counts fit
+directory_fault : (image : List (List ℕ)) (fault : DirFault) → CountsFit image → IsFirstFault image 2 3 fault → IsFirstFault image 1 6 fault
+directory_fault image fault counts first = file_fault_first image fault counts (dir_fault_first image fault first)
+
+-- and so is that of the directory's files
+files_fault : (image directory : List (List ℕ)) (fault : DirFault) → CountsFit image → directory ≡ image
+    → IsFirstFault directory 2 5 fault → IsFirstFault image 1 6 fault
+files_fault image directory fault counts same first = file_fault_first image fault counts (subst (λ (i : List (List ℕ)). IsFirstFault i 2 5 fault) same first)
+
 pub returns-then-not-counts_fit-clause-first : goal.returns-then-not-counts_fit-clause-first
 returns-then-not-counts_fit-clause-first c =
     sound_first c.args.image.now WrongCounts (wrong_counts c.args.image.now (λ counts.
@@ -24,38 +34,28 @@ returns-then-not-counts_fit-clause-first c =
 
 pub returns-in_err-directory-clause-verdict : goal.returns-in_err-directory-clause-verdict
 returns-in_err-directory-clause-verdict c =
-    let counts : CountsFit c.args.image.now = c.counts_fit.ensures.0 c.if-not-counts_fit.false in
-    let fault = c.in_err-directory.field-0.0 in
-    let told : IsFirstFault c.args.image.now 1 6 fault =
-    file_fault_first c.args.image.now fault counts (dir_fault_first c.args.image.now fault c.in_err-directory.ensures.conditions) in
+    let counts = c.counts_fit.ensures.0 c.if-not-counts_fit.false in
+    let told = directory_fault c.args.image.now c.in_err-directory.field-0.0 counts c.in_err-directory.ensures.conditions in
     search rules
 
 pub returns-in_err-directory-clause-first : goal.returns-in_err-directory-clause-first
 returns-in_err-directory-clause-first c =
-    let counts : CountsFit c.args.image.now = c.counts_fit.ensures.0 c.if-not-counts_fit.false in
     let fault = c.in_err-directory.field-0.0 in
-    let told =
-    sound_first c.args.image.now fault
-    (file_fault_first c.args.image.now fault counts (dir_fault_first c.args.image.now fault c.in_err-directory.ensures.conditions)) in
+    let counts = c.counts_fit.ensures.0 c.if-not-counts_fit.false in
+    let told = sound_first c.args.image.now fault (directory_fault c.args.image.now fault counts c.in_err-directory.ensures.conditions) in
     search rules
 
 pub returns-in_err-blocks-clause-verdict : goal.returns-in_err-blocks-clause-verdict
 returns-in_err-blocks-clause-verdict c =
-    let counts : CountsFit c.args.image.now = c.counts_fit.ensures.0 c.if-not-counts_fit.false in
-    let fault = c.in_err-blocks.field-0.0 in
-    let told : IsFirstFault c.args.image.now 1 6 fault =
-    file_fault_first c.args.image.now fault counts
-    (subst (λ (image : List (List ℕ)). IsFirstFault image 2 5 fault) c.in_ok-directory.ensures.image c.in_err-blocks.ensures) in
+    let counts = c.counts_fit.ensures.0 c.if-not-counts_fit.false in
+    let told = files_fault c.args.image.now _ c.in_err-blocks.field-0.0 counts c.in_ok-directory.ensures.image c.in_err-blocks.ensures in
     search rules
 
 pub returns-in_err-blocks-clause-first : goal.returns-in_err-blocks-clause-first
 returns-in_err-blocks-clause-first c =
-    let counts : CountsFit c.args.image.now = c.counts_fit.ensures.0 c.if-not-counts_fit.false in
     let fault = c.in_err-blocks.field-0.0 in
-    let told =
-    sound_first c.args.image.now fault
-    (file_fault_first c.args.image.now fault counts
-    (subst (λ (image : List (List ℕ)). IsFirstFault image 2 5 fault) c.in_ok-directory.ensures.image c.in_err-blocks.ensures)) in
+    let counts = c.counts_fit.ensures.0 c.if-not-counts_fit.false in
+    let told = sound_first c.args.image.now fault (files_fault c.args.image.now _ fault counts c.in_ok-directory.ensures.image c.in_err-blocks.ensures) in
     search rules
 
 pub returns-then-none_is_free-clause-verdict : goal.returns-then-none_is_free-clause-verdict
