@@ -1,15 +1,14 @@
 -- what a formatted disk lists
-use Rattle.std.proofs.Common.{◌≡◌, ◌≢◌, ℕ, zero, suc, ◌+◌, ◌-◌, ◌==◌, not, Bool, false, cond, List, [], ◌∷◌, ◌++◌, length, take, drop, replicate, refl, sym, ap, ap₂, ◌∙◌, subst, arith, append_assoc}
-use Rattle.std.specs.Prelude.{All, Contains, map, filter, take_while, slice_range}
-use Rattle.std.proofs.lemmas.Bool.{ne_eqb}
+use Rattle.std.proofs.Common.{◌≡◌, ℕ, ◌+◌, Bool, false, cond, List, [], ◌∷◌, ◌++◌, length, take, drop, replicate, refl, sym, ap, ap₂, ◌∙◌, arith, append_assoc}
+use Rattle.std.specs.Prelude.{All, map, filter, slice_range}
 use Rattle.std.proofs.lemmas.List.{drop_at, length-append, length-set, get_or-set_same, get_or-set_other}
-use Rattle.std.proofs.lemmas.List.Sums.{take_while-cons}
-use Rattle.std.proofs.lemmas.List.Elements.{All-head, All-tail, All-get_or, All-contains_itself}
+use Rattle.std.proofs.lemmas.List.Elements.{All-head, All-tail}
 use Rattle.d64_image.specs.Image.{IsSize, tracks_of, sector_at, with_sector}
 use Rattle.d64_map.specs.Map.{map_block, map_for}
 use Rattle.d64_map.proofs.Maps.{sector_at-with_map}
 use Rattle.d64_files.specs.Directory.{slots}
-use Rattle.d64_files.specs.Name.{IsName, filled, forbidden_in_names}
+use Rattle.d64_files.specs.Name.{IsName, filled, name_in}
+use Rattle.d64_files.proofs.FilledNames.{name_in-filled}
 use Rattle.d64_files.specs.Slot.{is_used}
 use Rattle.d64_files.specs.Writing.{empty_directory}
 use Rattle.d64_files.proofs.WrittenBytes.{length-filled}
@@ -21,24 +20,6 @@ use Rattle.d64_effects.proofs.EmptyDisks.{length-parts, blocks_free-formatted, I
 use Rattle.d64_effects.proofs.FormattedDisks.{part-map_for, unused-formatted, view-formatted}
 use Rattle.d64_dos.specs.Listing.{FormattedDiskLists, row_of}
 use Rattle.d64_dos.proofs.ListedRows.{listing_by_fields}
-
--- bytes without a shifted space, and shifted spaces after them
-before_fill : (count : ℕ) → take_while (λ byte. not (byte == 0xA0)) (replicate count 0xA0) ≡ []
-before_fill zero = refl
-before_fill (suc count) = refl
-
-cut_at_fill : (name : List ℕ) (count : ℕ) → All (λ byte. ¬ (Contains forbidden_in_names byte)) name
-    → take_while (λ byte. not (byte == 0xA0)) (name ++ replicate count 0xA0) ≡ name
-cut_at_fill [] count allowed = before_fill count
-cut_at_fill (byte ∷ name) count allowed =
-    let filler : Contains forbidden_in_names 0xA0 =
-    All-get_or (Contains forbidden_in_names) forbidden_in_names 7 0 (omega arith) (All-contains_itself forbidden_in_names) in
-    let other : byte ≢ 0xA0 = λ e.
-    All-head (λ b. ¬ (Contains forbidden_in_names b)) byte name allowed (subst (Contains forbidden_in_names) (sym e) filler) in
-    let rest : List ℕ = take_while (λ b. not (b == 0xA0)) (name ++ replicate count 0xA0) in
-    take_while-cons (λ b. not (b == 0xA0)) byte (name ++ replicate count 0xA0)
-    ∙ ap (λ (same : Bool). cond (not same) (byte ∷ rest) []) (ne_eqb byte 0xA0 other)
-    ∙ ap (λ (bytes : List ℕ). byte ∷ bytes) (cut_at_fill name count (All-tail (λ b. ¬ (Contains forbidden_in_names b)) byte name allowed))
 
 -- what the view of a formatted disk says of its name and its id
 name_field : (count : ℕ) (size : IsSize count) (name id : List ℕ) → IsName name → AreTwoBytes id → disk_field (formatted count name id) ≡ filled name
@@ -103,7 +84,7 @@ version count size name id named two =
 pub listed : FormattedDiskLists
 listed count name id size named two =
     sym (listing_by_fields (formatted count name id) name id (0x32 ∷ 0x41 ∷ []) [] (free_count_of count)
-    (sym (ap (take_while (λ byte. not (byte == 0xA0))) (name_field count size name id named two) ∙ cut_at_fill name (16 - length name) named.allowed))
+    (sym (ap name_in (name_field count size name id named two) ∙ name_in-filled name named))
     (sym (id_field count size name id named two))
     (sym (version count size name id named two))
     (sym (ap (map row_of) (none_used (slots (formatted count name id)) (unused-formatted count size name id))))

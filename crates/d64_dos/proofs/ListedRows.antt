@@ -1,10 +1,11 @@
 -- The rows of the slots along a walk, the name of the slot of a number, and what a listing has beside its rows.
-use Rattle.std.proofs.Common.{◌≡◌, ℕ, suc, ◌+◌, ◌≤◌, ◌==◌, not, Bool, true, false, cond, List, [], ◌∷◌, length, take, drop, get_or, Option, Some, refl, sym, ap, ◌∙◌, arith}
-use Rattle.std.specs.Prelude.{map, filter, find, take_while, slice_get, slice_range, option_map}
+use Rattle.std.proofs.Common.{◌≡◌, ℕ, suc, ◌+◌, ◌≤◌, Bool, true, false, cond, List, [], ◌∷◌, length, take, drop, get_or, Option, Some, refl, sym, ap, ◌∙◌, arith}
+use Rattle.std.specs.Prelude.{map, filter, find, slice_get, slice_range, option_map}
 use Rattle.std.specs.Option.{option_map_or}
 use Rattle.std.proofs.lemmas.List.{drop_more}
 use Rattle.d64_image.specs.Image.{sector_at}
 use Rattle.d64_map.specs.Map.{map_block, blocks_free}
+use Rattle.d64_files.specs.Name.{name_in}
 use Rattle.d64_files.specs.Slot.{EntryView, is_used, name_of}
 use Rattle.d64_files.specs.Directory.{slots, entry_of, entries, is_named, first_named}
 use Rattle.d64_files.proofs.Owners.{entries_from}
@@ -102,7 +103,7 @@ two_bytes bytes place within =
 
 -- what the directory of an image lists, field by field
 pub listing_by_fields : (image : List (List ℕ)) (name id dos : List ℕ) (rows : List RowView) (free : ℕ)
-    → name ≡ take_while (λ byte. not (byte == 0xA0)) (disk_field image) → id ≡ disk_id image
+    → name ≡ name_in (disk_field image) → id ≡ disk_id image
     → dos ≡ slice_range (sector_at image map_block) 0xA5 0xA7
     → rows ≡ map row_of (filter is_used (slots image)) → free ≡ blocks_free image
     → record { name = name; id = id; dos = dos; rows = rows; free = free } ≡ listing_of image

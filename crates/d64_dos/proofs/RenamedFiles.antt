@@ -4,9 +4,9 @@ use Rattle.std.specs.Prelude.{is_some, position, option_map}
 use Rattle.std.specs.List.{list_any, position_from}
 use Rattle.std.specs.Option.{option_or}
 use Rattle.std.proofs.lemmas.Iterator.Adapters.{position_from-zero}
-use Rattle.d64_files.specs.Directory.{slots, is_name_taken}
+use Rattle.d64_files.specs.Directory.{slots, has_name, is_name_taken}
 use Rattle.d64_files.specs.FirstFault.{first_fault, sound_conditions}
-use Rattle.d64_effects.specs.Rename.{has_name, first_of_name}
+use Rattle.d64_effects.specs.Rename.{first_of_name}
 use Rattle.d64_files.specs.declared.dir_fault.DirFault.{DirFault}
 use Rattle.d64_dos.specs.FileRefusals.{rename_refusal}
 use Rattle.d64_dos.specs.declared.refusal.Refusal.TheVariants.{NotFound, Exists, Directory}

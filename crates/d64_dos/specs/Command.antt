@@ -11,7 +11,7 @@ use Rattle.d64_effects.specs.View.{View, IsSound}
 use Rattle.d64_effects.specs.ViewAfter.{formatted_view, written_view, scratched_view, renamed_view, validated_view}
 use Rattle.d64_effects.specs.Write.{written}
 use Rattle.d64_dos.specs.Change.{Change, Format, Write, Delete, Rename, Validate, BlockWrite}
-use Rattle.d64_dos.specs.FileRefusals.{delete_refusal, rename_refusal, validate_refusal}
+use Rattle.d64_dos.specs.FileRefusals.{unsound_refusal, rename_refusal, validate_refusal}
 use Rattle.d64_dos.specs.WriteRefusal.{write_refusal}
 use Rattle.d64_dos.specs.declared.command.Reply.{Reply}
 use Rattle.d64_dos.specs.declared.command.Reply.TheVariants.{Done, Scratched}
@@ -59,7 +59,7 @@ row (Write name kind bytes) = record {
   block = None;
 }
 row (Delete patterns) = record {
-  refusal = delete_refusal;
+  refusal = unsound_refusal;
   effect = λ image. scratched image patterns;
   reply = λ image. Scratched (scratched_count image patterns);
   promise = Some (record { start = SoundDisk; reply = λ old. Scratched (scratched_of old patterns); shows = λ old. scratched_view old patterns });

@@ -1,9 +1,9 @@
 -- What the directory of a disk lists.
-use Rattle.std.specs.Prelude.{◌≡◌, ℕ, ◌==◌, not, Bool, List, [], ◌∷◌, map, filter, take_while, slice_range}
+use Rattle.std.specs.Prelude.{◌≡◌, ℕ, Bool, List, [], ◌∷◌, map, filter, slice_range}
 use Rattle.d64_image.specs.Image.{IsSize, sector_at}
 use Rattle.d64_map.specs.Map.{map_block, blocks_free}
 use Rattle.d64_files.specs.Directory.{slots}
-use Rattle.d64_files.specs.Name.{IsName}
+use Rattle.d64_files.specs.Name.{IsName, name_in}
 use Rattle.d64_files.specs.Slot.{EntryView, is_used, name_of, is_closed, is_locked, kind_of, size_of}
 use Rattle.d64_files.specs.declared.kind.Kind.{Kind}
 use Rattle.d64_effects.specs.Format.{formatted}
@@ -39,7 +39,7 @@ rows_of walk = map (λ (entry : EntryView). row_of entry.bytes) (filter (λ (ent
 -- what the directory of an image lists
 unfoldable pub listing_of : List (List ℕ) → ListingView
 listing_of image = record {
-  name = take_while (λ byte. not (byte == 0xA0)) (disk_field image);
+  name = name_in (disk_field image);
   id = disk_id image;
   dos = slice_range (sector_at image map_block) 0xA5 0xA7;
   rows = map row_of (filter is_used (slots image));

@@ -2,7 +2,8 @@
 use Rattle.std.specs.Prelude.{◌≡◌, ℕ, List, [], slice_get, Option, Some, None, option_map}
 use Rattle.std.specs.Option.{option_or, option_map_or}
 use Rattle.d64_files.specs.Directory.{slots, first_named}
-use Rattle.d64_files.specs.Reading.{unreadable, slot_refusal, content_at}
+use Rattle.d64_files.specs.FirstFault.{first_fault, reading_conditions}
+use Rattle.d64_files.specs.Reading.{slot_refusal, content_at}
 use Rattle.d64_files.specs.Slot.{name_of}
 use Rattle.d64_dos.specs.Refusal.{of_read_fault}
 use Rattle.d64_dos.specs.declared.refusal.Refusal.{Refusal}
@@ -10,7 +11,7 @@ use Rattle.d64_dos.specs.declared.refusal.Refusal.TheVariants.{NotFound, Directo
 
 -- the refusal for a directory that can't be read
 abbrev pub directory_refusal : List (List ℕ) → Option Refusal
-directory_refusal image = option_map Directory (unreadable image)
+directory_refusal image = option_map Directory (first_fault image reading_conditions)
 
 -- why the slot that was found can't be read; there may be none
 abbrev pub found_refusal : List (List ℕ) → Option ℕ → Option Refusal

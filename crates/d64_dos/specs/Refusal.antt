@@ -3,17 +3,12 @@ use Rattle.std.specs.Prelude.{Option, Some, None, Result, Ok, Err}
 use Rattle.d64_files.specs.declared.reading.ReadFault.{ReadFault}
 use Rattle.d64_files.specs.declared.reading.ReadFault.TheVariants as faults
 use Rattle.d64_dos.specs.declared.refusal.Refusal.{Refusal}
-use Rattle.d64_dos.specs.declared.refusal.Refusal.TheVariants.{NotClosed, NotFound, Exists, WrongType, Directory, DiskFull, Memory}
+use Rattle.d64_dos.specs.declared.refusal.Refusal.TheVariants.{NotClosed, NotFound, WrongType, Directory, Memory}
 
 -- the refusal that the image gave cause for: want of memory is none
 abbrev pub cause_of : Refusal → Option Refusal
-cause_of NotClosed = Some NotClosed
-cause_of NotFound = Some NotFound
-cause_of Exists = Some Exists
-cause_of WrongType = Some WrongType
-cause_of (Directory fault) = Some (Directory fault)
-cause_of DiskFull = Some DiskFull
 cause_of Memory = None
+cause_of refusal = Some refusal
 
 -- the refusal that was answered with a cause in the image: none where the request was accepted or memory was wanting
 abbrev pub refused_by : {T : Type 0} → Result T Refusal → Option Refusal

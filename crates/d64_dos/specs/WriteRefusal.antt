@@ -1,24 +1,22 @@
 -- When the writing of a file is refused.
-use Rattle.std.specs.Prelude.{ℕ, nat_le, ◌&&◌, ◌||◌, not, true, false, Bool, if◌then◌else◌, List, Option, Some, None, is_some, option_map}
+use Rattle.std.specs.Prelude.{ℕ, nat_le, ◌&&◌, ◌||◌, not, true, false, Bool, if◌then◌else◌, List, Option, Some, None, is_some}
 use Rattle.std.specs.Option.{option_or}
 use Rattle.d64_map.specs.Map.{free_blocks}
 use Rattle.d64_map.specs.Plan.{room}
 use Rattle.d64_files.specs.Directory.{slots, is_name_taken}
-use Rattle.d64_files.specs.FirstFault.{first_fault, sound_conditions}
 use Rattle.d64_files.specs.Writing.{blocks_for, first_unused, dir_last}
 use Rattle.d64_effects.specs.Write.{next_of_directory}
 use Rattle.d64_files.specs.declared.kind.Kind.{Kind}
-use Rattle.d64_files.specs.declared.kind.Kind.TheVariants.{Del, Seq, Prg, Usr, Rel}
+use Rattle.d64_files.specs.declared.kind.Kind.TheVariants.{Del, Rel}
+use Rattle.d64_dos.specs.FileRefusals.{unsound_refusal}
 use Rattle.d64_dos.specs.declared.refusal.Refusal.{Refusal}
-use Rattle.d64_dos.specs.declared.refusal.Refusal.TheVariants.{Exists, WrongType, Directory, DiskFull}
+use Rattle.d64_dos.specs.declared.refusal.Refusal.TheVariants.{Exists, WrongType, DiskFull}
 
 -- files of this kind can be written: SEQ, PRG and USR
 abbrev pub is_writable : Kind → Bool
 is_writable Del = false
-is_writable Seq = true
-is_writable Prg = true
-is_writable Usr = true
 is_writable Rel = false
+is_writable kind = true
 
 -- there is room for a file of so many bytes, and for its entry
 abbrev pub has_room : List (List ℕ) → ℕ → Bool
@@ -31,5 +29,5 @@ unfoldable pub write_refusal : List (List ℕ) → List ℕ → Kind → ℕ →
 write_refusal image name kind bytes =
     if not (is_writable kind)
     then Some WrongType
-    else option_or (option_map Directory (first_fault image sound_conditions))
+    else option_or (unsound_refusal image)
     (if is_name_taken name (slots image) then Some Exists else (if has_room image bytes then None else Some DiskFull))

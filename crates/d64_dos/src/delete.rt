@@ -9,7 +9,7 @@ ghost use Rattle.d64_files.specs.Directory.{slots, slot_owns, AllHold};
 ghost use Rattle.d64_files.specs.Pattern.{matches as is_match};
 ghost use Rattle.d64_effects.specs.Clear.{with_cleared, with_freed};
 ghost use Rattle.d64_effects.specs.Delete.{is_scratched_slot, scratched_slots, scratched_count, scratched};
-ghost use Rattle.d64_dos.specs.FileRefusals.{delete_refusal};
+ghost use Rattle.d64_dos.specs.FileRefusals.{unsound_refusal};
 ghost use Rattle.d64_dos.specs.Refusal.{refused_by};
 
 use crate::refusal::Refusal;
@@ -125,7 +125,7 @@ pub(crate) fn scratch(
     patch: &mut Patch,
     patterns: &[Pattern],
 ) -> Result<usize, Refusal>
-    ensures refused { refused_by result ≡ delete_refusal image.old }
+    ensures refused { refused_by result ≡ unsound_refusal image.old }
     ensures count { IfOk result (λ count. count ≡ scratched_count image.old patterns.now) }
     ensures image { OnOk result (image.new ≡ scratched image.old patterns.now) }
     ensures back { back image.new patch.new ≡ back image.old patch.old }

@@ -1,32 +1,21 @@
 //! Listing the directory.
-ghost use Rattle.std.specs.Prelude.{◌≡◌, ◌==◌, not, take_while, slice_range, IfOk};
+ghost use Rattle.std.specs.Prelude.{◌≡◌, IfOk};
 ghost use Rattle.d64_image.specs.Image.{IsBlock, sector_at};
 ghost use Rattle.d64_map.specs.Map.{map_block};
 ghost use Rattle.d64_dos.specs.Listing.{listing_of, shown_listing};
 ghost use Rattle.d64_dos.specs.Reading.{directory_refusal};
 ghost use Rattle.d64_dos.specs.Refusal.{refused_by};
 
-use crate::format::{DOS_VERSION_START, FILLER, ID_START, NAME_START};
+use crate::format::{DOS_VERSION_START, ID_START, NAME_START};
 use crate::refusal::Refusal;
 use crate::row::{Listing, rows_of};
-use d64_files::Slots;
+use d64_files::{Slots, name_in};
 use d64_image::{BLOCK_BYTES, Image};
 use d64_map::{blocks_free, map_block};
 use std::alloc::Global;
 
 /// Where the field of the disk's name ends in the map's block.
 const NAME_END: usize = NAME_START + 16;
-
-/// The disk's name, in the map's block: its field up to the first $A0, or all of it.
-fn disk_name(header: &[u8; BLOCK_BYTES]) -> &[u8]
-    ensures { result.now ≡ take_while (λ byte. not (byte == 0xA0)) (slice_range header.now 0x90 0xA0) }
-{
-    let field = &header[NAME_START..NAME_END];
-    match field.iter().position(|byte| *byte == FILLER) {
-        Some(end) => &field[..end],
-        None => field,
-    }
-}
 
 /// The map's block of an image, in which the disk's name and id stand too.
 fn header_of(image: &Image) -> &[u8; BLOCK_BYTES]
@@ -48,7 +37,7 @@ pub fn listing(alloc: Global, image: &Image) -> Result<Listing, Refusal>
     let walk = Slots::of(image)?;
     let header = header_of(image);
     Ok(Listing {
-        name: Vec::from_slice(alloc, disk_name(header))?,
+        name: Vec::from_slice(alloc, name_in(&header[NAME_START..NAME_END]))?,
         id: [header[ID_START], header[ID_START + 1]],
         dos: [header[DOS_VERSION_START], header[DOS_VERSION_START + 1]],
         rows: rows_of(alloc, walk)?,

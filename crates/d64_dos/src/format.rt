@@ -6,7 +6,7 @@ ghost use Rattle.d64_image.specs.Patch.{IsPatchOf, back};
 ghost use Rattle.d64_effects.specs.Format.{directory_start, header, free_when_formatted, blank, formatted};
 
 use crate::block_count::block_count;
-use d64_files::{DIRECTORY_SECTOR, Name, empty_directory, write_at};
+use d64_files::{DIRECTORY_SECTOR, FILLER, Name, empty_directory, write_at};
 use d64_image::{BLOCK_BYTES, BlockNo, BlockSet, Image, Patch};
 use d64_map::{DIRECTORY_TRACK, map_block, put_map};
 use std::alloc::AllocError;
@@ -16,9 +16,6 @@ const LINK_AND_FORMAT: [u8; 4] = [DIRECTORY_TRACK, DIRECTORY_SECTOR, 0x41, 0x00]
 
 /// The DOS version and the format, as a directory shows them: `2A`.
 const DOS_VERSION: [u8; 2] = [0x32, 0x41];
-
-/// The byte that fills what a label leaves free: a shifted space.
-pub(crate) const FILLER: u8 = 0xA0;
 
 /// Where the disk's name stands in the map's block.
 pub(crate) const NAME_START: usize = 0x90;

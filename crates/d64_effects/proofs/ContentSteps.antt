@@ -1,40 +1,17 @@
 -- what the commands make of the directory's list of names and contents
-use Rattle.std.proofs.Common.{◌≡◌, ℕ, zero, suc, ◌-◌, ◌==◌, Bool, true, false, not, cond, List, [], ◌∷◌, ◌++◌, length, map, Option, Some, None, refl, sym, ap, ◌∙◌, subst, inl, inr, arith}
-use Rattle.std.specs.Prelude.{All, Contains, position, replicate, filter, option_map, bytes_eq}
+use Rattle.std.proofs.Common.{◌≡◌, ℕ, suc, Bool, true, false, not, cond, List, [], ◌∷◌, length, map, Option, Some, None, refl, sym, ap, ◌∙◌, subst}
+use Rattle.std.specs.Prelude.{position, filter, option_map, bytes_eq}
 use Rattle.std.specs.List.{filter_map, cons_option}
-use Rattle.std.proofs.lemmas.Bool.Decides.{eqb_tells}
-use Rattle.std.proofs.lemmas.List.Elements.{All-head, All-tail, filter_agree}
-use Rattle.std.proofs.lemmas.List.Sums.{take_while-cons}
-use Rattle.d64_files.specs.Name.{IsName, forbidden_in_names, filled}
-use Rattle.d64_effects.specs.Contents.{ListedFile, name_in, listed, names_and_contents}
+use Rattle.std.proofs.lemmas.List.Elements.{filter_agree}
+use Rattle.d64_files.specs.Name.{IsName, name_in}
+use Rattle.d64_files.proofs.FilledNames.{name_in-filled}
+use Rattle.d64_effects.specs.Contents.{ListedFile, listed, names_and_contents}
 use Rattle.d64_effects.specs.ContentsAfter.{list_with, is_scratched_row, row_named, renamed_rows}
 use Rattle.d64_effects.specs.ContentsLaws.{FormattedListsNothing, WrittenListsTheFile, ScratchedListsTheOthers, RenamedListsTheName, ValidatedListsTheClosed}
 use Rattle.d64_effects.specs.View.{FileView}
 use Rattle.d64_effects.specs.ViewAfter.{formatted_view, written_view, new_file, is_vacant, slots_with, first_vacant, emptied_if, scratched_view, with_field, renamed_slots, renamed_view, validated_view}
 use Rattle.d64_effects.specs.Write.{taken_by}
 use Rattle.d64_effects.proofs.Rows.{position-cons}
-
--- a byte that a name may hold is no shifted space
-no_filler : (byte : ℕ) → ¬ (Contains forbidden_in_names byte) → not (byte == 0xA0) ≡ true
-no_filler byte allowed =
-    elim (eqb_tells byte 0xA0) [
-      | inl same ↦ absurd (allowed (7, omega arith, sym same.1))
-      | inr other ↦ ap not other.0
-    ]
-
--- the bytes before the fillers
-before_fillers : (bytes : List ℕ) (n : ℕ) → All (λ byte. ¬ (Contains forbidden_in_names byte)) bytes → name_in (bytes ++ replicate n 0xA0) ≡ bytes
-before_fillers [] zero all = refl
-before_fillers [] (suc n) all = refl
-before_fillers (byte ∷ bytes) n all =
-    let P : ℕ → Type 0 = λ b. ¬ (Contains forbidden_in_names b) in
-    take_while-cons (λ (b : ℕ). not (b == 0xA0)) byte (bytes ++ replicate n 0xA0)
-    ∙ ap (λ (passes : Bool). cond passes (byte ∷ name_in (bytes ++ replicate n 0xA0)) []) (no_filler byte (All-head P byte bytes all))
-    ∙ ap (λ (xs : List ℕ). byte ∷ xs) (before_fillers bytes n (All-tail P byte bytes all))
-
--- a name that was put into a field
-pub name_in-filled : (name : List ℕ) → IsName name → name_in (filled name) ≡ name
-name_in-filled name named = before_fillers name (16 - length name) named.allowed
 
 -- what slots list
 abbrev rows_of : List (Option FileView) → List ListedFile

@@ -22,9 +22,8 @@ use Rattle.d64_map.specs.Map.{map_block, count_of, all_of, free_blocks, blocks_f
 use Rattle.d64_map.proofs.Ranges.{range_push, count_more}
 use Rattle.d64_map.proofs.FreeBlocks.{any-below}
 use Rattle.d64_map.proofs.Maps.{length-with_map, free_blocks-with_map, counts-with_map, IsImage-with_map}
-use Rattle.d64_files.specs.Name.{IsName}
+use Rattle.d64_files.specs.Name.{IsName, filled}
 use Rattle.d64_effects.specs.Format.{directory_start, header, free_when_formatted, blank, formatted}
-use Rattle.d64_files.specs.Name.{filled}
 use Rattle.d64_files.specs.Writing.{empty_directory}
 use Rattle.d64_effects.specs.Laws.{AreTwoBytes, free_count_of}
 use Rattle.d64_files.proofs.WrittenBytes.{length-filled}

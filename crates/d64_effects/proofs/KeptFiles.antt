@@ -3,7 +3,7 @@ use Rattle.std.proofs.Common.{◌≡◌, ◌≢◌, ℕ, zero, suc, Bool, true, 
 use Rattle.std.specs.Prelude.{position, slice_get, replicate, bytes_eq}
 use Rattle.std.proofs.lemmas.List.Quantifiers.{position-Some}
 use Rattle.std.proofs.lemmas.Slice.Eq.{bytes_eq-Decides}
-use Rattle.d64_effects.specs.Contents.{name_in}
+use Rattle.d64_files.specs.Name.{name_in}
 use Rattle.d64_effects.specs.KeepingLaws.{WritingKeepsFiles, DeletingKeepsOtherFiles, RenamingKeepsOtherFiles, ValidatingKeepsClosedFiles}
 use Rattle.d64_effects.specs.View.{View, FileView, view}
 use Rattle.d64_effects.specs.ViewAfter.{written_view, new_file, is_vacant, slots_with, first_vacant, emptied_if, is_scratched_file, scratched_view, with_field, renamed_slots, renamed_view, validated_view}

@@ -10,9 +10,9 @@ use Rattle.std.proofs.lemmas.List.Quantifiers.{position-Some}
 use Rattle.d64_image.specs.Image.{IsImage}
 use Rattle.d64_map.specs.Map.{free_blocks}
 use Rattle.d64_files.specs.Clearing.{with_name}
-use Rattle.d64_files.specs.Directory.{directory, slots, owned_blocks}
+use Rattle.d64_files.specs.Directory.{has_name, directory, slots, owned_blocks}
 use Rattle.d64_files.specs.FileData.{data_along}
-use Rattle.d64_files.specs.Name.{IsName, filled}
+use Rattle.d64_files.specs.Name.{IsName, filled, name_in}
 use Rattle.d64_files.specs.Ownership.{roots, roots_of, chain_at, owned_by, HasItsChains}
 use Rattle.d64_files.specs.Slot.{type_byte, has_bit, is_used, HasKind, kinds, kind_of, is_closed, is_locked, first_pair, field_of, name_of, side_pair, size_of}
 use Rattle.d64_files.specs.Writing.{written_at}
@@ -21,8 +21,7 @@ use Rattle.d64_files.specs.declared.kind.Kind.{Kind}
 use Rattle.d64_files.specs.declared.kind.Kind.TheVariants.{Del}
 use Rattle.d64_files.proofs.WrittenBytes.{length-filled}
 use Rattle.d64_effects.specs.Laws.{RenamedIsImage, RenamedIsSound, RenamedShows}
-use Rattle.d64_effects.specs.Rename.{has_name, first_of_name, with_name_in, renamed}
-use Rattle.d64_effects.specs.Contents.{name_in}
+use Rattle.d64_effects.specs.Rename.{first_of_name, with_name_in, renamed}
 use Rattle.d64_effects.specs.View.{FileView, IsSound, disk_field, disk_id, view, slot_view, file_view}
 use Rattle.d64_effects.specs.ViewAfter.{with_field, renamed_slots, renamed_view}
 use Rattle.d64_effects.proofs.AlteredDisks.{Altered, same_map, map_not_listed, held_by, sound_after, view_after}

@@ -1,7 +1,8 @@
 -- The directory's list of names and contents.
-use Rattle.std.specs.Prelude.{ℕ, ◌==◌, Bool, not, List, take_while, option_map}
+use Rattle.std.specs.Prelude.{ℕ, Bool, List, option_map}
 use Rattle.std.specs.List.{filter_map}
 use Rattle.d64_effects.specs.View.{View, FileView}
+use Rattle.d64_files.specs.Name.{name_in}
 use Rattle.d64_files.specs.declared.kind.Kind.{Kind}
 
 -- a file as that list has it: what it is called, what it is and what it holds, and not where
@@ -12,10 +13,6 @@ pub record ListedFile : Type 0 where
   pub locked : Bool
   pub size : ℕ
   pub content : List ℕ
-
--- the name in a field: its bytes up to the first shifted space
-abbrev pub name_in : List ℕ → List ℕ
-name_in field = take_while (λ byte. not (byte == 0xA0)) field
 
 -- what the list says of a file
 abbrev pub listed : FileView → ListedFile

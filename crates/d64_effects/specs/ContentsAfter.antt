@@ -19,8 +19,7 @@ is_scratched_row patterns row = is_scratched patterns row.closed row.locked row.
 
 -- a file of the list with another name
 abbrev pub row_named : ListedFile → List ℕ → ListedFile
-row_named row name =
-    record { name = name; kind = row.kind; closed = row.closed; locked = row.locked; size = row.size; content = row.content }
+row_named row name = record row { name = name }
 
 -- a list in which the first file of a name has another
 abbrev pub renamed_rows : List ListedFile → List ℕ → List ℕ → List ListedFile

@@ -1,9 +1,8 @@
 -- Files that a command doesn't name keep their slot, their chain and their content.
 use Rattle.std.specs.Prelude.{◌≡◌, ◌≢◌, ℕ, true, false, List, length, slice_get, Some}
-use Rattle.d64_files.specs.Name.{IsName}
+use Rattle.d64_files.specs.Name.{IsName, name_in}
 use Rattle.d64_files.specs.Directory.{AllHold}
 use Rattle.d64_image.specs.Image.{IsImage}
-use Rattle.d64_effects.specs.Contents.{name_in}
 use Rattle.d64_effects.specs.Delete.{scratched}
 use Rattle.d64_effects.specs.Laws.{HasRoom, AreBytes, IsWritable}
 use Rattle.d64_effects.specs.Rename.{renamed}

@@ -1,12 +1,7 @@
 -- The image that the renaming of a file leaves, byte for byte.
-use Rattle.std.specs.Prelude.{ℕ, ◌&&◌, Bool, List, position, bytes_eq, Option, Some, None}
+use Rattle.std.specs.Prelude.{ℕ, List, position, Option, Some, None}
 use Rattle.d64_files.specs.Clearing.{with_name}
-use Rattle.d64_files.specs.Directory.{slots}
-use Rattle.d64_files.specs.Slot.{is_used, name_of}
-
--- whether a slot is used and has exactly this name
-abbrev pub has_name : List ℕ → List ℕ → Bool
-has_name name cell = is_used cell && bytes_eq (name_of cell) name
+use Rattle.d64_files.specs.Directory.{slots, has_name}
 
 -- the number of the first used slot of this name
 abbrev pub first_of_name : List ℕ → List (List ℕ) → Option ℕ

@@ -2,9 +2,8 @@
 use Rattle.std.specs.Prelude.{ℕ, ◌-◌, true, false, not, if◌then◌else◌, List, [], ◌∷◌, ◌++◌, map, length, replicate, position, slice_index, slice_set, bytes_eq, Bool, Option, Some, None}
 use Rattle.std.specs.List.{flat_map}
 use Rattle.d64_map.specs.Map.{map_block}
-use Rattle.d64_files.specs.Name.{filled}
+use Rattle.d64_files.specs.Name.{filled, name_in}
 use Rattle.d64_effects.specs.Clear.{with_freed}
-use Rattle.d64_effects.specs.Contents.{name_in}
 use Rattle.d64_effects.specs.Delete.{is_scratched}
 use Rattle.d64_effects.specs.Format.{directory_start, free_when_formatted}
 use Rattle.d64_effects.specs.View.{View, FileView}
@@ -48,10 +47,7 @@ slots_with slots None file = slots ++ (Some file ∷ replicate 7 None)
 
 -- after the writing of a file into these blocks, where the directory takes those: the first unused slot holds it
 abbrev pub view_with : View → Option ℕ → FileView → List ℕ → List ℕ → View
-view_with old vacant file taken grown = record {
-  count = old.count;
-  name = old.name;
-  id = old.id;
+view_with old vacant file taken grown = record old {
   directory = old.directory ++ grown;
   slots = slots_with old.slots vacant file;
   free = without old.free (taken ++ grown);
@@ -87,27 +83,14 @@ is_scratched_file patterns file = is_scratched patterns file.closed file.locked 
 
 -- after the deleting of the files that patterns match: their slots are unused, and their blocks are free
 unfoldable pub scratched_view : View → List (List ℕ) → View
-scratched_view old patterns = record {
-  count = old.count;
-  name = old.name;
-  id = old.id;
-  directory = old.directory;
+scratched_view old patterns = record old {
   slots = map (emptied_if (is_scratched_file patterns)) old.slots;
   free = with_freed old.free (flat_map (blocks_if (is_scratched_file patterns)) old.slots);
 }
 
 -- a file with another name
 abbrev pub with_field : FileView → List ℕ → FileView
-with_field file name = record {
-  field = filled name;
-  kind = file.kind;
-  closed = file.closed;
-  locked = file.locked;
-  size = file.size;
-  blocks = file.blocks;
-  side_blocks = file.side_blocks;
-  content = file.content;
-}
+with_field file name = record file { field = filled name }
 
 -- slots of which the first file of a name has another
 abbrev pub renamed_slots : List (Option FileView) → List ℕ → List ℕ → List (Option FileView)
@@ -118,14 +101,7 @@ renamed_slots (Some file ∷ slots) old new =
 
 -- after the renaming of the first file of a name
 unfoldable pub renamed_view : View → List ℕ → List ℕ → View
-renamed_view shown old new = record {
-  count = shown.count;
-  name = shown.name;
-  id = shown.id;
-  directory = shown.directory;
-  slots = renamed_slots shown.slots old new;
-  free = shown.free;
-}
+renamed_view shown old new = record shown { slots = renamed_slots shown.slots old new }
 
 -- the blocks that a disk owns: the map's, the directory's, and those of its files
 abbrev pub blocks_owned : View → List ℕ
@@ -133,11 +109,7 @@ blocks_owned shown = map_block ∷ (shown.directory ++ flat_map (blocks_if (λ f
 
 -- after a validation: the slots of unclosed files are unused, and free is what nobody owns
 unfoldable pub validated_view : View → View
-validated_view old = record {
-  count = old.count;
-  name = old.name;
-  id = old.id;
-  directory = old.directory;
+validated_view old = record old {
   slots = map (emptied_if (λ file. not file.closed)) old.slots;
   free = all_but old.count (blocks_owned old);
 }

@@ -1,19 +1,19 @@
 -- What keeps a file from being read.
-use Rattle.std.proofs.Common.{◌≡◌, ◌≢◌, ℕ, zero, suc, ◌+◌, ◌≤◌, Bool, true, false, cond, not, eqb, List, [], ◌∷◌, Option, Some, None, refl, sym, ap, ◌∙◌, subst, inl, inr, arith}
-use Rattle.std.specs.Prelude.{All, find, nat_le, slice_get, option_map}
-use Rattle.std.specs.List.{list_all}
+use Rattle.std.proofs.Common.{◌≡◌, ◌≢◌, ℕ, zero, suc, ◌+◌, Bool, true, false, cond, not, eqb, List, [], ◌∷◌, Option, Some, None, refl, sym, ap, ◌∙◌, subst, arith}
+use Rattle.std.specs.Prelude.{All, find, slice_get, option_map}
 use Rattle.std.specs.Option.{option_or, option_map_or}
-use Rattle.std.proofs.lemmas.Bool.{eq-eqb, ne_eqb, cases_Bool, and_parts, and_from}
-use Rattle.std.proofs.lemmas.Bool.Decides.{nat_tests}
-use Rattle.std.proofs.lemmas.List.Elements.{All-nil, All-cons, All-head, All-tail}
-use Rattle.d64_files.specs.Slot.{EntryView, HasKind, is_used, is_closed, kind_number, kind_of, first_pair}
+use Rattle.std.proofs.lemmas.Bool.{eq-eqb, ne_eqb}
+use Rattle.std.proofs.lemmas.List.Elements.{All-head, All-tail}
+use Rattle.d64_files.specs.Slot.{EntryView, is_used, is_closed, kind_of, first_pair}
 use Rattle.d64_files.specs.Ownership.{chain_at, owned_by}
-use Rattle.d64_files.specs.Directory.{directory, slots, slot_owns, entry_of, entries, AllHold, IsFirstFault}
-use Rattle.d64_files.specs.Reading.{is_nil, is_del, unreadable, file_refusal, file_content, content_at, slot_refusal, content_refusal}
+use Rattle.d64_files.specs.Directory.{slots, slot_owns, entry_of, entries, AllHold, IsFirstFault}
+use Rattle.d64_files.specs.FirstFault.{is_nil, first_fault, reading_conditions}
+use Rattle.d64_files.specs.Reading.{is_del, file_refusal, file_content, content_at, slot_refusal, content_refusal}
 use Rattle.d64_files.specs.declared.dir_fault.DirFault.{DirFault}
-use Rattle.d64_files.specs.declared.dir_fault.DirFault.TheVariants.{WrongCounts, NoDirectory, UnknownKind, NoChain, CrossLinked, MarkedFree}
+use Rattle.d64_files.specs.declared.dir_fault.DirFault.TheVariants.{NoChain}
 use Rattle.d64_files.specs.declared.reading.ReadFault.{ReadFault}
 use Rattle.d64_files.specs.declared.reading.ReadFault.TheVariants.{Directory, NotFound, NotClosed, WrongType}
+use Rattle.d64_files.proofs.FirstFaults.{not_nil, reading_tells}
 use Rattle.d64_files.proofs.Owners.{entries_from}
 
 -- the entry of a number, among those that are numbered from another one on
@@ -69,62 +69,13 @@ no_bytes image slot walk e found =
     none_of_found image slot (slice_get (slots image) slot)
     (found ∙ ap (find (λ (e : EntryView). eqb e.slot slot)) e ∙ entry_of_number image (slots image) slot)
 
--- a list that isn't the empty one
-pub not_nil : (blocks : List ℕ) → blocks ≢ [] → is_nil blocks ≡ false
-not_nil [] h = absurd (h refl)
-not_nil (block ∷ blocks) h = refl
-
--- a list that is
-pub nil_is : (blocks : List ℕ) → ¬ (blocks ≢ []) → is_nil blocks ≡ true
-nil_is [] h = refl
-nil_is (block ∷ blocks) h = absurd (h (λ e. cc))
-
--- the kind's number is small
-abbrev is_kind : List ℕ → Bool
-is_kind cell = nat_le (kind_number cell) 4
-
--- slots that have kinds pass the test
-pub kinds_pass : (cells : List (List ℕ)) → All HasKind cells → list_all is_kind cells ≡ true
-kinds_pass [] h = refl
-kinds_pass (c ∷ cells) h =
-    let small : kind_number c ≤ 4 = All-head HasKind c cells h in
-    let one : nat_le (kind_number c) 4 ≡ true = grind (arith, nat_tests) in
-    and_from (is_kind c) (list_all is_kind cells) one (kinds_pass cells (All-tail HasKind c cells h))
-
--- slots that pass the test have kinds
-pub have_kinds : (cells : List (List ℕ)) → list_all is_kind cells ≡ true → All HasKind cells
-have_kinds [] h = All-nil HasKind
-have_kinds (c ∷ cells) h =
-    let parts = and_parts (is_kind c) (list_all is_kind cells) h in
-    let one : nat_le (kind_number c) 4 ≡ true = parts.0 in
-    let small : kind_number c ≤ 4 = grind (arith, nat_tests) in
-    All-cons HasKind c cells small (have_kinds cells parts.1)
-
--- what is why a directory can't be read, by both tests
-abbrev why : Bool → Bool → Option DirFault
-why missing known = cond missing (Some NoDirectory) (cond known None (Some UnknownKind))
-
 -- a directory that meets the conditions 2 and 3 can be read
-pub readable : (image : List (List ℕ)) → AllHold image 2 3 → unreadable image ≡ None
-readable image h =
-    ap (λ (b : Bool). why b (list_all is_kind (slots image))) (not_nil (directory image) (h NoDirectory (omega arith) (omega arith)))
-    ∙ ap (why false) (kinds_pass (slots image) (h UnknownKind (omega arith) (omega arith)))
+pub readable : (image : List (List ℕ)) → AllHold image 2 3 → first_fault image reading_conditions ≡ None
+readable image h = (reading_tells image).0.1 h
 
 -- one that fails one of them can't, for the first that it fails
-pub first_reason : (image : List (List ℕ)) (fault : DirFault) → IsFirstFault image 2 3 fault → unreadable image ≡ Some fault
-first_reason image WrongCounts f = absurd (let h = f.not_before in omega arith)
-first_reason image NoDirectory f = ap (λ (b : Bool). why b (list_all is_kind (slots image))) (nil_is (directory image) f.fails)
-first_reason image UnknownKind f =
-    let some : list_all is_kind (slots image) ≡ false =
-    elim (cases_Bool (list_all is_kind (slots image))) [
-      | inl t ↦ absurd (f.fails (have_kinds (slots image) t))
-      | inr t ↦ t
-    ] in
-    ap (λ (b : Bool). why b (list_all is_kind (slots image))) (not_nil (directory image) (f.others_hold NoDirectory (omega arith) (omega arith)))
-    ∙ ap (why false) some
-first_reason image NoChain f = absurd (let h = f.not_after in omega arith)
-first_reason image CrossLinked f = absurd (let h = f.not_after in omega arith)
-first_reason image MarkedFree f = absurd (let h = f.not_after in omega arith)
+pub first_reason : (image : List (List ℕ)) (fault : DirFault) → IsFirstFault image 2 3 fault → first_fault image reading_conditions ≡ Some fault
+first_reason image fault f = ((reading_tells image).1 fault).1 f
 
 -- such a directory refuses each slot
 pub refused_directory : (image : List (List ℕ)) (slot : ℕ) (fault : DirFault) → IsFirstFault image 2 3 fault → Some (Directory fault) ≡ content_refusal image slot

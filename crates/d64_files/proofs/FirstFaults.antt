@@ -13,17 +13,46 @@ use Rattle.d64_image.specs.Image.{tracks_of}
 use Rattle.d64_map.specs.Map.{CountsFit, free_blocks, count_of}
 use Rattle.d64_map.specs.Track.{members_on}
 use Rattle.d64_files.specs.Directory.{directory, slots, owned_blocks, number_of, Holds, AllHold, IsFirstFault}
-use Rattle.d64_files.specs.FirstFault.{fails, err_of, first_fault, reading_conditions, owning_conditions, sound_conditions}
+use Rattle.d64_files.specs.FirstFault.{is_nil, fails, err_of, first_fault, reading_conditions, owning_conditions, sound_conditions}
 use Rattle.d64_files.specs.FirstFaultLaws.{TellsFirst}
 use Rattle.d64_files.specs.Ownership.{chain_at, roots, HasItsChains}
-use Rattle.d64_files.specs.Reading.{is_nil, unreadable}
-use Rattle.d64_files.specs.Slot.{kind_number}
+use Rattle.d64_files.specs.Slot.{HasKind, kind_number}
 use Rattle.d64_files.specs.declared.dir_fault.DirFault.{DirFault}
 use Rattle.d64_files.specs.declared.dir_fault.DirFault.TheVariants.{WrongCounts, NoDirectory, UnknownKind, NoChain, CrossLinked, MarkedFree}
 use Rattle.d64_files.proofs.Conditions.{both_hold, no_directory, unknown_kind}
-use Rattle.d64_files.proofs.Contents.{not_nil, kinds_pass, have_kinds}
 use Rattle.d64_files.proofs.Repeats.{no_repeats, distinct_blocks}
 use Rattle.d64_files.proofs.Verdicts.{files_hold, missing_chain, crossed, dir_fault_first, wrong_counts, file_fault_first, all_hold, marked_free}
+
+-- a list that isn't the empty one
+pub not_nil : (blocks : List ℕ) → blocks ≢ [] → is_nil blocks ≡ false
+not_nil [] h = absurd (h refl)
+not_nil (block ∷ blocks) h = refl
+
+-- a list that is
+pub nil_is : (blocks : List ℕ) → ¬ (blocks ≢ []) → is_nil blocks ≡ true
+nil_is [] h = refl
+nil_is (block ∷ blocks) h = absurd (h (λ e. cc))
+
+-- the kind's number is small
+abbrev is_kind : List ℕ → Bool
+is_kind cell = nat_le (kind_number cell) 4
+
+-- slots that have kinds pass the test
+pub kinds_pass : (cells : List (List ℕ)) → All HasKind cells → list_all is_kind cells ≡ true
+kinds_pass [] h = refl
+kinds_pass (c ∷ cells) h =
+    let small : kind_number c ≤ 4 = All-head HasKind c cells h in
+    let one : nat_le (kind_number c) 4 ≡ true = grind (arith, nat_tests) in
+    and_from (is_kind c) (list_all is_kind cells) one (kinds_pass cells (All-tail HasKind c cells h))
+
+-- slots that pass the test have kinds
+pub have_kinds : (cells : List (List ℕ)) → list_all is_kind cells ≡ true → All HasKind cells
+have_kinds [] h = All-nil HasKind
+have_kinds (c ∷ cells) h =
+    let parts = and_parts (is_kind c) (list_all is_kind cells) h in
+    let one : nat_le (kind_number c) 4 ≡ true = parts.0 in
+    let small : kind_number c ≤ 4 = grind (arith, nat_tests) in
+    All-cons HasKind c cells small (have_kinds cells parts.1)
 
 -- what is denied is false
 untrue : (b : Bool) → not b ≡ false → b ≡ true
@@ -239,15 +268,3 @@ reading_verdict image =
 -- of those
 pub reading_tells : TellsFirst reading_conditions 2 3
 reading_tells = tells reading_conditions 2 3 reading_verdict
-
--- both ways to ask whether all slots have kinds
-asked_twice : (missing known : Bool)
-    → cond missing (Some NoDirectory) (cond known None (Some UnknownKind)) ≡ cond missing (Some NoDirectory) (cond (not known) (Some UnknownKind) None)
-asked_twice true known = refl
-asked_twice false true = refl
-asked_twice false false = refl
-
--- what keeps a directory from being read is the first of those that fails
-pub unreadable_first : (image : List (List ℕ)) → unreadable image ≡ first_fault image reading_conditions
-unfolding first_fault fails
-unreadable_first image = asked_twice (is_nil (directory image)) (list_all (λ (cell : List ℕ). nat_le (kind_number cell) 4) (slots image))

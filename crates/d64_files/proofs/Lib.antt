@@ -2,6 +2,7 @@ pub mod Chains
 pub mod Conditions
 pub mod Contents
 pub mod FileBlocks
+pub mod FilledNames
 pub mod FirstFaults
 pub mod Following
 pub mod LabelTests

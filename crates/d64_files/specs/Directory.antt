@@ -51,9 +51,13 @@ is_named pattern cell = is_used cell && matches pattern (name_of cell)
 abbrev pub first_named : List ℕ → List (List ℕ) → Option ℕ
 first_named pattern cells = position (is_named pattern) cells
 
--- a used slot has exactly this name
+-- a used slot of exactly this name
+abbrev pub has_name : List ℕ → List ℕ → Bool
+has_name name cell = is_used cell && bytes_eq (name_of cell) name
+
+-- there is one among slots
 abbrev pub is_name_taken : List ℕ → List (List ℕ) → Bool
-is_name_taken name cells = list_any (λ cell. is_used cell && bytes_eq (name_of cell) name) cells
+is_name_taken name cells = list_any (has_name name) cells
 
 -- the number of a condition
 abbrev pub number_of : DirFault → ℕ

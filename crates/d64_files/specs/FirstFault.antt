@@ -1,5 +1,5 @@
 -- The first condition of a sound image that fails, as tests.
-use Rattle.std.specs.Prelude.{ℕ, nat_le, nat_eq, not, Bool, List, [], ◌∷◌, length, find, Option, Some, None, Result, Ok, Err}
+use Rattle.std.specs.Prelude.{ℕ, nat_le, nat_eq, not, Bool, true, false, List, [], ◌∷◌, length, find, Option, Some, None, Result, Ok, Err}
 use Rattle.std.specs.List.{range_with_len, list_any, list_all}
 use Rattle.std.specs.FinSet as set
 use Rattle.d64_image.specs.Image.{tracks_of}
@@ -8,10 +8,14 @@ use Rattle.d64_map.specs.Track.{members_on}
 use Rattle.d64_files.specs.Claims.{has_repeats}
 use Rattle.d64_files.specs.Directory.{directory, slots, owned_blocks}
 use Rattle.d64_files.specs.Ownership.{chain_at, roots}
-use Rattle.d64_files.specs.Reading.{is_nil}
 use Rattle.d64_files.specs.Slot.{kind_number}
 use Rattle.d64_files.specs.declared.dir_fault.DirFault.{DirFault}
 use Rattle.d64_files.specs.declared.dir_fault.DirFault.TheVariants.{WrongCounts, NoDirectory, UnknownKind, NoChain, CrossLinked, MarkedFree}
+
+-- a list of blocks is empty
+abbrev pub is_nil : List ℕ → Bool
+is_nil [] = true
+is_nil (block ∷ blocks) = false
 
 -- whether an image fails the condition that the fault names
 unfoldable pub fails : List (List ℕ) → DirFault → Bool

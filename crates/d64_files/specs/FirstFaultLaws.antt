@@ -1,8 +1,7 @@
 -- The tests of the conditions of a sound image and the relations agree.
 use Rattle.std.specs.Prelude.{◌≡◌, ◌↔◌, ℕ, List, Some, None}
 use Rattle.d64_files.specs.Directory.{AllHold, IsFirstFault}
-use Rattle.d64_files.specs.FirstFault.{first_fault, reading_conditions}
-use Rattle.d64_files.specs.Reading.{unreadable}
+use Rattle.d64_files.specs.FirstFault.{first_fault}
 use Rattle.d64_files.specs.declared.dir_fault.DirFault.{DirFault}
 
 -- the tests of conditions of these numbers find none that fails exactly where all hold, and find exactly the first that fails
@@ -11,7 +10,3 @@ TellsFirst conditions first last =
     (image : List (List ℕ))
     → ((first_fault image conditions ≡ None) ↔ AllHold image first last)
     × ((fault : DirFault) → (first_fault image conditions ≡ Some fault) ↔ IsFirstFault image first last fault)
-
--- what keeps a directory from being read is the first of its conditions that fails
-abbrev pub UnreadableByTheFirst : Type 0
-UnreadableByTheFirst = (image : List (List ℕ)) → unreadable image ≡ first_fault image reading_conditions

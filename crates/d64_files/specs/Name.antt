@@ -1,5 +1,5 @@
 -- Which bytes are a name.
-use Rattle.std.specs.Prelude.{ℕ, ◌-◌, Bool, List, ◌∷◌, ◌++◌, length, replicate}
+use Rattle.std.specs.Prelude.{ℕ, ◌-◌, ◌==◌, Bool, not, List, ◌∷◌, ◌++◌, length, replicate, take_while}
 use Rattle.d64_files.specs.Label.{IsLabel, is_label, star, question_mark, separators}
 
 -- the bytes that no name holds
@@ -13,6 +13,10 @@ IsName = IsLabel forbidden_in_names
 -- the same as a test of bytes
 abbrev pub is_name : List ℕ → Bool
 is_name = is_label forbidden_in_names
+
+-- the name in a field: its bytes up to the first shifted space
+abbrev pub name_in : List ℕ → List ℕ
+name_in field = take_while (λ byte. not (byte == 0xA0)) field
 
 -- a name in its field of 16 bytes, filled with shifted spaces
 abbrev pub filled : List ℕ → List ℕ

@@ -1,35 +1,21 @@
 -- The content of a file, and what keeps it from being read.
-use Rattle.std.specs.Prelude.{ℕ, nat_le, not, Bool, true, false, if◌then◌else◌, List, [], ◌∷◌, slice_get, Option, Some, None, Result, Ok, Err, option_map}
-use Rattle.std.specs.List.{list_all}
+use Rattle.std.specs.Prelude.{ℕ, not, Bool, true, false, if◌then◌else◌, List, [], slice_get, Option, Some, None, Result, Ok, Err, option_map}
 use Rattle.std.specs.Option.{option_or, option_map_or}
-use Rattle.d64_files.specs.Slot.{is_used, is_closed, kind_number, kind_of, first_pair}
+use Rattle.d64_files.specs.Slot.{is_used, is_closed, kind_of, first_pair}
 use Rattle.d64_files.specs.Ownership.{chain_at}
-use Rattle.d64_files.specs.Directory.{directory, slots}
+use Rattle.d64_files.specs.Directory.{slots}
+use Rattle.d64_files.specs.FirstFault.{is_nil, first_fault, reading_conditions}
 use Rattle.d64_files.specs.FileData.{data_along}
-use Rattle.d64_files.specs.declared.dir_fault.DirFault.{DirFault}
-use Rattle.d64_files.specs.declared.dir_fault.DirFault.TheVariants.{NoDirectory, UnknownKind, NoChain}
+use Rattle.d64_files.specs.declared.dir_fault.DirFault.TheVariants.{NoChain}
 use Rattle.d64_files.specs.declared.kind.Kind.{Kind}
-use Rattle.d64_files.specs.declared.kind.Kind.TheVariants.{Del, Seq, Prg, Usr, Rel}
+use Rattle.d64_files.specs.declared.kind.Kind.TheVariants.{Del}
 use Rattle.d64_files.specs.declared.reading.ReadFault.{ReadFault}
 use Rattle.d64_files.specs.declared.reading.ReadFault.TheVariants.{Directory, NotFound, NotClosed, WrongType, Memory}
-
--- a list of blocks is empty
-abbrev pub is_nil : List ℕ → Bool
-is_nil [] = true
-is_nil (block ∷ blocks) = false
-
--- why a directory can't be read: there is none, or one of its slots has no kind
-abbrev pub unreadable : List (List ℕ) → Option DirFault
-unreadable image =
-    if is_nil (directory image) then Some NoDirectory else (if list_all (λ cell. nat_le (kind_number cell) 4) (slots image) then None else Some UnknownKind)
 
 -- a file's kind is DEL
 abbrev pub is_del : Kind → Bool
 is_del Del = true
-is_del Seq = false
-is_del Prg = false
-is_del Usr = false
-is_del Rel = false
+is_del kind = false
 
 -- why the file of a slot can't be read: the first that applies
 unfoldable pub file_refusal : List (List ℕ) → List ℕ → Option ReadFault
@@ -46,7 +32,7 @@ slot_refusal image (Some cell) = file_refusal image cell
 
 -- why the content of a slot can't be read: what is wrong with the directory, or else with the slot
 unfoldable pub content_refusal : List (List ℕ) → ℕ → Option ReadFault
-content_refusal image slot = option_or (option_map Directory (unreadable image)) (slot_refusal image (slice_get (slots image) slot))
+content_refusal image slot = option_or (option_map Directory (first_fault image reading_conditions)) (slot_refusal image (slice_get (slots image) slot))
 
 -- the content of the file of a slot's bytes: the data of its chain
 abbrev pub file_content : List (List ℕ) → List ℕ → List ℕ

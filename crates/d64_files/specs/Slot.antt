@@ -1,6 +1,7 @@
 -- A slot of the directory: its 32 bytes, and what they say of a file.
-use Rattle.std.specs.Prelude.{ℕ, ◌+◌, ◌*◌, ◌%◌, ◌^◌, ◌≤◌, ◌==◌, Bool, not, if◌then◌else◌, List, [], ◌∷◌, map, take, drop, take_while, slice_index, slice_index_or, slice_range, bit_and, Option, Some, None}
+use Rattle.std.specs.Prelude.{ℕ, ◌+◌, ◌*◌, ◌%◌, ◌^◌, ◌≤◌, ◌==◌, Bool, not, if◌then◌else◌, List, [], ◌∷◌, map, take, drop, slice_index, slice_index_or, slice_range, bit_and, Option, Some, None}
 use Rattle.std.specs.List.{range_with_len}
+use Rattle.d64_files.specs.Name.{name_in}
 use Rattle.d64_files.specs.declared.kind.Kind.{Kind}
 use Rattle.d64_files.specs.declared.kind.Kind.TheVariants.{Del, Seq, Prg, Usr, Rel}
 
@@ -62,9 +63,9 @@ first_pair cell = (slice_index cell 3, slice_index cell 4)
 abbrev pub field_of : List ℕ → List ℕ
 field_of cell = slice_range cell 5 21
 
--- a file's name: the field up to its first shifted space
+-- a file's name
 abbrev pub name_of : List ℕ → List ℕ
-name_of cell = take_while (λ byte. not (byte == 0xA0)) (field_of cell)
+name_of cell = name_in (field_of cell)
 
 -- the track and the sector of a file's first side block; none where that track is 0
 abbrev pub side_pair : List ℕ → Option (ℕ × ℕ)

@@ -10,9 +10,9 @@ ghost use Rattle.d64_files.specs.Writing.{with_bytes, slot_block, slot_start};
 
 use crate::block_bytes::write_at;
 use crate::directory_blocks::block_of_slot;
-use crate::entry::{FILLER, SLOT_BYTES, SlotNo};
+use crate::entry::{SLOT_BYTES, SlotNo};
 use crate::label::MAX_LEN;
-use crate::name::Name;
+use crate::name::{FILLER, Name};
 use crate::slots::SLOTS_PER_BLOCK;
 use d64_image::{Image, Patch};
 use std::alloc::AllocError;

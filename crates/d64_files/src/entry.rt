@@ -5,14 +5,12 @@ ghost use Rattle.d64_files.specs.Slot.{HasKind, is_used, kind_of, is_locked, is_
 
 use crate::chain::block_in;
 use crate::kind::Kind;
+use crate::name::name_in;
 use d64_image::{BlockNo, Image};
 use std::marker::Model;
 
 /// How many bytes a slot has.
 pub(crate) const SLOT_BYTES: usize = 32;
-
-/// The byte that fills the field of a name, a shifted space.
-pub(crate) const FILLER: u8 = 0xA0;
 
 /// A slot of the directory: its place in the order of the directory's chain, from 0.
 #[derive(Clone, Copy, Debug, PartialEq, Eq, PartialOrd, Ord, Hash)]
@@ -129,11 +127,7 @@ impl<'a> Entry<'a> {
     pub fn name(&self) -> &'a [u8]
         ensures { result.now ≡ name_of self.now.bytes }
     {
-        let field = self.field();
-        match field.iter().position(|byte| *byte == FILLER) {
-            Some(end) => &field[..end],
-            None => field,
-        }
+        name_in(self.field())
     }
 
     /// The first block of the file, or None where the image that the entry stands in has no block of that track and sector.

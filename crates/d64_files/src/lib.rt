@@ -33,7 +33,7 @@ pub use entry::{Entry, SlotNo};
 pub use kind::Kind;
 pub use label::BadName;
 pub use lookup::find;
-pub use name::Name;
+pub use name::{FILLER, Name, name_in};
 pub use pattern::{Pattern, matches};
 pub use reading::{ReadFault, content, entry_content};
 pub use slots::Slots;

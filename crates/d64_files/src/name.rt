@@ -1,7 +1,7 @@
 //! The names of files and disks.
 ghost use Rattle.std.specs.Prelude.{◌≡◌, ◌↔◌, IsOk, is_ok, IfOk, IfErr};
 ghost use Rattle.d64_files.specs.Label.{IsFault};
-ghost use Rattle.d64_files.specs.Name.{IsName, is_name, forbidden_in_names};
+ghost use Rattle.d64_files.specs.Name.{IsName, is_name, name_in, forbidden_in_names};
 
 use crate::label::{BadName, MAX_LEN, label};
 use arrayvec::ArrayVec;
@@ -10,6 +10,19 @@ use std::marker::Model;
 /// The bytes that no name holds: the wildcards of patterns, the separators of the drive's commands, and the byte that
 /// fills the field of a name.
 const FORBIDDEN: &[u8; 8] = b"*?=:,\"\r\xA0";
+
+/// The byte that fills the field of a name, a shifted space.
+pub const FILLER: u8 = 0xA0;
+
+/// The name in a field, which is filled with $A0: the bytes up to the first of these, or all of them.
+pub fn name_in(field: &[u8]) -> &[u8]
+    ensures { result.now ≡ name_in field.now }
+{
+    match field.iter().position(|byte| *byte == FILLER) {
+        Some(end) => &field[..end],
+        None => field,
+    }
+}
 
 /// The name of a file or a disk (1541 User's Guide): 1 to 16 bytes of PETSCII, none of them one of `*` `?` `=` `:` `,`
 /// `"`, $0D and $A0.

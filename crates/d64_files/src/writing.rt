@@ -5,17 +5,18 @@
 //! same. They are refused where there is no memory to keep what stood there. Then some blocks may be written, and the
 //! image with the patch put back is still the one from before.
 ghost use Rattle.std.specs.Prelude.{◌≡◌, ◌≢◌, ◌+◌, ◌*◌, ◌<◌, ◌≤◌, [], length, OnOk};
+ghost use Rattle.d64_image.specs.Image.{sector_at};
 ghost use Rattle.d64_image.specs.Patch.{IsPatchOf, back};
 ghost use Rattle.d64_files.specs.Chain.{LieIn};
 ghost use Rattle.d64_files.specs.Directory.{directory, slots};
-ghost use Rattle.d64_files.specs.Writing.{written_at, with_bytes, blocks_for, linked_block, last_block, with_chain, entry_bytes, with_entry, dir_last, empty_directory, with_growth};
+ghost use Rattle.d64_files.specs.Writing.{written_at, pair_bytes, with_bytes, blocks_for, linked_block, last_block, with_chain, entry_bytes, with_entry, dir_last, empty_directory, with_growth};
 
 use crate::block_bytes::write_at;
 use crate::directory_blocks::{block_of_slot, last_directory_block};
-use crate::entry::{FILLER, SLOT_BYTES, SlotNo};
+use crate::entry::{SLOT_BYTES, SlotNo};
 use crate::kind::Kind;
 use crate::label::MAX_LEN;
-use crate::name::Name;
+use crate::name::{FILLER, Name};
 use crate::slots::SLOTS_PER_BLOCK;
 use d64_image::{BLOCK_BYTES, BlockNo, Image, Patch};
 use std::alloc::AllocError;
@@ -170,6 +171,18 @@ pub fn empty_directory() -> [u8; BLOCK_BYTES]
     directory
 }
 
+/// The directory's last block, with a link to another one.
+fn linked_last(image: &Image, last: BlockNo, next: BlockNo) -> [u8; BLOCK_BYTES]
+    requires { last ≡ dir_last image.now }
+    ensures linked { result ≡ written_at (sector_at image.now last) 0 (pair_bytes next) }
+    ensures within { last < length image.now }
+{
+    let _ = image.tracks();
+    let mut bytes = *image.sector(last);
+    write_at(&mut bytes, 0, &[next.track(), next.sector()]);
+    bytes
+}
+
 /// Appends a block of the image to the directory: the last one's link names it, and its eight slots are empty. No other byte of the
 /// image changes.
 ///
@@ -187,10 +200,7 @@ pub fn grow_after(
     ensures back { back image.new patch.new ≡ back image.old patch.old }
     ensures held { IsPatchOf image.old patch.old → IsPatchOf image.new patch.new }
 {
-    let _ = image.tracks();
-    let mut bytes = *image.sector(last);
-    write_at(&mut bytes, 0, &[new.track(), new.sector()]);
-    patch.write(image, last, &bytes)?;
+    patch.write(image, last, &linked_last(image, last, new))?;
     patch.write(image, new, &empty_directory())
 }
 

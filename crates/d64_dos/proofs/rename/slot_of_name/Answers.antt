@@ -1,9 +1,8 @@
 use Rattle.std.proofs.Common.{◌≡◌, List, ap, ◌∙◌}
 use Rattle.std.specs.Prelude.{find, option_map}
 use Rattle.d64_files.specs.Slot.{EntryView}
-use Rattle.d64_files.specs.Directory.{slots, entries}
+use Rattle.d64_files.specs.Directory.{slots, entries, has_name}
 use Rattle.d64_files.proofs.SlotLists.{found-entry}
-use Rattle.d64_effects.specs.Rename.{has_name}
 use Rattle.d64_dos.proofs.rename.slot_of_name.Goals as goal
 
 pub loop-entry-init : goal.loop-entry-init

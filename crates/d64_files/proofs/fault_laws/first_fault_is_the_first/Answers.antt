@@ -1,4 +1,4 @@
-use Rattle.d64_files.proofs.FirstFaults.{sound_tells, owning_tells, reading_tells, unreadable_first}
+use Rattle.d64_files.proofs.FirstFaults.{sound_tells, owning_tells, reading_tells}
 use Rattle.d64_files.proofs.fault_laws.first_fault_is_the_first.Goals as goal
 
 pub returns-clause-sound : goal.returns-clause-sound
@@ -9,6 +9,3 @@ returns-clause-owning c = owning_tells
 
 pub returns-clause-reading : goal.returns-clause-reading
 returns-clause-reading c = reading_tells
-
-pub returns-clause-unreadable : goal.returns-clause-unreadable
-returns-clause-unreadable c = unreadable_first
