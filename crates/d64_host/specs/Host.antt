@@ -50,11 +50,8 @@ one_more_failure count = min (count + 1) (2 ^ 64 - 1)
 
 -- the count of failures after a call: the device's fault adds one, and nothing else does
 abbrev pub failures_after : {A : Type 0} → ℕ → Result A HostFault → ℕ
-failures_after count (Ok value) = count
-failures_after count (Err Missing) = count
 failures_after count (Err Device) = one_more_failure count
-failures_after count (Err TooLong) = count
-failures_after count (Err (Memory error)) = count
+failures_after count answer = count
 
 -- the count of failures never falls, and rises by one exactly where the device's fault is answered, up to its greatest
 -- value

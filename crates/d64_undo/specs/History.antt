@@ -32,11 +32,11 @@ added history image = record {
 
 -- the cursor one image back
 abbrev pub undone : History → History
-undone history = record { images = history.images; cursor = history.cursor - 1 }
+undone history = record history { cursor = history.cursor - 1 }
 
 -- the cursor one image on
 abbrev pub redone : History → History
-redone history = record { images = history.images; cursor = history.cursor + 1 }
+redone history = record history { cursor = history.cursor + 1 }
 
 -- in how many blocks the images before and after a record differ, where the history has that record: each is numbered from 0, as the
 -- image before it
