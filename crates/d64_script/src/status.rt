@@ -1,7 +1,7 @@
 //! Status lines, which answer the lines of a script.
-ghost use Rattle.std.specs.Prelude.{◌≡◌, ◌+◌, ◌<◌, ◌≤◌, ◌++◌, ◌↔◌, length, IsTrue};
+ghost use Rattle.std.specs.Prelude.{◌≡◌, ◌+◌, ◌≤◌, ◌++◌, length};
 ghost use Rattle.arrayvec.specs.ArrayVec.{array_vec_len};
-ghost use Rattle.d64_script.specs.Status.{IsAccepted, status_number, status_text, status_details, status_line, two_digits};
+ghost use Rattle.d64_script.specs.Status.{is_accepted, status_row, status_details, status_line, two_digits};
 
 use arrayvec::ArrayVec;
 use itoa::Buffer;
@@ -75,36 +75,14 @@ impl From<AllocError> for Status {
 impl Status {
     /// The number that the status line begins with.
     pub fn number(&self) -> u8
-        ensures { result ≡ status_number self.now }
+        ensures { result ≡ (status_row self.now).0 }
     {
-        match self {
-            Status::Done => 0,
-            Status::FilesScratched { .. } => 1,
-            Status::SyntaxError => 30,
-            Status::UnknownCommand => 31,
-            Status::LongLine => 32,
-            Status::BadName => 33,
-            Status::MissingWord => 34,
-            Status::WriteFileOpen => 60,
-            Status::FileNotFound => 62,
-            Status::FileExists => 63,
-            Status::FileTypeMismatch => 64,
-            Status::IllegalBlock { .. } => 66,
-            Status::DirectoryError { .. } => 71,
-            Status::DiskFull => 72,
-            Status::HostFile { .. } => 80,
-            Status::NothingToUndo => 81,
-            Status::NothingToRedo => 82,
-            Status::NotOneBlock => 83,
-            Status::BasicText { .. } => 84,
-            Status::NotBasic { .. } => 85,
-            Status::OutOfMemory => 90,
-        }
+        self.row().0
     }
 
     /// Whether the line was accepted: the numbers below 30.
     pub fn is_accepted(&self) -> bool
-        ensures { IsTrue result ↔ IsAccepted self.now }
+        ensures { result ≡ is_accepted self.now }
     {
         self.number() < FIRST_REFUSAL
     }
@@ -113,11 +91,12 @@ impl Status {
     pub fn line(&self) -> ArrayVec<u8, MAX_STATUS_LINE>
         ensures { result.items ≡ status_line self.now }
     {
+        let (number, text) = self.row();
         let (first, second) = self.details();
         let mut line = ArrayVec::new();
-        push_number(&mut line, u64::from(self.number()));
+        push_number(&mut line, u64::from(number));
         push_bytes(&mut line, b",");
-        push_bytes(&mut line, self.text());
+        push_bytes(&mut line, text);
         push_bytes(&mut line, b",");
         push_number(&mut line, first);
         push_bytes(&mut line, b",");
@@ -126,32 +105,34 @@ impl Status {
         line
     }
 
-    fn text(&self) -> &'static [u8]
-        ensures text { result.now ≡ status_text self.now }
-        ensures short { length result.now ≤ 24 }
+    /// The number that the status line begins with, and its text.
+    fn row(&self) -> (u8, &'static [u8])
+        ensures number { result.0 ≡ (status_row self.now).0 }
+        ensures text { result.1.now ≡ (status_row self.now).1 }
+        ensures short { length result.1.now ≤ 24 }
     {
         match self {
-            Status::Done => b" OK",
-            Status::FilesScratched { .. } => b"FILES SCRATCHED",
-            Status::SyntaxError
-            | Status::UnknownCommand
-            | Status::LongLine
-            | Status::BadName
-            | Status::MissingWord => b"SYNTAX ERROR",
-            Status::WriteFileOpen => b"WRITE FILE OPEN",
-            Status::FileNotFound => b"FILE NOT FOUND",
-            Status::FileExists => b"FILE EXISTS",
-            Status::FileTypeMismatch => b"FILE TYPE MISMATCH",
-            Status::IllegalBlock { .. } => b"ILLEGAL TRACK AND SECTOR",
-            Status::DirectoryError { .. } => b"DIR ERROR",
-            Status::DiskFull => b"DISK FULL",
-            Status::HostFile { .. } => b"HOST FILE",
-            Status::NothingToUndo => b"NOTHING TO UNDO",
-            Status::NothingToRedo => b"NOTHING TO REDO",
-            Status::NotOneBlock => b"NOT ONE BLOCK",
-            Status::BasicText { .. } => b"BASIC TEXT",
-            Status::NotBasic { .. } => b"NOT BASIC",
-            Status::OutOfMemory => b"OUT OF MEMORY",
+            Status::Done => (0, b" OK"),
+            Status::FilesScratched { .. } => (1, b"FILES SCRATCHED"),
+            Status::SyntaxError => (30, b"SYNTAX ERROR"),
+            Status::UnknownCommand => (31, b"SYNTAX ERROR"),
+            Status::LongLine => (32, b"SYNTAX ERROR"),
+            Status::BadName => (33, b"SYNTAX ERROR"),
+            Status::MissingWord => (34, b"SYNTAX ERROR"),
+            Status::WriteFileOpen => (60, b"WRITE FILE OPEN"),
+            Status::FileNotFound => (62, b"FILE NOT FOUND"),
+            Status::FileExists => (63, b"FILE EXISTS"),
+            Status::FileTypeMismatch => (64, b"FILE TYPE MISMATCH"),
+            Status::IllegalBlock { .. } => (66, b"ILLEGAL TRACK AND SECTOR"),
+            Status::DirectoryError { .. } => (71, b"DIR ERROR"),
+            Status::DiskFull => (72, b"DISK FULL"),
+            Status::HostFile { .. } => (80, b"HOST FILE"),
+            Status::NothingToUndo => (81, b"NOTHING TO UNDO"),
+            Status::NothingToRedo => (82, b"NOTHING TO REDO"),
+            Status::NotOneBlock => (83, b"NOT ONE BLOCK"),
+            Status::BasicText { .. } => (84, b"BASIC TEXT"),
+            Status::NotBasic { .. } => (85, b"NOT BASIC"),
+            Status::OutOfMemory => (90, b"OUT OF MEMORY"),
         }
     }
 

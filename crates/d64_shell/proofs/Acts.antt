@@ -1,5 +1,5 @@
 -- Acts, done step by step.
-use Rattle.std.proofs.Common.{◌≡◌, ℕ, ◌≤◌, List, length, map, Bor, Option, Some, None, Ok, Err, inl, inr, refl, subst, arith}
+use Rattle.std.proofs.Common.{◌≡◌, ℕ, ◌≤◌, List, length, map, Bor, Option, Some, None, Ok, Err, inl, inr, refl, ap, subst, arith}
 use Rattle.std.proofs.lemmas.List.{length-map}
 use Rattle.std.proofs.lemmas.Bool.{le-leb}
 use Rattle.d64_dos.specs.Refusal.{cause_of}
@@ -10,7 +10,7 @@ use Rattle.d64_script.specs.declared.status.Status.TheVariants.{OutOfMemory}
 use Rattle.d64_shell.specs.Act.{Act, Give, Refuse, Then, ◌>>=◌, Call, Gives, Does, Ending, HostState, LineAnswer, World, plain}
 use Rattle.d64_undo.specs.History.{History}
 use Rattle.d64_shell.specs.Line.{allowed, act_of, act_of_command, status_of_refusal}
-use Rattle.d64_shell.specs.CommandWord.{fewest, most}
+use Rattle.d64_shell.specs.CommandWord.{counts}
 use Rattle.d64_shell.specs.declared.command_word.CommandWord.{CommandWord}
 
 -- a call gave bytes, and what follows them was done
@@ -72,12 +72,14 @@ Does-not_allowed DiskFull cause call next world is = by_cause DiskFull cause (Th
 Does-not_allowed Memory cause call next world is = Does-allowed cause (Then call next) world (plain OutOfMemory) world is (Does-no_memory call next world)
 
 -- as many words follow as the command takes
-pub Does-counted : (home : List ℕ) (history : History) (command : CommandWord) (words : List (Bor (List ℕ))) (few many : ℕ)
+pub Does-counted : (home : List ℕ) (history : History) (command : CommandWord) (words : List (Bor (List ℕ))) (found : ℕ × ℕ)
     (world : World) (answer : LineAnswer) (after : World)
-    → few ≡ fewest home command → many ≡ most command → few ≤ length words → length words ≤ many
+    → found ≡ counts home command → found.0 ≤ length words → length words ≤ found.1
     → Does (act_of home history command (map (λ word. word.now) words)) world answer after
     → Does (act_of_command home history command (map (λ word. word.now) words)) world answer after
-Does-counted home history command words few many world answer after least greatest enough within done =
+Does-counted home history command words found world answer after is enough within done =
     let count = length-map words (λ (word : Bor (List ℕ)). word.now) in
     let lists = map (λ (word : Bor (List ℕ)). word.now) words in
-    rw (le-leb (fewest home command) (length lists) (omega arith), le-leb (length lists) (most command) (omega arith)) done
+    let least = ap (λ (pair : ℕ × ℕ). pair.0) is in
+    let greatest = ap (λ (pair : ℕ × ℕ). pair.1) is in
+    rw (le-leb (counts home command).0 (length lists) (omega arith), le-leb (length lists) (counts home command).1 (omega arith)) done

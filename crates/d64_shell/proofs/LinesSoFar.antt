@@ -13,7 +13,8 @@ use Rattle.d64_script.specs.declared.held_line.HeldLine.{HeldLine}
 use Rattle.d64_script.proofs.LineCuts.{lines_of-nil}
 use Rattle.d64_script.proofs.OpenLines.{IsOpen-append, lines_of-ended, lines_of-begun, is_ended-push}
 use Rattle.d64_shell.specs.Act.{LineAnswer, World}
-use Rattle.d64_shell.specs.Transcript.{Transcript, counted, is_accepted, printed}
+use Rattle.d64_script.specs.Status.{is_accepted}
+use Rattle.d64_shell.specs.Transcript.{Transcript, counted, printed}
 use Rattle.d64_shell.specs.Runner.{Stand, begin, RanLines, StoppedAt}
 use Rattle.d64_shell.specs.LineByLine.{progress_of, AreCutInto, HasCome, HasClosed, RunsLine, StopsInLine}
 use Rattle.d64_shell.specs.declared.runner.Tally.{Tally}

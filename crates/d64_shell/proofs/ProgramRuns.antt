@@ -27,7 +27,7 @@ IfErr-of_error (Err told) error P is p = subst P (sym is) p
 
 -- lines have run also after the output was flushed
 RanLines-flushed : (home : List ℕ) (old new : Stand) (lines : List (List ℕ)) (after : Progress) (flushed : Option (List ℕ))
-    → RanLines home old new lines after → Keeps new.writer flushed → RanLines home old (record { writer = flushed; world = new.world }) lines after
+    → RanLines home old new lines after → Keeps new.writer flushed → RanLines home old (record new { writer = flushed }) lines after
 RanLines-flushed home old new lines after flushed ran kept = record {
   out = ran.out;
   told = ran.told;
@@ -37,7 +37,7 @@ RanLines-flushed home old new lines after flushed ran kept = record {
 
 -- so have those before a write that failed
 StoppedAt-flushed : (home : List ℕ) (old new : Stand) (lines : List (List ℕ)) (flushed : Option (List ℕ))
-    → StoppedAt home old new lines → Keeps new.writer flushed → StoppedAt home old (record { writer = flushed; world = new.world }) lines
+    → StoppedAt home old new lines → Keeps new.writer flushed → StoppedAt home old (record new { writer = flushed }) lines
 StoppedAt-flushed home old new lines flushed stopped kept = record {
   before = stopped.before;
   line = stopped.line;
@@ -59,7 +59,7 @@ StoppedAt-flushed home old new lines flushed stopped kept = record {
 
 -- a script has run also after its output was flushed, however it ended
 pub Ran-flushed : (home : List ℕ) (reader left : Option (List ℕ)) (old new : Stand) (flushed : Option (List ℕ)) (ended : Result Outcome ShellFault)
-    → Ran home reader left old new ended → Keeps new.writer flushed → Ran home reader left old (record { writer = flushed; world = new.world }) ended
+    → Ran home reader left old new ended → Keeps new.writer flushed → Ran home reader left old (record new { writer = flushed }) ended
 Ran-flushed home reader left old new flushed (Ok outcome) ran kept = record {
   script = ran.script;
   all = ran.all;

@@ -30,7 +30,7 @@ use Rattle.d64_script.specs.Words.{words_of}
 use Rattle.petscii.specs.Spelling.{spelling}
 use Rattle.d64_shell.specs.Act.{Act, Give, Refuse, Then, Call, Text, Fetch, Store, Crunch, Expand, Room, Gives, given_by, Ending, Does, LineAnswer, World, HostState, ◌>>=◌, valid, need, each_text, plain}
 use Rattle.d64_shell.specs.Arguments.{host_in, block_in, at_comma, can_be_id, name_and_kind_of}
-use Rattle.d64_shell.specs.CommandWord.{command_word_of, fewest, most}
+use Rattle.d64_shell.specs.CommandWord.{command_word_of, counts}
 use Rattle.d64_shell.specs.FoundFile.{found_name, is_file_name}
 use Rattle.d64_shell.specs.Line.{allowed, leave, run, act_of, act_of_words, act_of_line, word_at, read_to, save_act, undo_act, redo_act}
 use Rattle.d64_shell.specs.ScriptLaws.{IsReachedIn, ScriptsAreRuns, IsBlockWrite, ScriptsKeepDisksSound}
@@ -215,8 +215,8 @@ words-lead : (IsOne : Asked → Type 0) (home : List ℕ) (history : History) (w
 words-lead IsOne home history [] is = tt
 words-lead IsOne home history (first ∷ words) is =
     after_found IsOne history (command_word_of first) _ _
-    (λ command found. after_any IsOne history (need (nat_le (fewest home command) (length words)) _) _
-    (λ _. after_any IsOne history (need (nat_le (length words) (most command)) _) _
+    (λ command found. after_any IsOne history (need (nat_le (counts home command).0 (length words)) _) _
+    (λ _. after_any IsOne history (need (nat_le (length words) (counts home command).1) _) _
     (λ _. act-leads IsOne home history command words (is first words command refl found))))
 
 -- a line that is too long, one that is skipped, or one that asks for an act

@@ -3,7 +3,8 @@ use Rattle.std.proofs.Common.{◌≡◌, ℕ, ◌+◌, List, [], ◌∷◌, ◌+
 use Rattle.std.specs.Prelude.{MatchBool, MatchOption}
 use Rattle.d64_shell.specs.Act.{Act, Ending, Does, LineAnswer, World}
 use Rattle.d64_shell.specs.Line.{act_of_line, IsSkipped, IsAnswered}
-use Rattle.d64_shell.specs.Transcript.{Progress, Line, Transcript, IsSilent, printed, counted, is_accepted}
+use Rattle.d64_script.specs.Status.{is_accepted}
+use Rattle.d64_shell.specs.Transcript.{Progress, Line, Transcript, IsSilent, printed, counted}
 
 -- a line that is answered is one of the open run
 answered_by : (asked : Option (Act Ending)) (progress : Progress) (answer : LineAnswer) (world : World)

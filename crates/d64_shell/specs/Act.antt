@@ -6,7 +6,7 @@ use Rattle.d64_host.specs.Files.{Files}
 use Rattle.d64_host.specs.Host.{fault_number, Fetches, Stores, CountsDevice}
 use Rattle.d64_undo.specs.History.{History}
 use Rattle.d64_host.specs.declared.host.HostFault.{HostFault}
-use Rattle.d64_host.specs.declared.host.HostFault.TheVariants.{Missing, Device, TooLong, Memory}
+use Rattle.d64_host.specs.declared.host.HostFault.TheVariants.{Memory}
 use Rattle.d64_shell.specs.BasicFiles.{Crunches, Expands}
 use Rattle.d64_script.specs.declared.status.Status.{Status}
 use Rattle.d64_script.specs.declared.status.Status.TheVariants.{BadName, HostFile, OutOfMemory}
@@ -126,10 +126,8 @@ pub record StoresFile (old : HostState) (name bytes : List ℕ) (stored : Result
 
 -- how a fault of the host is answered
 abbrev pub status_of_fault : HostFault → Status
-status_of_fault Missing = HostFile (fault_number Missing)
-status_of_fault Device = HostFile (fault_number Device)
-status_of_fault TooLong = HostFile (fault_number TooLong)
 status_of_fault (Memory error) = OutOfMemory
+status_of_fault fault = HostFile (fault_number fault)
 
 -- what the host gave, or how its fault is answered
 abbrev pub given_by : {A : Type 0} → (A → List ℕ) → Result A HostFault → Result (List ℕ) Status
@@ -150,11 +148,11 @@ Gives Room old given new = (given ≡ Ok []) × (new ≡ old)
 
 -- an act of a line is done: from a world, with an answer, to a world. Before each call memory may be wanting
 unfoldable pub Does : Act Ending → World → LineAnswer → World → Type 0
-Does (Give ending) world answer after = (answer ≡ ending.answer) × (after ≡ record { host = world.host; history = ending.history })
+Does (Give ending) world answer after = (answer ≡ ending.answer) × (after ≡ record world { history = ending.history })
 Does (Refuse status) world answer after = (answer ≡ plain status) × (after ≡ world)
 Does (Then call next) world answer after =
     ((given : Result (List ℕ) Status) × (host : HostState) × Gives call world.host given host
     × MatchResult given
-    (λ bytes. Does (next bytes) (record { host = host; history = world.history }) answer after)
-    (λ status. (answer ≡ plain status) × (after ≡ record { host = host; history = world.history })))
+    (λ bytes. Does (next bytes) (record world { host = host }) answer after)
+    (λ status. (answer ≡ plain status) × (after ≡ record world { host = host })))
     ⊎ ((answer ≡ plain OutOfMemory) × (after ≡ world))

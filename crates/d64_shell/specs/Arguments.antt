@@ -8,7 +8,7 @@ use Rattle.d64_files.specs.Name.{forbidden_in_names}
 use Rattle.d64_files.specs.declared.kind.Kind.{Kind}
 use Rattle.d64_files.specs.declared.kind.Kind.TheVariants.{Seq, Prg, Usr, Rel}
 use Rattle.petscii.specs.declared.fault.TextFault.{TextFault}
-use Rattle.petscii.specs.declared.fault.TextFault.TheVariants.{UnknownName, OpenBrace, BadByte, Memory}
+use Rattle.petscii.specs.declared.fault.TextFault.TheVariants.{Memory}
 use Rattle.d64_script.specs.Number.{number_of}
 use Rattle.d64_script.specs.declared.status.Status.{Status}
 use Rattle.d64_script.specs.declared.status.Status.TheVariants.{SyntaxError, BadName, IllegalBlock, OutOfMemory}
@@ -33,10 +33,8 @@ block_in image track sector = block_at image (number_in track) (number_in sector
 
 -- how a fault of a word in text form is answered
 abbrev pub status_of_text : TextFault → Status
-status_of_text (UnknownName place) = BadName
-status_of_text (OpenBrace place) = BadName
-status_of_text (BadByte place) = BadName
 status_of_text (Memory error) = OutOfMemory
+status_of_text fault = BadName
 
 -- a word in two at its first comma
 unfoldable pub at_comma : List ℕ → Option (List ℕ × List ℕ)

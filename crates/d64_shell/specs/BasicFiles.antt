@@ -6,7 +6,7 @@ use Rattle.cbm_text.specs.ListFault.{ListsNot, list_fault_number}
 use Rattle.cbm_text.specs.Listing.{Lists}
 use Rattle.cbm_text.specs.declared.fault.BasicFault.{BasicFault}
 use Rattle.cbm_text.specs.declared.fault.ListFault.{ListFault}
-use Rattle.cbm_text.specs.declared.fault.ListFault.TheVariants.{NoAddress, Truncated, Memory}
+use Rattle.cbm_text.specs.declared.fault.ListFault.TheVariants.{Memory}
 use Rattle.d64_script.specs.declared.status.Status.{Status}
 use Rattle.d64_script.specs.declared.status.Status.TheVariants.{BasicText, NotBasic, OutOfMemory}
 
@@ -20,9 +20,8 @@ status_of_basic fault = option_map_or (λ line. BasicText (texts.fault_number fa
 
 -- how a fault of a program is answered
 abbrev pub status_of_listing : ListFault → Status
-status_of_listing NoAddress = NotBasic (list_fault_number NoAddress)
-status_of_listing Truncated = NotBasic (list_fault_number Truncated)
 status_of_listing (Memory error) = OutOfMemory
+status_of_listing fault = NotBasic (list_fault_number fault)
 
 -- a BASIC text is turned into its program file, or refused for its first fault
 abbrev pub Crunches : List ℕ → Result (List ℕ) Status → Type 0

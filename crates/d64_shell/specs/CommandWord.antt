@@ -31,45 +31,25 @@ command_words =
 abbrev pub command_word_of : List ℕ → Option CommandWord
 command_word_of word = option_map (λ row. row.1) (find (λ row. bytes_eq word row.0) command_words)
 
--- how many words follow at least; `save` goes without one where the image has a file of its own
-abbrev pub fewest : List ℕ → CommandWord → ℕ
-fewest home Block = 2
-fewest home BlockRead = 3
-fewest home BlockWrite = 3
-fewest home Crunch = 1
-fewest home Delete = 1
-fewest home Format = 1
-fewest home ListHistory = 0
-fewest home Keep = 1
-fewest home ListDirectory = 0
-fewest home Petcat = 1
-fewest home Quit = 0
-fewest home Read = 1
-fewest home Redo = 0
-fewest home Rename = 2
-fewest [] Save = 1
-fewest (byte ∷ bytes) Save = 0
-fewest home Undo = 0
-fewest home Validate = 0
-fewest home Write = 1
-
--- how many words follow at most; after `delete` as many as a line of 1,024 bytes holds
-abbrev pub most : CommandWord → ℕ
-most Block = 2
-most BlockRead = 3
-most BlockWrite = 3
-most Crunch = 2
-most Delete = 512
-most Format = 1
-most ListHistory = 0
-most Keep = 1
-most ListDirectory = 0
-most Petcat = 1
-most Quit = 0
-most Read = 2
-most Redo = 0
-most Rename = 2
-most Save = 1
-most Undo = 0
-most Validate = 0
-most Write = 2
+-- how many words follow at least and at most; `save` goes without one where the image has a file of its own, and after `delete`
+-- come as many as a line of 1,024 bytes holds
+abbrev pub counts : List ℕ → CommandWord → ℕ × ℕ
+counts home Block = (2, 2)
+counts home BlockRead = (3, 3)
+counts home BlockWrite = (3, 3)
+counts home Crunch = (1, 2)
+counts home Delete = (1, 512)
+counts home Format = (1, 1)
+counts home ListHistory = (0, 0)
+counts home Keep = (1, 1)
+counts home ListDirectory = (0, 0)
+counts home Petcat = (1, 1)
+counts home Quit = (0, 0)
+counts home Read = (1, 2)
+counts home Redo = (0, 0)
+counts home Rename = (2, 2)
+counts [] Save = (1, 1)
+counts (byte ∷ bytes) Save = (0, 1)
+counts home Undo = (0, 0)
+counts home Validate = (0, 0)
+counts home Write = (1, 2)

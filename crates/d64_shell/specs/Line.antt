@@ -1,5 +1,5 @@
 -- What each line of a script asks for.
-use Rattle.std.specs.Prelude.{◌≡◌, ℕ, nat_lt, nat_le, List, [], ◌∷◌, length, false, true, ◌+◌, ◌==◌, if◌then◌else◌, Option, None, Some, MatchOption, ok_or, slice_index_or, drop}
+use Rattle.std.specs.Prelude.{◌≡◌, ℕ, nat_lt, nat_le, List, [], ◌∷◌, length, true, ◌+◌, ◌==◌, if◌then◌else◌, Option, None, Some, MatchOption, ok_or, slice_index_or, drop}
 use Rattle.d64_files.specs.Name.{is_name}
 use Rattle.d64_image.specs.Image.{sector_at, bytes_of}
 use Rattle.d64_undo.specs.History.{History, present, added, undone, redone}
@@ -18,7 +18,7 @@ use Rattle.d64_shell.specs.HistoryText.{history_text}
 use Rattle.d64_shell.specs.ListingText.{listing_text}
 use Rattle.d64_script.specs.RawLines.{text_of, is_too_long, is_skipped}
 use Rattle.d64_script.specs.Dump.{dump}
-use Rattle.d64_shell.specs.CommandWord.{command_word_of, fewest, most}
+use Rattle.d64_shell.specs.CommandWord.{command_word_of, counts}
 use Rattle.d64_shell.specs.Act.{Act, Give, Refuse, ◌>>=◌, ◌>>◌, valid, need, text, each_text, fetch, store, crunch, expand, room, Ending, plain, World, LineAnswer, Does}
 use Rattle.d64_dos.specs.Change.{Change}
 use Rattle.d64_dos.specs.Change as changes
@@ -57,7 +57,7 @@ allowed (Some refusal) = Refuse (status_of_refusal refusal)
 
 -- the line is accepted: it shows an output, and the history stays
 abbrev pub show : List ℕ → History → Act Ending
-show output history = Give (record { answer = record { output = output; status = Done; closes = false }; history = history })
+show output history = Give (record { answer = record (plain Done) { output = output }; history = history })
 
 -- the line is accepted: it shows nothing, and leaves a history
 abbrev pub leave : History → Act Ending
@@ -170,7 +170,7 @@ petcat_act history name = do
 
 -- `quit`: the run ends
 abbrev pub quit_act : History → Act Ending
-quit_act history = Give (record { answer = record { output = []; status = Done; closes = true }; history = history })
+quit_act history = Give (record { answer = record (plain Done) { closes = true }; history = history })
 
 -- the file that a pattern finds is stored in the host file of a word, or by default, in text form, in that of its own name
 abbrev pub read_to : History → List ℕ → List (List ℕ) → Act Ending
@@ -253,8 +253,8 @@ act_of home history Write words = write_act history (word_at words 0) (drop 1 wo
 -- what a command word and the words after it ask for: too few words first, then too many
 abbrev pub act_of_command : List ℕ → History → CommandWord → List (List ℕ) → Act Ending
 act_of_command home history command words = do
-  need (nat_le (fewest home command) (length words)) MissingWord
-  need (nat_le (length words) (most command)) SyntaxError
+  need (nat_le (counts home command).0 (length words)) MissingWord
+  need (nat_le (length words) (counts home command).1) SyntaxError
   act_of home history command words
 
 -- what a line's words ask for

@@ -6,7 +6,6 @@ use Rattle.d64_script.specs.Output.{AppendsPart}
 use Rattle.d64_script.specs.Status.{status_line}
 use Rattle.d64_host.specs.Files.{Files}
 use Rattle.d64_host.specs.declared.host.HostFault.{HostFault}
-use Rattle.d64_host.specs.declared.host.HostFault.TheVariants.{Missing, Device, TooLong}
 use Rattle.d64_host.specs.declared.host.HostFault.TheVariants as files
 use Rattle.d64_image.specs.declared.image.ImageFault.{ImageFault}
 use Rattle.d64_image.specs.declared.image.ImageFault.TheVariants as images
@@ -101,19 +100,13 @@ status_of outcome = if outcome.refused == 0 then 0 else 1
 
 -- how the fault of a file that cannot be fetched is told: the file is unreadable, or there is no memory
 abbrev pub fault_of_file : ProgramFault → HostFault → ProgramFault
-fault_of_file unreadable Missing = unreadable
-fault_of_file unreadable Device = unreadable
-fault_of_file unreadable TooLong = unreadable
 fault_of_file unreadable (files.Memory error) = Memory
+fault_of_file unreadable fault = unreadable
 
 -- how the fault of the bytes of a session file is told: by its number
 abbrev pub fault_of_resume : ResumeFault → ProgramFault
-fault_of_resume resumes.NotSession = NoSession (fault_number resumes.NotSession)
-fault_of_resume resumes.Truncated = NoSession (fault_number resumes.Truncated)
-fault_of_resume resumes.Trailing = NoSession (fault_number resumes.Trailing)
-fault_of_resume resumes.BadCursor = NoSession (fault_number resumes.BadCursor)
-fault_of_resume resumes.BadRecord = NoSession (fault_number resumes.BadRecord)
 fault_of_resume (resumes.Memory error) = Memory
+fault_of_resume fault = NoSession (fault_number fault)
 
 -- how the fault of the bytes of an image file is told
 abbrev pub fault_of_image : ImageFault → ProgramFault
@@ -187,10 +180,8 @@ EndedShell beginning home old new faults told status =
 
 -- how the fault of a tool's file that cannot be fetched is told
 abbrev pub fault_of_fetch : HostFault → ToolFault
-fault_of_fetch Missing = tool_faults.Read
-fault_of_fetch Device = tool_faults.Read
-fault_of_fetch TooLong = tool_faults.Read
 fault_of_fetch (files.Memory error) = tool_faults.Memory error
+fault_of_fetch fault = tool_faults.Read
 
 -- what a tool has written of a host file that was fetched so, and what it answered
 abbrev pub WritesFetched : {A : Type 0} → Tool → Result (List ℕ) HostFault → Option (List ℕ) → Option (List ℕ) → Result A ToolFault → Type 0

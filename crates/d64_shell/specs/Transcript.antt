@@ -1,8 +1,7 @@
-use Rattle.std.specs.Prelude.{◌≡◌, ℕ, ◌+◌, nat_lt, List, [], ◌∷◌, ◌++◌, Bool, MatchBool, MatchOption, if◌then◌else◌}
+use Rattle.std.specs.Prelude.{◌≡◌, ℕ, ◌+◌, List, [], ◌∷◌, ◌++◌, Bool, MatchBool, MatchOption, if◌then◌else◌}
 use Rattle.d64_shell.specs.Act.{Does, LineAnswer, World}
 use Rattle.d64_shell.specs.Line.{act_of_line}
-use Rattle.d64_script.specs.Status.{status_number, status_line}
-use Rattle.d64_script.specs.declared.status.Status.{Status}
+use Rattle.d64_script.specs.Status.{is_accepted, status_line}
 
 -- how far a run has come: the world, whether a `quit` was accepted, and how many lines were accepted and refused
 pub record Progress : Type 0 where
@@ -14,10 +13,6 @@ pub record Progress : Type 0 where
 -- what an answer prints: its output, and then its status line
 abbrev pub printed : LineAnswer → List ℕ
 printed answer = answer.output ++ status_line answer.status
-
--- a status is that of an accepted line
-abbrev pub is_accepted : Status → Bool
-is_accepted status = nat_lt (status_number status) 30
 
 -- the run after an answer
 abbrev pub counted : Progress → LineAnswer → World → Progress

@@ -1,6 +1,6 @@
 //! The words that begin the lines of a script.
 ghost use Rattle.std.specs.Prelude.{◌≡◌};
-ghost use Rattle.d64_shell.specs.CommandWord.{command_word_of, fewest, most};
+ghost use Rattle.d64_shell.specs.CommandWord.{command_word_of, counts};
 
 use d64_script::words::MAX_WORDS;
 
@@ -73,9 +73,10 @@ impl CommandWord {
         }
     }
 
-    /// How many words follow at least, where `home` is the name of the image's own file, or empty.
-    pub fn fewest(self, home: &str) -> usize
-        ensures { result ≡ fewest home.now self }
+    /// How many words follow at least and at most, where `home` is the name of the image's own file, or empty. After
+    /// `delete` come as many as a line holds.
+    pub fn counts(self, home: &str) -> (usize, usize)
+        ensures { result ≡ counts home.now self }
     {
         match self {
             CommandWord::ListHistory
@@ -83,39 +84,13 @@ impl CommandWord {
             | CommandWord::Quit
             | CommandWord::Redo
             | CommandWord::Undo
-            | CommandWord::Validate => 0,
-            CommandWord::Save => usize::from(home.is_empty()),
-            CommandWord::Crunch
-            | CommandWord::Delete
-            | CommandWord::Format
-            | CommandWord::Keep
-            | CommandWord::Petcat
-            | CommandWord::Read
-            | CommandWord::Write => 1,
-            CommandWord::Block | CommandWord::Rename => 2,
-            CommandWord::BlockRead | CommandWord::BlockWrite => 3,
-        }
-    }
-
-    /// How many words follow at most: after `delete` as many as a line holds.
-    pub fn most(self) -> usize
-        ensures { result ≡ most self }
-    {
-        match self {
-            CommandWord::ListHistory
-            | CommandWord::ListDirectory
-            | CommandWord::Quit
-            | CommandWord::Redo
-            | CommandWord::Undo
-            | CommandWord::Validate => 0,
-            CommandWord::Format | CommandWord::Keep | CommandWord::Petcat | CommandWord::Save => 1,
-            CommandWord::Block
-            | CommandWord::Crunch
-            | CommandWord::Read
-            | CommandWord::Rename
-            | CommandWord::Write => 2,
-            CommandWord::BlockRead | CommandWord::BlockWrite => 3,
-            CommandWord::Delete => MAX_WORDS,
+            | CommandWord::Validate => (0, 0),
+            CommandWord::Save => (usize::from(home.is_empty()), 1),
+            CommandWord::Format | CommandWord::Keep | CommandWord::Petcat => (1, 1),
+            CommandWord::Crunch | CommandWord::Read | CommandWord::Write => (1, 2),
+            CommandWord::Delete => (1, MAX_WORDS),
+            CommandWord::Block | CommandWord::Rename => (2, 2),
+            CommandWord::BlockRead | CommandWord::BlockWrite => (3, 3),
         }
     }
 }

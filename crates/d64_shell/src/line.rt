@@ -150,10 +150,11 @@ fn answer_command<H: Host>(
         result
         (world_of (H.files host.new) (H.failure_count host.new) session.new) }
 {
-    if words.len() < command.fewest(home) {
+    let (fewest, most) = command.counts(home);
+    if words.len() < fewest {
         return Err(Status::MissingWord);
     }
-    if command.most() < words.len() {
+    if most < words.len() {
         return Err(Status::SyntaxError);
     }
     match command {

@@ -54,7 +54,7 @@ struct Tally {
 
 impl Tally {
     ghost use Rattle.std.specs.Prelude.{if◌then◌else◌};
-    ghost use Rattle.d64_shell.specs.Transcript.{is_accepted};
+    ghost use Rattle.d64_script.specs.Status.{is_accepted};
 
     /// No line was answered.
     fn new() -> Tally

@@ -1,26 +1,22 @@
 -- The program's subcommands and their arguments, as `clap` reads them.
-use Rattle.std.specs.Prelude.{codes, Some, true}
+use Rattle.std.specs.Prelude.{ℕ, List, codes, Some, true}
 use Rattle.clap.specs.Words.{App, Rule, new_app, new_rule, with_rule, with_subcommand}
 
--- `image`, `file`, `start`, `tracks` and `resume`: two places, and three options with a value
+-- `image` and `file`: two places
 abbrev pub image_argument : Rule
 image_argument = record (new_rule (codes "image")) { value_names = 1 }
 
 abbrev pub file_argument : Rule
 file_argument = record (new_rule (codes "file")) { value_names = 1 }
 
-abbrev pub start_option : Rule
-start_option = record (new_rule (codes "start")) { long = Some (codes "start"); value_names = 1 }
-
-abbrev pub tracks_option : Rule
-tracks_option = record (new_rule (codes "tracks")) { long = Some (codes "tracks"); value_names = 1 }
-
-abbrev pub resume_option : Rule
-resume_option = record (new_rule (codes "resume")) { long = Some (codes "resume"); value_names = 1 }
+-- an option with a value, by its long name
+abbrev pub valued_option : List ℕ → Rule
+valued_option name = record (new_rule name) { long = Some name; value_names = 1 }
 
 -- `shell [--tracks N] [--resume FILE] [IMAGE]`
 abbrev pub shell : App
-shell = with_rule (with_rule (with_rule (new_app (codes "shell")) tracks_option) resume_option) image_argument
+shell =
+    with_rule (with_rule (with_rule (new_app (codes "shell")) (valued_option (codes "tracks"))) (valued_option (codes "resume"))) image_argument
 
 -- `petcat [FILE]`
 abbrev pub petcat : App
@@ -28,7 +24,7 @@ petcat = with_rule (new_app (codes "petcat")) file_argument
 
 -- `crunch [--start HEX] [FILE]`
 abbrev pub crunch : App
-crunch = with_rule (with_rule (new_app (codes "crunch")) start_option) file_argument
+crunch = with_rule (with_rule (new_app (codes "crunch")) (valued_option (codes "start"))) file_argument
 
 -- `d64sh` alone: it has a version, wants a subcommand, has none of the name `help`, and tells its help where it is given nothing
 abbrev pub bare : App

@@ -3,7 +3,7 @@
 ghost use Rattle.std.specs.Prelude.{◌≡◌, IfOk, false};
 ghost use Rattle.clap.specs.Words.{app_of, rule_of};
 ghost use Rattle.clap.specs.declared.builder.command.Command.TheViews.{out-Command as fields_of};
-ghost use Rattle.d64_words.specs.Commands.{bare, d64sh, shell, petcat, crunch, file_argument, start_option, tracks_option, resume_option};
+ghost use Rattle.d64_words.specs.Commands.{bare, d64sh, shell, petcat, crunch, file_argument, valued_option};
 
 use clap::{Arg, Command};
 use std::alloc::{AllocError, Global};
@@ -77,6 +77,18 @@ fn shell<'a>(alloc: Global) -> Result<Command<'a>, AllocError>
     ensures app { IfOk result (λ command. app_of command ≡ shell) }
     ensures local { IfOk result (λ command. (fields_of command).has_globals ≡ false) }
 {
+    let tracks = valued_option(
+        alloc,
+        "tracks",
+        "N",
+        "Tracks of the blank image: 35 or 40; without it, 35. Not with IMAGE",
+    );
+    let resume = valued_option(
+        alloc,
+        "resume",
+        "FILE",
+        "The session to go on with, as `keep` stored it. Not with --tracks",
+    );
     let image = Arg::new(alloc, "image")
         .value_name("IMAGE")
         .help("The D64 image to work on; without it, a blank image");
@@ -84,8 +96,8 @@ fn shell<'a>(alloc: Global) -> Result<Command<'a>, AllocError>
         .about("Runs a script of commands on a disk image")
         .override_usage(SHELL_USAGE)
         .after_help(SHELL_AFTER_HELP)
-        .arg(tracks_option(alloc))?
-        .arg(resume_option(alloc))?
+        .arg(tracks)?
+        .arg(resume)?
         .arg(image)
 }
 
@@ -106,12 +118,18 @@ fn crunch<'a>(alloc: Global) -> Result<Command<'a>, AllocError>
     ensures app { IfOk result (λ command. app_of command ≡ crunch) }
     ensures local { IfOk result (λ command. (fields_of command).has_globals ≡ false) }
 {
+    let start = valued_option(
+        alloc,
+        "start",
+        "HEX",
+        "Load address: one to four hexadecimal digits; without it, 0801",
+    );
     let file = file_argument(alloc, "The text; without it, the standard input");
     Command::new(alloc, "crunch")
         .about("Makes a BASIC program of a text")
         .override_usage("d64sh crunch [--start HEX] [FILE]")
         .after_help(CRUNCH_AFTER_HELP)
-        .arg(start_option(alloc))?
+        .arg(start)?
         .arg(file)
 }
 
@@ -123,35 +141,13 @@ fn file_argument<'a>(alloc: Global, help: &'a str) -> Arg<'a>
     Arg::new(alloc, "file").value_name("FILE").help(help)
 }
 
-/// `[--tracks N]`.
-fn tracks_option<'a>(alloc: Global) -> Arg<'a>
-    ensures rule { rule_of result ≡ tracks_option }
+/// `--NAME VALUE`.
+fn valued_option<'a>(alloc: Global, name: &'a str, value: &'a str, help: &'a str) -> Arg<'a>
+    ensures rule { rule_of result ≡ valued_option name.now }
     ensures local { result.global ≡ false }
 {
-    Arg::new(alloc, "tracks")
-        .long("tracks")
-        .value_name("N")
-        .help("Tracks of the blank image: 35 or 40; without it, 35. Not with IMAGE")
-}
-
-/// `--resume FILE`.
-fn resume_option<'a>(alloc: Global) -> Arg<'a>
-    ensures rule { rule_of result ≡ resume_option }
-    ensures local { result.global ≡ false }
-{
-    Arg::new(alloc, "resume")
-        .long("resume")
-        .value_name("FILE")
-        .help("The session to go on with, as `keep` stored it. Not with --tracks")
-}
-
-/// `[--start HEX]`.
-fn start_option<'a>(alloc: Global) -> Arg<'a>
-    ensures rule { rule_of result ≡ start_option }
-    ensures local { result.global ≡ false }
-{
-    Arg::new(alloc, "start")
-        .long("start")
-        .value_name("HEX")
-        .help("Load address: one to four hexadecimal digits; without it, 0801")
+    Arg::new(alloc, name)
+        .long(name)
+        .value_name(value)
+        .help(help)
 }
