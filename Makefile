@@ -1,5 +1,6 @@
-# d64sh: `make` builds it, `make run` runs the main job, `make check` is the gate, `make wrong-bodies` tries the wrong bodies that the gate leaves out,
-# `make bench` measures; `make install` and `make uninstall` put it below PREFIX and take it away again; `make dist` packs what others install.
+# d64sh: `make` builds it, `make run` runs the main job, `make check` is the gate, `make quick` checks what differs since the gate was green,
+# `make wrong-bodies` tries all wrong bodies, `make bench` measures; `make install` and `make uninstall` put it below PREFIX and take it away again;
+# `make dist` packs what others install.
 PREFIX ?= /usr/local
 # a ~ that the shell left as it is
 override PREFIX := $(patsubst ~/%,$(HOME)/%,$(PREFIX))
@@ -10,7 +11,7 @@ PROGRAM = crates/d64sh/out/d64sh
 # the program is there, and no source is newer
 IS_BUILT = [ -x $(PROGRAM) ] && [ -z "$$(find crates -name '*.rt' -newer $(PROGRAM))" ]
 
-.PHONY: all run check wrong-bodies bench install uninstall dist
+.PHONY: all run check quick wrong-bodies bench install uninstall dist
 
 all:
 	@$(NEEDS_RT)
@@ -25,6 +26,12 @@ check:
 	@$(NEEDS_RT)
 	@scripts/gate
 
+# no replacement for `make check`: it says what it leaves out
+quick:
+	@$(NEEDS_RT)
+	@scripts/quick
+
+# all of them, or CRATES="d64_map d64_dos/write-that-trusts-the-map"
 wrong-bodies:
 	@$(NEEDS_RT)
 	@scripts/wrong-bodies $(CRATES)

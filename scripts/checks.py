@@ -1,0 +1,60 @@
+"""What the gate runs beside `rt ci`: the scripts, the pages and the programs that they are run on."""
+import subprocess
+import sys
+import time
+
+PROGRAM = "crates/d64sh/out/d64sh"
+GROWTHS = "crates/growth_tests/out/growth_tests"
+
+# The pages whose examples are run.
+PAGES = ["README.md", "docs/MANUAL.md"]
+
+# Scripts that take seconds and need no program.
+TEXTS = [
+    ["scripts/functions-without-wrong-body"],
+    ["scripts/manual-page", "docs/MANUAL.md", "docs/d64sh.1"],
+]
+
+# Scripts that take seconds on the program.
+SHORT = [
+    ["scripts/check-pages", PROGRAM, *PAGES],
+    ["scripts/exit-statuses", PROGRAM],
+]
+
+# The scripts that are run on the program, with it as their only word. Each ends with status 0 where all is well.
+SWEEPS = [
+    "scripts/terminal",
+    "scripts/limits",
+    "scripts/check-recipes",
+    "scripts/compare-with-model",
+    "scripts/sweep-stores",
+    "scripts/sweep-faults",
+    "scripts/sweep-memory",
+    "scripts/sweep-damage",
+    "scripts/sweep-sessions",
+]
+
+# Of the crates whose programs are run, the commands that wait for it.
+AFTER = [
+    *((words, "d64sh") for words in SHORT),
+    *(([sweep, PROGRAM], "d64sh") for sweep in SWEEPS),
+    (["scripts/sweep-calls", GROWTHS], "growth_tests"),
+]
+
+
+def timed(words):
+    """Runs a command, and returns whether all is well, what it printed, and its seconds."""
+    begin = time.monotonic()
+    done = subprocess.run(words, stdin=subprocess.DEVNULL, stdout=subprocess.PIPE, stderr=subprocess.STDOUT, text=True, errors="replace", check=False)
+    return done.returncode == 0, done.stdout, round(time.monotonic() - begin)
+
+
+def usage(text, words):
+    """The exit status of a script that takes no words and is given some, or None; it prints the script's usage."""
+    if not words:
+        return None
+    if words == ["--help"]:
+        print(text.strip())
+        return 0
+    print(text.strip().splitlines()[-1], file=sys.stderr)
+    return 2

@@ -1,0 +1,76 @@
+"""The crates of crates.txt, the libraries below each, and how many checks run side by side."""
+import concurrent.futures
+import os
+import subprocess
+
+TOP = os.path.dirname(os.path.dirname(os.path.abspath(__file__)))
+RT = os.environ.get("RT", "rt")
+# What the check of a crate takes at most, in bytes.
+MEMORY = 3_500_000_000
+
+
+def read_crates():
+    """Of each crate the crates that it names, in the order of crates.txt, where a crate stands after those."""
+    named = {}
+    with open(os.path.join(TOP, "crates.txt"), encoding="utf-8") as file:
+        for line in file:
+            name, colon, libraries = line.split("#")[0].partition(":")
+            if colon:
+                named[name.strip()] = libraries.split()
+    return {name: [it for it in libraries if it in named] for name, libraries in named.items()}
+
+
+def below(crates, name):
+    """All crates that a crate stands on."""
+    return {it for library in crates[name] for it in (library, *below(crates, library))}
+
+
+def at_once():
+    """How many checks run side by side: one a processor, as far as memory goes."""
+    with open("/proc/meminfo", encoding="ascii") as file:
+        free = next(1024 * int(line.split()[1]) for line in file if line.startswith("MemAvailable:"))
+    return max(1, min(len(os.sched_getaffinity(0)), free // MEMORY))
+
+
+def rt(crate, *words, top=TOP, **how):
+    """Runs rt in a crate's folder, and returns its status and what it printed on both streams."""
+    done = subprocess.run([RT, *words], cwd=os.path.join(top, "crates", crate), stdin=subprocess.DEVNULL, stdout=subprocess.PIPE,
+                          stderr=subprocess.STDOUT, text=True, errors="replace", check=False, **how)
+    return done.returncode, done.stdout
+
+
+def in_order(crates, wanted, call):
+    """Calls a function for each wanted crate once it was true for those of them that the crate stands on, as many side by side as there is room for.
+    Yields each crate as it ends with what the call returned, or None where a crate below it was false."""
+    left, ended, running = [it for it in crates if it in wanted], {}, {}
+    with concurrent.futures.ThreadPoolExecutor(at_once()) as pool:
+        while left or running:
+            for crate in list(left):
+                needed = below(crates, crate) & set(wanted)
+                if any(it in ended and not ended[it] for it in needed):
+                    left.remove(crate)
+                    ended[crate] = None
+                    yield crate, None
+                elif all(it in ended for it in needed):
+                    left.remove(crate)
+                    running[pool.submit(call, crate)] = crate
+            for done in concurrent.futures.wait(running, return_when=concurrent.futures.FIRST_COMPLETED).done:
+                crate = running.pop(done)
+                ended[crate] = done.result()
+                yield crate, ended[crate]
+
+
+def build_libraries(crates, wanted):
+    """Proves and builds these libraries over what was kept, and returns whether all were, printing what was not."""
+    printed = {}
+
+    def build(crate):
+        status, printed[crate] = rt(crate, "lib", "--jobs", "2")
+        return status == 0
+
+    well = True
+    for crate, is_built in in_order(crates, wanted, build):
+        if not is_built:
+            well = False
+            print(f"{crate} is not proved\n{printed.get(crate, '')}", end="", flush=True)
+    return well
