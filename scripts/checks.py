@@ -15,11 +15,13 @@ TEXTS = [
     ["scripts/manual-page", "docs/MANUAL.md", "docs/d64sh.1"],
 ]
 
-# Scripts that take seconds on the program.
+# Scripts that take seconds on the program, and those of both lists that a change of pages alone asks for.
 SHORT = [
     ["scripts/check-pages", PROGRAM, *PAGES],
     ["scripts/exit-statuses", PROGRAM],
 ]
+
+OF_PAGES = ("scripts/manual-page", "scripts/check-pages")
 
 # The scripts that are run on the program, with it as their only word. Each ends with status 0 where all is well.
 SWEEPS = [

@@ -70,7 +70,6 @@ def build_libraries(crates, wanted):
 
     well = True
     for crate, is_built in in_order(crates, wanted, build):
-        if not is_built:
-            well = False
-            print(f"{crate} is not proved\n{printed.get(crate, '')}", end="", flush=True)
+        print(f"{crate} is proved" if is_built else f"{printed.get(crate, '')}{crate} is not proved", flush=True)
+        well = well and bool(is_built)
     return well
