@@ -1,7 +1,10 @@
 """The crates of crates.txt, the libraries below each, and how many checks run side by side."""
 import concurrent.futures
+import contextlib
 import os
+import shutil
 import subprocess
+import tempfile
 
 TOP = os.path.dirname(os.path.dirname(os.path.abspath(__file__)))
 RT = os.environ.get("RT", "rt")
@@ -58,6 +61,43 @@ def in_order(crates, wanted, call):
                 crate = running.pop(done)
                 ended[crate] = done.result()
                 yield crate, ended[crate]
+
+
+def link_or_copy(source, target):
+    """A file under another name, or a copy of it where that cannot be."""
+    try:
+        os.link(source, target)
+    except OSError:
+        shutil.copy2(source, target)
+
+
+def take_copy(names, top, room):
+    """Makes a repository of these crates alone: a copy of their sources, and their libraries as they are proved."""
+    for name in names:
+        source, target = os.path.join(top, "crates", name), os.path.join(room, "crates", name)
+        shutil.copytree(source, target, ignore=lambda _, names: {"out", "must-fail", "more-wrong-bodies"} & set(names))
+        if os.path.isdir(os.path.join(source, "out", "rlib")):
+            shutil.copytree(os.path.join(source, "out", "rlib"), os.path.join(target, "out", "rlib"), copy_function=link_or_copy)
+    with open(os.path.join(top, "crates.txt"), encoding="utf-8") as listed, open(os.path.join(room, "crates.txt"), "w", encoding="utf-8") as file:
+        file.writelines(line for line in listed if line.partition(":")[0].strip() in names)
+
+
+@contextlib.contextmanager
+def set_apart(crates, name):
+    """The top of a repository of a crate and those below it alone, to which the crate's own work moves for that time: so that rt, which lets nobody
+    else work in a library while it checks what stands on it, can check several such crates side by side."""
+    mine = os.path.join(TOP, "crates", name, "out")
+    with tempfile.TemporaryDirectory(prefix="set-apart-") as room:
+        take_copy({name, *below(crates, name)}, TOP, room)
+        theirs = os.path.join(room, "crates", name, "out")
+        if os.path.isdir(mine):
+            shutil.rmtree(theirs, ignore_errors=True)
+            shutil.move(mine, theirs)
+        try:
+            yield room
+        finally:
+            if os.path.isdir(theirs):
+                shutil.move(theirs, mine)
 
 
 def build_libraries(crates, wanted):
