@@ -1,17 +1,21 @@
 """What the gate runs beside `rt ci`: the scripts, the pages and the programs that they are run on."""
+import glob
 import subprocess
 import sys
 import time
 
+from crates import TOP
+
 PROGRAM = "crates/d64sh/out/d64sh"
 GROWTHS = "crates/growth_tests/out/growth_tests"
 
-# The pages whose examples are run.
-PAGES = ["README.md", "docs/MANUAL.md"]
+# The pages: their examples are run, and the names and links in them looked up.
+PAGES = [*sorted(glob.glob("*.md", root_dir=TOP)), *sorted(glob.glob("docs/*.md", root_dir=TOP))]
 
 # Scripts that take seconds and need no program.
 TEXTS = [
     ["scripts/functions-without-wrong-body"],
+    ["scripts/check-pages", "--names", *PAGES],
     ["scripts/manual-page", "docs/MANUAL.md", "docs/d64sh.1"],
 ]
 
@@ -29,6 +33,7 @@ SWEEPS = [
     "scripts/limits",
     "scripts/check-recipes",
     "scripts/compare-with-model",
+    "scripts/sweep-largest",
     "scripts/sweep-stores",
     "scripts/sweep-faults",
     "scripts/sweep-memory",
