@@ -52,7 +52,10 @@ AFTER = [
 def timed(words):
     """Runs a command, and returns whether all is well, what it printed, and its seconds."""
     begin = time.monotonic()
-    done = subprocess.run(words, stdin=subprocess.DEVNULL, stdout=subprocess.PIPE, stderr=subprocess.STDOUT, text=True, errors="replace", check=False)
+    try:
+        done = subprocess.run(words, stdin=subprocess.DEVNULL, stdout=subprocess.PIPE, stderr=subprocess.STDOUT, text=True, errors="replace", check=False)
+    except OSError as error:
+        return False, f"{error}\n", 0
     return done.returncode == 0, done.stdout, round(time.monotonic() - begin)
 
 
