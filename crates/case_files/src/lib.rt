@@ -1,6 +1,6 @@
 //! Case files: the steps of a worked example as a file says them, for the program `worked_examples`, which plays them.
 //!
-//! docs/GATE.md says how a case is written.
+//! docs/TESTING.md says how a case is written.
 #![tactic(auto)]
 
 mod case;
