@@ -1,6 +1,9 @@
 """A plain model of disks and of the shell's lines, written from the specification and not from the code. It is slow and simple: an image is its
 bytes, whose number tells its kind, a session a list of images, and each line is worked out anew.
 """
+import functools
+from collections import Counter
+
 import basic_model
 import session_model
 from text_form import from_text, to_text
@@ -95,22 +98,36 @@ class Disk:
         return self.image[start:start + BLOCK]
 
     def with_block(self, pair, data):
-        start = BLOCK * PLACES[pair]
-        return Disk(self.image[:start] + bytes(data) + self.image[start + BLOCK:])
+        return self.with_blocks({pair: data})
+
+    def with_blocks(self, blocks):
+        """The disk with other bytes in the blocks of these pairs."""
+        image = bytearray(self.image)
+        for pair, data in blocks.items():
+            start = BLOCK * PLACES[pair]
+            image[start:start + BLOCK] = data
+        return Disk(bytes(image))
 
     def with_bytes(self, slot, place, data):
         """The disk with other bytes in a slot, from a place in it on."""
         block, start = self.block(slot.block), 32 * slot.place + place
         return self.with_block(slot.block, block[:start] + data + block[start + len(data):])
 
+    def without(self, slots):
+        """The disk with these slots unused."""
+        blocks = {slot.block: bytearray(self.block(slot.block)) for slot in slots}
+        for slot in slots:
+            blocks[slot.block][32 * slot.place + 2] = 0
+        return self.with_blocks(blocks)
+
     def chain(self, pair):
         """The chain from a block, or None."""
-        blocks = []
+        blocks = {}
         while self.holds(pair) and pair not in blocks:
-            blocks.append(pair)
+            blocks[pair] = True
             link = self.block(pair)
             if link[0] == 0:
-                return blocks
+                return list(blocks)
             pair = tuple(link[:2])
         return None
 
@@ -119,8 +136,9 @@ class Disk:
         return b"".join(part[2:] if part[0] else part[2:part[1] + 1] for part in parts)
 
     def free(self):
-        bits = self.block(MAP)
-        return {(track, sector) for track, sector in self.pairs if bits[entry_of(track) + 1 + sector // 8] >> sector % 8 & 1}
+        block = self.block(MAP)
+        marks = {track: int.from_bytes(block[entry_of(track) + 1:entry_of(track) + 4], "little") for track in range(1, self.tracks + 1)}
+        return {(track, sector) for track, sector in self.pairs if marks[track] >> sector & 1}
 
     def with_free(self, free):
         block = bytearray(self.block(MAP))
@@ -135,9 +153,12 @@ class Disk:
         return {track: block[entry_of(track)] for track in range(1, self.tracks + 1)}
 
     def slots(self):
-        for pair in self.chain(DIRECTORY):
-            block = self.block(pair)
-            yield from (Slot(pair, place, block[32 * place:32 * place + 32]) for place in range(8))
+        return self.all_slots
+
+    @functools.cached_property
+    def all_slots(self):
+        blocks = {pair: self.block(pair) for pair in self.chain(DIRECTORY)}
+        return [Slot(pair, place, block[32 * place:32 * place + 32]) for pair, block in blocks.items() for place in range(8)]
 
     def refuse_directory(self):
         if self.chain(DIRECTORY) is None:
@@ -161,7 +182,8 @@ class Disk:
 
     def refuse_unsound(self):
         free = self.free()
-        if any(count != sum(pair[0] == track for pair in free) for track, count in self.counts().items()):
+        marks = Counter(track for track, _ in free)
+        if any(count != marks[track] for track, count in self.counts().items()):
             raise Refused(71, 1)
         if free & self.owned():
             raise Refused(71, 6)
@@ -186,21 +208,21 @@ class Disk:
         entry = bytes([0x80 + kind, *blocks[0]]) + filled(name) + bytes(9) + count.to_bytes(2, "little")
         old = disk.block(block)
         disk = disk.with_block(block, old[:32 * place + 2] + entry + old[32 * place + 32:])
+        contents = {}
         for number, pair in enumerate(blocks):
             part = data[254 * number:254 * number + 254]
             link = bytes(blocks[number + 1]) if number + 1 < count else bytes([0, len(part) + 1])
-            disk = disk.with_block(pair, (link + part).ljust(BLOCK, b"\x00"))
-        return disk.with_free(free - set(blocks) - {grown})
+            contents[pair] = (link + part).ljust(BLOCK, b"\x00")
+        return disk.with_blocks(contents).with_free(free - set(blocks) - {grown})
 
     def scratched(self, patterns):
         """The disk without the files that one of the patterns matches or more, and how many they are."""
         self.refuse_unsound()
         slots = [slot for slot in self.slots() if slot.used and slot.closed and not slot.locked and any(matches(pattern, slot.name) for pattern in patterns)]
-        disk, free = self, self.free()
+        free = self.free()
         for slot in slots:
-            disk = disk.with_bytes(slot, 2, b"\x00")
             free.update(pair for root in slot.roots() for pair in self.chain(root))
-        return disk.with_free(free) if slots else self, len(slots)
+        return self.without(slots).with_free(free) if slots else self, len(slots)
 
     def renamed(self, old, new):
         self.refuse_unsound()
@@ -212,11 +234,8 @@ class Disk:
         return self.with_bytes(slot, 5, filled(new))
 
     def validated(self):
-        owned, disk = self.owned(), self
-        for slot in self.slots():
-            if slot.used and not slot.closed:
-                disk = disk.with_bytes(slot, 2, b"\x00")
-        return disk.with_free(set(self.pairs) - owned)
+        owned = self.owned()
+        return self.without([slot for slot in self.slots() if not slot.closed]).with_free(set(self.pairs) - owned)
 
     def read(self, pattern):
         self.refuse_directory()
@@ -268,6 +287,7 @@ def from_sector(track, sector, interleave):
 FIRST_ORDER = along([track for distance in range(1, 18) for track in (18 - distance, 18 + distance)] + [*range(36, 41)])
 
 
+@functools.cache
 def next_order(last):
     track, sector = last
     if track < 18:
