@@ -1,7 +1,7 @@
 //! Programs as the machine keeps them, and their texts.
 
 use cbm_text::{BasicFault, ListFault, TextFault, crunch, list};
-use std::alloc::Global;
+use std::alloc::{AllocError, Global};
 use std::test::Fail;
 
 /// The keywords in the order of their tokens, in text form.
@@ -189,5 +189,60 @@ fn finds_keywords_without_spaces(rt: HostRuntime) -> Result<(), Fail> {
         names.as_slice(),
         b"\x01\x08\x10\x08\x01\x00\x81EST \xa4\xa4 \x8bA\x00\x00\x00".as_slice()
     );
+    Ok(())
+}
+
+#[test]
+fn faults_say_what_is_wrong(rt: HostRuntime) -> Result<(), Fail> {
+    let line = 7;
+    let texts = [
+        (
+            BasicFault::NoNumber { line },
+            "line 7: a line begins with its number",
+        ),
+        (
+            BasicFault::NumberTooLarge { line },
+            "line 7: a line's number is at most 65535",
+        ),
+        (
+            BasicFault::Text {
+                line,
+                fault: TextFault::OpenBrace { place: 3 },
+            },
+            "line 7: behind the number at offset 3: the { is not closed by a }",
+        ),
+        (
+            BasicFault::TokenByte { line },
+            "line 7: outside quotes a byte of $80 or more would be read as a keyword",
+        ),
+        (
+            BasicFault::ZeroByte { line },
+            "line 7: a line holds no byte $00",
+        ),
+        (
+            BasicFault::TooLong { line },
+            "line 7: the line is too long, or the program ends above address 65535",
+        ),
+        (BasicFault::Memory(AllocError), "out of memory"),
+    ];
+    for (fault, text) in texts {
+        assert_eq!(rt; format!(in rt.alloc(); "{fault}")?.as_str(), text);
+    }
+    Ok(())
+}
+
+#[test]
+fn faults_of_listing_say_what_is_wrong(rt: HostRuntime) -> Result<(), Fail> {
+    let texts = [
+        (
+            ListFault::NoAddress,
+            "a program begins with a load address of two bytes",
+        ),
+        (ListFault::Truncated, "the program is cut short"),
+        (ListFault::Memory(AllocError), "out of memory"),
+    ];
+    for (fault, text) in texts {
+        assert_eq!(rt; format!(in rt.alloc(); "{fault}")?.as_str(), text);
+    }
     Ok(())
 }
