@@ -6,3 +6,4 @@ pub mod Sets
 pub mod Differences
 pub mod Patches
 pub mod SameBytes
+pub mod KeptBlocks

@@ -1,8 +1,8 @@
-use Rattle.std.specs.Prelude.{ℕ, ◌+◌, ◌<◌, ◌≤◌, ◌==◌, not, nat_lt, nat_eq, if◌then◌else◌, Bool, List, [], ◌∷◌, length, map, filter, fold, count_by}
+use Rattle.std.specs.Prelude.{ℕ, ◌+◌, ◌<◌, ◌≤◌, ◌==◌, not, nat_lt, nat_eq, if◌then◌else◌, Bool, List, [], ◌∷◌, length, map, filter, fold, count_by, All}
 use Rattle.std.specs.Cmp.Lexicographic.{pointwise}
 use Rattle.std.specs.List.{list_any, insert}
 use Rattle.d64_image.specs.declared.block.TheConstants.{BLOCKS}
-use Rattle.d64_image.specs.Image.{sector_at, with_sector, differences}
+use Rattle.d64_image.specs.Image.{IsBlock, sector_at, with_sector, differences}
 
 -- blocks, each with 256 bytes that it had
 abbrev pub Kept : Type 0
@@ -20,6 +20,10 @@ IsPatch patch = RisesBetween 0 BLOCKS patch
 -- a patch keeps blocks of that image
 abbrev pub IsPatchOf : List (List ℕ) → Kept → Type 0
 IsPatchOf image patch = RisesBetween 0 (length image) patch
+
+-- what a patch keeps of each block are the bytes of one
+abbrev pub HaveBlocks : Kept → Type 0
+HaveBlocks patch = All (λ entry. IsBlock entry.1) patch
 
 -- the image with the kept blocks put back
 unfoldable pub back : List (List ℕ) → Kept → List (List ℕ)

@@ -1,5 +1,7 @@
 //! Blocks, and the zones of a disk.
 ghost use Rattle.std.specs.Prelude.{◌≡◌, ◌<◌, ◌≤◌, SomeIff, IfSome};
+ghost use Rattle.std.specs.Iterator.{YieldsFirst, item_count};
+ghost use Rattle.std.specs.List.{range_with_len};
 ghost use Rattle.d64_image.specs.Block.{pair_at, block_of};
 ghost use Rattle.d64_image.specs.declared.block.TheConstants.{BLOCKS};
 
@@ -98,7 +100,65 @@ impl Model for BlockNo {
     ghost inverse = { λ n. record { index = n } };
 }
 
+/// The blocks from one place up to another, ascending.
+#[derive(Clone, Debug, Drop)]
+pub struct Blocks {
+    /// The place of the next block.
+    next: u16,
+    /// The place after that of the last block.
+    end: u16,
+}
+
+impl Model for Blocks {
+    ghost use Rattle.std.specs.Prelude.{ℕ, List, ◌-◌, ◌≤◌};
+    ghost use Rattle.std.specs.List.{range_with_len};
+    ghost use Rattle.d64_image.specs.declared.block.TheConstants.{BLOCKS};
+
+    ghost Value = { List ℕ };
+
+    ghost view = { λ blocks. range_with_len blocks.next (blocks.end - blocks.next) };
+
+    ghost invariant = { λ blocks. blocks.end ≤ BLOCKS };
+}
+
+impl Blocks {
+    /// The first so many blocks.
+    pub(crate) fn up_to(count: usize) -> Blocks
+        requires { count ≤ BLOCKS }
+        ensures { result ≡ range_with_len 0 count }
+    {
+        Blocks {
+            next: 0,
+            end: count as u16,
+        }
+    }
+}
+
+impl Iterator for Blocks {
+    type Item = BlockNo;
+
+    ghost next_gives = { YieldsFirst (λ left. left) };
+
+    ghost remaining = { item_count (λ left. left) };
+
+    fn next(&mut self) -> Option<BlockNo> {
+        if self.next >= self.end {
+            return None;
+        }
+        let index = self.next;
+        self.next += 1;
+        Some(BlockNo { index })
+    }
+}
+
 impl BlockNo {
+    /// All blocks that a disk may have, ascending.
+    pub fn all() -> Blocks
+        ensures { result ≡ range_with_len 0 BLOCKS }
+    {
+        Blocks::up_to(BLOCKS)
+    }
+
     /// The block of a track (from 1) and a sector (from 0), or None where no disk has such a sector. Whether an
     /// image has it, `Image::holds` tells.
     pub fn of(track: u8, sector: u8) -> Option<BlockNo>
@@ -137,6 +197,11 @@ impl BlockNo {
     {
         usize::from(self.index)
     }
+
+    /// For the contract alone, and does nothing: what each block is, which a caller knows only from the contract of a call.
+    pub fn known_block(self)
+        ensures { self < BLOCKS }
+    {}
 
     /// The block's track and its sector on that track.
     fn pair(self) -> (u8, u8)

@@ -58,6 +58,13 @@ impl BlockSet {
         self.marks[block.index()]
     }
 
+    /// For the contract alone, and does nothing: what each set is, which a caller knows only from the contract of a call.
+    pub fn known_members(&self)
+        ensures { MembersAreBlocks self.now }
+    {
+        self.has(BlockNo::default());
+    }
+
     /// Makes a block a member, if it is not one yet.
     pub fn add(&mut self, block: BlockNo)
         ensures value { self.new ≡ set.insert self.old block }

@@ -1,10 +1,11 @@
 //! Images of disks.
 ghost use Rattle.std.specs.Prelude.{◌≡◌, ◌<◌, ◌*◌, if◌then◌else◌, Option, Some, None, IfOk, IfSome, All, nat_eq, nat_lt, replicate, length};
 ghost use Rattle.std.specs.Borrow.{sem};
+ghost use Rattle.std.specs.List.{range_with_len};
 ghost use Rattle.std.specs.Cmp.Lexicographic.{pointwise};
 ghost use Rattle.d64_image.specs.Image.{IsBlock, IsImage, IsSize, blocks_of, bytes_of, is_image_length, sector_at, tracks_of};
 
-use crate::block::{BLOCKS, BlockNo, TRACKS};
+use crate::block::{BLOCKS, BlockNo, Blocks, TRACKS};
 use crate::block_bytes::same_bytes;
 use std::alloc::{AllocError, AllocFailed, Global};
 use std::marker::Model;
@@ -140,6 +141,14 @@ impl Image {
         bytes
     }
 
+    /// For the contract alone, and does nothing: what each image is, which a caller knows only from the contract of a call.
+    pub fn known_image(&self)
+        ensures size { IsSize (length self.now) }
+        ensures image { IsImage self.now }
+    {
+        self.bytes();
+    }
+
     /// How many tracks the image has: 35 or 40.
     pub fn tracks(&self) -> u8
         ensures value { result ≡ tracks_of (length self.now) }
@@ -158,6 +167,14 @@ impl Image {
         ensures size { IsSize (length self.now) }
     {
         block.index() < self.sectors.len()
+    }
+
+    /// The blocks that the image has, ascending.
+    pub fn blocks(&self) -> Blocks
+        ensures value { result ≡ range_with_len 0 (length self.now) }
+        ensures size { IsSize (length self.now) }
+    {
+        Blocks::up_to(self.sectors.len())
     }
 
     /// The 256 bytes of a block that the image has, lent from its own buffer.

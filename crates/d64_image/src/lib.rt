@@ -11,7 +11,7 @@ mod image;
 pub mod laws;
 mod patch;
 
-pub use block::{BLOCKS, BlockNo};
+pub use block::{BLOCKS, BlockNo, Blocks};
 pub use block_set::BlockSet;
 pub use image::{BLOCK_BYTES, Image, ImageFault, blocks_of};
 pub use patch::Patch;

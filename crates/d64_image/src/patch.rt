@@ -2,7 +2,7 @@
 ghost use Rattle.std.specs.Prelude.{◌≡◌, ◌<◌, ◌≤◌, ◌++◌, ◌∷◌, false, [], length, nat_lt, count_by, vec_len, vec_capacity, OnOk, OnErr};
 ghost use Rattle.d64_image.specs.declared.block.TheConstants.{BLOCKS};
 ghost use Rattle.d64_image.specs.Image.{sector_at, with_sector};
-ghost use Rattle.d64_image.specs.Patch.{IsPatch, IsPatchOf, RisesBetween, back, changed, is_kept, with_kept, taken, trimmed};
+ghost use Rattle.d64_image.specs.Patch.{HaveBlocks, IsPatch, IsPatchOf, RisesBetween, back, changed, is_kept, with_kept, taken, trimmed};
 
 use crate::block::BlockNo;
 use crate::image::{BLOCK_BYTES, Image};
@@ -20,13 +20,13 @@ pub struct Patch {
 }
 
 impl Model for Patch {
-    ghost use Rattle.d64_image.specs.Patch.{Kept, IsPatch};
+    ghost use Rattle.d64_image.specs.Patch.{Kept, HaveBlocks, IsPatch};
 
     ghost Value = { Kept };
 
     ghost view = { λ patch. patch.kept.items };
 
-    ghost invariant = { λ patch. IsPatch patch.kept.items };
+    ghost invariant = { λ patch. IsPatch patch.kept.items × HaveBlocks patch.kept.items };
 }
 
 /// Makes room for one more. Where there is none, room for one is asked for first, and then for as many again as there are.
@@ -61,6 +61,7 @@ impl Patch {
     pub fn blocks(&self) -> &[(BlockNo, [u8; BLOCK_BYTES])]
         ensures kept { result.now ≡ self.now }
         ensures ascending { IsPatch self.now }
+        ensures bytes { HaveBlocks self.now }
     {
         self.kept.as_slice()
     }
@@ -110,7 +111,7 @@ impl Patch {
         ensures kept { OnOk result (self.new ≡ self.old ++ (block, bytes.now) ∷ []) }
         ensures unchanged { OnErr result (self.new ≡ self.old) }
     {
-        let _ = block.index();
+        block.known_block();
         make_room(&mut self.kept)?;
         self.kept.push((block, *bytes)).unwrap();
         Ok(())
@@ -160,6 +161,7 @@ impl Patch {
         ensures changed { self.old ≡ changed image.new image.old → self.new ≡ changed image.old image.new }
         ensures held { IsPatchOf image.new self.new }
     {
+        image.known_image();
         for place in 0..self.kept.len() {
             let entry = &mut self.kept[place];
             mem::swap(&mut entry.1, image.sector_mut(entry.0));

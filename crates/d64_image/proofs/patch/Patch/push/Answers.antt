@@ -1,6 +1,7 @@
 use Rattle.std.proofs.Common.{◌≡◌, ◌<◌, ◌++◌, ◌∷◌, [], sym, subst, arith}
 use Rattle.d64_image.specs.declared.block.TheConstants.{BLOCKS}
-use Rattle.d64_image.specs.Patch.{IsPatch, RisesBetween}
+use Rattle.d64_image.specs.Patch.{HaveBlocks, IsPatch, RisesBetween}
+use Rattle.d64_image.proofs.KeptBlocks.{is_block, blocks-pushed}
 use Rattle.d64_image.proofs.Patches.{rises-pushed}
 use Rattle.d64_image.proofs.patch.Patch.push.Goals as goal
 
@@ -12,6 +13,8 @@ invariant_of-self-2 c =
     let room = c.in_ok-make_room.ensures.same in
     let pushed = rw c.unwrap.ensures at c.push.ensures.items in
     let all : c.push.new.self.items ≡ kept ++ (block, c.args.bytes.now) ∷ [] = cc in
-    let legal : block < BLOCKS = let v = c.index.ensures.value in let w = c.index.ensures.within in omega arith in
-    subst IsPatch (sym all)
-    (rises-pushed kept 0 BLOCKS block c.args.bytes.now (subst (RisesBetween 0 block) (sym c.self.view_is) c.requires.above) (omega arith) legal)
+    let legal : block < BLOCKS = c.known_block.ensures in (
+      subst IsPatch (sym all)
+          (rises-pushed kept 0 BLOCKS block c.args.bytes.now (subst (RisesBetween 0 block) (sym c.self.view_is) c.requires.above) (omega arith) legal),
+      subst HaveBlocks (sym all) (blocks-pushed kept (block, c.args.bytes.now) c.self.invariant.1 (is_block c.args.bytes.now c.told-bytes c.fits-bytes)),
+    )

@@ -1,7 +1,8 @@
 use Rattle.std.proofs.Common.{◌≡◌, ℕ, ◌<◌, ◌≤◌, List, take, length, refl, ap, ap₂, sym, ◌∙◌, subst, arith}
 use Rattle.std.proofs.lemmas.List.{length-set, take_all}
 use Rattle.d64_image.specs.declared.block.TheConstants.{BLOCKS}
-use Rattle.d64_image.specs.Patch.{IsPatch, RisesBetween, back, taken}
+use Rattle.d64_image.specs.Patch.{HaveBlocks, IsPatch, RisesBetween, back, taken}
+use Rattle.d64_image.proofs.KeptBlocks.{blocks-taken}
 use Rattle.d64_image.proofs.Patches.{next_entry, kept_below, exchanged-image, exchanged-kept, taken-all, rises-taken, back-taken, taken-changed, length-back}
 use Rattle.d64_image.proofs.patch.Patch.swap.Goals as goal
 
@@ -34,7 +35,7 @@ loop-place-preserved c =
       image = exchanged-image patch c.args.image.now c.loop-place.image c.loop-place.place entry c.swap.new.y within held.image is c.swap.ensures.y_after;
       kept =
           exchanged-kept patch c.loop-place.self-inside.kept.items c.args.image.now c.loop-place.image 0 BLOCKS c.loop-place.place entry c.swap.new.x
-          c.self.invariant within held.image held.kept is (c.swap.ensures.x_after ∙ c.sector_mut.ensures.value);
+          c.self.invariant.0 within held.image held.kept is (c.swap.ensures.x_after ∙ c.sector_mut.ensures.value);
       long = length-set c.loop-place.self-inside.kept.items c.loop-place.place (entry.0, c.swap.new.x) ∙ held.long;
     }
 
@@ -42,8 +43,12 @@ loop-place-preserved c =
 pub invariant_of-self : goal.invariant_of-self
 invariant_of-self c =
     let most : length c.self.inside.kept.items ≤ c.loop-place.place = let h = c.loop-place-test.false in let e = c.len-place-end.ensures in omega arith in
-    subst IsPatch (sym (taken-all c.self.inside.kept.items c.loop-place.self-inside.kept.items c.args.image.now c.loop-place.place most c.loop-place.invariant.kept))
-    (rises-taken c.self.inside.kept.items c.args.image.now 0 BLOCKS c.self.invariant)
+    let patch = c.self.inside.kept.items in
+    let image = c.args.image.now in
+    let all = taken-all patch c.loop-place.self-inside.kept.items image c.loop-place.place most c.loop-place.invariant.kept in (
+      subst IsPatch (sym all) (rises-taken patch image 0 BLOCKS c.self.invariant.0),
+      subst HaveBlocks (sym all) (blocks-taken patch image 0 c.known_image.ensures.image (subst (RisesBetween 0 (length image)) (sym c.self.view_is) c.requires)),
+    )
 
 -- what was taken puts the image back
 pub returns-clause-back : goal.returns-clause-back
@@ -52,7 +57,7 @@ returns-clause-back c =
     let most : length patch ≤ c.loop-place.place = let h = c.loop-place-test.false in let e = c.len-place-end.ensures in omega arith in
     let image : c.loop-place.image ≡ back c.args.image.now patch = c.loop-place.invariant.image ∙ ap (back c.args.image.now) (take_all c.loop-place.place patch most) in
     ap₂ back image (taken-all patch c.loop-place.self-inside.kept.items c.args.image.now c.loop-place.place most c.loop-place.invariant.kept)
-    ∙ back-taken patch c.args.image.now 0 BLOCKS c.self.invariant
+    ∙ back-taken patch c.args.image.now 0 BLOCKS c.self.invariant.0
 
 -- what changed one way changed back the other
 pub returns-clause-changed : goal.returns-clause-changed

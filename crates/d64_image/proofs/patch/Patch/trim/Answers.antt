@@ -3,7 +3,8 @@ use Rattle.std.specs.Cmp.Lexicographic.{pointwise}
 use Rattle.std.proofs.lemmas.Fn.{filter_same}
 use Rattle.d64_image.specs.declared.block.TheConstants.{BLOCKS}
 use Rattle.d64_image.specs.Image.{sector_at}
-use Rattle.d64_image.specs.Patch.{IsPatch, IsPatchOf, back, trimmed}
+use Rattle.d64_image.specs.Patch.{HaveBlocks, IsPatch, IsPatchOf, back, trimmed}
+use Rattle.d64_image.proofs.KeptBlocks.{blocks-trimmed}
 use Rattle.d64_image.proofs.Patches.{rises-trimmed, back-trimmed, trimmed-changed}
 use Rattle.d64_image.proofs.patch.Patch.trim.Goals as goal
 
@@ -16,12 +17,14 @@ returns-clause-kept c =
 
 -- the blocks stay ascending
 pub invariant_of-self : goal.invariant_of-self
-invariant_of-self c =
-    subst IsPatch (sym (returns-clause-kept c)) (rises-trimmed c.args.self.now c.args.image.now 0 BLOCKS (subst IsPatch c.self.view_is c.self.invariant))
+invariant_of-self c = (
+  subst IsPatch (sym (returns-clause-kept c)) (rises-trimmed c.args.self.now c.args.image.now 0 BLOCKS (subst IsPatch c.self.view_is c.self.invariant.0)),
+  subst HaveBlocks (sym (returns-clause-kept c)) (blocks-trimmed c.args.self.now c.args.image.now (subst HaveBlocks c.self.view_is c.self.invariant.1)),
+)
 
 pub returns-clause-back : goal.returns-clause-back
 returns-clause-back c =
-    ap (back c.args.image.now) (returns-clause-kept c) ∙ back-trimmed c.args.self.now c.args.image.now 0 BLOCKS (subst IsPatch c.self.view_is c.self.invariant)
+    ap (back c.args.image.now) (returns-clause-kept c) ∙ back-trimmed c.args.self.now c.args.image.now 0 BLOCKS (subst IsPatch c.self.view_is c.self.invariant.0)
 
 pub returns-clause-changed : goal.returns-clause-changed
 returns-clause-changed c =
