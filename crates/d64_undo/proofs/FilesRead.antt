@@ -13,10 +13,10 @@ use Rattle.std.proofs.lemmas.Nat.{from_le_bytes-to_le_bytes_2, from_le_bytes-to_
 use Rattle.d64_image.specs.declared.image.TheConstants.{BLOCK_BYTES}
 use Rattle.d64_image.specs.Image.{IsBlock, IsSize, IsImage, tracks_of, bytes_of, sector_at, differences}
 use Rattle.d64_image.proofs.Sizes.{size_most}
-use Rattle.d64_image.specs.Patch.{Kept, RisesBetween, back, changed}
+use Rattle.d64_image.specs.Patch.{Kept, RisesBetween, back, changed, HaveBlocks}
 use Rattle.d64_undo.specs.History.{History, present}
 use Rattle.d64_undo.specs.Records.{LeadAlong, AreRecords}
-use Rattle.d64_undo.specs.SessionFile.{magic, block_file, record_file, file_with, file_of, HaveBlocks, IsSession}
+use Rattle.d64_undo.specs.SessionFile.{magic, block_file, record_file, file_with, file_of, IsSession}
 use Rattle.d64_undo.specs.ResumeFault.{◌>>=◌, Reading, bytes_at, number_at, after_magic, block_count_at, image_at, counts_at, index_at, block_at, blocks_at, record_file_at, records_at, Parts, parts_at, all_differ, differ_along, session_at, fault_in}
 use Rattle.d64_undo.specs.declared.resume_fault.ResumeFault.{ResumeFault}
 use Rattle.d64_undo.specs.SessionFileLaws.{FilesTell, FilesAreFaultless}

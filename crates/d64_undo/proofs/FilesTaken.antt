@@ -9,8 +9,8 @@ use Rattle.std.proofs.lemmas.List.Elements.{All-nil, All-cons, All-tail, All-tak
 use Rattle.std.proofs.lemmas.Nat.{le_bytes_2, le_bytes_8}
 use Rattle.d64_image.specs.declared.image.TheConstants.{BLOCK_BYTES}
 use Rattle.d64_image.specs.Image.{IsBlock, IsSize, IsImage, blocks_of, tracks_of, bytes_of}
-use Rattle.d64_image.specs.Patch.{Kept, RisesBetween}
-use Rattle.d64_undo.specs.SessionFile.{magic, block_file, record_file, file_with, HaveBlocks}
+use Rattle.d64_image.specs.Patch.{Kept, RisesBetween, HaveBlocks}
+use Rattle.d64_undo.specs.SessionFile.{magic, block_file, record_file, file_with}
 use Rattle.d64_undo.specs.ResumeFault.{◌>>=◌, bytes_at, number_at, after_magic, or_not_session, block_count_at, image_at, counts_at, index_at, block_at, blocks_at, record_file_at, records_at, Parts, parts_at}
 use Rattle.d64_undo.specs.declared.resume_fault.ResumeFault.{ResumeFault}
 use Rattle.d64_undo.specs.declared.resume_fault.ResumeFault.TheVariants.{NotSession, Truncated, Trailing, BadCursor, BadRecord}

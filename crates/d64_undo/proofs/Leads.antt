@@ -8,11 +8,11 @@ use Rattle.std.proofs.lemmas.List.{length-reverse, length-take-le, reverse-rever
 use Rattle.std.proofs.lemmas.List.Elements.{All-nil, All-cons, All-head, All-tail, All-append, All-take, All-drop, All-map, All-filter, All-from_get_or}
 use Rattle.std.proofs.lemmas.List.FromFn.{length-range_with_len, get_or-range_with_len}
 use Rattle.d64_image.specs.Image.{IsBlock, IsImage, sector_at, differences}
-use Rattle.d64_image.specs.Patch.{Kept, RisesBetween, back, changed}
+use Rattle.d64_image.specs.Patch.{Kept, RisesBetween, back, changed, HaveBlocks}
 use Rattle.d64_image.proofs.Patches.{back-changed, rises-changed}
 use Rattle.d64_undo.specs.History.{History, present}
 use Rattle.d64_undo.specs.Records.{along, LeadAlong, images_of, AreRecords}
-use Rattle.d64_undo.specs.SessionFile.{HaveBlocks, IsSession}
+use Rattle.d64_undo.specs.SessionFile.{IsSession}
 use Rattle.d64_undo.proofs.Sessions.{history_of}
 
 -- an image of so many blocks

@@ -4,6 +4,7 @@ pub mod Sessions
 pub mod SoundHistories
 pub mod Leads
 pub mod SessionFiles
+pub mod FileLengths
 pub mod FilesRead
 pub mod FilesTaken
 pub mod Resumed

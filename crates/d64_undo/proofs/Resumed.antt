@@ -4,11 +4,11 @@ use Rattle.std.specs.List.{All, filter, list_all}
 use Rattle.std.specs.Cmp.Lexicographic.{pointwise}
 use Rattle.std.proofs.lemmas.List.Elements.{All-head, All-tail, All-take, All-drop, All-weaker, All-from_get_or}
 use Rattle.d64_image.specs.Image.{sector_at}
-use Rattle.d64_image.specs.Patch.{Kept, RisesBetween, back, changed, trimmed}
+use Rattle.d64_image.specs.Patch.{Kept, RisesBetween, back, changed, trimmed, HaveBlocks}
 use Rattle.d64_image.proofs.Patches.{length-back, trimmed-changed}
 use Rattle.d64_undo.specs.History.{History}
 use Rattle.d64_undo.specs.Records.{LeadAlong, images_of, AreRecords}
-use Rattle.d64_undo.specs.SessionFile.{file_of, HaveBlocks, IsSession}
+use Rattle.d64_undo.specs.SessionFile.{file_of, IsSession}
 use Rattle.d64_undo.specs.ResumeFault.{◌>>=◌, Parts, parts_at, all_differ, differ_along, lead_both_ways, session_at, fault_in, first_fault, fault_number, told_by, refused_by}
 use Rattle.d64_undo.specs.Resuming.{Fails, Gives}
 use Rattle.d64_undo.specs.SessionFileLaws.{FaultlessAreFiles, KeptIsResumed}

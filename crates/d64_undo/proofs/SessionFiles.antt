@@ -8,11 +8,11 @@ use Rattle.std.proofs.lemmas.List.{ext_get_or, length-set}
 use Rattle.std.proofs.lemmas.List.Elements.{All-nil, All-cons, All-head, All-tail, All-append, All-take, All-drop, All-set}
 use Rattle.std.proofs.lemmas.List.FromFn.{length-map-range_with_len, get_or-map-range_with_len}
 use Rattle.d64_image.specs.Image.{IsBlock, IsSize, IsImage, tracks_of, bytes_of}
-use Rattle.d64_image.specs.Patch.{Kept, back, changed}
+use Rattle.d64_image.specs.Patch.{Kept, back, changed, HaveBlocks}
 use Rattle.d64_image.proofs.Patches.{length-back}
 use Rattle.d64_undo.specs.History.{History, present, record_blocks}
 use Rattle.d64_undo.specs.Records.{along, images_of, AreRecords}
-use Rattle.d64_undo.specs.SessionFile.{magic, record_file, records_of, file_with, file_of, HaveBlocks, IsSession}
+use Rattle.d64_undo.specs.SessionFile.{magic, record_file, records_of, file_with, file_of, IsSession}
 use Rattle.d64_undo.proofs.Leads.{All-turned}
 use Rattle.d64_undo.proofs.Records.{length-images, record-done, record-undone}
 use Rattle.d64_undo.proofs.Sessions.{history_of, present_is, stands, image_count}

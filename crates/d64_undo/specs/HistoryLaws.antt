@@ -1,3 +1,4 @@
+-- What follows from the definitions of histories: undo and redo pass through each image again.
 use Rattle.std.specs.Prelude.{◌≡◌, ℕ, ◌+◌, ◌-◌, ◌<◌, ◌≤◌, List, ◌∷◌, [], length, fold, slice_index_or}
 use Rattle.std.specs.Fn.{iterate}
 use Rattle.d64_undo.specs.History.{History, IsHistory, present, added, undone, redone}

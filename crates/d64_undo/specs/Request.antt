@@ -1,3 +1,4 @@
+-- Requests to a session, their answers, and runs of them.
 use Rattle.std.specs.Prelude.{◌≡◌, ◌≢◌, ℕ, ◌+◌, ◌<◌, ◌≤◌, List, [], ◌∷◌, length, None, All}
 use Rattle.d64_dos.specs.Command.{after, reply_to, refusal_of, IsWithin}
 use Rattle.d64_dos.specs.Refusal.{cause_of}

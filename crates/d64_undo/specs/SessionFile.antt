@@ -2,7 +2,7 @@
 use Rattle.std.specs.Prelude.{◌≡◌, ℕ, ◌-◌, ◌≤◌, ◌^◌, All, List, [], ◌∷◌, ◌++◌, length, map}
 use Rattle.std.specs.Int.{w16, w64, to_le_bytes}
 use Rattle.std.specs.List.{flat_map, range_with_len}
-use Rattle.d64_image.specs.Image.{IsBlock, IsImage, tracks_of, bytes_of}
+use Rattle.d64_image.specs.Image.{IsImage, tracks_of, bytes_of}
 use Rattle.d64_image.specs.Patch.{Kept}
 use Rattle.d64_undo.specs.History.{History, IsHistory, present, record_blocks}
 
@@ -38,7 +38,3 @@ pub record IsSession (history : History) : Type 0 where
   pub images : All IsImage history.images
   pub kind : All (λ image. length image ≡ length (present history)) history.images
   pub count : length history.images ≤ 2 ^ 64
-
--- what a record keeps of each block are the bytes of one
-abbrev pub HaveBlocks : Kept → Type 0
-HaveBlocks patch = All (λ entry. IsBlock entry.1) patch

@@ -1,3 +1,4 @@
+-- What follows from the definitions of session files and of their faults.
 use Rattle.std.specs.Prelude.{◌≡◌, ℕ, ◌<◌, List, All, None, Result, Ok, Err, IfOk}
 use Rattle.d64_undo.specs.History.{History}
 use Rattle.d64_undo.specs.SessionFile.{file_of, IsSession}

@@ -132,7 +132,7 @@ impl Session {
     /// that lead away from the present image. No other history has the same file. Takes memory for the file alone.
     pub fn keep(&self, alloc: Global) -> Result<Vec<u8>, AllocError>
         ensures file { IfOk result (λ file. file.items ≡ file_of self.now) }
-        ensures session { OnOk result (IsSession self.now) }
+        ensures session { IsSession self.now }
     {
         session_file(alloc, &self.image, self.done, &self.records)
     }

@@ -2,10 +2,8 @@ use Rattle.std.proofs.Common.{◌≡◌, ◌+◌, ◌++◌, ◌∷◌, [], ℕ, 
 use Rattle.std.specs.Int.{w16, to_le_bytes}
 use Rattle.std.specs.List.{flat_map}
 use Rattle.std.proofs.lemmas.List.{flat_map_more, take_more}
-use Rattle.std.proofs.lemmas.List.Elements.{All-nil, All-cons, All-append}
-use Rattle.d64_image.specs.Image.{IsBlock}
 use Rattle.d64_image.specs.Patch.{Kept}
-use Rattle.d64_undo.specs.SessionFile.{block_file, HaveBlocks}
+use Rattle.d64_undo.specs.SessionFile.{block_file}
 use Rattle.d64_undo.proofs.keeping.put_blocks.Goals as goal
 
 -- one block more is in the file
@@ -20,14 +18,7 @@ loop-entry-preserved c =
     c.in_ok-extend_from_slice.ensures.items ∙ ap (λ (xs : List ℕ). c.loop-entry.file.items ++ xs) digits in
     let both : c.extend_from_slice-in-loop-entry.new.self.items ≡ (c.loop-entry.file.items ++ to_le_bytes w16 entry.0) ++ entry.1 =
     c.in_ok-extend_from_slice-2.ensures.items ∙ ap (λ (xs : List ℕ). xs ++ entry.1) first in
-    record {
-      file =
-          both ∙ append_assoc c.loop-entry.file.items (to_le_bytes w16 entry.0) entry.1
-          ∙ ap (λ (xs : List ℕ). xs ++ block_file entry) c.loop-entry.invariant.file
-          ∙ flat_map_more block_file c.args.file.now.items before entry
-          ∙ ap (λ (es : Kept). c.args.file.now.items ++ flat_map block_file es) (sym taken);
-      blocks =
-          subst HaveBlocks (sym taken)
-          (All-append (λ (e : ℕ × List ℕ). IsBlock e.1) before (entry ∷ []) c.loop-entry.invariant.blocks
-          (All-cons (λ (e : ℕ × List ℕ). IsBlock e.1) entry [] c.known_block.ensures (All-nil (λ (e : ℕ × List ℕ). IsBlock e.1))));
-    }
+    both ∙ append_assoc c.loop-entry.file.items (to_le_bytes w16 entry.0) entry.1
+    ∙ ap (λ (xs : List ℕ). xs ++ block_file entry) c.loop-entry.invariant
+    ∙ flat_map_more block_file c.args.file.now.items before entry
+    ∙ ap (λ (es : Kept). c.args.file.now.items ++ flat_map block_file es) (sym taken)

@@ -1,9 +1,8 @@
 use Rattle.std.proofs.Common.{◌≡◌, ◌+◌, ◌++◌, ◌∷◌, [], ℕ, List, take, ap, sym, ◌∙◌, subst}
-use Rattle.std.specs.List.{All, flat_map}
+use Rattle.std.specs.List.{flat_map}
 use Rattle.std.proofs.lemmas.List.{flat_map_more, take_more}
-use Rattle.std.proofs.lemmas.List.Elements.{All-nil, All-cons, All-append}
 use Rattle.d64_image.specs.Patch.{Kept}
-use Rattle.d64_undo.specs.SessionFile.{record_file, HaveBlocks}
+use Rattle.d64_undo.specs.SessionFile.{record_file}
 use Rattle.d64_undo.proofs.keeping.put_records.Goals as goal
 
 -- one record more is in the file
@@ -13,13 +12,7 @@ loop-patch-preserved c =
     let before : List Kept = take c.loop-patch.patch-index c.args.records.now in
     let taken : take (c.loop-patch.patch-index + 1) c.args.records.now ≡ before ++ patch ∷ [] =
     take_more c.args.records.now c.loop-patch.patch-index patch c.loop-patch-test.true ∙ ap (λ (p : Kept). before ++ p ∷ []) (sym c.patch-item.is) in
-    record {
-      file =
-          c.in_ok-put_record.ensures.file
-          ∙ ap (λ (xs : List ℕ). xs ++ record_file patch) c.loop-patch.invariant.file
-          ∙ flat_map_more record_file c.args.file.now.items before patch
-          ∙ ap (λ (ps : List Kept). c.args.file.now.items ++ flat_map record_file ps) (sym taken);
-      blocks =
-          subst (All HaveBlocks) (sym taken)
-          (All-append HaveBlocks before (patch ∷ []) c.loop-patch.invariant.blocks (All-cons HaveBlocks patch [] c.in_ok-put_record.ensures.blocks (All-nil HaveBlocks)));
-    }
+    c.in_ok-put_record.ensures
+    ∙ ap (λ (xs : List ℕ). xs ++ record_file patch) c.loop-patch.invariant
+    ∙ flat_map_more record_file c.args.file.now.items before patch
+    ∙ ap (λ (ps : List Kept). c.args.file.now.items ++ flat_map record_file ps) (sym taken)

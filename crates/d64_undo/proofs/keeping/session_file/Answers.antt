@@ -18,11 +18,11 @@ returns-clause-file c =
     let beginning : c.extend_from_slice-2.new.self.items ≡ magic ++ tracks ∷ [] =
     c.in_ok-extend_from_slice-2.ensures.items ∙ ap (λ (xs : List ℕ). xs ++ tracks ∷ []) begun in
     let shown : c.extend_from_slice-3.new.self.items ≡ (magic ++ tracks ∷ []) ++ bytes_of image =
-    c.in_ok-extend_from_slice-3.ensures.items ∙ ap₂ join beginning c.bytes-bytes.ensures.value in
+    c.in_ok-extend_from_slice-3.ensures.items ∙ ap₂ join beginning c.bytes.ensures.value in
     let cursor : c.extend_from_slice-4.new.self.items ≡ ((magic ++ tracks ∷ []) ++ bytes_of image) ++ to_le_bytes w64 c.args.done =
     c.in_ok-extend_from_slice-4.ensures.items ∙ ap₂ join shown c.to_le_bytes.ensures in
     let count : c.extend_from_slice-5.new.self.items
     ≡ (((magic ++ tracks ∷ []) ++ bytes_of image) ++ to_le_bytes w64 c.args.done) ++ to_le_bytes w64 (length records) =
     c.in_ok-extend_from_slice-5.ensures.items ∙ ap₂ join cursor c.to_le_bytes-2.ensures in
-    c.in_ok-put_records.ensures.file ∙ ap (λ (xs : List ℕ). xs ++ flat_map record_file records) count
+    c.in_ok-put_records.ensures ∙ ap (λ (xs : List ℕ). xs ++ flat_map record_file records) count
     ∙ added-parts image tracks c.args.done records c.tracks.ensures.value

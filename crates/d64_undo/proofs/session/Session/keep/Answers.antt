@@ -1,9 +1,8 @@
 use Rattle.std.proofs.Common.{◌≡◌, ◌<◌, ◌^◌, List, ℕ, length, ap, ◌∙◌, subst}
 use Rattle.std.specs.Prelude.{IfOk}
 use Rattle.std.specs.List.{All}
-use Rattle.std.proofs.lemmas.Result.{on_ok_weaker}
-use Rattle.d64_image.specs.Patch.{Kept}
-use Rattle.d64_undo.specs.SessionFile.{file_with, HaveBlocks}
+use Rattle.d64_image.specs.Patch.{Kept, HaveBlocks}
+use Rattle.d64_undo.specs.SessionFile.{file_with}
 use Rattle.d64_undo.proofs.SessionFiles.{file-held, holds-session}
 use Rattle.d64_undo.proofs.session.Session.keep.Goals as goal
 
@@ -22,9 +21,6 @@ pub returns-clause-session : goal.returns-clause-session
 returns-clause-session c =
     let s = c.self.inside in
     let records : c.deref.result.now ≡ s.records.items = c.deref.ensures.value in
-    on_ok_weaker c.session_file.result
-    (λ blocks.
     holds-session s.records.items s.image s.done c.args.self.now c.self.invariant.0
     (subst (λ (rs : List Kept). length rs < 2 ^ 64) records c.session_file.ensures.count)
-    c.session_file.ensures.image (subst (All HaveBlocks) records blocks) c.self.view_is)
-    c.session_file.ensures.blocks
+    c.session_file.ensures.image (subst (All HaveBlocks) records c.session_file.ensures.blocks) c.self.view_is
