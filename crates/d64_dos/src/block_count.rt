@@ -9,6 +9,6 @@ pub(crate) fn block_count(image: &Image) -> usize
     ensures count { result ≡ length image.now }
     ensures size { IsSize (length image.now) }
 {
-    let _ = image.tracks();
+    image.known_image();
     image.bytes().len() / BLOCK_BYTES
 }

@@ -4,7 +4,6 @@ ghost use Rattle.d64_dos.specs.Change.{said};
 ghost use Rattle.d64_dos.specs.Command.{after, reply_to, refusal_of, IsWithin, StartsFrom};
 ghost use Rattle.d64_dos.specs.Refusal.{refused_by};
 ghost use Rattle.d64_dos.specs.Step.{IsMade, Leaves};
-ghost use Rattle.d64_effects.specs.Laws.{AreBytes};
 ghost use Rattle.d64_image.specs.Image.{IsImage};
 ghost use Rattle.d64_image.specs.Patch.{IsPatchOf, back, changed};
 
@@ -15,7 +14,7 @@ use crate::rename::rename;
 use crate::validate::validate;
 use crate::write::write;
 use d64_files::{Kind, Name, Pattern};
-use d64_image::{BLOCK_BYTES, BlockNo, Image, Patch};
+use d64_image::{BLOCK_BYTES, BlockNo, Image, Patch, known_bytes};
 
 /// A change of an image.
 #[derive(Debug, Drop)]
@@ -101,11 +100,6 @@ pub fn apply(image: &mut Image, patch: &mut Patch, command: &Command) -> Result<
     answer
 }
 
-/// The bytes of a slice are known to be bytes.
-fn known_bytes(_bytes: &[u8])
-    ensures { AreBytes _bytes.now }
-{}
-
 /// The parts of a command are known to be what they should.
 fn known_command(command: &Command)
     ensures { IsMade (said command.now) }
@@ -145,7 +139,7 @@ fn carried_out(image: &mut Image, patch: &mut Patch, command: &Command) -> Resul
     ensures known { IsImage image.old × IsMade (said command.now) }
 {
     known_command(command);
-    let _ = image.bytes();
+    image.known_image();
     match command {
         Command::Format { name, id } => {
             format(image, patch, name, id)?;

@@ -2,7 +2,6 @@
 ghost use Rattle.std.specs.Prelude.{◌≡◌, ◌<◌, ℕ, List, length, All, IfOk, OnOk};
 ghost use Rattle.std.specs.List.{list_any, flat_map};
 ghost use Rattle.std.specs.FinSet as set;
-ghost use Rattle.d64_image.specs.BlockSet.{MembersAreBlocks};
 ghost use Rattle.d64_image.specs.Patch.{IsPatchOf, back};
 ghost use Rattle.d64_map.specs.Map.{free_blocks};
 ghost use Rattle.d64_files.specs.Directory.{slots, slot_owns, AllHold};
@@ -17,7 +16,7 @@ use arrayvec::ArrayVec;
 use d64_effects::laws::clearing_keeps_the_directory;
 use d64_files::{Directory, Entry, Pattern, SlotNo, checked, clear_slot, matches, slot_blocks};
 use d64_image::{BLOCKS, BlockNo, BlockSet, Image, Patch};
-use d64_map::{free_set, map_block, put_map};
+use d64_map::{free_set, put_map};
 use std::alloc::AllocError;
 
 /// How many slots a directory has at most: eight in each of its blocks.
@@ -46,18 +45,11 @@ fn is_scratched(patterns: &[Pattern], entry: &Entry) -> bool
     entry.used() && entry.closed() && !entry.locked() && is_named_by(patterns, entry.name())
 }
 
-/// The members of a set of blocks are blocks of the disk.
-fn known_members(blocks: &BlockSet)
-    ensures { MembersAreBlocks blocks.now }
-{
-    let _ = blocks.has(map_block());
-}
-
 /// Makes the members of another set free, too.
 fn free_all(free: &mut BlockSet, given: &BlockSet)
     ensures { (blocks : List ℕ) → given.now ≡ set.from_list blocks → free.new ≡ with_freed free.old blocks }
 {
-    known_members(given);
+    given.known_members();
     for index in 0..BLOCKS {
         match BlockNo::at(index) {
             Some(block) => {
@@ -104,7 +96,7 @@ pub(crate) fn clear_slots(
     ensures held { IsPatchOf image.old patch.old → IsPatchOf image.new patch.new }
 {
     clearing_keeps_the_directory();
-    let _ = image.bytes();
+    image.known_image();
     for place in places {
         clear_slot(image, patch, SlotNo::at(*place))?;
     }
@@ -132,7 +124,7 @@ pub(crate) fn scratch(
     ensures held { IsPatchOf image.old patch.old → IsPatchOf image.new patch.new }
 {
     clearing_keeps_the_directory();
-    let _ = image.bytes();
+    image.known_image();
     let (directory, _owned) = checked(image)?;
     let found = find_scratched(&directory, patterns);
     if found.places.is_empty() {

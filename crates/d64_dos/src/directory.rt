@@ -22,7 +22,7 @@ fn header_of(image: &Image) -> &[u8; BLOCK_BYTES]
     ensures value { result.now ≡ sector_at image.now map_block }
     ensures block { IsBlock result.now }
 {
-    let _ = image.tracks();
+    image.known_image();
     image.sector(map_block())
 }
 

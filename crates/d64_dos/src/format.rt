@@ -106,7 +106,7 @@ pub(crate) fn format(
     ensures back { back image.new patch.new ≡ back image.old patch.old }
     ensures held { IsPatchOf image.old patch.old → IsPatchOf image.new patch.new }
 {
-    let _ = image.tracks();
+    image.known_image();
     let free = free_when_formatted(image);
     blank(image, patch)?;
     patch.write(image, map_block(), &header(name, id))?;

@@ -53,8 +53,8 @@ fn known_lengths(_sectors: &[[u8; BLOCK_BYTES]])
     ensures { All (λ sector. length sector ≡ BLOCK_BYTES) _sectors.now }
 {}
 
-/// The bytes of a slice are known to be bytes.
-fn known_bytes(_bytes: &[u8])
+/// For the contract alone, and does nothing: what each byte of a slice is, which a caller knows only from the contract of a call.
+pub fn known_bytes(_bytes: &[u8])
     ensures { All (λ byte. byte < 256) _bytes.now }
 {}
 

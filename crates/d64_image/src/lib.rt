@@ -13,5 +13,5 @@ mod patch;
 
 pub use block::{BLOCKS, BlockNo, Blocks};
 pub use block_set::BlockSet;
-pub use image::{BLOCK_BYTES, Image, ImageFault, blocks_of};
+pub use image::{BLOCK_BYTES, Image, ImageFault, blocks_of, known_bytes};
 pub use patch::Patch;

@@ -32,7 +32,7 @@ fn map_of(image: &Image) -> &[u8; BLOCK_BYTES]
     ensures block { IsBlock result.now }
     ensures size { IsSize (length image.now) }
 {
-    let _ = image.tracks();
+    image.known_image();
     image.sector(map_block())
 }
 
@@ -132,7 +132,7 @@ fn none_is_free_on(image: &Image, blocks: &BlockSet, track: u8) -> bool
     requires track { (1 ≤ track) × (track ≤ tracks_of (length image.now)) }
     ensures none { IsTrue result ↔ NoneIsFreeBetween image.now blocks.now (first_block track) (first_block (track + 1)) }
 {
-    let _ = image.tracks();
+    image.known_image();
     let first = first_block(track);
     let bits = bits_on(map_of(image), track);
     for sector in 0..sector_count(track) {
@@ -162,7 +162,7 @@ fn free_on(image: &Image, track: u8) -> u8
     requires track { (1 ≤ track) × (track ≤ tracks_of (length image.now)) }
     ensures free { result ≡ members_on (free_blocks image.now) track }
 {
-    let _ = image.tracks();
+    image.known_image();
     let sectors = (1 << sector_count(track)) - 1;
     let free = bits_on(map_of(image), track) & sectors;
     free.count_ones() as u8

@@ -41,5 +41,5 @@ put_map-requires c =
     let long = ap length c.in_ok-clear_slots.ensures.cleared ∙ length-with_cleared image c.as_slice.result.now in
     record {
       members = subst (λ (n : ℕ). MembersAreBelow n found.result.free) (sym long)
-          (subst (MembersAreBelow (length image)) (sym free) (members image patterns c.bytes.ensures.image sound));
+          (subst (MembersAreBelow (length image)) (sym free) (members image patterns c.known_image.ensures.image sound));
     }

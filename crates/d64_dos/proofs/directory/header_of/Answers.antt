@@ -6,7 +6,7 @@ use Rattle.d64_dos.proofs.directory.header_of.Goals as goal
 -- the image has the map's block
 pub sector-requires : goal.sector-requires
 sector-requires c =
-    let least = size_least (length c.args.image.now) c.tracks.ensures.size in
+    let least = size_least (length c.args.image.now) c.known_image.ensures.size in
     let e = c.map_block.ensures in
     omega arith
 

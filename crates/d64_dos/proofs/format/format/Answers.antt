@@ -27,14 +27,14 @@ long_blank image after e = ap length e ∙ length-replicate (length image) (repl
 
 pub write-requires : goal.write-requires
 write-requires c =
-    let least = size_least (length c.args.image.now) c.tracks.ensures.size in
+    let least = size_least (length c.args.image.now) c.known_image.ensures.size in
     let long = long_blank c.args.image.now c.blank.new.image c.in_ok-blank.ensures.blank in
     let e = c.map_block.ensures in
     omega arith
 
 pub write-requires-2 : goal.write-requires-2
 write-requires-2 c =
-    let least = size_least (length c.args.image.now) c.tracks.ensures.size in
+    let least = size_least (length c.args.image.now) c.known_image.ensures.size in
     let long = long_blank c.args.image.now c.blank.new.image c.in_ok-blank.ensures.blank in
     let same = ap length c.in_ok-write.ensures.written ∙ length-set c.blank.new.image _ _ in
     let e = c.directory_start.ensures in
@@ -48,5 +48,5 @@ put_map-requires c =
     ∙ long_blank image c.blank.new.image c.in_ok-blank.ensures.blank in
     record {
       members = subst (λ (n : ℕ). MembersAreBelow n c.free_when_formatted-free.result) (sym long)
-          (subst (MembersAreBelow (length image)) (sym c.free_when_formatted-free.ensures) (members_are_below (length image) c.tracks.ensures.size));
+          (subst (MembersAreBelow (length image)) (sym c.free_when_formatted-free.ensures) (members_are_below (length image) c.known_image.ensures.size));
     }

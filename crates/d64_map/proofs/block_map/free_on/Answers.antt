@@ -36,7 +36,7 @@ returns c =
           let held : s < sectors_on track = omega (arith, c.sector_count.ensures.sectors) in
           ap (λ (n : ℕ). nat_eq n 1) (c.bits_on.ensures s (omega (arith, few)))
           ∙ bit_is_member image track s c.map_of.result.now c.map_of.ensures.value c.requires.track.0
-          (let most = tracks_most (length image) c.tracks.ensures.size in omega (arith, most, c.requires.track.1)) held
-          (counted_within (length image) track s c.tracks.ensures.size c.requires.track.1 held))
+          (let most = tracks_most (length image) c.known_image.ensures.size in omega (arith, most, c.requires.track.1)) held
+          (counted_within (length image) track s c.known_image.ensures.size c.requires.track.1 held))
           ∙ ap (λ (n : ℕ). count_by free (range_with_len (first_block track) n)) c.sector_count.ensures.sectors;
     }

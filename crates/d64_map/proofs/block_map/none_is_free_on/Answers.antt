@@ -10,7 +10,7 @@ use Rattle.d64_map.proofs.block_map.none_is_free_on.Goals.{then-marks_free+else-
 pub has_block-requires : goal.has_block-requires
 has_block-requires c =
     let held : c.loop-sector.sector < sectors_on c.args.track = omega (arith, c.sector_count-sector-end.ensures.sectors) in
-    let size = c.tracks.ensures.size in
+    let size = c.known_image.ensures.size in
     let below = counted_within (length c.args.image.now) c.args.track c.loop-sector.sector size c.requires.track.1 held in
     let most = size_most (length c.args.image.now) size in
     record { there = omega (arith, below, most, c.from.ensures, c.first_block-first.ensures.first) }
@@ -23,8 +23,8 @@ returns-then-has_block c =
     let held : sector < sectors_on track = omega (arith, c.sector_count-sector-end.ensures.sectors) in
     let short : sector < 24 = omega (arith, c.sector_count-sector-end.ensures.few) in
     let next = first_block-next track c.requires.track.0 in
-    let few : track < 41 = let most = tracks_most (length image) c.tracks.ensures.size in omega (arith, most, c.requires.track.1) in
-    let there = counted_within (length image) track sector c.tracks.ensures.size c.requires.track.1 held in
+    let few : track < 41 = let most = tracks_most (length image) c.known_image.ensures.size in omega (arith, most, c.requires.track.1) in
+    let there = counted_within (length image) track sector c.known_image.ensures.size c.requires.track.1 held in
     let bit =
     c.marks_free.ensures
     ∙ ap (λ (n : ℕ). nat_eq n 1) (c.bits_on-bits.ensures sector short)
@@ -48,8 +48,8 @@ loop-sector-preserved c =
     let track = c.args.track in
     let sector = c.loop-sector.sector in
     let held : sector < sectors_on track = omega (arith, c.sector_count-sector-end.ensures.sectors) in
-    let few : track < 41 = let most = tracks_most (length image) c.tracks.ensures.size in omega (arith, most, c.requires.track.1) in
-    let there = counted_within (length image) track sector c.tracks.ensures.size c.requires.track.1 held in
+    let few : track < 41 = let most = tracks_most (length image) c.known_image.ensures.size in omega (arith, most, c.requires.track.1) in
+    let there = counted_within (length image) track sector c.known_image.ensures.size c.requires.track.1 held in
     let short : sector < 24 = omega (arith, c.sector_count-sector-end.ensures.few) in
     let bit =
     c.marks_free.ensures
