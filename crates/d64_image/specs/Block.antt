@@ -1,3 +1,4 @@
+-- Blocks: the tracks of a disk, their sectors, and the place of each in an image.
 use Rattle.std.specs.Prelude.{ℕ, ◌-◌, ◌<◌, ◌≤◌, ◌==◌, ◌&&◌, nat_lt, if◌then◌else◌, List, map, position, Option, slice_index_or}
 use Rattle.std.specs.List.{flat_map, range_with_len, sum_by}
 

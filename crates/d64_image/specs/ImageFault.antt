@@ -1,3 +1,4 @@
+-- Why bytes make no image.
 use Rattle.std.specs.Prelude.{ℕ, List, Option, Some, None, Result, Ok, Err}
 use Rattle.d64_image.specs.declared.image.ImageFault.{ImageFault}
 use Rattle.d64_image.specs.declared.image.ImageFault.TheVariants.{WrongLength, Memory}

@@ -1,3 +1,4 @@
+-- What becomes of an image one of whose blocks was lent to be written.
 use Rattle.std.specs.Prelude.{ℕ, List}
 use Rattle.std.specs.Borrow.{Lends, MutBor, Fml, Array, u8}
 use Rattle.d64_image.specs.Image.{with_sector}

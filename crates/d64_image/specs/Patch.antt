@@ -1,3 +1,4 @@
+-- Patches: blocks with the bytes that they had, and the image that they put back.
 use Rattle.std.specs.Prelude.{ℕ, ◌+◌, ◌<◌, ◌≤◌, ◌==◌, not, nat_lt, nat_eq, if◌then◌else◌, Bool, List, [], ◌∷◌, length, map, filter, fold, count_by, All}
 use Rattle.std.specs.Cmp.Lexicographic.{pointwise}
 use Rattle.std.specs.List.{list_any, insert}

@@ -1,3 +1,4 @@
+-- Zones: neighbouring tracks with equally many sectors each.
 use Rattle.std.specs.Prelude.{◌≡◌, ℕ, ◌+◌, ◌-◌, ◌*◌, ◌<◌, ◌≤◌}
 use Rattle.d64_image.specs.Block.{sectors_on, first_block}
 use Rattle.d64_image.specs.declared.block.Zone.{Zone}

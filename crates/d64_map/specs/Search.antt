@@ -1,3 +1,4 @@
+-- The orders in which free blocks are searched.
 use Rattle.std.specs.Prelude.{ℕ, ◌+◌, ◌-◌, ◌==◌, nat_lt, if◌then◌else◌, List, ◌++◌, map, take, drop}
 use Rattle.std.specs.List.{range_with_len, flat_map}
 use Rattle.d64_image.specs.Block.{sectors_on, pair_at}

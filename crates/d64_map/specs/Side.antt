@@ -1,3 +1,4 @@
+-- The two sides of track 18, and the tracks along each.
 use Rattle.std.specs.Prelude.{ℕ, ◌+◌, ◌-◌, List, ◌++◌, map}
 use Rattle.std.specs.List.{range_with_len}
 use Rattle.d64_map.specs.declared.search.Side.{Side}

@@ -1,3 +1,4 @@
+-- The blocks of a track, and those of them that are members of a set.
 use Rattle.std.specs.Prelude.{ℕ, Bool, false, List, count_by}
 use Rattle.std.specs.List.{range_with_len}
 use Rattle.std.specs.Option.{option_map_or}
