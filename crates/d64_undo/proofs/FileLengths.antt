@@ -7,9 +7,9 @@ use Rattle.std.proofs.lemmas.Bool.{cases_lt}
 use Rattle.std.proofs.Math.Nat.{min-eq_left, min-eq_right}
 use Rattle.std.proofs.lemmas.List.{length-append}
 use Rattle.std.proofs.lemmas.List.Elements.{All-head, All-tail}
-use Rattle.d64_image.specs.Image.{IsBlock, bytes_of, tracks_of}
+use Rattle.d64_image.specs.Image.{IsBlock, bytes_of}
 use Rattle.d64_image.specs.Patch.{Kept, HaveBlocks}
-use Rattle.d64_undo.specs.SessionFile.{magic, block_file, record_file, file_with}
+use Rattle.d64_undo.specs.SessionFile.{block_file, record_file, file_with}
 
 -- two bytes of a block's index, and its own
 length-blocks : (patch : Kept) → HaveBlocks patch → length (flat_map block_file patch) ≡ length patch * 258
