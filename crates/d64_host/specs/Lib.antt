@@ -1,3 +1,4 @@
+pub mod Access
 pub mod Files
 pub mod Host
 pub mod MemoryHost

@@ -9,6 +9,7 @@ use std::alloc::Global;
 use std::fs::File;
 use std::io::{ErrorKind, Read};
 use std::marker::Model;
+use std::os::fd::AsFd;
 use std::rt::Files;
 
 /// How many bytes one read asks for.
@@ -41,7 +42,10 @@ impl<R: Files + Drop> FolderHost<R> {
     }
 }
 
-impl<R: Files + Drop> Host for FolderHost<R> {
+impl<R: Files + Drop> Host for FolderHost<R>
+where
+    R::File: AsFd,
+{
     ghost files = { λ _. None };
 
     ghost failure_count = { λ count. count };

@@ -3,13 +3,18 @@
 //! A host in memory tells its files to a proof; one over the folders of a system tells nothing.
 #![tactic(auto)]
 
+mod access;
 mod draft;
 mod folder_host;
 mod host;
 mod memory_host;
 mod new_file;
+mod size_limit;
+mod standard_streams;
 mod whole_store;
 
 pub use folder_host::FolderHost;
 pub use host::{Host, HostFault};
 pub use memory_host::MemoryHost;
+pub use size_limit::is_at_size_limit;
+pub use standard_streams::StandardStream;

@@ -4,17 +4,16 @@ ghost use Rattle.std.specs.Prelude.{◌≡◌, None, IfErr, OnOk};
 ghost use Rattle.std.specs.Io.KnownBytes.{Appends};
 ghost use Rattle.d64_host.specs.Host.{IsOfDeviceOrMemory};
 
+use crate::access::keep_access;
 use crate::draft::Draft;
 use crate::host::HostFault;
 use std::alloc::Global;
 use std::fs::{self, File, OpenFile, OpenOptions};
 use std::io::{self, ErrorKind, Write};
+use std::os::fd::AsFd;
 use std::os::unix::fs::OpenOptionsExt;
 use std::path::{Path, PathBuf};
 use std::rt::Files;
-
-/// How many names are tried for a new file, where others have left some of theirs.
-const MOST_NAMES: u32 = 1000;
 
 /// A new file in the folder of the one that it is to replace, which is open for writing.
 #[derive(Drop)]
@@ -27,15 +26,18 @@ pub struct NewFile<'a, R: Files> {
 }
 
 impl<'a, R: Files> NewFile<'a, R> {
-    /// Makes a new file beside this one, under a name that no file has and that only its owner can
-    /// open. `Device` where the old one may not be written, though its folder may be.
-    pub fn beside(rt: &'a R, alloc: Global, old_path: Path<'a>) -> Result<NewFile<'a, R>, HostFault>
+    /// Makes a new file beside the old one, which is open and lies at this path, under a name that
+    /// no file has. Only its owner can open it. What others have left under such names is passed
+    /// over.
+    pub fn beside(
+        rt: &'a R,
+        alloc: Global,
+        old: R::File,
+        old_path: Path<'a>,
+    ) -> Result<NewFile<'a, R>, HostFault>
         ensures { IfErr result IsOfDeviceOrMemory }
     {
-        let Ok(old) = OpenOptions::new().write(true).open(rt, old_path) else {
-            return Err(HostFault::Device);
-        };
-        for number in 0..MOST_NAMES {
+        for number in 0..u64::MAX {
             let new_path = draft_path(alloc, old_path, number)?;
             match open_new(rt, new_path.as_path()) {
                 Ok(new) => {
@@ -55,11 +57,14 @@ impl<'a, R: Files> NewFile<'a, R> {
     }
 }
 
-impl<'a, R: Files> Draft for NewFile<'a, R> {
+impl<'a, R: Files> Draft for NewFile<'a, R>
+where
+    R::File: AsFd,
+{
     ghost place = { λ _. None };
 
     fn fill(&mut self, bytes: &[u8]) -> Result<(), HostFault> {
-        copy_permissions(&self.old, &self.new).map_err(|_| HostFault::Device)?;
+        keep_access(&self.old, &self.new).map_err(|_| HostFault::Device)?;
         write_to_end(&mut self.new, bytes)
     }
 
@@ -91,7 +96,7 @@ pub fn write_to_end<F: Write>(file: &mut F, bytes: &[u8]) -> Result<(), HostFaul
 }
 
 /// The path of a new file in the folder of this one.
-fn draft_path(alloc: Global, path: Path<'_>, number: u32) -> Result<PathBuf, HostFault>
+fn draft_path(alloc: Global, path: Path<'_>, number: u64) -> Result<PathBuf, HostFault>
     ensures { IfErr result IsOfDeviceOrMemory }
 {
     let name = format!(in alloc; ".d64sh-{number}").map_err(HostFault::Memory)?;
@@ -108,12 +113,8 @@ fn open_new<R: Files>(rt: &R, path: Path<'_>) -> io::Result<R::File> {
         .open(rt, path)
 }
 
-/// Gives the new file the permissions of the old one.
-fn copy_permissions<F: OpenFile>(old: &F, new: &F) -> io::Result<()> {
-    new.set_permissions(old.metadata()?.permissions())
-}
-
-/// Waits until the disk has the folder's new entry, where the system can tell: the file is whole either way.
+/// Waits until the disk has the folder's new entry, where the system can tell: the file is whole
+/// either way.
 fn sync_folder_of<R: Files>(rt: &R, path: Path<'_>) {
     let folder = match path.parent() {
         Some(parent) if parent.to_str() != Some("") => parent,

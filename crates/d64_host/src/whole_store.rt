@@ -1,7 +1,7 @@
 //! Stores that are whole or not at all.
 //!
-//! What a name leads to is found first: nothing, a file, or something that isn't one. A file is replaced
-//! by a new one beside it, so that a store that fails or is cut off leaves the old one.
+//! What a name leads to is found first: nothing, a file, or something that isn't one. A file is
+//! replaced by a new one beside it, so that a store that fails or is cut off leaves the old one.
 
 ghost use Rattle.std.specs.Prelude.{◌≡◌, IfErr};
 ghost use Rattle.d64_host.specs.Host.{IsOfDeviceOrMemory};
@@ -9,49 +9,94 @@ ghost use Rattle.d64_host.specs.Host.{IsOfDeviceOrMemory};
 use crate::draft::replace_by;
 use crate::host::HostFault;
 use crate::new_file::{NewFile, write_to_end};
+use crate::size_limit::can_hold;
+use crate::standard_streams::{is_same_file, may_be_standard_stream};
 use std::alloc::{AllocError, Global};
-use std::fs::{self, File};
-use std::io::ErrorKind;
+use std::fs::{self, File, Metadata, OpenFile, OpenOptions};
+use std::io::{ErrorKind, Write};
+use std::os::fd::AsFd;
 use std::path::{AsPath, Path, PathBuf};
 use std::rt::Files;
 
 /// How many links are followed from a name, as many as the system follows.
 const MOST_LINKS: u32 = 40;
 
-/// What a name leads to.
+/// Where the links from a name end, and what lies there.
 #[derive(Drop)]
-enum Goal {
-    // Nothing yet: a file can be made at this path.
-    Nothing(PathBuf),
-    // The file at this path.
-    File(PathBuf),
-    // A folder, a pipe, a device, or a stream of the process.
-    Other,
+struct End {
+    path: PathBuf,
+    found: Option<Metadata>,
 }
 
 /// Makes these bytes the whole content of what this name leads to.
 ///
-/// A file that is there is replaced in one step, or stays as it is. One that is not there is made, and
-/// removed again where its writing fails. What isn't a file is written as it stands.
+/// A file that is there is replaced in one step, or stays as it is. One that is not there is made,
+/// and removed again where its writing fails. What isn't a file is written as it stands. What is
+/// open as a standard stream is refused, and a file of more bytes than the system lets one have.
 pub fn store_file<R: Files>(
     rt: &R,
     alloc: Global,
     name: &str,
     bytes: &[u8],
 ) -> Result<(), HostFault>
+where
+    R::File: AsFd,
     ensures { IfErr result IsOfDeviceOrMemory }
 {
-    match goal_of(rt, alloc, name)? {
-        Goal::Nothing(path) => make(rt, path.as_path(), bytes),
-        Goal::File(path) => replace(rt, alloc, path.as_path(), bytes),
-        Goal::Other => write_in_place(rt, name, bytes),
+    if may_be_standard_stream(rt, name) {
+        return Err(HostFault::Device);
     }
+    // The system opens the file, by its own rules of which links may be followed.
+    let opened = OpenOptions::new().write(true).open(rt, name);
+    let end = end_of_links(rt, alloc, name)?;
+    match opened {
+        Ok(old) => match &end.found {
+            Some(found) => store_over(rt, alloc, old, end.path.as_path(), found, bytes),
+            None => Err(HostFault::Device),
+        },
+        Err(error) if error.kind() == ErrorKind::NotFound && end.found.is_none() => {
+            make(rt, end.path.as_path(), bytes)
+        }
+        Err(_) => Err(HostFault::Device),
+    }
+}
+
+/// Stores where something is: it is open for writing, and what was found lies at this path.
+fn store_over<R: Files>(
+    rt: &R,
+    alloc: Global,
+    old: R::File,
+    path: Path<'_>,
+    found: &Metadata,
+    bytes: &[u8],
+) -> Result<(), HostFault>
+where
+    R::File: AsFd,
+    ensures { IfErr result IsOfDeviceOrMemory }
+{
+    let Ok(opened) = old.metadata() else {
+        return Err(HostFault::Device);
+    };
+    if opened.is_file() && !can_hold(bytes.len()) {
+        return Err(HostFault::Device);
+    }
+    if !opened.is_file() || found.is_symlink() {
+        return write_in_place(old, opened.is_file(), bytes);
+    }
+    if !is_same_file(&opened, found) {
+        return Err(HostFault::Device);
+    }
+    let mut file = NewFile::beside(rt, alloc, old, path)?;
+    replace_by(&mut file, bytes)
 }
 
 /// Makes a new file. It waits for no disk.
 fn make<R: Files>(rt: &R, path: Path<'_>, bytes: &[u8]) -> Result<(), HostFault>
     ensures { IfErr result (λ fault. fault ≡ HostFault.Device) }
 {
+    if !can_hold(bytes.len()) {
+        return Err(HostFault::Device);
+    }
     let Ok(mut file) = File::create_new(rt, path) else {
         return Err(HostFault::Device);
     };
@@ -63,45 +108,42 @@ fn make<R: Files>(rt: &R, path: Path<'_>, bytes: &[u8]) -> Result<(), HostFault>
     outcome
 }
 
-/// Replaces a file by a new one beside it.
-fn replace<R: Files>(rt: &R, alloc: Global, path: Path<'_>, bytes: &[u8]) -> Result<(), HostFault>
-    ensures { IfErr result IsOfDeviceOrMemory }
-{
-    let mut file = NewFile::beside(rt, alloc, path)?;
-    replace_by(&mut file, bytes)
-}
-
-/// Writes to what isn't a file, as a pipe or a device.
-fn write_in_place<R: Files>(rt: &R, name: &str, bytes: &[u8]) -> Result<(), HostFault>
+/// Writes to what no new file can stand for: a pipe, a device, or a file that is open already.
+fn write_in_place<F: OpenFile + Write + Drop>(
+    mut old: F,
+    is_file: bool,
+    bytes: &[u8],
+) -> Result<(), HostFault>
     ensures { IfErr result (λ fault. fault ≡ HostFault.Device) }
 {
-    match File::create(rt, name) {
-        Ok(mut file) => write_to_end(&mut file, bytes),
-        Err(_) => Err(HostFault::Device),
+    if is_file && old.set_len(0).is_err() {
+        return Err(HostFault::Device);
     }
+    write_to_end(&mut old, bytes)
 }
 
-/// Follows the links from a name to what they lead to.
-fn goal_of<R: Files>(rt: &R, alloc: Global, name: &str) -> Result<Goal, HostFault>
+/// Follows the links from a name to what they lead to, but for one of the system's own.
+fn end_of_links<R: Files>(rt: &R, alloc: Global, name: &str) -> Result<End, HostFault>
     ensures { IfErr result IsOfDeviceOrMemory }
 {
     let mut path = PathBuf::from_str(alloc, name).map_err(HostFault::Memory)?;
     for _ in 0..MOST_LINKS {
-        match fs::symlink_metadata(rt, path.as_path()) {
-            Ok(metadata) if metadata.is_file() => return Ok(Goal::File(path)),
-            Ok(metadata) if !metadata.is_symlink() => return Ok(Goal::Other),
-            Ok(_) if is_of_the_system(path.as_path()) => return Ok(Goal::Other),
-            Ok(_) => {}
-            Err(error) if error.kind() == ErrorKind::NotFound => return Ok(Goal::Nothing(path)),
+        let found = match fs::symlink_metadata(rt, path.as_path()) {
+            Ok(found) => Some(found),
+            Err(error) if error.kind() == ErrorKind::NotFound => None,
             Err(_) => return Err(HostFault::Device),
+        };
+        let is_link = found.as_ref().is_some_and(|found| found.is_symlink());
+        if !is_link || is_of_the_system(path.as_path()) {
+            return Ok(End { path, found });
         }
         path = linked(rt, alloc, path)?;
     }
     Err(HostFault::Device)
 }
 
-/// Whether a link is one of the system's own, as those that stand for the streams of a process: what they
-/// lead to is open already, and a new file in its place would not be.
+/// Whether a link is one of the system's own, as those that stand for the streams of a process:
+/// what they lead to is open already, and a new file in its place would not be.
 fn is_of_the_system(path: Path<'_>) -> bool {
     path.starts_with("/dev") || path.starts_with("/proc")
 }

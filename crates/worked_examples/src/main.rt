@@ -11,6 +11,7 @@ mod streams;
 
 use case_files::{Unread, steps_of};
 use scene::play;
+use std::os::fd::AsFd;
 use std::rt::Files;
 use std::{fs, io};
 
@@ -57,7 +58,10 @@ fn play_file<R: Files + AllocGlobal + Print>(
     rt: &R,
     name: &str,
     tally: &mut Tally,
-) -> io::Result<()> {
+) -> io::Result<()>
+where
+    R::File: AsFd,
+{
     let text = fs::read_to_string(rt, name)?;
     let outcome = match steps_of(rt, text.as_str()) {
         Ok(steps) => play(rt, steps.as_slice()),

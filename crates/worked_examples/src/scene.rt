@@ -8,6 +8,7 @@ use d64_image::{BlockNo, Image};
 use d64_shell::{FolderHost, Host, MemoryHost, Session, program, run};
 use std::alloc::{AllocError, Global};
 use std::fs;
+use std::os::fd::AsFd;
 use std::rt::Files;
 
 /// The most bytes that the shell may ask for in one read of a script, and the most reads.
@@ -33,7 +34,10 @@ pub struct Scene<'r, R> {
     session: Session,
 }
 
-impl<'r, R: Files + AllocGlobal> Scene<'r, R> {
+impl<'r, R: Files + AllocGlobal> Scene<'r, R>
+where
+    R::File: AsFd,
+{
     /// A blank image, and a host in memory without files.
     fn new(rt: &'r R) -> Result<Scene<'r, R>, AllocError> {
         Ok(Scene {
@@ -262,7 +266,10 @@ fn play_once<R: Files + AllocGlobal>(
     steps: &[Step],
     at_most: usize,
     place: usize,
-) -> Result<Differences, Unread> {
+) -> Result<Differences, Unread>
+where
+    R::File: AsFd,
+{
     let mut differences = Differences::none(rt.alloc());
     let mut scene = Scene::new(rt)?;
     for step in steps {
@@ -285,7 +292,10 @@ fn play_places<R: Files + AllocGlobal>(
     rt: &R,
     steps: &[Step],
     at_most: usize,
-) -> Result<Differences, Unread> {
+) -> Result<Differences, Unread>
+where
+    R::File: AsFd,
+{
     for place in 0..places_of(steps) {
         let differences = play_once(rt, steps, at_most, place)?;
         if differences.is_any() {
@@ -297,7 +307,10 @@ fn play_places<R: Files + AllocGlobal>(
 
 /// Plays a case with reads of 1, of 7 and of 4,096 bytes, or of as many as it says, up to the first that find
 /// differences.
-pub fn play<R: Files + AllocGlobal>(rt: &R, steps: &[Step]) -> Result<Differences, Unread> {
+pub fn play<R: Files + AllocGlobal>(rt: &R, steps: &[Step]) -> Result<Differences, Unread>
+where
+    R::File: AsFd,
+{
     let cuts: &[usize] = if says_reads(steps) {
         &[READ_BYTES]
     } else {
