@@ -2,15 +2,18 @@
 #![tactic(auto)]
 
 mod retrying;
+mod within_limit;
 
+use d64_host::StandardStream;
 use d64_shell::{FolderHost, ProgramFault, program};
 use retrying::Retrying;
 use std::env;
-use std::io::{self, BufWriter, ErrorKind, Stderr};
+use std::io::{self, BufWriter, ErrorKind, Write};
 use std::process::ExitCode;
+use within_limit::WithinLimit;
 
 fn main(rt: HostRuntime) -> ExitCode {
-    let mut faults = Retrying(rt.stderr());
+    let mut faults = Retrying(WithinLimit::new(&rt, StandardStream::Error, rt.stderr()));
     let status = match start(&rt, &mut faults) {
         Ok(status) => status,
         Err(fault) => fault.report(&mut faults),
@@ -19,14 +22,15 @@ fn main(rt: HostRuntime) -> ExitCode {
 }
 
 /// Does what the words of the process ask for, and answers the exit status.
-fn start(rt: &HostRuntime, faults: &mut Retrying<Stderr>) -> Result<u8, ProgramFault> {
+fn start<E: Write>(rt: &HostRuntime, faults: &mut E) -> Result<u8, ProgramFault> {
     let arguments = env::args(rt).map_err(fault_of_words)?;
     let arguments: Vec<String> = arguments.skip(1).collect(rt.alloc())?;
     let words: Vec<&str> = arguments
         .iter()
         .map(|word| word.as_str())
         .collect(rt.alloc())?;
-    let mut output = BufWriter::new(rt.alloc(), rt.stdout()).map_err(|_| ProgramFault::Memory)?;
+    let output = WithinLimit::new(rt, StandardStream::Output, rt.stdout());
+    let mut output = BufWriter::new(rt.alloc(), output).map_err(|_| ProgramFault::Memory)?;
     Ok(program(
         rt.alloc(),
         words.as_slice(),

@@ -1,0 +1,45 @@
+//! Writing to a file no further than the system lets it grow.
+
+ghost use Rattle.std.specs.Prelude.{◌≡◌};
+ghost use Rattle.std.specs.Io.{WritesAtMost};
+ghost use Rattle.std.specs.Io.KnownBytes.{WriteAppends, Keeps};
+
+use d64_host::{StandardStream, is_at_size_limit};
+use std::io::{self, ErrorKind, Write};
+use std::rt::Files;
+
+/// A writer to a standard stream, which fails where that goes to a file that may not grow: the
+/// system would end the process there by a signal.
+#[derive(Drop)]
+pub struct WithinLimit<'a, R, W> {
+    rt: &'a R,
+    stream: StandardStream,
+    writer: W,
+}
+
+impl<'a, R, W> WithinLimit<'a, R, W> {
+    /// What writes to this stream by this writer.
+    pub fn new(rt: &'a R, stream: StandardStream, writer: W) -> WithinLimit<'a, R, W> {
+        WithinLimit { rt, stream, writer }
+    }
+}
+
+impl<'a, R: Files, W: Write> Write for WithinLimit<'a, R, W> {
+    ghost contents = { λ limited. W.contents limited.writer };
+
+    fn write(&mut self, bytes: &[u8]) -> io::Result<usize>
+        ensures bound { WritesAtMost result bytes.now }
+        ensures bytes { WriteAppends (W.contents self.old.writer) (W.contents self.new.writer) result bytes.now }
+    {
+        if is_at_size_limit(self.rt, self.stream) {
+            return Err(io::Error::from(ErrorKind::FileTooLarge));
+        }
+        self.writer.write(bytes)
+    }
+
+    fn flush(&mut self) -> io::Result<()>
+        ensures { Keeps (W.contents self.old.writer) (W.contents self.new.writer) }
+    {
+        self.writer.flush()
+    }
+}
