@@ -119,6 +119,10 @@ int unlink(const char *path) { CALL(OF_PATH(path), "unlink", path, REAL(unlink)(
 
 int fchmod(int fd, mode_t mode) { CALL(OF_FILE(fd), "fchmod", PATH_OF(fd), REAL(fchmod)(fd, mode)); }
 
+int fchown(int fd, uid_t owner, gid_t group) { CALL(OF_FILE(fd), "fchown", PATH_OF(fd), REAL(fchown)(fd, owner, group)); }
+
+int ftruncate(int fd, off_t length) { CALL(OF_FILE(fd), "ftruncate", PATH_OF(fd), REAL(ftruncate)(fd, length)); }
+
 int fsync(int fd) { CALL(OF_FILE(fd), "fsync", PATH_OF(fd), REAL(fsync)(fd)); }
 
 int close(int fd) { CALL(OF_FILE(fd), "close", PATH_OF(fd), REAL(close)(fd)); }
