@@ -1,5 +1,6 @@
 pub mod Dump
 pub mod Number
+pub mod Input
 pub mod Output
 pub mod RawLines
 pub mod Script

@@ -1,5 +1,5 @@
--- What a write that stopped leaves in its writer.
-use Rattle.std.specs.Prelude.{◌≡◌, ℕ, Option, List, ◌++◌}
+-- What a write and a flush leave of an output, and what a write that stopped leaves in its writer.
+use Rattle.std.specs.Prelude.{◌≡◌, ℕ, Bool, true, Option, List, ◌++◌, ◌⊎◌, Result, MatchResult}
 use Rattle.std.specs.Io.KnownBytes.{Appends}
 
 -- the writer gained the first part of the bytes
@@ -8,3 +8,21 @@ pub record AppendsPart (old new : Option (List ℕ)) (bytes : List ℕ) : Type 0
   pub rest : List ℕ
   pub all : part ++ rest ≡ bytes
   pub gained : Appends old new part
+
+-- what is known of an output: the bytes of its writer, where they are known, and whether a write or a flush of it has failed
+pub record Account : Type 0 where
+  pub contents : Option (List ℕ)
+  pub has_failed : Bool
+
+abbrev pub account_of : Option (List ℕ) → Bool → Account
+account_of contents has_failed = record { contents = contents; has_failed = has_failed }
+
+-- all of the bytes were written and no write failed, or a write failed and a first part of them was written
+abbrev pub Writes : Account → Account → List ℕ → Type 0
+Writes old new bytes =
+    (Appends old.contents new.contents bytes × (new.has_failed ≡ old.has_failed))
+    ⊎ (AppendsPart old.contents new.contents bytes × (new.has_failed ≡ true))
+
+-- the output has failed where the call of it has, and nowhere else
+abbrev pub FailsWith : {T E : Type 0} → Result T E → Bool → Bool → Type 0
+FailsWith result old new = MatchResult result (λ _. new ≡ old) (λ _. new ≡ true)

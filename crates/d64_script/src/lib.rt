@@ -5,6 +5,7 @@
 
 pub mod dump;
 pub mod held_line;
+pub mod input;
 pub mod number;
 pub mod output;
 pub mod raw_lines;

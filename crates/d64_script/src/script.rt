@@ -1,8 +1,10 @@
 //! Reading a script.
 
-ghost use Rattle.std.specs.Prelude.{◌≡◌, ◌≤◌, true, false, IfOk, vec_len};
+ghost use Rattle.std.specs.Prelude.{◌≡◌, ◌≤◌, true, false, IfOk, vec_len, MatchBool};
+ghost use Rattle.d64_script.specs.Input.{IsUnread, IsUnreadable, reading_of};
 ghost use Rattle.d64_script.specs.Script.{IsReadFrom, script_limit};
 
+use crate::input::InputStream;
 use std::alloc::{AllocError, Global};
 use std::io::Read;
 
@@ -50,10 +52,25 @@ pub fn read_script<R: Read>(alloc: Global, reader: &mut R) -> Result<Script, All
     ensures read { IfOk result (IsReadFrom (R.remaining reader.old) (R.remaining reader.new)) }
     ensures bounded { IfOk result (λ script. vec_len script.bytes ≤ script_limit) }
 {
+    read_input(alloc, &mut InputStream::new(reader))
+}
+
+/// Reads an input of which nothing was read yet to its end, as a script.
+pub fn read_input<R: Read>(
+    alloc: Global,
+    input: &mut InputStream<'_, R>,
+) -> Result<Script, AllocError>
+    requires { IsUnread (reading_of input.old.reads input.old.came input.old.has_failed) }
+    ensures same { input.new.reader.ghost_name ≡ input.old.reader.ghost_name }
+    ensures read { IfOk result (IsReadFrom (R.remaining input.old.reader.now) (R.remaining input.new.reader.now)) }
+    ensures bounded { IfOk result (λ script. vec_len script.bytes ≤ script_limit) }
+    ensures ended { IfOk result (λ script. MatchBool script.whole (input.new.has_failed ≡ false)
+        (IsUnreadable (reading_of input.new.reads input.new.came input.new.has_failed))) }
+{
     let mut bytes = Vec::new(alloc);
     let mut buffer = [0; READ_BYTES];
     for _ in 0..SCRIPT_READS {
-        let count = match reader.read(&mut buffer) {
+        let count = match input.read(&mut buffer) {
             Ok(0) => return Ok(Script::to_its_end(bytes)),
             Ok(count) => count,
             Err(_) => return Ok(Script::cut_short(bytes)),

@@ -8,11 +8,13 @@ use Rattle.std.proofs.lemmas.List.{length-take}
 use Rattle.std.proofs.lemmas.Bool.{cases_Bool, false≢true}
 use Rattle.std.proofs.lemmas.List.Elements.{filter-append}
 use Rattle.d64_script.specs.RawLines.{ended_lines, is_ended, lines_of}
+use Rattle.d64_script.specs.Input.{Reading}
+use Rattle.d64_script.specs.Output.{FailsWith}
 use Rattle.d64_script.specs.Script.{script_limit}
 use Rattle.d64_script.specs.declared.held_line.HeldLine.{HeldLine}
 use Rattle.d64_script.proofs.LineCuts.{ended_lines-none}
 use Rattle.d64_shell.specs.Transcript.{Progress, Line, Transcript, IsSilent}
-use Rattle.d64_shell.specs.Runner.{Stand, begin, Ran, RanLines, RanRead, RanUpTo, RanWhole, StoppedAt}
+use Rattle.d64_shell.specs.Runner.{EndsWith, Stand, begin, Ran, RanLines, RanRead, RanUpTo, RanWhole, StoppedAt}
 use Rattle.d64_shell.specs.LineByLine.{progress_of, EndsRun, HasClosed, HasCome}
 use Rattle.d64_shell.specs.declared.runner.Outcome.{Outcome}
 use Rattle.d64_shell.specs.declared.runner.ShellFault.{ShellFault}
@@ -250,3 +252,10 @@ pub length-read : (bytes more : List ℕ) (count least room : ℕ) → length by
     → length (bytes ++ take least more) + (room - count) ≡ script_limit
 length-read bytes more count least room full held fits is =
     omega (arith, full, held, fits, is, length-append bytes (take least more), length-take least more)
+
+-- a run that ends with its script has read it without a failure, and is a fault where a write has failed
+pub EndsWith-last : (home : List ℕ) (first stand : Stand) (script : List ℕ) (ended : Result Outcome ShellFault) (input : Reading) (old new : Bool)
+    → EndsRun home first stand script ended → input.has_failed ≡ false → old ≡ false → FailsWith ended old new → EndsWith ended input new
+EndsWith-last home first stand script (Ok outcome) input old new ends read written same = (read, same ∙ written)
+EndsWith-last home first stand script (Err fault) input old new ends read written failed =
+    subst (λ (fault : ShellFault). EndsWith (Err fault) input new) (sym ends.0) (read, failed)

@@ -2,7 +2,7 @@
 use Rattle.std.specs.Prelude.{◌≡◌, ℕ, ◌==◌, false, if◌then◌else◌, List, [], ◌∷◌, ◌++◌, length, replicate, codes, string_bytes, Option, Some, None, option_map, Result, Ok, Err, ◌⊎◌, ⊤}
 use Rattle.std.specs.Fmt.{decimal}
 use Rattle.std.specs.Io.KnownBytes.{Appends, Keeps}
-use Rattle.d64_script.specs.Output.{AppendsPart}
+use Rattle.d64_script.specs.Output.{Account, AppendsPart, Writes}
 use Rattle.d64_script.specs.Status.{status_line}
 use Rattle.d64_host.specs.Files.{Files}
 use Rattle.d64_host.specs.declared.host.HostFault.{HostFault}
@@ -168,12 +168,12 @@ abbrev pub StoppedBy : ProgramFault → Beginning → List ℕ → Outside → O
 StoppedBy fault beginning home old new =
     HasNotBegunFor fault beginning old new ⊎ ((ended : Result Outcome ShellFault) × RanShell beginning home old new ended × IsToldOf ended fault)
 
--- the program answered with this fault: status 2, and its line, or a first part of it where a write failed
-abbrev pub Reports : ProgramFault → Option (List ℕ) → Option (List ℕ) → ℕ → Type 0
-Reports fault faults told status = (status ≡ 2) × AppendsPart faults told (fault_line fault)
+-- the program answered with this fault: status 2, and its line, whole unless writing it failed
+abbrev pub Reports : ProgramFault → Account → Account → ℕ → Type 0
+Reports fault faults told status = (status ≡ 2) × Writes faults told (fault_line fault)
 
 -- how a shell ended: the script ran to its end, and no fault is told; or a fault stopped it
-abbrev pub EndedShell : Beginning → List ℕ → Outside → Outside → Option (List ℕ) → Option (List ℕ) → ℕ → Type 0
+abbrev pub EndedShell : Beginning → List ℕ → Outside → Outside → Account → Account → ℕ → Type 0
 EndedShell beginning home old new faults told status =
     ((outcome : Outcome) × RanShell beginning home old new (Ok outcome) × (status ≡ status_of outcome) × (told ≡ faults))
     ⊎ ((fault : ProgramFault) × StoppedBy fault beginning home old new × Reports fault faults told status)
@@ -194,24 +194,24 @@ RanToolOn tool None old new answer = RanTool tool old.reader new.reader old.writ
 RanToolOn tool (Some name) old new answer = (new.reader ≡ old.reader)
     × (fetched : Result (List ℕ) HostFault) × FetchesFile old.host name file_limit fetched new.host × WritesFetched tool fetched old.writer new.writer answer
 
--- how a tool's answer is told: status 0 and nothing where it wrote its result; 1 and a status line where it refused its
--- input; and else 2 and the line of a fault
-abbrev pub TellsAnswer : {A : Type 0} → Result A ToolFault → Option (List ℕ) → Option (List ℕ) → ℕ → Type 0
+-- how a tool's answer is told: status 0 and nothing where it wrote its result; 1 and a status line, whole unless writing it failed, where it
+-- refused its input; and else 2 and the line of a fault
+abbrev pub TellsAnswer : {A : Type 0} → Result A ToolFault → Account → Account → ℕ → Type 0
 TellsAnswer (Ok done) faults told status = (status ≡ 0) × (told ≡ faults)
 TellsAnswer (Err (tool_faults.Text fault)) faults told status =
-    (status ≡ 1) × AppendsPart faults told (status_line (status_of_basic fault))
-TellsAnswer (Err (tool_faults.NotBasic fault)) faults told status = (status ≡ 1) × AppendsPart faults told (status_line (status_of_listing fault))
+    (status ≡ 1) × Writes faults told (status_line (status_of_basic fault))
+TellsAnswer (Err (tool_faults.NotBasic fault)) faults told status = (status ≡ 1) × Writes faults told (status_line (status_of_listing fault))
 TellsAnswer (Err tool_faults.Read) faults told status = Reports Read faults told status
 TellsAnswer (Err tool_faults.Write) faults told status = Reports Write faults told status
 TellsAnswer (Err (tool_faults.Memory error)) faults told status = Reports Memory faults told status
 
 -- how a tool ended
-abbrev pub EndedTool : Tool → Option (List ℕ) → Outside → Outside → Option (List ℕ) → Option (List ℕ) → ℕ → Type 0
+abbrev pub EndedTool : Tool → Option (List ℕ) → Outside → Outside → Account → Account → ℕ → Type 0
 EndedTool tool name old new faults told status =
     (answer : Result (Unit {0}) ToolFault) × RanToolOn tool name old new answer × TellsAnswer answer faults told status
 
 -- how a job ended
-abbrev pub EndedJob : Job → Outside → Outside → Option (List ℕ) → Option (List ℕ) → ℕ → Type 0
+abbrev pub EndedJob : Job → Outside → Outside → Account → Account → ℕ → Type 0
 EndedJob (Shell image tracks resume) old new faults told status =
     EndedShell (beginning_of (option_map string_bytes image) tracks (option_map string_bytes resume)) (home_of (option_map string_bytes image))
     old new faults told status
@@ -219,17 +219,17 @@ EndedJob (Petcat file) old new faults told status = EndedTool tools.Petcat (opti
 EndedJob (Crunch start file) old new faults told status = EndedTool (tools.Crunch start) (option_map string_bytes file) old new faults told status
 
 -- help or the version was written, whole; or there was a fault: a first part of it was written, or there was no memory
-abbrev pub HasShown : Option (List ℕ) → Option (List ℕ) → Option (List ℕ) → Option (List ℕ) → ℕ → Type 0
+abbrev pub HasShown : Option (List ℕ) → Option (List ℕ) → Account → Account → ℕ → Type 0
 HasShown old new faults told status =
     ((text : List ℕ) × Appends old new text × (told ≡ faults) × (status ≡ 0))
     ⊎ (((text : List ℕ) × AppendsPart old new text × Reports Write faults told status) ⊎ (Keeps old new × Reports Memory faults told status))
 
--- what is wrong with the words was told, whole or a first part of it, with status 2; or there was no memory
-abbrev pub HasTold : Option (List ℕ) → Option (List ℕ) → ℕ → Type 0
-HasTold faults told status = ((text : List ℕ) × AppendsPart faults told text × (status ≡ 2)) ⊎ Reports Memory faults told status
+-- what is wrong with the words was told, whole unless writing it failed, with status 2; or there was no memory
+abbrev pub HasTold : Account → Account → ℕ → Type 0
+HasTold faults told status = ((text : List ℕ) × Writes faults told text × (status ≡ 2)) ⊎ Reports Memory faults told status
 
 -- how words are answered that ask for no job: with the help or the version that they asked for, or with what is wrong
-abbrev pub AnswersWords : JobFault → Option (List ℕ) → Option (List ℕ) → Option (List ℕ) → Option (List ℕ) → ℕ → Type 0
+abbrev pub AnswersWords : JobFault → Option (List ℕ) → Option (List ℕ) → Account → Account → ℕ → Type 0
 AnswersWords (words.Words error) old new faults told status =
     (WasAskedFor (words.Words error) × HasShown old new faults told status)
     ⊎ (¬ (WasAskedFor (words.Words error)) × (new ≡ old) × HasTold faults told status)
@@ -254,7 +254,7 @@ AsksForShell after = (job : Job) × IsJob (named after) job × IsShell job
 
 -- what the program has done, and its status: the job that the words ask for has ended; or they ask for none, and were
 -- answered so, with nothing read and no file touched
-abbrev pub Ended : List (List ℕ) → Outside → Outside → Option (List ℕ) → Option (List ℕ) → ℕ → Type 0
+abbrev pub Ended : List (List ℕ) → Outside → Outside → Account → Account → ℕ → Type 0
 Ended after old new faults told status =
     ((job : Job) × IsJob (named after) job × EndedJob job old new faults told status)
     ⊎ ((fault : JobFault) × IsFault (named after) fault × (new.reader ≡ old.reader) × (new.host ≡ old.host) × AnswersWords fault old.writer new.writer faults told status)

@@ -1,6 +1,7 @@
 -- What a run of a script leaves, however it ends.
-use Rattle.std.specs.Prelude.{◌≡◌, ℕ, List, ◌∷◌, ◌++◌, take, false, Option, IfSome, Result, Ok, Err}
+use Rattle.std.specs.Prelude.{◌≡◌, ℕ, List, ◌∷◌, ◌++◌, take, Bool, true, false, Option, IfSome, Result, Ok, Err}
 use Rattle.std.specs.Io.KnownBytes.{Appends, Consumes}
+use Rattle.d64_script.specs.Input.{Reading, IsUnreadable}
 use Rattle.d64_script.specs.RawLines.{lines_of, ended_lines}
 use Rattle.d64_shell.specs.Act.{World}
 use Rattle.d64_shell.specs.Transcript.{Progress, Line, Transcript}
@@ -82,3 +83,11 @@ Ran home reader left old new (Ok outcome) = RanWhole home reader old new outcome
 Ran home reader left old new (Err Read) = RanRead home reader left old new
 Ran home reader left old new (Err Write) = RanUpTo home reader old new
 Ran home reader left old new (Err (Memory error)) = ⊥
+
+-- how the streams of a run stand, by how it ends: well where no read, no write and no flush failed; as a fault of reading where a read
+-- failed or a limit was passed, and no write or flush failed; and as a fault of writing where a write or a flush failed, and no read
+abbrev pub EndsWith : Result Outcome ShellFault → Reading → Bool → Type 0
+EndsWith (Ok outcome) input output_failed = (input.has_failed ≡ false) × (output_failed ≡ false)
+EndsWith (Err Read) input output_failed = IsUnreadable input × (output_failed ≡ false)
+EndsWith (Err Write) input output_failed = (input.has_failed ≡ false) × (output_failed ≡ true)
+EndsWith (Err (Memory error)) input output_failed = ⊥

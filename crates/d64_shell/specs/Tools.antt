@@ -1,11 +1,12 @@
 -- What the tools make of an input, and what they leave.
-use Rattle.std.specs.Prelude.{◌≡◌, ℕ, ◌<◌, ◌≤◌, ◌^◌, List, length, Option, IfSome, Result, Ok, Err, ⊤}
+use Rattle.std.specs.Prelude.{◌≡◌, ℕ, ◌<◌, ◌≤◌, ◌^◌, Bool, true, false, List, length, Option, IfSome, Result, Ok, Err, ⊤}
 use Rattle.std.specs.Io.KnownBytes.{Appends, Consumes, IsAtEnd, Keeps}
 use Rattle.cbm_text.specs.BasicText.{IsFileOf, IsFirstFault, TellsLine, fault_line}
 use Rattle.cbm_text.specs.Listing.{Lists}
 use Rattle.cbm_text.specs.ListFault.{ListsNot}
 use Rattle.cbm_text.specs.declared.fault.ListFault.{ListFault}
 use Rattle.cbm_text.specs.declared.fault.ListFault.TheVariants as list_faults
+use Rattle.d64_script.specs.Input.{Reading, IsUnreadable}
 use Rattle.d64_script.specs.Output.{AppendsPart}
 use Rattle.d64_script.specs.Script.{script_limit}
 use Rattle.d64_shell.specs.declared.tools.Tool.{Tool}
@@ -80,3 +81,21 @@ TellsSmallLine (NotBasic fault) = ⊤
 TellsSmallLine (Memory error) = ⊤
 TellsSmallLine Read = ⊤
 TellsSmallLine Write = ⊤
+
+-- a tool's output has failed where the tool tells a fault of writing, and nowhere else
+abbrev pub WritesWith : {A : Type 0} → Result A ToolFault → Bool → Bool → Type 0
+WritesWith (Ok done) old new = new ≡ old
+WritesWith (Err Write) old new = new ≡ true
+WritesWith (Err Read) old new = new ≡ old
+WritesWith (Err (Memory error)) old new = new ≡ old
+WritesWith (Err (Text fault)) old new = new ≡ old
+WritesWith (Err (NotBasic fault)) old new = new ≡ old
+
+-- a tool tells a fault of reading where its input cannot be read to its end, and nowhere else; where memory runs out, it may not have got so far
+abbrev pub ReadsWith : {A : Type 0} → Result A ToolFault → Reading → Type 0
+ReadsWith (Ok done) input = input.has_failed ≡ false
+ReadsWith (Err Read) input = IsUnreadable input
+ReadsWith (Err Write) input = input.has_failed ≡ false
+ReadsWith (Err (Memory error)) input = ⊤
+ReadsWith (Err (Text fault)) input = input.has_failed ≡ false
+ReadsWith (Err (NotBasic fault)) input = input.has_failed ≡ false

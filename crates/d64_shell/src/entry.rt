@@ -1,5 +1,7 @@
 //! The program `d64sh`, from its words to its exit status.
-ghost use Rattle.std.specs.Prelude.{◌≡◌, ◌≢◌, ◌≤◌, map};
+ghost use Rattle.std.specs.Prelude.{◌≡◌, ◌≢◌, ◌≤◌, Bool, false, map, true};
+ghost use Rattle.d64_script.specs.Input.{IsUnread, reading_of};
+ghost use Rattle.d64_script.specs.Output.{account_of};
 ghost use Rattle.d64_shell.specs.Program.{AsksForShell, Ended, EndedJob, IsShell, outside_of};
 
 use crate::shell_job::{exit_status, shell};
@@ -7,6 +9,8 @@ use crate::tool_job::{run_tool, tell_answer};
 use crate::tools::Tool;
 use crate::word_faults::{answer_words, asked};
 use d64_host::Host;
+use d64_script::input::InputStream;
+use d64_script::output::OutputStream;
 use d64_words::Job;
 use std::alloc::Global;
 use std::io::{Read, Write};
@@ -44,16 +48,48 @@ pub fn program<R: Read, W: Write, F: Write, H: Host>(
     host: &mut H,
 ) -> u8
     ensures status { result ≤ 2 }
-    ensures ended { Ended (map (λ word. word.now) words.now)
+    ensures ended { (failed : Bool) × Ended (map (λ word. word.now) words.now)
         (outside_of (R.remaining reader.old) (W.contents writer.old) (H.files host.old) (H.failure_count host.old))
         (outside_of (R.remaining reader.new) (W.contents writer.new) (H.files host.new) (H.failure_count host.new))
-        (F.contents faults.old) (F.contents faults.new) result }
+        (account_of (F.contents faults.old) false) (account_of (F.contents faults.new) failed) result }
+    ensures silent { result ≡ 0 → faults.new ≡ faults.old }
+    ensures script { AsksForShell (map (λ word. word.now) words.now) → result ≢ 2 → faults.new ≡ faults.old }
+{
+    let mut input = InputStream::new(reader);
+    let mut output = OutputStream::new(writer);
+    let mut told = OutputStream::new(faults);
+    program_on(alloc, words, &mut input, &mut output, &mut told, host)
+}
+
+/// Does what the words ask for on an input of which nothing was read yet and on an output that has not failed, and answers
+/// the exit status. Status 0 comes only where all that was printed was delivered, and the line of a fault, a tool's status
+/// line and what is wrong with the words are written whole unless writing them fails.
+pub fn program_on<R: Read, W: Write, F: Write, H: Host>(
+    alloc: Global,
+    words: &[&str],
+    input: &mut InputStream<'_, R>,
+    output: &mut OutputStream<'_, W>,
+    faults: &mut OutputStream<'_, F>,
+    host: &mut H,
+) -> u8
+    requires unread { IsUnread (reading_of input.old.reads input.old.came input.old.has_failed) }
+    requires unfailed { output.old.has_failed ≡ false }
+    requires delivered { output.old.is_delivered ≡ true }
+    ensures input { input.new.reader.ghost_name ≡ input.old.reader.ghost_name }
+    ensures output { output.new.writer.ghost_name ≡ output.old.writer.ghost_name }
+    ensures faults { faults.new.writer.ghost_name ≡ faults.old.writer.ghost_name }
+    ensures status { result ≤ 2 }
+    ensures delivered { result ≡ 0 → (output.new.is_delivered ≡ true) × (output.new.has_failed ≡ false) }
+    ensures ended { Ended (map (λ word. word.now) words.now)
+        (outside_of (R.remaining input.old.reader.now) (W.contents output.old.writer.now) (H.files host.old) (H.failure_count host.old))
+        (outside_of (R.remaining input.new.reader.now) (W.contents output.new.writer.now) (H.files host.new) (H.failure_count host.new))
+        (account_of (F.contents faults.old.writer.now) faults.old.has_failed) (account_of (F.contents faults.new.writer.now) faults.new.has_failed) result }
     ensures silent { result ≡ 0 → faults.new ≡ faults.old }
     ensures script { AsksForShell (map (λ word. word.now) words.now) → result ≢ 2 → faults.new ≡ faults.old }
 {
     match asked(alloc, words) {
-        Ok(job) => do_job(alloc, job, reader, writer, faults, host),
-        Err(fault) => answer_words(alloc, fault, writer, faults),
+        Ok(job) => do_job(alloc, job, input, output, faults, host),
+        Err(fault) => answer_words(alloc, fault, output, faults),
     }
 }
 
@@ -61,16 +97,23 @@ pub fn program<R: Read, W: Write, F: Write, H: Host>(
 fn do_job<R: Read, W: Write, F: Write, H: Host>(
     alloc: Global,
     job: Job,
-    reader: &mut R,
-    writer: &mut W,
-    faults: &mut F,
+    input: &mut InputStream<'_, R>,
+    output: &mut OutputStream<'_, W>,
+    faults: &mut OutputStream<'_, F>,
     host: &mut H,
 ) -> u8
+    requires unread { IsUnread (reading_of input.old.reads input.old.came input.old.has_failed) }
+    requires unfailed { output.old.has_failed ≡ false }
+    requires delivered { output.old.is_delivered ≡ true }
+    ensures input { input.new.reader.ghost_name ≡ input.old.reader.ghost_name }
+    ensures output { output.new.writer.ghost_name ≡ output.old.writer.ghost_name }
+    ensures faults { faults.new.writer.ghost_name ≡ faults.old.writer.ghost_name }
     ensures ended { EndedJob job
-        (outside_of (R.remaining reader.old) (W.contents writer.old) (H.files host.old) (H.failure_count host.old))
-        (outside_of (R.remaining reader.new) (W.contents writer.new) (H.files host.new) (H.failure_count host.new))
-        (F.contents faults.old) (F.contents faults.new) result }
+        (outside_of (R.remaining input.old.reader.now) (W.contents output.old.writer.now) (H.files host.old) (H.failure_count host.old))
+        (outside_of (R.remaining input.new.reader.now) (W.contents output.new.writer.now) (H.files host.new) (H.failure_count host.new))
+        (account_of (F.contents faults.old.writer.now) faults.old.has_failed) (account_of (F.contents faults.new.writer.now) faults.new.has_failed) result }
     ensures status { result ≤ 2 }
+    ensures delivered { result ≡ 0 → (output.new.is_delivered ≡ true) × (output.new.has_failed ≡ false) }
     ensures silent { result ≡ 0 → faults.new ≡ faults.old }
     ensures script { IsShell job → result ≢ 2 → faults.new ≡ faults.old }
 {
@@ -84,20 +127,20 @@ fn do_job<R: Read, W: Write, F: Write, H: Host>(
             image.as_deref(),
             tracks,
             resume.as_deref(),
-            reader,
-            writer,
+            input,
+            output,
             host,
         ) {
             Ok(outcome) => exit_status(outcome),
-            Err(fault) => fault.report(faults),
+            Err(fault) => fault.report_on(faults),
         },
         Job::Petcat { file } => {
-            let answer = run_tool(alloc, Tool::Petcat, file.as_deref(), reader, writer, host);
+            let answer = run_tool(alloc, Tool::Petcat, file.as_deref(), input, output, host);
             tell_answer(answer, faults)
         }
         Job::Crunch { start, file } => {
             let tool = Tool::Crunch { start };
-            let answer = run_tool(alloc, tool, file.as_deref(), reader, writer, host);
+            let answer = run_tool(alloc, tool, file.as_deref(), input, output, host);
             tell_answer(answer, faults)
         }
     }

@@ -27,7 +27,7 @@ pub use d64_undo::laws::{
 };
 pub use d64_undo::{Answer, NothingToRedo, NothingToUndo, Request, Session, run_all};
 pub use d64_words::{Job, JobFault, job};
-pub use entry::program;
+pub use entry::{program, program_on};
 pub use program_fault::ProgramFault;
-pub use runner::{Outcome, ShellFault, run};
+pub use runner::{Outcome, ShellFault, run, run_on};
 pub use tools::{ToolFault, crunch_run, petcat_run};

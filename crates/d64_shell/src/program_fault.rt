@@ -1,6 +1,7 @@
 //! What stops the program, and how it is told.
-ghost use Rattle.std.specs.Prelude.{◌≡◌, ◌≤◌, ◌+◌, ◌++◌, length, codes};
+ghost use Rattle.std.specs.Prelude.{◌≡◌, ◌≤◌, ◌+◌, ◌++◌, Bool, false, length, codes};
 ghost use Rattle.arrayvec.specs.ArrayVec.{array_vec_len};
+ghost use Rattle.d64_script.specs.Output.{account_of};
 ghost use Rattle.d64_shell.specs.Program.{Reports, fault_line, fault_of_file, fault_of_image, fault_of_resume, fault_of_run};
 ghost use Rattle.d64_shell.specs.declared.program_fault.ProgramFault.TheVariants.{Memory};
 
@@ -9,7 +10,7 @@ use crate::runner::ShellFault;
 use arrayvec::ArrayVec;
 use d64_host::HostFault;
 use d64_image::ImageFault;
-use d64_script::output::write_answer;
+use d64_script::output::OutputStream;
 use d64_undo::ResumeFault;
 use itoa::Buffer;
 use std::alloc::AllocError;
@@ -61,9 +62,19 @@ impl ProgramFault {
     /// Writes the line that tells the fault, and answers the exit status. Where a write fails or takes nothing, the rest
     /// of the line is dropped.
     pub fn report<F: Write>(self, faults: &mut F) -> u8
-        ensures { Reports self (F.contents faults.old) (F.contents faults.new) result }
+        ensures { (failed : Bool) × Reports self (account_of (F.contents faults.old) false) (account_of (F.contents faults.new) failed) result }
     {
-        let _ = write_answer(faults, self.line().as_slice());
+        let mut stream = OutputStream::new(faults);
+        self.report_on(&mut stream)
+    }
+
+    /// Writes the line that tells the fault, and answers the exit status.
+    pub(crate) fn report_on<F: Write>(self, faults: &mut OutputStream<'_, F>) -> u8
+        ensures faults { faults.new.writer.ghost_name ≡ faults.old.writer.ghost_name }
+        ensures reported { Reports self (account_of (F.contents faults.old.writer.now) faults.old.has_failed)
+            (account_of (F.contents faults.new.writer.now) faults.new.has_failed) result }
+    {
+        let _ = faults.write(self.line().as_slice());
         NOT_RUN
     }
 

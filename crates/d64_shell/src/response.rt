@@ -1,11 +1,11 @@
 //! What a line answers.
 ghost use Rattle.std.specs.Prelude.{◌≡◌, OnOk, OnErr};
 ghost use Rattle.std.specs.Io.KnownBytes.{Appends};
-ghost use Rattle.d64_script.specs.Output.{AppendsPart};
+ghost use Rattle.d64_script.specs.Output.{AppendsPart, FailsWith};
 
 use d64_image::{BlockNo, Image};
 use d64_script::dump::dump;
-use d64_script::output::{WriteFault, write_answer};
+use d64_script::output::{OutputStream, WriteFault};
 use d64_script::status::Status;
 use std::io::Write;
 
@@ -23,16 +23,22 @@ impl Output {
     ghost use Rattle.d64_shell.specs.Response.{output_bytes};
 
     /// Writes the output, where this is the present image.
-    fn write<W: Write>(&self, writer: &mut W, image: &Image) -> Result<(), WriteFault>
-        ensures ok { OnOk result (Appends (W.contents writer.old) (W.contents writer.new) (output_bytes image.now self.now)) }
-        ensures err { OnErr result (AppendsPart (W.contents writer.old) (W.contents writer.new) (output_bytes image.now self.now)) }
+    fn write<W: Write>(
+        &self,
+        output: &mut OutputStream<'_, W>,
+        image: &Image,
+    ) -> Result<(), WriteFault>
+        ensures same { output.new.writer.ghost_name ≡ output.old.writer.ghost_name }
+        ensures ok { OnOk result (Appends (W.contents output.old.writer.now) (W.contents output.new.writer.now) (output_bytes image.now self.now)) }
+        ensures err { OnErr result (AppendsPart (W.contents output.old.writer.now) (W.contents output.new.writer.now) (output_bytes image.now self.now)) }
+        ensures failed { FailsWith result output.old.has_failed output.new.has_failed }
     {
         match self {
             Output::Block(at) if image.holds(*at) => {
-                write_answer(writer, dump(image.sector(*at)).as_slice())
+                output.write(dump(image.sector(*at)).as_slice())
             }
-            Output::Nothing | Output::Block(_) => write_answer(writer, b""),
-            Output::Text(text) => write_answer(writer, text.as_slice()),
+            Output::Nothing | Output::Block(_) => output.write(b""),
+            Output::Text(text) => output.write(text.as_slice()),
         }
     }
 }
@@ -77,11 +83,17 @@ impl Response {
 
     /// Writes the output and the status line, where this is the present image. Where a write fails, a part of them is
     /// written.
-    pub(crate) fn write<W: Write>(&self, writer: &mut W, image: &Image) -> Result<(), WriteFault>
-        ensures ok { OnOk result (Appends (W.contents writer.old) (W.contents writer.new) (printed (shown image.now self.now))) }
-        ensures err { OnErr result (AppendsPart (W.contents writer.old) (W.contents writer.new) (printed (shown image.now self.now))) }
+    pub(crate) fn write<W: Write>(
+        &self,
+        output: &mut OutputStream<'_, W>,
+        image: &Image,
+    ) -> Result<(), WriteFault>
+        ensures same { output.new.writer.ghost_name ≡ output.old.writer.ghost_name }
+        ensures ok { OnOk result (Appends (W.contents output.old.writer.now) (W.contents output.new.writer.now) (printed (shown image.now self.now))) }
+        ensures err { OnErr result (AppendsPart (W.contents output.old.writer.now) (W.contents output.new.writer.now) (printed (shown image.now self.now))) }
+        ensures failed { FailsWith result output.old.has_failed output.new.has_failed }
     {
-        self.output.write(writer, image)?;
-        write_answer(writer, self.status.line().as_slice())
+        self.output.write(output, image)?;
+        output.write(self.status.line().as_slice())
     }
 }

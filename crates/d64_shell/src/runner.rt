@@ -1,20 +1,23 @@
 //! A script, from its bytes to the bytes of its answers, line by line.
-ghost use Rattle.std.specs.Prelude.{◌≡◌, ◌≤◌, ◌<◌, ◌^◌, ◌+◌, ◌++◌, true, false, ℕ, List, length, MatchOption, IfOk, OnOk, OnErr};
+ghost use Rattle.std.specs.Prelude.{◌≡◌, ◌≤◌, ◌<◌, ◌^◌, ◌+◌, ◌++◌, true, false, ℕ, List, length, MatchOption, OnOk, OnErr};
 ghost use Rattle.std.specs.Io.KnownBytes.{Keeps};
 ghost use Rattle.d64_script.specs.HeldLine.{Says};
+ghost use Rattle.d64_script.specs.Input.{IsUnread, reading_of};
+ghost use Rattle.d64_script.specs.Output.{FailsWith};
 ghost use Rattle.d64_script.specs.RawLines.{lines_of};
 ghost use Rattle.d64_undo.specs.History.{present};
 ghost use Rattle.d64_shell.specs.Act.{world_of};
 ghost use Rattle.d64_shell.specs.Line.{IsSkipped, IsAnswered};
 ghost use Rattle.d64_shell.specs.Response.{shown};
-ghost use Rattle.d64_shell.specs.Runner.{Stand, stand_of, Ran, StoppedAt};
+ghost use Rattle.d64_shell.specs.Runner.{Stand, stand_of, Ran, StoppedAt, EndsWith};
 ghost use Rattle.d64_shell.specs.LineByLine.{HasCome, ComesTo, EndsRun, RunsLine, StopsInLine};
 
 use crate::line::answer_line;
 use crate::response::Response;
 use d64_host::Host;
 use d64_script::held_line::HeldLine;
-use d64_script::output::WriteFault;
+use d64_script::input::InputStream;
+use d64_script::output::{OutputStream, WriteFault};
 use d64_script::raw_lines::{RawLines, before_end, is_ended};
 use d64_script::script::{READ_BYTES, SCRIPT_BYTES, SCRIPT_READS};
 use d64_script::status::Status;
@@ -69,14 +72,6 @@ impl Tally {
         }
     }
 
-    /// How many lines were answered.
-    fn answers(&self) -> u64
-        requires { self.now.outcome.accepted + self.now.outcome.refused < 2 ^ 63 }
-        ensures { result ≡ self.now.outcome.accepted + self.now.outcome.refused }
-    {
-        self.outcome.accepted + self.outcome.refused
-    }
-
     /// Counts an answer.
     fn count(&mut self, response: &Response)
         requires { self.old.outcome.accepted + self.old.outcome.refused < 2 ^ 63 }
@@ -111,25 +106,50 @@ pub fn run<R: Read, W: Write, H: Host>(
         (stand_of (W.contents writer.new) (world_of (H.files host.new) (H.failure_count host.new) session.new))
         result }
 {
+    let mut input = InputStream::new(reader);
+    let mut output = OutputStream::new(writer);
+    run_on(alloc, &mut input, &mut output, host, home, session)
+}
+
+/// Runs the script of an input of which nothing was read yet, and prints on an output that has not failed.
+///
+/// `Read` comes where a read failed or a limit was reached, and `Write` where a write or a flush failed; no read is made
+/// while something printed has not been delivered, nor after a call that failed or an accepted `quit`.
+pub fn run_on<R: Read, W: Write, H: Host>(
+    alloc: Global,
+    input: &mut InputStream<'_, R>,
+    output: &mut OutputStream<'_, W>,
+    host: &mut H,
+    home: &str,
+    session: &mut Session,
+) -> Result<Outcome, ShellFault>
+    requires unread { IsUnread (reading_of input.old.reads input.old.came input.old.has_failed) }
+    requires unfailed { output.old.has_failed ≡ false }
+    requires delivered { output.old.is_delivered ≡ true }
+    ensures input { input.new.reader.ghost_name ≡ input.old.reader.ghost_name }
+    ensures output { output.new.writer.ghost_name ≡ output.old.writer.ghost_name }
+    ensures ran { Ran home.now (R.remaining input.old.reader.now) (R.remaining input.new.reader.now)
+        (stand_of (W.contents output.old.writer.now) (world_of (H.files host.old) (H.failure_count host.old) session.old))
+        (stand_of (W.contents output.new.writer.now) (world_of (H.files host.new) (H.failure_count host.new) session.new))
+        result }
+    ensures streams { EndsWith result (reading_of input.new.reads input.new.came input.new.has_failed) output.new.has_failed }
+{
     let mut tally = Tally::new();
     let mut line = HeldLine::new();
     let mut room = SCRIPT_BYTES;
-    let mut flushed = 0;
     let mut buffer = [0; READ_BYTES];
-    for reads in 1..=SCRIPT_READS {
-        let answers = tally.answers();
-        let Ok(()) = flush_answers(writer, &mut flushed, answers) else {
+    for _ in 0..SCRIPT_READS {
+        let Ok(()) = deliver(output) else {
             return Err(ShellFault::Write);
         };
-        prove!(1 <= reads && reads <= SCRIPT_READS && answers <= flushed);
-        let count = match reader.read(&mut buffer) {
-            Ok(0) => return run_last(alloc, writer, host, home, session, &line, &mut tally),
+        let count = match input.read_after(output, &mut buffer) {
+            Ok(0) => return run_last(alloc, output, host, home, session, &line, &mut tally),
             Ok(count) => count,
             Err(_) => return Err(ShellFault::Read),
         };
         let piece = &buffer[..count.min(room)];
         let Ok(()) = run_piece(
-            alloc, writer, host, home, session, &mut line, &mut tally, piece,
+            alloc, output, host, home, session, &mut line, &mut tally, piece,
         ) else {
             return Err(ShellFault::Write);
         };
@@ -144,29 +164,24 @@ pub fn run<R: Read, W: Write, H: Host>(
     Err(ShellFault::Read)
 }
 
-/// Flushes the writer, where more answers were written than were flushed before.
-fn flush_answers<W: Write>(
-    writer: &mut W,
-    flushed: &mut u64,
-    answers: u64,
-) -> Result<(), WriteFault>
-    ensures kept { Keeps (W.contents writer.old) (W.contents writer.new) }
-    ensures all { OnOk result (answers ≤ flushed.new) }
-    ensures failed { OnErr result (flushed.old < answers) }
+/// Delivers what was printed, where something was since the last time.
+fn deliver<W: Write>(output: &mut OutputStream<'_, W>) -> Result<(), WriteFault>
+    ensures same { output.new.writer.ghost_name ≡ output.old.writer.ghost_name }
+    ensures kept { Keeps (W.contents output.old.writer.now) (W.contents output.new.writer.now) }
+    ensures all { OnOk result (output.new.is_delivered ≡ true) }
+    ensures some { OnErr result (output.old.is_delivered ≡ false) }
+    ensures failed { FailsWith result output.old.has_failed output.new.has_failed }
 {
-    if *flushed < answers {
-        if writer.flush().is_err() {
-            return Err(WriteFault);
-        }
-        *flushed = answers;
+    if output.is_delivered() {
+        return Ok(());
     }
-    Ok(())
+    output.flush()
 }
 
 /// Runs the line that the script's end ends, if bytes of one have come.
 fn run_last<W: Write, H: Host>(
     alloc: Global,
-    writer: &mut W,
+    output: &mut OutputStream<'_, W>,
     host: &mut H,
     home: &str,
     session: &mut Session,
@@ -174,19 +189,21 @@ fn run_last<W: Write, H: Host>(
     tally: &mut Tally,
 ) -> Result<Outcome, ShellFault>
     requires { tally.old.outcome.accepted + tally.old.outcome.refused ≤ 2 ^ 32 }
-    ensures { (first : Stand) (script : List ℕ)
+    ensures same { output.new.writer.ghost_name ≡ output.old.writer.ghost_name }
+    ensures failed { FailsWith result output.old.has_failed output.new.has_failed }
+    ensures ended { (first : Stand) (script : List ℕ)
         → HasCome home.now first
-        (stand_of (W.contents writer.old) (world_of (H.files host.old) (H.failure_count host.old) session.old))
+        (stand_of (W.contents output.old.writer.now) (world_of (H.files host.old) (H.failure_count host.old) session.old))
         tally.old line.now script
         → EndsRun home.now first
-        (stand_of (W.contents writer.new) (world_of (H.files host.new) (H.failure_count host.new) session.new))
+        (stand_of (W.contents output.new.writer.now) (world_of (H.files host.new) (H.failure_count host.new) session.new))
         script result }
 {
     if line.is_empty() {
         return Ok(tally.outcome);
     }
     line.end_with_script();
-    match run_line(alloc, writer, host, home, session, line, tally) {
+    match run_line(alloc, output, host, home, session, line, tally) {
         Ok(()) => Ok(tally.outcome),
         Err(_) => Err(ShellFault::Write),
     }
@@ -195,7 +212,7 @@ fn run_last<W: Write, H: Host>(
 /// Runs the lines that end in the next piece of the script, up to an accepted `quit`, and holds what comes after the last.
 fn run_piece<W: Write, H: Host>(
     alloc: Global,
-    writer: &mut W,
+    output: &mut OutputStream<'_, W>,
     host: &mut H,
     home: &str,
     session: &mut Session,
@@ -204,20 +221,23 @@ fn run_piece<W: Write, H: Host>(
     piece: &[u8],
 ) -> Result<(), WriteFault>
     requires { tally.old.outcome.accepted + tally.old.outcome.refused + length piece.now ≤ 2 ^ 32 }
+    ensures same { output.new.writer.ghost_name ≡ output.old.writer.ghost_name }
+    ensures failed { FailsWith result output.old.has_failed output.new.has_failed }
     ensures few { tally.new.outcome.accepted + tally.new.outcome.refused ≤ tally.old.outcome.accepted + tally.old.outcome.refused + length piece.now }
+    ensures heard { output.new.is_delivered ≡ false → output.old.is_delivered ≡ true → 0 < tally.new.outcome.accepted + tally.new.outcome.refused }
     ensures came { (first : Stand) (before : List ℕ)
         → HasCome home.now first
-        (stand_of (W.contents writer.old) (world_of (H.files host.old) (H.failure_count host.old) session.old))
+        (stand_of (W.contents output.old.writer.now) (world_of (H.files host.old) (H.failure_count host.old) session.old))
         tally.old line.old before
         → OnOk result (ComesTo home.now first
-        (stand_of (W.contents writer.new) (world_of (H.files host.new) (H.failure_count host.new) session.new))
+        (stand_of (W.contents output.new.writer.now) (world_of (H.files host.new) (H.failure_count host.new) session.new))
         tally.new line.new (before ++ piece.now)) }
     ensures stopped { (first : Stand) (before : List ℕ)
         → HasCome home.now first
-        (stand_of (W.contents writer.old) (world_of (H.files host.old) (H.failure_count host.old) session.old))
+        (stand_of (W.contents output.old.writer.now) (world_of (H.files host.old) (H.failure_count host.old) session.old))
         tally.old line.old before
         → OnErr result ((more : List ℕ) → StoppedAt home.now first
-        (stand_of (W.contents writer.new) (world_of (H.files host.new) (H.failure_count host.new) session.new))
+        (stand_of (W.contents output.new.writer.now) (world_of (H.files host.new) (H.failure_count host.new) session.new))
         (lines_of ((before ++ piece.now) ++ more))) }
 {
     for part in RawLines(piece) {
@@ -226,7 +246,7 @@ fn run_piece<W: Write, H: Host>(
             continue;
         }
         line.end_with_line_feed();
-        run_line(alloc, writer, host, home, session, line, tally)?;
+        run_line(alloc, output, host, home, session, line, tally)?;
         if tally.closed {
             return Ok(());
         }
@@ -238,7 +258,7 @@ fn run_piece<W: Write, H: Host>(
 /// Runs a line that has come to its end, and writes its answer.
 fn run_line<W: Write, H: Host>(
     alloc: Global,
-    writer: &mut W,
+    output: &mut OutputStream<'_, W>,
     host: &mut H,
     home: &str,
     session: &mut Session,
@@ -246,21 +266,25 @@ fn run_line<W: Write, H: Host>(
     tally: &mut Tally,
 ) -> Result<(), WriteFault>
     requires { tally.old.outcome.accepted + tally.old.outcome.refused < 2 ^ 63 }
+    ensures same { output.new.writer.ghost_name ≡ output.old.writer.ghost_name }
+    ensures failed { FailsWith result output.old.has_failed output.new.has_failed }
     ensures few { tally.new.outcome.accepted + tally.new.outcome.refused ≤ tally.old.outcome.accepted + tally.old.outcome.refused + 1 }
+    ensures more { tally.old.outcome.accepted + tally.old.outcome.refused ≤ tally.new.outcome.accepted + tally.new.outcome.refused }
+    ensures heard { output.new.is_delivered ≡ false → output.old.is_delivered ≡ true → 0 < tally.new.outcome.accepted + tally.new.outcome.refused }
     ensures ran { (raw : List ℕ) → Says line.now raw → tally.old.closed ≡ false → OnOk result (RunsLine home.now raw
-        (stand_of (W.contents writer.old) (world_of (H.files host.old) (H.failure_count host.old) session.old))
-        (stand_of (W.contents writer.new) (world_of (H.files host.new) (H.failure_count host.new) session.new))
+        (stand_of (W.contents output.old.writer.now) (world_of (H.files host.old) (H.failure_count host.old) session.old))
+        (stand_of (W.contents output.new.writer.now) (world_of (H.files host.new) (H.failure_count host.new) session.new))
         tally.old tally.new) }
     ensures stopped { (raw : List ℕ) → Says line.now raw → tally.old.closed ≡ false → OnErr result (StopsInLine home.now raw
-        (stand_of (W.contents writer.old) (world_of (H.files host.old) (H.failure_count host.old) session.old))
-        (stand_of (W.contents writer.new) (world_of (H.files host.new) (H.failure_count host.new) session.new))
+        (stand_of (W.contents output.old.writer.now) (world_of (H.files host.old) (H.failure_count host.old) session.old))
+        (stand_of (W.contents output.new.writer.now) (world_of (H.files host.new) (H.failure_count host.new) session.new))
         tally.old) }
 {
     let Some(response) = answer_held(alloc, host, home, session, line) else {
         return Ok(());
     };
     tally.count(&response);
-    response.write(writer, session.image())
+    response.write(output, session.image())
 }
 
 /// The response to a line that has come to its end, or None where it is skipped.

@@ -1,17 +1,20 @@
 //! The shell's job: a script on the image of a file, on a blank one, or on a session that was kept.
-ghost use Rattle.std.specs.Prelude.{◌≡◌, ℕ, List, Result, Ok, IfOk, IfErr, option_copied};
+ghost use Rattle.std.specs.Prelude.{◌≡◌, ℕ, List, Result, Ok, IfOk, IfErr, OnOk, option_copied, true, false};
 ghost use Rattle.d64_host.specs.declared.host.HostFault.{HostFault};
 ghost use Rattle.d64_image.specs.Image.{IsImage, bytes_of};
 ghost use Rattle.d64_undo.specs.SessionFile.{IsSession, file_of};
+ghost use Rattle.d64_script.specs.Input.{IsUnread, reading_of};
 ghost use Rattle.d64_shell.specs.Act.{FetchesFile};
 ghost use Rattle.d64_shell.specs.Program.{IsFirstHistory, HasNoHistory, GivesNoImage, GivesNoSession, RanShell, StoppedBy, beginning_of, blank, file_limit, home_of, outside_of, session_limit, status_of};
 
 use crate::entry::{ALL_ACCEPTED, FILE_BYTES, SESSION_BYTES, SOME_REFUSED};
 use crate::host_file::fetch;
 use crate::program_fault::ProgramFault;
-use crate::runner::{Outcome, run};
+use crate::runner::{Outcome, run_on};
 use d64_host::Host;
 use d64_image::{BLOCKS, Image, blocks_of};
+use d64_script::input::InputStream;
+use d64_script::output::OutputStream;
 use d64_undo::{Session, resume};
 use std::alloc::{AllocError, Global};
 use std::io::{Read, Write};
@@ -23,21 +26,27 @@ pub(crate) fn shell<R: Read, W: Write, H: Host>(
     image: Option<&str>,
     tracks: u8,
     resume: Option<&str>,
-    reader: &mut R,
-    writer: &mut W,
+    input: &mut InputStream<'_, R>,
+    output: &mut OutputStream<'_, W>,
     host: &mut H,
 ) -> Result<Outcome, ProgramFault>
+    requires unread { IsUnread (reading_of input.old.reads input.old.came input.old.has_failed) }
+    requires unfailed { output.old.has_failed ≡ false }
+    requires delivered { output.old.is_delivered ≡ true }
+    ensures input { input.new.reader.ghost_name ≡ input.old.reader.ghost_name }
+    ensures output { output.new.writer.ghost_name ≡ output.old.writer.ghost_name }
+    ensures delivered { OnOk result ((output.new.is_delivered ≡ true) × (output.new.has_failed ≡ false)) }
     ensures ran { IfOk result (λ outcome. RanShell (beginning_of (option_copied image.entry) tracks (option_copied resume.entry)) (home_of (option_copied image.entry))
-        (outside_of (R.remaining reader.old) (W.contents writer.old) (H.files host.old) (H.failure_count host.old))
-        (outside_of (R.remaining reader.new) (W.contents writer.new) (H.files host.new) (H.failure_count host.new)) (Ok outcome)) }
+        (outside_of (R.remaining input.old.reader.now) (W.contents output.old.writer.now) (H.files host.old) (H.failure_count host.old))
+        (outside_of (R.remaining input.new.reader.now) (W.contents output.new.writer.now) (H.files host.new) (H.failure_count host.new)) (Ok outcome)) }
     ensures stopped { IfErr result (λ fault. StoppedBy fault (beginning_of (option_copied image.entry) tracks (option_copied resume.entry)) (home_of (option_copied image.entry))
-        (outside_of (R.remaining reader.old) (W.contents writer.old) (H.files host.old) (H.failure_count host.old))
-        (outside_of (R.remaining reader.new) (W.contents writer.new) (H.files host.new) (H.failure_count host.new))) }
+        (outside_of (R.remaining input.old.reader.now) (W.contents output.old.writer.now) (H.files host.old) (H.failure_count host.old))
+        (outside_of (R.remaining input.new.reader.now) (W.contents output.new.writer.now) (H.files host.new) (H.failure_count host.new))) }
 {
     let mut session = first_session(alloc, host, image, tracks, resume)?;
     let home = image.unwrap_or("");
-    let ran = run(alloc, reader, writer, host, home, &mut session);
-    match writer.flush() {
+    let ran = run_on(alloc, input, output, host, home, &mut session);
+    match output.flush() {
         Ok(()) => Ok(ran?),
         Err(_) => Err(ProgramFault::Write),
     }

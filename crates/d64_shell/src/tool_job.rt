@@ -1,9 +1,10 @@
 //! The tools' job: a tool on the input or on a file, and how its answer is told.
-ghost use Rattle.std.specs.Prelude.{◌≡◌, IfErr, option_copied};
-ghost use Rattle.d64_script.specs.Output.{AppendsPart};
+ghost use Rattle.std.specs.Prelude.{◌≡◌, IfErr, IsOk, None, OnOk, option_copied, true};
+ghost use Rattle.d64_script.specs.Input.{IsUnread, reading_of};
+ghost use Rattle.d64_script.specs.Output.{Writes, account_of};
 ghost use Rattle.d64_script.specs.Status.{status_line};
 ghost use Rattle.d64_shell.specs.Program.{RanToolOn, TellsAnswer, outside_of};
-ghost use Rattle.d64_shell.specs.Tools.{TellsSmallLine};
+ghost use Rattle.d64_shell.specs.Tools.{ReadsWith, TellsSmallLine, WritesWith};
 
 use crate::entry::{ALL_ACCEPTED, FILE_BYTES, SOME_REFUSED};
 use crate::host_file::fetch;
@@ -11,7 +12,8 @@ use crate::program_fault::ProgramFault;
 use crate::status_from::{of_basic_fault, of_list_fault};
 use crate::tools::{Tool, ToolFault};
 use d64_host::{Host, HostFault};
-use d64_script::output::write_answer;
+use d64_script::input::InputStream;
+use d64_script::output::OutputStream;
 use d64_script::status::Status;
 use std::alloc::Global;
 use std::io::{Read, Write};
@@ -21,17 +23,23 @@ pub(crate) fn run_tool<R: Read, W: Write, H: Host>(
     alloc: Global,
     tool: Tool,
     name: Option<&str>,
-    reader: &mut R,
-    writer: &mut W,
+    input: &mut InputStream<'_, R>,
+    output: &mut OutputStream<'_, W>,
     host: &mut H,
 ) -> Result<(), ToolFault>
+    requires unread { IsUnread (reading_of input.old.reads input.old.came input.old.has_failed) }
+    ensures input { input.new.reader.ghost_name ≡ input.old.reader.ghost_name }
+    ensures output { output.new.writer.ghost_name ≡ output.old.writer.ghost_name }
     ensures ran { RanToolOn tool (option_copied name.entry)
-        (outside_of (R.remaining reader.old) (W.contents writer.old) (H.files host.old) (H.failure_count host.old))
-        (outside_of (R.remaining reader.new) (W.contents writer.new) (H.files host.new) (H.failure_count host.new)) result }
+        (outside_of (R.remaining input.old.reader.now) (W.contents output.old.writer.now) (H.files host.old) (H.failure_count host.old))
+        (outside_of (R.remaining input.new.reader.now) (W.contents output.new.writer.now) (H.files host.new) (H.failure_count host.new)) result }
     ensures line { IfErr result TellsSmallLine }
+    ensures reads { option_copied name.entry ≡ None → ReadsWith result (reading_of input.new.reads input.new.came input.new.has_failed) }
+    ensures writes { WritesWith result output.old.has_failed output.new.has_failed }
+    ensures delivered { OnOk result (output.new.is_delivered ≡ true) }
 {
-    write_result(alloc, tool, name, reader, writer, host)?;
-    match writer.flush() {
+    write_result(alloc, tool, name, input, output, host)?;
+    match output.flush() {
         Ok(()) => Ok(()),
         Err(_) => Err(ToolFault::Write),
     }
@@ -42,46 +50,57 @@ fn write_result<R: Read, W: Write, H: Host>(
     alloc: Global,
     tool: Tool,
     name: Option<&str>,
-    reader: &mut R,
-    writer: &mut W,
+    input: &mut InputStream<'_, R>,
+    output: &mut OutputStream<'_, W>,
     host: &mut H,
 ) -> Result<(), ToolFault>
+    requires unread { IsUnread (reading_of input.old.reads input.old.came input.old.has_failed) }
+    ensures input { input.new.reader.ghost_name ≡ input.old.reader.ghost_name }
+    ensures output { output.new.writer.ghost_name ≡ output.old.writer.ghost_name }
     ensures ran { RanToolOn tool (option_copied name.entry)
-        (outside_of (R.remaining reader.old) (W.contents writer.old) (H.files host.old) (H.failure_count host.old))
-        (outside_of (R.remaining reader.new) (W.contents writer.new) (H.files host.new) (H.failure_count host.new)) result }
+        (outside_of (R.remaining input.old.reader.now) (W.contents output.old.writer.now) (H.files host.old) (H.failure_count host.old))
+        (outside_of (R.remaining input.new.reader.now) (W.contents output.new.writer.now) (H.files host.new) (H.failure_count host.new)) result }
     ensures line { IfErr result TellsSmallLine }
+    ensures reads { option_copied name.entry ≡ None → ReadsWith result (reading_of input.new.reads input.new.came input.new.has_failed) }
+    ensures writes { WritesWith result output.old.has_failed output.new.has_failed }
 {
     let Some(name) = name else {
-        return tool.run(alloc, reader, writer);
+        return tool.run(alloc, input, output);
     };
     match fetch(alloc, host, name, FILE_BYTES) {
-        Ok(input) => tool.write(alloc, &input, writer),
+        Ok(bytes) => tool.write(alloc, &bytes, output),
         Err(HostFault::Memory(error)) => Err(ToolFault::Memory(error)),
         Err(HostFault::Missing | HostFault::Device | HostFault::TooLong) => Err(ToolFault::Read),
     }
 }
 
 /// Tells a tool's answer, and answers the exit status.
-pub(crate) fn tell_answer<F: Write>(answer: Result<(), ToolFault>, faults: &mut F) -> u8
+pub(crate) fn tell_answer<F: Write>(
+    answer: Result<(), ToolFault>,
+    faults: &mut OutputStream<'_, F>,
+) -> u8
     requires { IfErr answer TellsSmallLine }
-    ensures told { TellsAnswer answer (F.contents faults.old) (F.contents faults.new) result }
+    ensures faults { faults.new.writer.ghost_name ≡ faults.old.writer.ghost_name }
+    ensures wrote { result ≡ 0 → IsOk answer }
+    ensures told { TellsAnswer answer (account_of (F.contents faults.old.writer.now) faults.old.has_failed) (account_of (F.contents faults.new.writer.now) faults.new.has_failed) result }
     ensures silent { result ≡ 0 → faults.new ≡ faults.old }
 {
     match answer {
         Ok(()) => ALL_ACCEPTED,
         Err(ToolFault::Text(fault)) => tell_refusal(of_basic_fault(fault), faults),
         Err(ToolFault::NotBasic(fault)) => tell_refusal(of_list_fault(fault), faults),
-        Err(ToolFault::Read) => ProgramFault::Read.report(faults),
-        Err(ToolFault::Write) => ProgramFault::Write.report(faults),
-        Err(ToolFault::Memory(_)) => ProgramFault::Memory.report(faults),
+        Err(ToolFault::Read) => ProgramFault::Read.report_on(faults),
+        Err(ToolFault::Write) => ProgramFault::Write.report_on(faults),
+        Err(ToolFault::Memory(_)) => ProgramFault::Memory.report_on(faults),
     }
 }
 
 /// Writes the status line of a refusal, and answers the exit status. Where a write fails, the rest of the line is dropped.
-fn tell_refusal<F: Write>(status: Status, faults: &mut F) -> u8
+fn tell_refusal<F: Write>(status: Status, faults: &mut OutputStream<'_, F>) -> u8
+    ensures faults { faults.new.writer.ghost_name ≡ faults.old.writer.ghost_name }
     ensures status { result ≡ 1 }
-    ensures told { AppendsPart (F.contents faults.old) (F.contents faults.new) (status_line status) }
+    ensures told { Writes (account_of (F.contents faults.old.writer.now) faults.old.has_failed) (account_of (F.contents faults.new.writer.now) faults.new.has_failed) (status_line status) }
 {
-    let _ = write_answer(faults, status.line().as_slice());
+    let _ = faults.write(status.line().as_slice());
     SOME_REFUSED
 }

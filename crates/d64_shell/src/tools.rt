@@ -1,12 +1,15 @@
 //! The tools: the listing of a BASIC program, and the program of a BASIC text, from all of an input to all of an output.
 
-ghost use Rattle.std.specs.Prelude.{◌≡◌, ◌≤◌, length, IfOk, IfErr};
+ghost use Rattle.std.specs.Prelude.{◌≡◌, ◌≤◌, false, length, IfOk, IfErr, OnOk};
+ghost use Rattle.d64_script.specs.Input.{IsUnread, IsUnreadable, reading_of};
 ghost use Rattle.d64_script.specs.Script.{script_limit};
-ghost use Rattle.d64_shell.specs.Tools.{Makes, Refuses, HasRead, ReadsNot, HasWritten, RanTool, TellsSmallLine};
+ghost use Rattle.d64_shell.specs.declared.tools.ToolFault.TheVariants.{Read};
+ghost use Rattle.d64_shell.specs.Tools.{Makes, Refuses, HasRead, ReadsNot, HasWritten, ReadsWith, RanTool, TellsSmallLine, WritesWith};
 
 use cbm_text::{BasicFault, ListFault, crunch, list};
-use d64_script::output::write_answer;
-use d64_script::script::read_script;
+use d64_script::input::InputStream;
+use d64_script::output::OutputStream;
+use d64_script::script::read_input;
 use std::alloc::{AllocError, Global};
 use std::io::{Read, Write};
 use thiserror::Error;
@@ -48,7 +51,9 @@ pub fn petcat_run<R: Read, W: Write>(
 ) -> Result<(), ToolFault>
     ensures { RanTool Tool.Petcat (R.remaining reader.old) (R.remaining reader.new) (W.contents writer.old) (W.contents writer.new) result }
 {
-    Tool::Petcat.run(alloc, reader, writer)
+    let mut input = InputStream::new(reader);
+    let mut output = OutputStream::new(writer);
+    Tool::Petcat.run(alloc, &mut input, &mut output)
 }
 
 /// Reads a BASIC text to its end and writes the program file that it stands for, loaded at `start`.
@@ -60,7 +65,9 @@ pub fn crunch_run<R: Read, W: Write>(
 ) -> Result<(), ToolFault>
     ensures { RanTool (Tool.Crunch start) (R.remaining reader.old) (R.remaining reader.new) (W.contents writer.old) (W.contents writer.new) result }
 {
-    Tool::Crunch { start }.run(alloc, reader, writer)
+    let mut input = InputStream::new(reader);
+    let mut output = OutputStream::new(writer);
+    Tool::Crunch { start }.run(alloc, &mut input, &mut output)
 }
 
 impl Tool {
@@ -68,14 +75,19 @@ impl Tool {
     pub(crate) fn run<R: Read, W: Write>(
         self,
         alloc: Global,
-        reader: &mut R,
-        writer: &mut W,
+        input: &mut InputStream<'_, R>,
+        output: &mut OutputStream<'_, W>,
     ) -> Result<(), ToolFault>
-        ensures ran { RanTool self (R.remaining reader.old) (R.remaining reader.new) (W.contents writer.old) (W.contents writer.new) result }
+        requires unread { IsUnread (reading_of input.old.reads input.old.came input.old.has_failed) }
+        ensures input { input.new.reader.ghost_name ≡ input.old.reader.ghost_name }
+        ensures output { output.new.writer.ghost_name ≡ output.old.writer.ghost_name }
+        ensures ran { RanTool self (R.remaining input.old.reader.now) (R.remaining input.new.reader.now) (W.contents output.old.writer.now) (W.contents output.new.writer.now) result }
         ensures line { IfErr result TellsSmallLine }
+        ensures reads { ReadsWith result (reading_of input.new.reads input.new.came input.new.has_failed) }
+        ensures writes { WritesWith result output.old.has_failed output.new.has_failed }
     {
-        let input = whole_input(alloc, reader)?;
-        self.write(alloc, &input, writer)
+        let bytes = whole_input(alloc, input)?;
+        self.write(alloc, &bytes, output)
     }
 
     /// Writes what the tool makes of an input. It answers no `Read`.
@@ -83,14 +95,16 @@ impl Tool {
         self,
         alloc: Global,
         input: &[u8],
-        writer: &mut W,
+        output: &mut OutputStream<'_, W>,
     ) -> Result<(), ToolFault>
         requires { length input.now ≤ script_limit }
-        ensures written { HasWritten self input.now (W.contents writer.old) (W.contents writer.new) result }
+        ensures output { output.new.writer.ghost_name ≡ output.old.writer.ghost_name }
+        ensures written { HasWritten self input.now (W.contents output.old.writer.now) (W.contents output.new.writer.now) result }
         ensures line { IfErr result TellsSmallLine }
+        ensures writes { WritesWith result output.old.has_failed output.new.has_failed }
     {
-        let output = self.output(alloc, input)?;
-        match write_answer(writer, &output) {
+        let made = self.output(alloc, input)?;
+        match output.write(&made) {
             Ok(()) => Ok(()),
             Err(_) => Err(ToolFault::Write),
         }
@@ -117,11 +131,15 @@ impl Tool {
 }
 
 /// All that the reader has, under the limits of a script. It answers `Read` or `Memory`.
-fn whole_input<R: Read>(alloc: Global, reader: &mut R) -> Result<Vec<u8>, ToolFault>
-    ensures read { IfOk result (λ input. HasRead (R.remaining reader.old) (R.remaining reader.new) input.items) }
-    ensures fault { IfErr result (ReadsNot (R.remaining reader.old) (R.remaining reader.new)) }
+fn whole_input<R: Read>(alloc: Global, input: &mut InputStream<'_, R>) -> Result<Vec<u8>, ToolFault>
+    requires unread { IsUnread (reading_of input.old.reads input.old.came input.old.has_failed) }
+    ensures input { input.new.reader.ghost_name ≡ input.old.reader.ghost_name }
+    ensures read { IfOk result (λ bytes. HasRead (R.remaining input.old.reader.now) (R.remaining input.new.reader.now) bytes.items) }
+    ensures fault { IfErr result (ReadsNot (R.remaining input.old.reader.now) (R.remaining input.new.reader.now)) }
+    ensures unfailed { OnOk result (input.new.has_failed ≡ false) }
+    ensures unreadable { IfErr result (λ fault. fault ≡ Read → IsUnreadable (reading_of input.new.reads input.new.came input.new.has_failed)) }
 {
-    let script = match read_script(alloc, reader) {
+    let script = match read_input(alloc, input) {
         Ok(script) => script,
         Err(error) => return Err(ToolFault::Memory(error)),
     };

@@ -1,13 +1,13 @@
 //! How words are answered that ask for no job.
-ghost use Rattle.std.specs.Prelude.{◌≡◌, OnOk, OnErr, IfOk, IfErr, map, string_bytes};
+ghost use Rattle.std.specs.Prelude.{◌≡◌, OnOk, OnErr, IfOk, IfErr, false, map, true};
 ghost use Rattle.std.specs.Io.KnownBytes.{Appends};
-ghost use Rattle.d64_script.specs.Output.{AppendsPart};
+ghost use Rattle.d64_script.specs.Output.{AppendsPart, FailsWith, account_of};
 ghost use Rattle.d64_words.specs.Asked.{IsJob, IsFault};
 ghost use Rattle.d64_shell.specs.Program.{AnswersWords, HasShown, HasTold, named};
 
 use crate::entry::{ALL_ACCEPTED, NOT_RUN};
 use crate::program_fault::ProgramFault;
-use d64_script::output::{WriteFault, write_answer};
+use d64_script::output::{OutputStream, WriteFault};
 use d64_words::{Job, JobFault, job};
 use std::alloc::Global;
 use std::io::Write;
@@ -34,20 +34,24 @@ pub(crate) fn asked(alloc: Global, words: &[&str]) -> Result<Job, JobFault>
 pub(crate) fn answer_words<W: Write, F: Write>(
     alloc: Global,
     fault: JobFault,
-    writer: &mut W,
-    faults: &mut F,
+    output: &mut OutputStream<'_, W>,
+    faults: &mut OutputStream<'_, F>,
 ) -> u8
-    ensures answered { AnswersWords fault (W.contents writer.old) (W.contents writer.new) (F.contents faults.old) (F.contents faults.new) result }
+    requires unfailed { output.old.has_failed ≡ false }
+    ensures output { output.new.writer.ghost_name ≡ output.old.writer.ghost_name }
+    ensures faults { faults.new.writer.ghost_name ≡ faults.old.writer.ghost_name }
+    ensures answered { AnswersWords fault (W.contents output.old.writer.now) (W.contents output.new.writer.now) (account_of (F.contents faults.old.writer.now) faults.old.has_failed) (account_of (F.contents faults.new.writer.now) faults.new.has_failed) result }
     ensures silent { result ≡ 0 → faults.new ≡ faults.old }
+    ensures delivered { result ≡ 0 → (output.new.is_delivered ≡ true) × (output.new.has_failed ≡ false) }
 {
     match &fault {
-        JobFault::Start => ProgramFault::Start.report(faults),
-        JobFault::Memory => ProgramFault::Memory.report(faults),
-        JobFault::Tracks => ProgramFault::Tracks.report(faults),
-        JobFault::Both => ProgramFault::Both.report(faults),
+        JobFault::Start => ProgramFault::Start.report_on(faults),
+        JobFault::Memory => ProgramFault::Memory.report_on(faults),
+        JobFault::Tracks => ProgramFault::Tracks.report_on(faults),
+        JobFault::Both => ProgramFault::Both.report_on(faults),
         JobFault::Words(_) => {
             if fault.was_asked_for() {
-                show(alloc, &fault, writer, faults)
+                show(alloc, &fault, output, faults)
             } else {
                 tell(alloc, &fault, faults)
             }
@@ -56,39 +60,49 @@ pub(crate) fn answer_words<W: Write, F: Write>(
 }
 
 /// Shows the help or the version.
-fn show<W: Write, F: Write>(alloc: Global, fault: &JobFault, writer: &mut W, faults: &mut F) -> u8
-    ensures shown { HasShown (W.contents writer.old) (W.contents writer.new) (F.contents faults.old) (F.contents faults.new) result }
+fn show<W: Write, F: Write>(
+    alloc: Global,
+    fault: &JobFault,
+    output: &mut OutputStream<'_, W>,
+    faults: &mut OutputStream<'_, F>,
+) -> u8
+    requires unfailed { output.old.has_failed ≡ false }
+    ensures output { output.new.writer.ghost_name ≡ output.old.writer.ghost_name }
+    ensures faults { faults.new.writer.ghost_name ≡ faults.old.writer.ghost_name }
+    ensures shown { HasShown (W.contents output.old.writer.now) (W.contents output.new.writer.now) (account_of (F.contents faults.old.writer.now) faults.old.has_failed) (account_of (F.contents faults.new.writer.now) faults.new.has_failed) result }
     ensures silent { result ≡ 0 → faults.new ≡ faults.old }
+    ensures delivered { result ≡ 0 → (output.new.is_delivered ≡ true) × (output.new.has_failed ≡ false) }
 {
     let Ok(text) = format!(in alloc; "{fault}") else {
-        return ProgramFault::Memory.report(faults);
+        return ProgramFault::Memory.report_on(faults);
     };
-    match write_whole(writer, text.as_bytes()) {
+    match write_whole(output, text.as_bytes()) {
         Ok(()) => ALL_ACCEPTED,
-        Err(_) => ProgramFault::Write.report(faults),
+        Err(_) => ProgramFault::Write.report_on(faults),
     }
 }
 
 /// Writes a text and flushes the output.
-fn write_whole<W: Write>(writer: &mut W, text: &[u8]) -> Result<(), WriteFault>
-    ensures ok { OnOk result (Appends (W.contents writer.old) (W.contents writer.new) text.now) }
-    ensures err { OnErr result (AppendsPart (W.contents writer.old) (W.contents writer.new) text.now) }
+fn write_whole<W: Write>(output: &mut OutputStream<'_, W>, text: &[u8]) -> Result<(), WriteFault>
+    ensures output { output.new.writer.ghost_name ≡ output.old.writer.ghost_name }
+    ensures ok { OnOk result (Appends (W.contents output.old.writer.now) (W.contents output.new.writer.now) text.now) }
+    ensures err { OnErr result (AppendsPart (W.contents output.old.writer.now) (W.contents output.new.writer.now) text.now) }
+    ensures delivered { OnOk result (output.new.is_delivered ≡ true) }
+    ensures failed { FailsWith result output.old.has_failed output.new.has_failed }
 {
-    write_answer(writer, text)?;
-    match writer.flush() {
-        Ok(()) => Ok(()),
-        Err(_) => Err(WriteFault),
-    }
+    output.write(text)?;
+    output.flush()
 }
 
 /// Tells what is wrong with the words. Where a write fails, the rest of the text is dropped.
-fn tell<F: Write>(alloc: Global, fault: &JobFault, faults: &mut F) -> u8
-    ensures told { HasTold (F.contents faults.old) (F.contents faults.new) result }
+fn tell<F: Write>(alloc: Global, fault: &JobFault, faults: &mut OutputStream<'_, F>) -> u8
+    ensures faults { faults.new.writer.ghost_name ≡ faults.old.writer.ghost_name }
+    ensures told { HasTold (account_of (F.contents faults.old.writer.now) faults.old.has_failed) (account_of (F.contents faults.new.writer.now) faults.new.has_failed) result }
     ensures status { result ≡ 2 }
 {
     let Ok(text) = format!(in alloc; "{fault}") else {
-        return ProgramFault::Memory.report(faults);
+        return ProgramFault::Memory.report_on(faults);
     };
-    let _ = write_answer(faults, text.as_bytes());
+    let _ = faults.write(text.as_bytes());
     NOT_RUN
 }

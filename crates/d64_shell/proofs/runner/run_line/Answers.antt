@@ -5,7 +5,7 @@ use Rattle.d64_shell.proofs.runner.run_line.Goals as goal
 
 pub returns-in_default-clause-ran : goal.returns-in_default-clause-ran
 returns-in_default-clause-ran g c raw says open_run =
-    RunsLine-skipped c.args.home.now raw (g.W.Write.contents c.args.writer.now) _ _ c.args.tally.now (c.in_default.ensures raw says)
+    RunsLine-skipped c.args.home.now raw (g.W.Write.contents c.args.output.now.writer.now) _ _ c.args.tally.now (c.in_default.ensures raw says)
 
 pub returns-clause-ran : goal.returns-clause-ran
 returns-clause-ran g c raw says open_run =

@@ -1,4 +1,4 @@
-use Rattle.std.proofs.Common.{◌≡◌, ◌++◌, length, true, false, ap, length-append, arith, rules}
+use Rattle.std.proofs.Common.{◌≡◌, ◌++◌, ◌∙◌, length, true, false, ap, length-append, arith, rules}
 use Rattle.std.proofs.lemmas.Result.{err_from_is_err_and}
 use Rattle.d64_script.specs.RawLines.{is_ended}
 use Rattle.d64_shell.proofs.PieceSteps.{came_line, came_more, came_to_quit, came_whole, first_part, has_byte, none_left, piece_is, stopped_at_line}
@@ -17,6 +17,9 @@ loop-part-preserved-then-not-is_ended g c =
           came_more c.args.home.now first _ c.loop-part.tally c.loop-part.line c.push.new.self before i.done part c.before_end.result.now
           (i.came first before come) one.raw unended c.before_end.ensures c.push.ensures;
       few = omega (arith, i.few, length-append i.done part);
+      same = i.same;
+      unfailed = i.unfailed;
+      heard = i.heard;
     }
 
 pub returns-in_err-run_line-clause-few : goal.returns-in_err-run_line-clause-few
@@ -75,6 +78,9 @@ loop-part-preserved g c =
           before i.done part c.before_end.result.now
           (i.came first before come) one.raw ended c.before_end.ensures c.push.ensures c.end_with_line_feed.ensures c.in_ok-run_line.ensures.ran c.if-tally.false c.clear.ensures;
       few = omega (arith, i.few, c.run_line.ensures.few, has_byte part one.raw ended, length-append i.done part);
+      same = c.run_line.ensures.same ∙ i.same;
+      unfailed = c.in_ok-run_line.ensures.failed ∙ i.unfailed;
+      heard = search rules;
     }
 
 pub returns-clause-came : goal.returns-clause-came

@@ -30,11 +30,11 @@ pub returns-clause-err : goal.returns-clause-err
 returns-clause-err g c =
     let output = output_bytes c.args.image.now c.args.self.now.output in
     let whole = c.in_ok-write.ensures.ok in
-    OnErr-map c.write_answer.result _ _
+    OnErr-map c.write-2.result _ _
     (λ second. record {
       part = output ++ second.part;
       rest = second.rest;
       all = append_assoc output second.part second.rest ∙ ap (λ l. output ++ l) (second.all ∙ c.as_slice.ensures.value ∙ c.line.ensures);
       gained = Appends-trans _ _ _ output second.part whole second.gained;
     })
-    c.write_answer.ensures.err
+    c.write-2.ensures.err

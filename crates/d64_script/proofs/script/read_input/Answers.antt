@@ -4,7 +4,7 @@ use Rattle.std.specs.Io.KnownBytes.{Consumes}
 use Rattle.std.proofs.KnownBytes.{Consumes-trans, Consumes-kept}
 use Rattle.d64_script.specs.Script.{script_limit}
 use Rattle.d64_script.proofs.ScriptReads.{IsReadFrom-to_its_end, IsReadFrom-cut_short, IsReadFrom-filled}
-use Rattle.d64_script.proofs.script.read_script.Goals as goal
+use Rattle.d64_script.proofs.script.read_input.Goals as goal
 
 -- a read that gave nothing consumed nothing
 Consumes-none : (a b c : Option (List ℕ)) (bytes more : List ℕ) (count : ℕ) → Consumes a b bytes → Consumes b c (take count more) → count ≡ 0 → Consumes a c bytes
@@ -24,7 +24,7 @@ returns-in-Ok-eq0-clause-read g c =
     let fits : length bytes ≤ script_limit = omega (arith, c.loop.invariant.bounded, c.loop.bytes.ok.0) in
     let read = c.in-Ok-eq0.ensures.bytes in
     IsReadFrom-to_its_end _ _ c.to_its_end.result bytes (ap (λ script. script.bytes.items) c.to_its_end.ensures) fits
-    (Consumes-none _ _ _ bytes c.read.new.buf c.in-Ok-eq0.field-0 c.loop.invariant.lost read.0 c.in-Ok-eq0.field-0-test)
+    (Consumes-none _ _ _ bytes c.read.new.buffer c.in-Ok-eq0.field-0 c.loop.invariant.lost read.0 c.in-Ok-eq0.field-0-test)
     (read.1 c.in-Ok-eq0.field-0-test (search rules))
 
 pub returns-in-Err-clause-read : goal.returns-in-Err-clause-read
@@ -40,7 +40,7 @@ returns-then-count-room-clause-read g c =
     let room = script_limit - c.len-room.result in
     let full : length bytes + room ≡ script_limit = omega (arith, c.loop.invariant.bounded, c.loop.bytes.ok.0, c.len-room.ensures) in
     let script = c.cut_short-then-count-room in
-    IsReadFrom-filled _ _ _ script.result bytes c.read.new.buf c.extend_from_slice.new.self.items room c.in-Ok.count c.min.result (ap (λ script. script.whole) script.ensures)
+    IsReadFrom-filled _ _ _ script.result bytes c.read.new.buffer c.extend_from_slice.new.self.items room c.in-Ok.count c.min.result (ap (λ script. script.whole) script.ensures)
     (ap (λ script. script.bytes.items) script.ensures) c.in_ok-extend_from_slice.ensures.items
     full c.if-count-room.true c.min.ensures c.loop.invariant.lost c.in-Ok.ensures.bytes.0
 
@@ -49,9 +49,13 @@ loop-preserved g c =
     let room = script_limit - c.len-room.result in
     record {
       lost =
-          Consumes-fits _ _ _ c.loop.bytes.items c.read.new.buf c.extend_from_slice.new.self.items room c.in-Ok.count c.min.result
+          Consumes-fits _ _ _ c.loop.bytes.items c.read.new.buffer c.extend_from_slice.new.self.items room c.in-Ok.count c.min.result
           c.loop.invariant.lost c.in-Ok.ensures.bytes.0 c.if-count-room.false c.min.ensures c.in_ok-extend_from_slice.ensures.items;
       bounded = search rules;
+      same = search rules;
+      counted = search rules;
+      came = search rules;
+      unfailed = search rules;
     }
 
 pub returns-clause-read : goal.returns-clause-read
