@@ -105,7 +105,7 @@ int open(const char *path, int flags, ...)
 int statx(int folder, const char *restrict path, int flags, unsigned mask, struct statx *restrict into)
 {
     if (!path[0]) CALL(OF_FILE(folder), "fstat", PATH_OF(folder), REAL(statx)(folder, path, flags, mask, into));
-    CALL(OF_PATH(path), "statx", path, REAL(statx)(folder, path, flags, mask, into));
+    CALL(OF_PATH(path), flags & AT_SYMLINK_NOFOLLOW ? "lstat" : "statx", path, REAL(statx)(folder, path, flags, mask, into));
 }
 
 ssize_t readlink(const char *restrict path, char *restrict into, size_t size)
