@@ -158,6 +158,23 @@ unfolding led_by block_in
 linked_within image block next e =
     leads_within image (eqb (link_at image block).0 0) (block_of (link_at image block).0 (link_at image block).1) next e
 
+-- a link with track 0 ends the chain
+pub ends_at : (image : List (List ℕ)) (block : ℕ) → eqb (link_at image block).0 0 ≡ true → link_of image block ≡ End
+unfolding led_by
+ends_at image block last = ap (λ (t : Bool). cond t End (link_to (block_in image (link_at image block).0 (link_at image block).1))) last
+
+-- every other link leads to the block of its pair
+pub leads_to : (image : List (List ℕ)) (block : ℕ) (next : Option ℕ) → eqb (link_at image block).0 0 ≡ false
+    → block_in image (link_at image block).0 (link_at image block).1 ≡ next → link_of image block ≡ link_to next
+unfolding led_by
+leads_to image block next on e =
+    ap (λ (t : Bool). cond t End (link_to (block_in image (link_at image block).0 (link_at image block).1))) on ∙ ap link_to e
+
+-- the block of a track and a sector is one of the image
+pub block_in-within : (image : List (List ℕ)) (track sector block : ℕ) → block_in image track sector ≡ Some block → block < length image
+unfolding block_in
+block_in-within image track sector block e = leads_within image false (block_of track sector) block (ap link_to e)
+
 -- a block that was put before a chain
 joins : (image : List (List ℕ)) (start next : ℕ) (rest blocks : List ℕ) → start < length image → link_of image start ≡ To next
     → (rest ≢ [] → Chain image next rest) → before start rest ≡ blocks → blocks ≢ [] → Chain image start blocks

@@ -16,7 +16,7 @@ use Rattle.d64_files.specs.Directory.{directory, slots, owned_blocks, number_of,
 use Rattle.d64_files.specs.FirstFault.{is_nil, fails, err_of, first_fault, reading_conditions, owning_conditions, sound_conditions}
 use Rattle.d64_files.specs.FirstFaultLaws.{TellsFirst}
 use Rattle.d64_files.specs.Ownership.{chain_at, roots, HasItsChains}
-use Rattle.d64_files.specs.Slot.{HasKind, kind_number}
+use Rattle.d64_files.specs.Slot.{HasKind, has_kind, kind_number}
 use Rattle.d64_files.specs.declared.dir_fault.DirFault.{DirFault}
 use Rattle.d64_files.specs.declared.dir_fault.DirFault.TheVariants.{WrongCounts, NoDirectory, UnknownKind, NoChain, CrossLinked, MarkedFree}
 use Rattle.d64_files.proofs.Conditions.{both_hold, no_directory, unknown_kind}
@@ -33,23 +33,19 @@ pub nil_is : (blocks : List ℕ) → ¬ (blocks ≢ []) → is_nil blocks ≡ tr
 nil_is [] h = refl
 nil_is (block ∷ blocks) h = absurd (h (λ e. cc))
 
--- the kind's number is small
-abbrev is_kind : List ℕ → Bool
-is_kind cell = nat_le (kind_number cell) 4
-
 -- slots that have kinds pass the test
-pub kinds_pass : (cells : List (List ℕ)) → All HasKind cells → list_all is_kind cells ≡ true
+pub kinds_pass : (cells : List (List ℕ)) → All HasKind cells → list_all has_kind cells ≡ true
 kinds_pass [] h = refl
 kinds_pass (c ∷ cells) h =
     let small : kind_number c ≤ 4 = All-head HasKind c cells h in
     let one : nat_le (kind_number c) 4 ≡ true = grind (arith, nat_tests) in
-    and_from (is_kind c) (list_all is_kind cells) one (kinds_pass cells (All-tail HasKind c cells h))
+    and_from (has_kind c) (list_all has_kind cells) one (kinds_pass cells (All-tail HasKind c cells h))
 
 -- slots that pass the test have kinds
-pub have_kinds : (cells : List (List ℕ)) → list_all is_kind cells ≡ true → All HasKind cells
+pub have_kinds : (cells : List (List ℕ)) → list_all has_kind cells ≡ true → All HasKind cells
 have_kinds [] h = All-nil HasKind
 have_kinds (c ∷ cells) h =
-    let parts = and_parts (is_kind c) (list_all is_kind cells) h in
+    let parts = and_parts (has_kind c) (list_all has_kind cells) h in
     let one : nat_le (kind_number c) 4 ≡ true = parts.0 in
     let small : kind_number c ≤ 4 = grind (arith, nat_tests) in
     All-cons HasKind c cells small (have_kinds cells parts.1)

@@ -33,9 +33,9 @@ pub entries_owned : (f : List ℕ → List ℕ) (image : List (List ℕ)) (n : �
 entries_owned f image n [] = refl
 entries_owned f image n (c ∷ cells) = ap (λ (bs : List ℕ). f c ++ bs) (entries_owned f image (n + 1) cells)
 
--- what entries and one more own
-pub owned_more : (f : EntryView → List ℕ) (before : List ℕ) (done : List EntryView) (entry : EntryView)
+-- what entries and one more own, or have otherwise
+pub owned_more : {A : Type 0} (f : EntryView → List A) (before : List A) (done : List EntryView) (entry : EntryView)
     → (before ++ flat_map f done) ++ f entry ≡ before ++ flat_map f (done ++ entry ∷ [])
 owned_more f before done entry =
     append_assoc before (flat_map f done) (f entry)
-    ∙ ap (λ (bs : List ℕ). before ++ bs) (ap (λ (bs : List ℕ). flat_map f done ++ bs) (sym (append-nil (f entry))) ∙ sym (flat_map-append f done (entry ∷ [])))
+    ∙ ap (λ (bs : List _). before ++ bs) (ap (λ (bs : List _). flat_map f done ++ bs) (sym (append-nil (f entry))) ∙ sym (flat_map-append f done (entry ∷ [])))

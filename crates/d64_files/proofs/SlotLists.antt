@@ -97,12 +97,6 @@ bytes_at_place image blocks items place block sector bytes same within here cont
     here ∙ get_or_default_zero items (place / 8) block within ∙ ap (λ (bs : List ℕ). get_or bs (place / 8) 0) same in
     part ∙ ap (λ (s : List ℕ). cell s (place % 8)) (content ∙ ap (sector_at image) block_is)
 
--- where all slots have a kind, so has the slot of a place
-pub kind_at_place : (image : List (List ℕ)) (blocks : List ℕ) (place : ℕ) → place / 8 < length blocks → All HasKind (slots_in image blocks)
-    → HasKind (cell (sector_at image (get_or blocks (place / 8) 0)) (place % 8))
-kind_at_place image blocks place within all =
-    subst HasKind (slot_at_place image blocks place within) (All-get_or HasKind (slots_in image blocks) place [] (within_slots image blocks place within) all)
-
 -- where each slot of a block has a kind, all have
 pub block_kinds : (bytes : List ℕ) → ((k : ℕ) → k < 8 → HasKind (cell bytes k)) → All HasKind (cells bytes)
 block_kinds bytes each =

@@ -68,7 +68,7 @@ started image start limit seen e below =
     }
 
 -- numbers below a limit, no two of them equal, leave room for another one below it
-room : (path : List ℕ) (next limit : ℕ) → IsDistinct eqb path → ((q : ℕ) → list_any (eqb q) path ≡ true → q < limit)
+pub room : (path : List ℕ) (next limit : ℕ) → IsDistinct eqb path → ((q : ℕ) → list_any (eqb q) path ≡ true → q < limit)
     → list_any (eqb next) path ≡ false → next < limit → length path < limit
 room path next limit distinct below fresh within =
     let longer = length-le_from_distinct_below (next ∷ path) limit (IsDistinct-cons eqb next path (apart next path fresh) distinct) (λ q found.
@@ -83,7 +83,7 @@ among_longer : (path : List ℕ) (next q : ℕ) → list_any (eqb q) (path ++ ne
 among_longer path next q = list_any-append (eqb q) path (next ∷ [])
 
 -- the members of the set with the next block are those of the longer path
-longer_members : (path : List ℕ) (next : ℕ) (seen : set.FinSet nat_cmp) (q : ℕ) → set.contains seen q ≡ list_any (eqb q) path
+pub longer_members : (path : List ℕ) (next : ℕ) (seen : set.FinSet nat_cmp) (q : ℕ) → set.contains seen q ≡ list_any (eqb q) path
     → set.contains (set.insert seen next) q ≡ list_any (eqb q) (path ++ next ∷ [])
 longer_members path next seen q e =
     contains-insert nat_cmp_total seen next q ∙ ap₂ ◌||◌ (unsigned_tied q next) e ∙ flipped (eqb q next) (list_any (eqb q) path) ∙ sym (among_longer path next q)

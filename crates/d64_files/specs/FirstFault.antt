@@ -1,5 +1,5 @@
 -- The first condition of a sound image that fails, as tests.
-use Rattle.std.specs.Prelude.{ℕ, nat_le, nat_eq, not, Bool, true, false, List, [], ◌∷◌, length, find, Option, Some, None, Result, Ok, Err}
+use Rattle.std.specs.Prelude.{ℕ, nat_eq, not, Bool, true, false, List, [], ◌∷◌, length, find, Option, Some, None, Result, Ok, Err}
 use Rattle.std.specs.List.{range_with_len, list_any, list_all}
 use Rattle.std.specs.FinSet as set
 use Rattle.d64_image.specs.Image.{tracks_of}
@@ -8,7 +8,7 @@ use Rattle.d64_map.specs.Track.{members_on}
 use Rattle.d64_files.specs.Claims.{has_repeats}
 use Rattle.d64_files.specs.Directory.{directory, slots, owned_blocks}
 use Rattle.d64_files.specs.Ownership.{chain_at, roots}
-use Rattle.d64_files.specs.Slot.{kind_number}
+use Rattle.d64_files.specs.Slot.{has_kind}
 use Rattle.d64_files.specs.declared.dir_fault.DirFault.{DirFault}
 use Rattle.d64_files.specs.declared.dir_fault.DirFault.TheVariants.{WrongCounts, NoDirectory, UnknownKind, NoChain, CrossLinked, MarkedFree}
 
@@ -21,7 +21,7 @@ is_nil (block ∷ blocks) = false
 unfoldable pub fails : List (List ℕ) → DirFault → Bool
 fails image WrongCounts = not (list_all (λ track. nat_eq (count_of image track) (members_on (free_blocks image) track)) (range_with_len 1 (tracks_of (length image))))
 fails image NoDirectory = is_nil (directory image)
-fails image UnknownKind = not (list_all (λ cell. nat_le (kind_number cell) 4) (slots image))
+fails image UnknownKind = not (list_all has_kind (slots image))
 fails image NoChain = list_any (λ cell. list_any (λ root. is_nil (chain_at image root)) (roots cell)) (slots image)
 fails image CrossLinked = has_repeats (owned_blocks image)
 fails image MarkedFree = list_any (set.contains (free_blocks image)) (owned_blocks image)

@@ -1,5 +1,5 @@
 -- A slot of the directory: its 32 bytes, and what they say of a file.
-use Rattle.std.specs.Prelude.{ℕ, ◌+◌, ◌*◌, ◌%◌, ◌^◌, ◌≤◌, ◌==◌, Bool, not, if◌then◌else◌, List, [], ◌∷◌, map, take, drop, slice_index, slice_index_or, slice_range, bit_and, Option, Some, None}
+use Rattle.std.specs.Prelude.{ℕ, ◌+◌, ◌*◌, ◌%◌, ◌^◌, ◌≤◌, ◌==◌, nat_le, Bool, not, if◌then◌else◌, List, [], ◌∷◌, map, take, drop, slice_index, slice_index_or, slice_range, bit_and, Option, Some, None}
 use Rattle.std.specs.List.{range_with_len}
 use Rattle.d64_files.specs.Name.{name_in}
 use Rattle.d64_files.specs.declared.kind.Kind.{Kind}
@@ -38,6 +38,10 @@ kind_number cell = type_byte cell % 16
 -- there is a kind of that number
 abbrev pub HasKind : List ℕ → Type 0
 HasKind cell = kind_number cell ≤ 4
+
+-- the same as a test
+abbrev pub has_kind : List ℕ → Bool
+has_kind cell = nat_le (kind_number cell) 4
 
 -- the kinds, in the order of their numbers
 abbrev pub kinds : List Kind

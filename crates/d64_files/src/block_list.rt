@@ -7,7 +7,7 @@ use std::marker::Model;
 
 /// A list of at most as many blocks as an image has.
 #[derive(Drop)]
-pub(crate) struct BlockList {
+pub struct BlockList {
     /// The blocks of the list, and then others that are not part of it.
     places: [BlockNo; BLOCKS],
     len: usize,
@@ -25,8 +25,18 @@ impl Model for BlockList {
 }
 
 impl BlockList {
+    /// The list with no blocks.
+    pub fn empty() -> BlockList
+        ensures { result ≡ [] }
+    {
+        BlockList {
+            places: [BlockNo::default(); BLOCKS],
+            len: 0,
+        }
+    }
+
     /// The list of one block.
-    pub(crate) fn of(block: BlockNo) -> BlockList
+    pub fn of(block: BlockNo) -> BlockList
         ensures { result ≡ block ∷ [] }
     {
         BlockList {
@@ -35,10 +45,17 @@ impl BlockList {
         }
     }
 
+    /// Takes all blocks off the list.
+    pub fn clear(&mut self)
+        ensures { self.new ≡ [] }
+    {
+        self.len = 0;
+    }
+
     /// Appends a block.
     ///
     /// The caller knows that the list has room: that it has fewer blocks than an image.
-    pub(crate) fn push(&mut self, block: BlockNo)
+    pub fn push(&mut self, block: BlockNo)
         requires { length self.old < BLOCKS }
         ensures { self.new ≡ self.old ++ block ∷ [] }
     {
@@ -47,7 +64,7 @@ impl BlockList {
     }
 
     /// Another list of the same blocks.
-    pub(crate) fn copy(&self) -> BlockList
+    pub fn copy(&self) -> BlockList
         ensures { result ≡ self.now }
     {
         BlockList {
@@ -57,7 +74,7 @@ impl BlockList {
     }
 
     /// The blocks of the list, in order.
-    pub(crate) fn as_slice(&self) -> &[BlockNo]
+    pub fn as_slice(&self) -> &[BlockNo]
         ensures value { result.now ≡ self.now }
         ensures len { length result.now ≤ BLOCKS }
     {

@@ -1,7 +1,7 @@
 //! The slots of a directory, one at a time.
 ghost use Rattle.std.specs.Prelude.{◌≡◌, ◌*◌, ◌+◌, length, option_map};
 ghost use Rattle.d64_files.specs.Chain.{block_in};
-ghost use Rattle.d64_files.specs.Slot.{HasKind, is_used, kind_of, is_locked, is_closed, first_pair, field_of, name_of, side_pair, size_of};
+ghost use Rattle.d64_files.specs.Slot.{type_byte, has_kind, is_used, kind_of, is_locked, is_closed, first_pair, field_of, name_of, side_pair, size_of};
 
 use crate::chain::block_in;
 use crate::kind::Kind;
@@ -11,6 +11,9 @@ use std::marker::Model;
 
 /// How many bytes a slot has.
 pub(crate) const SLOT_BYTES: usize = 32;
+
+/// The greatest number of a file's kind, that of REL.
+pub(crate) const LAST_KIND: u8 = 4;
 
 /// A slot of the directory: its place in the order of the directory's chain, from 0.
 #[derive(Clone, Copy, Debug, PartialEq, Eq, PartialOrd, Ord, Hash)]
@@ -55,20 +58,19 @@ pub struct Entry<'a> {
 
 impl<'a> Model for Entry<'a> {
     ghost use Rattle.std.specs.Prelude.{◌≡◌, length};
-    ghost use Rattle.d64_files.specs.Slot.{EntryView, HasKind};
+    ghost use Rattle.d64_files.specs.Slot.{EntryView};
 
     ghost Value = { EntryView };
 
     ghost view = { λ entry. record { slot = entry.slot; bytes = entry.bytes.now; image = entry.image.now } };
 
-    ghost invariant = { λ entry. (length entry.bytes.now ≡ 32) × HasKind entry.bytes.now };
+    ghost invariant = { λ entry. length entry.bytes.now ≡ 32 };
 }
 
 impl<'a> Entry<'a> {
     /// The entry of a slot of an image with these 32 bytes.
     pub(crate) fn of(image: &'a Image, slot: SlotNo, bytes: &'a [u8]) -> Entry<'a>
-        requires len { length bytes.now ≡ 32 }
-        requires kind { HasKind bytes.now }
+        requires { length bytes.now ≡ 32 }
         ensures { result ≡ record { slot = slot; bytes = bytes.now; image = image.now } }
     {
         Entry { slot, bytes, image }
@@ -88,16 +90,30 @@ impl<'a> Entry<'a> {
         self.bytes[2] != 0
     }
 
-    /// The kind of the file, the low four bits of the type byte.
+    /// The type byte: the kind's number, and whether the file is locked and closed.
+    pub fn type_byte(&self) -> u8
+        ensures { result ≡ type_byte self.now.bytes }
+    {
+        self.bytes[2]
+    }
+
+    /// Whether the low four bits of the type byte are the number of a kind. In each slot of a `Directory` they are.
+    pub fn has_kind(&self) -> bool
+        ensures { result ≡ has_kind self.now.bytes }
+    {
+        self.bytes[2] % 16 <= LAST_KIND
+    }
+
+    /// The kind of the file, the low four bits of the type byte; DEL where there is no kind of that number.
     pub fn kind(&self) -> Kind
         ensures { result ≡ kind_of self.now.bytes }
     {
         match self.bytes[2] % 16 {
-            0 => Kind::Del,
             1 => Kind::Seq,
             2 => Kind::Prg,
             3 => Kind::Usr,
-            _ => Kind::Rel,
+            LAST_KIND => Kind::Rel,
+            _ => Kind::Del,
         }
     }
 

@@ -25,6 +25,7 @@ mod vacancy;
 mod writing;
 
 pub use block_bytes::write_at;
+pub use block_list::BlockList;
 pub use chain::block_in;
 pub use clearing::{clear_slot, set_name};
 pub use dir_fault::DirFault;

@@ -9,17 +9,14 @@ ghost use Rattle.d64_files.specs.Directory.{slots, slots_in, entries, AllHold, I
 use crate::block_list::BlockList;
 use crate::dir_fault::DirFault;
 use crate::directory_blocks::Directory;
-use crate::entry::{Entry, SLOT_BYTES, SlotNo};
+use crate::entry::{Entry, LAST_KIND, SLOT_BYTES, SlotNo};
 use d64_image::{BLOCK_BYTES, Image};
 use std::marker::Model;
 
 /// How many slots a block of the directory has.
 pub(crate) const SLOTS_PER_BLOCK: usize = BLOCK_BYTES / SLOT_BYTES;
 
-/// The greatest number of a file's kind.
-const LAST_KIND: u8 = 4;
-
-/// The slots of the directory that are left of a walk along it, in the order of its chain.
+/// The slots of a directory that are left of a walk along its blocks, in their order.
 #[derive(Drop)]
 pub struct Slots<'a> {
     image: &'a Image,
@@ -29,16 +26,16 @@ pub struct Slots<'a> {
 }
 
 impl<'a> Model for Slots<'a> {
-    ghost use Rattle.std.specs.Prelude.{List, All, drop};
+    ghost use Rattle.std.specs.Prelude.{List, drop};
     ghost use Rattle.d64_files.specs.Chain.{LieIn};
-    ghost use Rattle.d64_files.specs.Slot.{EntryView, HasKind};
+    ghost use Rattle.d64_files.specs.Slot.{EntryView};
     ghost use Rattle.d64_files.specs.Directory.{slots_in, entries};
 
     ghost Value = { List EntryView };
 
     ghost view = { λ walk. drop walk.place (entries walk.image.now (slots_in walk.image.now walk.directory)) };
 
-    ghost invariant = { λ walk. LieIn walk.image.now walk.directory × All HasKind (slots_in walk.image.now walk.directory) };
+    ghost invariant = { λ walk. LieIn walk.image.now walk.directory };
 }
 
 /// The bytes of a slot of a block.
@@ -76,12 +73,9 @@ impl<'a> Slots<'a> {
         Ok(Directory::of(image)?.slots())
     }
 
-    /// The slots of blocks of the image, eight a block.
-    ///
-    /// The caller knows that each slot has a kind.
-    pub(crate) fn along(image: &'a Image, blocks: BlockList) -> Slots<'a>
-        requires blocks { LieIn image.now blocks }
-        requires kinds { All HasKind (slots_in image.now blocks) }
+    /// The slots of blocks of the image, eight a block, whether or not each has a kind. It takes no memory.
+    pub fn along(image: &'a Image, blocks: BlockList) -> Slots<'a>
+        requires { LieIn image.now blocks }
         ensures slots { result ≡ entries image.now (slots_in image.now blocks) }
         ensures len { length result ≤ 8 * BLOCKS }
     {

@@ -157,8 +157,8 @@ pub fn none_is_free(image: &Image, blocks: &BlockSet) -> bool
     true
 }
 
-/// How many blocks of a track the map marks free.
-fn free_on(image: &Image, track: u8) -> u8
+/// How many blocks of a track, which counts from 1, the map marks free.
+pub fn free_on(image: &Image, track: u8) -> u8
     requires track { (1 ≤ track) × (track ≤ tracks_of (length image.now)) }
     ensures free { result ≡ members_on (free_blocks image.now) track }
 {

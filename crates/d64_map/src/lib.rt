@@ -10,7 +10,8 @@ mod search;
 mod tracks;
 
 pub use block_map::{
-    blocks_free, counts_fit, free_count, free_set, is_free, map_block, none_is_free, put_map,
+    blocks_free, counts_fit, free_count, free_on, free_set, is_free, map_block, none_is_free,
+    put_map,
 };
 pub use search::{pick_dir, pick_first, pick_next};
 pub use tracks::DIRECTORY_TRACK;

@@ -1,8 +1,8 @@
 use Rattle.std.proofs.Common.{◌≡◌, ℕ, ◌+◌, ◌/◌, ◌<◌, ◌≤◌, List, [], ◌∷◌, length, drop, sym, ap, ap₂, ◌∙◌, subst, rules}
 use Rattle.d64_files.specs.Chain.{LieIn}
-use Rattle.d64_files.specs.Slot.{EntryView, HasKind}
+use Rattle.d64_files.specs.Slot.{EntryView}
 use Rattle.d64_files.specs.Directory.{slots_in, entry_of, entries}
-use Rattle.d64_files.proofs.SlotLists.{next_entry, no_entry, bytes_at_place, kind_at_place}
+use Rattle.d64_files.proofs.SlotLists.{next_entry, no_entry, bytes_at_place}
 use Rattle.d64_files.proofs.slots.SlotsIterator.next.Goals as goal
 
 pub returns-then-index-blocks-clause-steps : goal.returns-then-index-blocks-clause-steps
@@ -18,18 +18,8 @@ pub sector-requires : goal.sector-requires
 sector-requires c =
     let image = c.self.inside.image.now in
     let items = c.as_slice-blocks.result.now in
-    let lies = subst (LieIn image) (sym c.as_slice-blocks.ensures.value) c.self.invariant.0 in
+    let lies = subst (LieIn image) (sym c.as_slice-blocks.ensures.value) c.self.invariant in
     subst (λ (b : ℕ). b < length image) (sym c.index-blocks-index.is) (lies (c.self.inside.place / 8) c.index-blocks-index.result c.if-index-blocks.false)
-
-pub of-requires-clause-kind : goal.of-requires-clause-kind
-of-requires-clause-kind c =
-    let image = c.self.inside.image.now in
-    let place = c.self.inside.place in
-    let blocks = c.self.inside.directory in
-    let bytes = bytes_at_place image blocks c.as_slice-blocks.result.now place c.index-blocks-index.result c.sector.result.now c.slot_of-bytes.result.now
-    c.as_slice-blocks.ensures.value c.if-index-blocks.false c.index-blocks-index.is c.sector.ensures.value c.slot_of-bytes.ensures.value in
-    let within = subst (λ (bs : List ℕ). place / 8 < length bs) c.as_slice-blocks.ensures.value c.if-index-blocks.false in
-    subst HasKind (sym bytes) (kind_at_place image blocks place within c.self.invariant.1)
 
 -- what was left is the entry and what is left now
 stepped : (c : goal.After-of) → c.args.self.now ≡ c.of.result ∷ drop (c.self.inside.place + 1) (entries c.self.inside.image.now (slots_in c.self.inside.image.now c.self.inside.directory))

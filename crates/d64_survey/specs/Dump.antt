@@ -1,0 +1,59 @@
+-- Dumps: an image and, where they were noted, the read code of each of its blocks.
+use Rattle.std.specs.Prelude.{◌≡◌, ℕ, ◌+◌, ◌==◌, ◌&&◌, nat_le, not, Bool, if◌then◌else◌, List, [], ◌++◌, length, Option, Some, None, Result, Ok, Err}
+use Rattle.std.specs.Option.{option_map_or}
+use Rattle.d64_image.specs.Image.{IsImage, bytes_of}
+use Rattle.d64_image.specs.declared.image.ImageFault.{ImageFault}
+use Rattle.d64_image.specs.declared.image.ImageFault.TheVariants as image_faults
+use Rattle.d64_survey.specs.declared.dump.DumpFault.{DumpFault}
+use Rattle.d64_survey.specs.declared.dump.DumpFault.TheVariants.{WrongLength, Memory}
+
+-- an image, and the read codes of its blocks in their order, or none
+pub record DumpView : Type 0 where
+  pub image : List (List ℕ)
+  pub codes : Option (List ℕ)
+
+-- each block of the image has a code
+abbrev pub HasCodes : List (List ℕ) → Option (List ℕ) → Type 0
+HasCodes image None = Unit {0}
+HasCodes image (Some codes) = length codes ≡ length image
+
+-- a dump is an image with a code for each of its blocks, or with none
+abbrev pub IsDump : DumpView → Type 0
+IsDump dump = IsImage dump.image × HasCodes dump.image dump.codes
+
+-- the bytes of the codes
+abbrev pub code_bytes : Option (List ℕ) → List ℕ
+code_bytes codes = option_map_or (λ bytes. bytes) codes []
+
+-- the bytes of a dump: those of its image, and then the codes
+abbrev pub dump_bytes : DumpView → List ℕ
+dump_bytes dump = bytes_of dump.image ++ code_bytes dump.codes
+
+-- how many bytes the image has in a dump of so many, without codes or with them; none where no dump has so many
+abbrev pub image_bytes : ℕ → Option ℕ
+image_bytes len =
+    if len == 174848 then Some 174848
+    else (if len == 175531 then Some 174848
+    else (if len == 196608 then Some 196608
+    else (if len == 197376 then Some 196608 else None)))
+
+-- why bytes make no dump, where that is why they make no image
+abbrev pub dump_fault : ImageFault → DumpFault
+dump_fault (image_faults.WrongLength length) = WrongLength length
+dump_fault (image_faults.Memory fault) = Memory fault
+
+-- the length with which bytes were refused; none where they made a dump, or memory was wanting
+abbrev pub wrong_length : Result DumpView DumpFault → Option ℕ
+wrong_length (Ok dump) = None
+wrong_length (Err (WrongLength length)) = Some length
+wrong_length (Err (Memory fault)) = None
+
+-- a code other than 0 and 1 is a read error
+abbrev pub is_read_error : ℕ → Bool
+is_read_error code = not (nat_le code 1)
+
+-- the drive's status of a read code: 20 to 29 for 2 to 11, and 74 for 15; the others have none
+abbrev pub drive_status : ℕ → Option ℕ
+drive_status code =
+    if nat_le 2 code && nat_le code 11 then Some (code + 18)
+    else (if code == 15 then Some 74 else None)

@@ -1,0 +1,9 @@
+pub mod Dump
+pub mod Way
+pub mod WayLaws
+pub mod Owners
+pub mod OwnerLaws
+pub mod SlotBlocks
+pub mod Tallies
+pub mod Faults
+pub mod FaultLaws

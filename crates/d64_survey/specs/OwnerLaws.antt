@@ -1,0 +1,14 @@
+-- What follows from the definition of owners.
+use Rattle.std.specs.Prelude.{◌≡◌, ◌≢◌, ℕ, List, [], All}
+use Rattle.d64_files.specs.Directory.{directory, slots, owned_blocks}
+use Rattle.d64_files.specs.Ownership.{HasItsChains}
+use Rattle.d64_survey.specs.Owners.{directory_way, way_slots, blocks_owned}
+
+-- where the directory and the files have their chains, the directory's way and its slots are the directory and its slots, and the
+-- blocks that have an owner are the owned blocks
+abbrev pub OwnersAreThoseOfFiles : Type 0
+OwnersAreThoseOfFiles =
+    (image : List (List ℕ))
+    → directory image ≢ []
+    → All (HasItsChains image) (slots image)
+    → (directory image ≡ (directory_way image).0) × (slots image ≡ way_slots image) × (blocks_owned image ≡ owned_blocks image)

@@ -1,0 +1,8 @@
+-- The blocks of a slot's file.
+use Rattle.std.specs.Prelude.{ℕ, List, ◌++◌}
+use Rattle.d64_survey.specs.Owners.{blocks_from, pair_of}
+use Rattle.d64_survey.specs.declared.owner.Part.TheVariants.{Data, Side}
+
+-- its data blocks and then its side blocks; a block of both comes twice
+abbrev pub slot_blocks : List (List ℕ) → List ℕ → List ℕ
+slot_blocks image cell = blocks_from image (pair_of Data cell) ++ blocks_from image (pair_of Side cell)

@@ -1,0 +1,142 @@
+//! Dumps of disks: images with the read codes of their blocks.
+ghost use Rattle.std.specs.Prelude.{◌≡◌, ◌≤◌, if◌then◌else◌, Some, None, IfOk, IfSome, is_some, true, length, option_map};
+ghost use Rattle.d64_image.specs.Image.{is_image_length};
+ghost use Rattle.d64_survey.specs.Dump.{IsDump, dump_bytes, image_bytes as image_bytes_in, wrong_length, is_read_error, drive_status};
+
+use d64_image::{Image, ImageFault};
+use std::alloc::{AllocError, Global};
+use std::marker::Model;
+use thiserror::Error;
+
+/// How many bytes a dump of 35 tracks has, without codes and with them.
+const BYTES_OF_35: usize = 174_848;
+
+const CODED_BYTES_OF_35: usize = 175_531;
+
+/// How many bytes a dump of 40 tracks has, without codes and with them.
+const BYTES_OF_40: usize = 196_608;
+
+const CODED_BYTES_OF_40: usize = 197_376;
+
+/// Why bytes make no dump.
+#[derive(Clone, Debug, PartialEq, Eq, Drop, Error)]
+pub enum DumpFault {
+    /// There are this many bytes, and a dump has 174,848, 175,531, 196,608 or 197,376.
+    #[error("a dump has 174848, 175531, 196608 or 197376 bytes, and these are {0}")]
+    WrongLength(usize),
+    #[error("out of memory")]
+    Memory(AllocError),
+}
+
+/// What a disk was read into: an image and, where the reader noted them, one read code a block (the VICE manual, "The D64 disk
+/// image format").
+#[derive(Debug, Drop)]
+pub struct Dump {
+    image: Image,
+    codes: Option<Vec<u8>>,
+}
+
+impl Model for Dump {
+    ghost use Rattle.std.specs.Prelude.{option_map};
+    ghost use Rattle.d64_survey.specs.Dump.{DumpView, HasCodes};
+
+    ghost Value = { DumpView };
+
+    ghost view = { λ dump. record { image = dump.image; codes = option_map (λ codes. codes.items) dump.codes } };
+
+    ghost invariant = { λ dump. HasCodes dump.image (option_map (λ codes. codes.items) dump.codes) };
+}
+
+impl From<ImageFault> for DumpFault {
+    ghost use Rattle.d64_survey.specs.Dump.{dump_fault};
+    ghost use Rattle.std.specs.Prelude.{◌≡◌};
+
+    ghost from_gives = { λ error fault. fault ≡ dump_fault error };
+
+    fn from(error: ImageFault) -> DumpFault {
+        match error {
+            ImageFault::WrongLength(len) => DumpFault::WrongLength(len),
+            ImageFault::Memory(error) => DumpFault::Memory(error),
+        }
+    }
+}
+
+/// How many bytes the image has in a dump of so many, or None where no dump has so many.
+fn image_bytes(len: usize) -> Option<usize>
+    ensures image { result ≡ image_bytes_in len }
+    ensures size { IfSome result (λ count. is_image_length count ≡ true) }
+    ensures within { IfSome result (λ count. count ≤ len) }
+{
+    match len {
+        BYTES_OF_35 | CODED_BYTES_OF_35 => Some(BYTES_OF_35),
+        BYTES_OF_40 | CODED_BYTES_OF_40 => Some(BYTES_OF_40),
+        _ => None,
+    }
+}
+
+/// Whether a read code is that of a read error. Codes 0 and 1 are good.
+pub fn is_read_error(code: u8) -> bool
+    ensures { result ≡ is_read_error code }
+{
+    code > 1
+}
+
+/// The drive's status of a read code: 20 to 29 for the codes 2 to 11, and 74 for 15 (the 1541 User's Guide, "Error messages").
+/// The others have none.
+pub fn drive_status(code: u8) -> Option<u8>
+    ensures { result ≡ drive_status code }
+{
+    match code {
+        2..=11 => Some(code + 18),
+        15 => Some(74),
+        _ => None,
+    }
+}
+
+impl Dump {
+    /// The dump with these bytes. Refused where there are as many as no dump has: it has 174,848 bytes or 196,608, those of an
+    /// image, or 175,531 or 197,376, where 683 or 768 codes follow them.
+    pub fn from_bytes(alloc: Global, bytes: &[u8]) -> Result<Dump, DumpFault>
+        ensures refused { wrong_length result ≡ (if is_some (image_bytes_in (length bytes.now)) then None else Some (length bytes.now)) }
+        ensures kept { IfOk result (λ dump. dump_bytes dump ≡ bytes.now) }
+        ensures dump { IfOk result IsDump }
+    {
+        let of_image = match image_bytes(bytes.len()) {
+            Some(count) => count,
+            None => return Err(DumpFault::WrongLength(bytes.len())),
+        };
+        let (blocks, codes) = bytes.split_at(of_image);
+        let image = Image::from_bytes(alloc, blocks)?;
+        if codes.is_empty() {
+            return Ok(Dump { image, codes: None });
+        }
+        match Vec::from_slice(alloc, codes) {
+            Ok(codes) => Ok(Dump {
+                image,
+                codes: Some(codes),
+            }),
+            Err(error) => Err(DumpFault::Memory(error)),
+        }
+    }
+
+    /// The image.
+    pub fn image(&self) -> &Image
+        ensures value { result.now ≡ self.now.image }
+        ensures dump { IsDump self.now }
+    {
+        let _ = self.image.bytes();
+        &self.image
+    }
+
+    /// The read codes, one for each block of the image, or None where there are none.
+    pub fn codes(&self) -> Option<&[u8]>
+        ensures codes { option_map (λ codes. codes.now) result ≡ self.now.codes }
+        ensures dump { IsDump self.now }
+    {
+        let _ = self.image.bytes();
+        match &self.codes {
+            Some(codes) => Some(codes.as_slice()),
+            None => None,
+        }
+    }
+}

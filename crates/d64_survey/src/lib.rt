@@ -1,0 +1,21 @@
+//! The survey of a D64 image: what is on a disk, what is wrong with it and where, and which files are whole. It is total: noise
+//! is surveyed like a sound disk.
+#![tactic(auto)]
+
+mod dump;
+mod fault;
+pub mod fault_laws;
+mod owner;
+pub mod owner_laws;
+mod survey;
+mod tally;
+mod walking;
+mod way_end;
+pub mod way_laws;
+
+pub use dump::{Dump, DumpFault, drive_status, is_read_error};
+pub use fault::{Fault, LastBlock};
+pub use owner::{Owner, Part, data_pair, side_pair};
+pub use survey::Survey;
+pub use walking::walk;
+pub use way_end::WayEnd;

@@ -1,0 +1,100 @@
+//! The survey of an image: its slots, who owns its blocks, and its faults.
+ghost use Rattle.std.specs.Prelude.{◌≡◌};
+ghost use Rattle.d64_files.specs.Directory.{entries};
+ghost use Rattle.d64_survey.specs.Owners.{directory_way, way_slots, is_owned, is_shared};
+
+use crate::tally::Tally;
+use crate::walking::walk;
+use crate::way_end::WayEnd;
+use d64_files::{BlockList, DIRECTORY_SECTOR, Slots};
+use d64_image::{BlockNo, Image};
+use d64_map::{DIRECTORY_TRACK, map_block};
+use std::marker::Model;
+
+/// The survey of an image: the directory's way, walked once, and which blocks have an owner, and which more than one. It takes no
+/// memory of its own.
+///
+/// In clauses it is the image itself.
+#[derive(Drop)]
+pub struct Survey<'a> {
+    image: &'a Image,
+    directory: BlockList,
+    end: WayEnd,
+    tally: Tally,
+}
+
+impl<'a> Model for Survey<'a> {
+    ghost use Rattle.std.specs.Prelude.{◌≡◌, ℕ, List};
+    ghost use Rattle.d64_files.specs.Chain.{LieIn};
+    ghost use Rattle.d64_survey.specs.Owners.{directory_way, blocks_owned};
+    ghost use Rattle.d64_survey.specs.Tallies.{IsTally};
+
+    ghost Value = { List (List ℕ) };
+
+    ghost view = { λ survey. survey.image.now };
+
+    ghost invariant = { λ survey. (survey.directory ≡ (directory_way survey.image.now).0) × (survey.end ≡ (directory_way survey.image.now).1)
+        × LieIn survey.image.now survey.directory × IsTally (blocks_owned survey.image.now) survey.tally };
+}
+
+impl<'a> Survey<'a> {
+    /// The survey of an image.
+    pub fn of(image: &'a Image) -> Survey<'a>
+        ensures { result ≡ image.now }
+    {
+        let mut directory = BlockList::empty();
+        let end = walk(image, DIRECTORY_TRACK, DIRECTORY_SECTOR, &mut directory);
+        let mut tally = Tally::none();
+        tally.claim(map_block());
+        tally.claim_all(directory.as_slice());
+        tally.claim_files(image, Slots::along(image, directory.copy()));
+        Survey {
+            image,
+            directory,
+            end,
+            tally,
+        }
+    }
+
+    /// The image.
+    pub fn image(&self) -> &'a Image
+        ensures { result.now ≡ self.now }
+    {
+        self.image
+    }
+
+    /// The blocks of the directory's way, in its order.
+    pub fn directory(&self) -> &[BlockNo]
+        ensures { result.now ≡ (directory_way self.now).0 }
+    {
+        self.directory.as_slice()
+    }
+
+    /// How the directory's way ends.
+    pub fn directory_end(&self) -> WayEnd
+        ensures { result ≡ (directory_way self.now).1 }
+    {
+        self.end
+    }
+
+    /// The slots of the directory's way, also where it doesn't end as a chain, and of whatever kinds.
+    pub fn slots(&self) -> Slots<'a>
+        ensures { result ≡ entries self.now (way_slots self.now) }
+    {
+        Slots::along(self.image, self.directory.copy())
+    }
+
+    /// Whether a block has an owner.
+    pub fn is_owned(&self, block: BlockNo) -> bool
+        ensures { result ≡ is_owned self.now block }
+    {
+        self.tally.has(block)
+    }
+
+    /// Whether a block has more than one owner.
+    pub fn is_shared(&self, block: BlockNo) -> bool
+        ensures { result ≡ is_shared self.now block }
+    {
+        self.tally.is_shared(block)
+    }
+}

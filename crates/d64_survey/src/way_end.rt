@@ -1,0 +1,26 @@
+//! How a way along the links of blocks ends.
+ghost use Rattle.std.specs.Prelude.{◌≡◌};
+ghost use Rattle.d64_survey.specs.Way.{is_whole};
+
+/// How a way ends. It holds the track and the sector of the pair at which it ends, as they stand in the image.
+#[derive(Clone, Copy, Debug, PartialEq, Eq)]
+pub enum WayEnd {
+    /// After a block whose link has track 0: the way is a whole chain.
+    End,
+    /// At a pair of which the image has no block.
+    Off(u8, u8),
+    /// At a pair whose block the way has already.
+    Loop(u8, u8),
+}
+
+impl WayEnd {
+    /// Whether the way is a whole chain.
+    pub fn is_whole(self) -> bool
+        ensures { result ≡ is_whole self }
+    {
+        match self {
+            WayEnd::End => true,
+            WayEnd::Off(..) | WayEnd::Loop(..) => false,
+        }
+    }
+}
