@@ -48,6 +48,7 @@ impl<'w, W: Write> OutputStream<'w, W> {
         ensures ok { OnOk result (Appends (W.contents self.old.writer.now) (W.contents self.new.writer.now) bytes.now) }
         ensures err { OnErr result (AppendsPart (W.contents self.old.writer.now) (W.contents self.new.writer.now) bytes.now) }
         ensures failed { FailsWith result self.old.has_failed self.new.has_failed }
+        ensures undelivered { self.new.is_delivered ≡ false }
         ensures either { Writes (account_of (W.contents self.old.writer.now) self.old.has_failed) (account_of (W.contents self.new.writer.now) self.new.has_failed) bytes.now }
     {
         self.is_delivered = false;
