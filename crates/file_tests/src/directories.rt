@@ -1,7 +1,9 @@
 //! Directories: their slots, the files in them, and whether they are sound.
 
 use crate::damage::put_parts;
-use d64_files::{DirFault, Kind, Pattern, SlotNo, Slots, check, content, find, owned, slot_blocks};
+use d64_files::{
+    DirFault, Kind, Pattern, ReadFault, SlotNo, Slots, check, content, find, owned, slot_blocks,
+};
 use d64_image::{BlockNo, Image};
 use std::test::Fail;
 
@@ -108,13 +110,7 @@ fn refuses_damaged_directories(rt: HostRuntime) -> Result<(), Fail> {
     put_parts(&rt, &mut image, &[(18, 4, 34, &b"\x85"[..])])?;
     match Slots::of(&image) {
         Ok(_) => assert!(rt; false, "a type of 5 was accepted"),
-        Err(fault) => {
-            assert_eq!(rt; fault.number(), 3);
-            assert_eq!(rt;
-                fault.to_string(rt.alloc())?.as_str(),
-                "a directory entry has a file type that there isn't: set its type byte to one of $80 to $84, or to $00 to free it"
-            );
-        }
+        Err(fault) => assert_eq!(rt; fault, DirFault::UnknownKind),
     }
     put_parts(&rt, &mut image, &[(18, 4, 0, &b"\x12\x01"[..])])?;
     match Slots::of(&image) {
@@ -201,5 +197,62 @@ fn two_files_with_one_block_are_cross_linked(rt: HostRuntime) -> Result<(), Fail
     put_parts(&rt, &mut image, &[(18, 1, 0x22, &b"\x82\x11"[..])])?;
     let fault = check(&image).err().ok_or("accepted")?;
     assert_eq!(rt; fault.number(), 5);
+    Ok(())
+}
+
+#[test]
+fn faults_say_what_to_do(rt: HostRuntime) -> Result<(), Fail> {
+    let texts = [
+        (
+            DirFault::WrongCounts,
+            "the block map's counts of free blocks don't fit its marks: validate the disk",
+        ),
+        (
+            DirFault::NoDirectory,
+            "the directory's chain from track 18, sector 1 is broken or loops: repair the links of its blocks",
+        ),
+        (
+            DirFault::UnknownKind,
+            "a directory entry has a file type that there isn't: set its type byte to one of $80 to $84, or to $00 to free it",
+        ),
+        (
+            DirFault::NoChain,
+            "the blocks of a closed file are no whole chain: repair their links, or mark the file unclosed",
+        ),
+        (
+            DirFault::CrossLinked,
+            "a block belongs to two files or to a file and the directory: read what can be saved of both, and write it to a new disk",
+        ),
+        (
+            DirFault::MarkedFree,
+            "the block map marks a block free that is in use: validate the disk",
+        ),
+    ];
+    for (fault, text) in texts {
+        assert_eq!(rt; fault.to_string(rt.alloc())?.as_str(), text);
+    }
+    Ok(())
+}
+
+#[test]
+fn faults_of_reading_say_what_to_do(rt: HostRuntime) -> Result<(), Fail> {
+    let texts = [
+        (
+            ReadFault::Directory(DirFault::MarkedFree),
+            "the disk can't be read: the block map marks a block free that is in use: validate the disk",
+        ),
+        (
+            ReadFault::NotFound,
+            "there is no such file: list the directory to see which there are",
+        ),
+        (
+            ReadFault::NotClosed,
+            "the file was not closed after it was written",
+        ),
+        (ReadFault::WrongType, "a DEL entry has no content to read"),
+    ];
+    for (fault, text) in &texts {
+        assert_eq!(rt; fault.to_string(rt.alloc())?.as_str(), *text);
+    }
     Ok(())
 }

@@ -21,10 +21,12 @@ fn a_wrong_length_is_refused_with_that_length(rt: HostRuntime) -> Result<(), All
 
 #[test]
 fn a_fault_says_the_lengths(rt: HostRuntime) -> Result<(), AllocError> {
-    let text = format!(in rt.alloc(); "{}", ImageFault::WrongLength(174847))?;
+    let length = ImageFault::WrongLength(174847);
+    let memory = ImageFault::Memory(AllocError);
+    let text = format!(in rt.alloc(); "{length}; {memory}")?;
     assert_eq!(rt;
         text.as_str(),
-        "an image has 174848 or 196608 bytes, and these are 174847"
+        "an image has 174848 or 196608 bytes, and these are 174847; out of memory"
     );
     Ok(())
 }

@@ -4,6 +4,7 @@ use d64_dos::Command;
 use d64_files::{Kind, Name};
 use d64_image::Image;
 use d64_undo::{ResumeFault, Session, resume};
+use std::alloc::AllocError;
 use std::test::Fail;
 
 /// Where the block of `x`, 17/0, lies in the image of a file.
@@ -188,5 +189,30 @@ fn a_count_that_no_file_has_is_truncated(rt: HostRuntime) -> Result<(), Fail> {
     let file = Session::new(rt.alloc(), Image::zeroed(rt.alloc())?).keep(rt.alloc())?;
     let other = with_bytes_at(&rt, &file, 174_868, &[0xff])?;
     assert_eq!(rt; fault_of(&rt, &other), Some(ResumeFault::Truncated));
+    Ok(())
+}
+
+#[test]
+fn faults_say_what_is_wrong(rt: HostRuntime) -> Result<(), Fail> {
+    let texts = [
+        (ResumeFault::NotSession, "this is no session file"),
+        (ResumeFault::Truncated, "the session file is cut short"),
+        (
+            ResumeFault::Trailing,
+            "there is more after the session file's end",
+        ),
+        (
+            ResumeFault::BadCursor,
+            "the session file counts more records done than it has",
+        ),
+        (
+            ResumeFault::BadRecord,
+            "a record of the session file is no change of its image",
+        ),
+        (ResumeFault::Memory(AllocError), "out of memory"),
+    ];
+    for (fault, text) in texts {
+        assert_eq!(rt; fault.to_string(rt.alloc())?.as_str(), text);
+    }
     Ok(())
 }
