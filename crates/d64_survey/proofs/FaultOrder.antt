@@ -1,9 +1,8 @@
 -- The first of an image's faults is one of the first condition that fails.
-use Rattle.std.proofs.Common.{◌≡◌, ◌≢◌, ℕ, zero, suc, ◌+◌, ◌<◌, ◌≤◌, ◌||◌, ◌&&◌, Bool, true, false, cond, not, eqb, ltb, List, [], ◌∷◌, ◌++◌, length, map, get_or, Option, Some, None, refl, sym, ap, ap₂, ◌∙◌, subst, inl, inr, arith, append-nil}
-use Rattle.std.specs.Prelude.{All, filter, find, option_map, ◌↔◌}
+use Rattle.std.proofs.Common.{◌≡◌, ◌≢◌, ℕ, ◌+◌, ◌<◌, ◌≤◌, ◌||◌, ◌&&◌, Bool, true, false, cond, not, eqb, ltb, List, [], ◌∷◌, ◌++◌, length, map, get_or, Option, Some, None, refl, sym, ap, ap₂, ◌∙◌, subst, inl, inr, arith, append-nil}
+use Rattle.std.specs.Prelude.{filter, option_map}
 use Rattle.std.specs.List.{flat_map, list_any, list_all, range_with_len, enumerate_from, slice_get}
 use Rattle.std.specs.Option.{option_map_or}
-use Rattle.std.specs.Ordering.{nat_cmp}
 use Rattle.std.specs.FinSet as set
 use Rattle.std.proofs.lemmas.Bool.{cases_Bool, or_parts, or_from, or_cases, or_right, eqb-true, eq-eqb, lt-ltb, le-ltb}
 use Rattle.std.proofs.lemmas.Bool.Decides.{nat_tests}
@@ -16,12 +15,12 @@ use Rattle.d64_map.specs.Map.{map_block, blocks, count_of, free_blocks}
 use Rattle.d64_map.specs.Track.{members_on}
 use Rattle.d64_files.specs.Claims.{has_repeats}
 use Rattle.d64_files.specs.Slot.{type_byte, has_kind}
-use Rattle.d64_files.specs.Ownership.{chain_at, roots, HasItsChains}
-use Rattle.d64_files.specs.Directory.{directory, slots, owned_blocks, number_of, AllHold}
+use Rattle.d64_files.specs.Ownership.{chain_at, roots}
+use Rattle.d64_files.specs.Directory.{directory, owned_blocks, number_of}
 use Rattle.d64_files.specs.FirstFault.{is_nil, fails, first_fault, sound_conditions}
 use Rattle.d64_files.specs.declared.dir_fault.DirFault.{DirFault}
 use Rattle.d64_files.specs.declared.dir_fault.DirFault.TheVariants as conditions
-use Rattle.d64_files.proofs.FirstFaults.{met, not_nil, sound_tells}
+use Rattle.d64_files.proofs.FirstFaults.{met, sound_tells}
 use Rattle.d64_survey.specs.Way.{way, is_whole}
 use Rattle.d64_survey.specs.Owners.{pair_of, blocks_from, directory_way, way_slots, owners, blocks_owned, owners_of, is_owned, is_shared}
 use Rattle.d64_survey.specs.SlotBlocks.{slot_blocks}
@@ -36,7 +35,6 @@ use Rattle.d64_survey.specs.declared.owner.Part.TheVariants.{Data, Side}
 use Rattle.d64_survey.specs.declared.way_end.WayEnd.{WayEnd}
 use Rattle.d64_survey.specs.declared.way_end.WayEnd.TheVariants.{End, Off, Loop}
 use Rattle.d64_survey.proofs.Told.{bounded}
-use Rattle.d64_survey.proofs.Trails.{lies}
 use Rattle.d64_survey.proofs.Owning.{few_roots, slots_are, owned_are, blocks_owned-are}
 
 -- the number of the first fault

@@ -1,5 +1,5 @@
 -- The steps of a way.
-use Rattle.std.proofs.Common.{◌≡◌, ℕ, zero, suc, Bool, true, false, cond, eqb, List, [], ◌∷◌, ◌++◌, Option, Some, None, refl, ap, ◌∙◌}
+use Rattle.std.proofs.Common.{◌≡◌, ℕ, zero, suc, Bool, true, false, cond, eqb, List, [], ◌∷◌, ◌++◌, Some, None, refl, ap}
 use Rattle.std.specs.List.{list_any}
 use Rattle.d64_files.specs.Chain.{link_at}
 use Rattle.d64_survey.specs.Way.{way_on, block_at}

@@ -1,13 +1,11 @@
 -- What a way tells of the chain from its first block.
-use Rattle.std.proofs.Common.{◌≡◌, ◌≢◌, ℕ, zero, suc, ◌+◌, ◌<◌, Bool, true, false, eqb, List, [], ◌∷◌, ◌++◌, length, Option, Some, None, refl, sym, ap, ◌∙◌, subst, inl, inr, arith}
-use Rattle.std.specs.Prelude.{◌↔◌}
+use Rattle.std.proofs.Common.{◌≡◌, ◌≢◌, ℕ, zero, suc, ◌+◌, ◌<◌, true, false, eqb, List, [], ◌∷◌, ◌++◌, length, Option, Some, None, refl, sym, ap, ◌∙◌, subst, inl, inr}
 use Rattle.std.specs.List.{list_any}
 use Rattle.std.specs.Option.{option_map_or}
 use Rattle.std.specs.Ordering.{nat_cmp}
 use Rattle.std.specs.FinSet as set
 use Rattle.std.specs.FinSet.{contains-empty}
 use Rattle.std.proofs.lemmas.Bool.{cases_Bool}
-use Rattle.std.proofs.lemmas.Map.Steps.{length-le_from_distinct_below}
 use Rattle.d64_files.specs.Chain.{Chain, chain, link_at}
 use Rattle.d64_files.specs.Ownership.{chain_at}
 use Rattle.d64_files.proofs.Chains.{block_in-within, ends_at, leads_to, chain-is, is_chain, not_empty}
@@ -16,7 +14,7 @@ use Rattle.d64_survey.specs.Way.{way, way_on, block_at}
 use Rattle.d64_survey.specs.declared.way_end.WayEnd.{WayEnd}
 use Rattle.d64_survey.specs.declared.way_end.WayEnd.TheVariants.{End, Off, Loop}
 use Rattle.d64_survey.proofs.Steps.{from_block, off, loops, fresh_step, ends, goes_on}
-use Rattle.d64_survey.proofs.Trails.{Trail, begun, added, some_left, lies}
+use Rattle.d64_survey.proofs.Trails.{Trail, begun, added, some_left}
 
 -- the way's blocks are distinct ones of the image; where it ends after a last block they are the chain, and else there is none
 pub record Told (image : List (List ℕ)) (start : ℕ) (told : List ℕ × WayEnd) : Type 0 where

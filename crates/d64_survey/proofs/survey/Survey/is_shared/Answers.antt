@@ -1,4 +1,4 @@
-use Rattle.std.proofs.Common.{◌≡◌, ℕ, List, ltb, sym, ap, ◌∙◌}
+use Rattle.std.proofs.Common.{ℕ, List, ltb, sym, ap, ◌∙◌}
 use Rattle.d64_survey.specs.Owners.{blocks_owned, is_shared}
 use Rattle.d64_survey.proofs.FaultOrder.{owners-counted}
 use Rattle.d64_survey.proofs.survey.Survey.is_shared.Goals as goal

@@ -1,4 +1,4 @@
-use Rattle.std.proofs.Common.{◌≡◌, ℕ, List, sym, ap, ◌∙◌, subst}
+use Rattle.std.proofs.Common.{ℕ, List, sym, ap, ◌∙◌, subst}
 use Rattle.d64_files.specs.Chain.{LieIn}
 use Rattle.d64_files.specs.Directory.{slots_in, entries}
 use Rattle.d64_survey.specs.Owners.{way_slots}
