@@ -1,5 +1,7 @@
 -- Commands as definitions see them: names and bytes are lists, so that a definition can say a command that no code has made.
 use Rattle.std.specs.Prelude.{ℕ, List}
+use Rattle.d64_image.specs.Disk.{Bytes}
+use Rattle.d64_image.specs.Disk.{Bytes}
 use Rattle.d64_files.specs.declared.kind.Kind.{Kind}
 use Rattle.d64_dos.specs.declared.command.Command.{Command}
 use Rattle.d64_dos.specs.declared.command.Command.TheVariants as commands
@@ -7,17 +9,17 @@ use Rattle.d64_dos.specs.declared.command.Command.TheVariants as commands
 -- a change of a disk
 pub data Change : Type 0 where
   -- an empty disk with this name and this id
-  Format : List ℕ → List ℕ → Change
+  Format : Bytes → Bytes → Change
   -- a file more, of this name, this kind and these bytes
-  Write : List ℕ → Kind → List ℕ → Change
+  Write : Bytes → Kind → Bytes → Change
   -- without the files that these patterns match
-  Delete : List (List ℕ) → Change
+  Delete : List Bytes → Change
   -- the first file of this name under that one
-  Rename : List ℕ → List ℕ → Change
+  Rename : Bytes → Bytes → Change
   -- without unclosed files, and with the map that the files ask for
   Validate : Change
   -- other bytes in one block
-  BlockWrite : ℕ → List ℕ → Change
+  BlockWrite : ℕ → Bytes → Change
 
 -- the change that a command asks for
 abbrev pub said : Command → Change

@@ -1,5 +1,7 @@
 -- What commands do, and when they are refused: a table with a row for each command.
 use Rattle.std.specs.Prelude.{◌≡◌, ℕ, ◌<◌, List, length, filter, Option, None, Some, IsSome, MatchOption}
+use Rattle.d64_image.specs.Disk.{Disk, Bytes}
+use Rattle.d64_image.specs.Disk.{Disk, Bytes}
 use Rattle.d64_image.specs.Image.{with_sector}
 use Rattle.d64_effects.specs.Contents.{names_and_contents}
 use Rattle.d64_effects.specs.ContentsAfter.{is_scratched_row}
@@ -32,14 +34,14 @@ pub record Promise : Type 0 where
 -- as before, and the reply; and what it promises of the disk's files. A command that is no file command promises nothing.
 -- And the block that a command names by itself, where it names one
 pub record Row : Type 0 where
-  pub refusal : List (List ℕ) → Option Refusal
-  pub effect : List (List ℕ) → List (List ℕ)
-  pub reply : List (List ℕ) → Reply
+  pub refusal : Disk → Option Refusal
+  pub effect : Disk → Disk
+  pub reply : Disk → Reply
   pub promise : Option Promise
   pub block : Option ℕ
 
 -- how many files of the directory's list patterns scratch
-abbrev pub scratched_of : View → List (List ℕ) → ℕ
+abbrev pub scratched_of : View → List Bytes → ℕ
 scratched_of shown patterns = length (filter (is_scratched_row patterns) (names_and_contents shown))
 
 -- the table
@@ -88,19 +90,19 @@ row (BlockWrite at block) = record {
 }
 
 -- the first refusal of a command that applies to the image, and none where the command is to be accepted
-abbrev pub refusal_of : List (List ℕ) → Change → Option Refusal
+abbrev pub refusal_of : Disk → Change → Option Refusal
 refusal_of image change = (row change).refusal image
 
 -- the image after a command
-abbrev pub after : List (List ℕ) → Change → List (List ℕ)
+abbrev pub after : Disk → Change → Disk
 after image change = (row change).effect image
 
 -- what an accepted command answers
-abbrev pub reply_to : List (List ℕ) → Change → Reply
+abbrev pub reply_to : Disk → Change → Reply
 reply_to image change = (row change).reply image
 
 -- the image has the block that a command names
-abbrev pub IsWithin : List (List ℕ) → Change → Type 0
+abbrev pub IsWithin : Disk → Change → Type 0
 IsWithin image change = MatchOption (row change).block (Unit {0}) (λ block. block < length image)
 
 -- a command that changes the files of a disk; a block write promises nothing of them
@@ -108,12 +110,12 @@ abbrev pub IsFileCommand : Change → Type 0
 IsFileCommand change = IsSome (row change).promise
 
 -- the images from which a promise holds
-abbrev pub IsStart : Start → List (List ℕ) → Type 0
+abbrev pub IsStart : Start → Disk → Type 0
 IsStart AnyDisk image = Unit {0}
 IsStart SoundDisk image = IsSound image
 
 -- the images from which a file command is promised to leave a sound disk
-abbrev pub StartsFrom : Change → List (List ℕ) → Type 0
+abbrev pub StartsFrom : Change → Disk → Type 0
 StartsFrom change image = MatchOption (row change).promise ⊥ (λ promise. IsStart promise.start image)
 
 -- what a disk shows before a file command, the reply, and what it shows after it

@@ -1,5 +1,7 @@
 -- What the directory of a disk lists.
 use Rattle.std.specs.Prelude.{◌≡◌, ℕ, Bool, List, [], ◌∷◌, map, filter, slice_range}
+use Rattle.d64_image.specs.Disk.{Disk, Bytes}
+use Rattle.d64_image.specs.Disk.{Disk, Bytes}
 use Rattle.d64_image.specs.Image.{IsSize, sector_at}
 use Rattle.d64_map.specs.Map.{map_block, blocks_free}
 use Rattle.d64_files.specs.Directory.{slots}
@@ -15,21 +17,21 @@ use Rattle.d64_dos.specs.declared.row.Listing.{Listing}
 -- a row of the directory
 pub record RowView : Type 0 where
   pub blocks : ℕ
-  pub name : List ℕ
+  pub name : Bytes
   pub closed : Bool
   pub kind : Kind
   pub locked : Bool
 
 -- a directory: the disk's name up to its first shifted space, its id, its DOS version, a row for each used slot, and the number of free blocks that it shows
 pub record ListingView : Type 0 where
-  pub name : List ℕ
-  pub id : List ℕ
-  pub dos : List ℕ
+  pub name : Bytes
+  pub id : Bytes
+  pub dos : Bytes
   pub rows : List RowView
   pub free : ℕ
 
 -- the row of a slot
-abbrev pub row_of : List ℕ → RowView
+abbrev pub row_of : Bytes → RowView
 row_of cell = record { blocks = size_of cell; name = name_of cell; closed = is_closed cell; kind = kind_of cell; locked = is_locked cell }
 
 -- the rows of the used ones among entries
@@ -37,7 +39,7 @@ abbrev pub rows_of : List EntryView → List RowView
 rows_of walk = map (λ (entry : EntryView). row_of entry.bytes) (filter (λ (entry : EntryView). is_used entry.bytes) walk)
 
 -- what the directory of an image lists
-unfoldable pub listing_of : List (List ℕ) → ListingView
+unfoldable pub listing_of : Disk → ListingView
 listing_of image = record {
   name = name_in (disk_field image);
   id = disk_id image;
@@ -63,5 +65,5 @@ shown_listing listing = record {
 -- a formatted disk lists its name, its id, the DOS version `2A`, no file, and all blocks outside track 18 free
 abbrev pub FormattedDiskLists : Type 0
 FormattedDiskLists =
-    (count : ℕ) (name id : List ℕ) → IsSize count → IsName name → AreTwoBytes id
+    (count : ℕ) (name id : Bytes) → IsSize count → IsName name → AreTwoBytes id
     → listing_of (formatted count name id) ≡ record { name = name; id = id; dos = 0x32 ∷ 0x41 ∷ []; rows = []; free = free_count_of count }

@@ -1,6 +1,8 @@
 -- What a file that is asked for by its name gives, and what keeps it from being read.
-use Rattle.std.specs.Prelude.{◌≡◌, ℕ, List, [], slice_get, Option, Some, None, option_map}
+use Rattle.std.specs.Prelude.{◌≡◌, ℕ, [], slice_get, Option, Some, None, option_map}
 use Rattle.std.specs.Option.{option_or, option_map_or}
+use Rattle.d64_image.specs.Disk.{Disk, Bytes}
+use Rattle.d64_image.specs.Disk.{Disk, Bytes}
 use Rattle.d64_files.specs.Directory.{slots, first_named}
 use Rattle.d64_files.specs.FirstFault.{first_fault, reading_conditions}
 use Rattle.d64_files.specs.Reading.{slot_refusal, content_at}
@@ -10,24 +12,24 @@ use Rattle.d64_dos.specs.declared.refusal.Refusal.{Refusal}
 use Rattle.d64_dos.specs.declared.refusal.Refusal.TheVariants.{NotFound, Directory}
 
 -- the refusal for a directory that can't be read
-abbrev pub directory_refusal : List (List ℕ) → Option Refusal
+abbrev pub directory_refusal : Disk → Option Refusal
 directory_refusal image = option_map Directory (first_fault image reading_conditions)
 
 -- why the slot that was found can't be read; there may be none
-abbrev pub found_refusal : List (List ℕ) → Option ℕ → Option Refusal
+abbrev pub found_refusal : Disk → Option ℕ → Option Refusal
 found_refusal image None = Some NotFound
 found_refusal image (Some slot) = option_map of_read_fault (slot_refusal image (slice_get (slots image) slot))
 
 -- why a file can't be read by a pattern: what is wrong with the directory, or else with the first used slot whose name the pattern matches
-unfoldable pub read_refusal : List (List ℕ) → List ℕ → Option Refusal
+unfoldable pub read_refusal : Disk → Bytes → Option Refusal
 read_refusal image pattern = option_or (directory_refusal image) (found_refusal image (first_named pattern (slots image)))
 
 -- the name in a slot; nothing where there is no such slot
-abbrev pub name_at : List (List ℕ) → ℕ → List ℕ
+abbrev pub name_at : Disk → ℕ → Bytes
 name_at image slot = option_map_or name_of (slice_get (slots image) slot) []
 
 -- a file that was read: the name and the content of the first used slot whose name the pattern matches
-pub record IsReadBack (image : List (List ℕ)) (pattern name bytes : List ℕ) : Type 0 where
+pub record IsReadBack (image : Disk) (pattern name bytes : Bytes) : Type 0 where
   pub slot : ℕ
   pub found : first_named pattern (slots image) ≡ Some slot
   pub is_name : name ≡ name_at image slot

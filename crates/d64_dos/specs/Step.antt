@@ -1,5 +1,7 @@
 -- What an accepted command makes of a sound disk and of what it shows.
-use Rattle.std.specs.Prelude.{◌≡◌, ℕ, List, None}
+use Rattle.std.specs.Prelude.{◌≡◌, None}
+use Rattle.d64_image.specs.Disk.{Disk}
+use Rattle.d64_image.specs.Disk.{Disk}
 use Rattle.d64_files.specs.Name.{IsName}
 use Rattle.d64_image.specs.Image.{IsImage}
 use Rattle.d64_effects.specs.Laws.{AreTwoBytes, AreBytes}
@@ -9,7 +11,7 @@ use Rattle.d64_dos.specs.Command.{after, reply_to, refusal_of, StartsFrom, ViewS
 use Rattle.d64_dos.specs.declared.command.Reply.{Reply}
 
 -- what is left is an image, sound, and shows what it did before with the command's change
-pub record Leaves (image : List (List ℕ)) (change : Change) (reply : Reply) (next : List (List ℕ)) : Type 0 where
+pub record Leaves (image : Disk) (change : Change) (reply : Reply) (next : Disk) : Type 0 where
   pub is_image : IsImage next
   pub sound : IsSound next
   pub shows : ViewStep (view image) change reply (view next)
@@ -26,6 +28,6 @@ IsMade (BlockWrite at block) = Unit {0}
 -- an accepted file command leaves a sound disk, which shows the command's change and nothing else
 abbrev pub FileCommandsKeepDisksSound : Type 0
 FileCommandsKeepDisksSound =
-    (image : List (List ℕ)) (change : Change)
+    (image : Disk) (change : Change)
     → IsImage image → IsMade change → refusal_of image change ≡ None → StartsFrom change image
     → Leaves image change (reply_to image change) (after image change)

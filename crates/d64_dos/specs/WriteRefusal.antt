@@ -1,6 +1,8 @@
 -- When the writing of a file is refused.
-use Rattle.std.specs.Prelude.{ℕ, nat_le, ◌&&◌, ◌||◌, not, true, false, Bool, if◌then◌else◌, List, Option, Some, None, is_some}
+use Rattle.std.specs.Prelude.{ℕ, nat_le, ◌&&◌, ◌||◌, not, true, false, Bool, if◌then◌else◌, Option, Some, None, is_some}
 use Rattle.std.specs.Option.{option_or}
+use Rattle.d64_image.specs.Disk.{Disk, Bytes}
+use Rattle.d64_image.specs.Disk.{Disk, Bytes}
 use Rattle.d64_map.specs.Map.{free_blocks}
 use Rattle.d64_map.specs.Plan.{room}
 use Rattle.d64_files.specs.Directory.{slots, is_name_taken}
@@ -19,13 +21,13 @@ is_writable Rel = false
 is_writable kind = true
 
 -- there is room for a file of so many bytes, and for its entry
-abbrev pub has_room : List (List ℕ) → ℕ → Bool
+abbrev pub has_room : Disk → ℕ → Bool
 has_room image bytes =
     nat_le (blocks_for bytes) (room (free_blocks image))
     && (is_some (first_unused (slots image)) || is_some (next_of_directory (free_blocks image) (dir_last image)))
 
 -- the first refusal of a write that applies: the kind, then the first condition of a sound image that fails, then the name, then the room
-unfoldable pub write_refusal : List (List ℕ) → List ℕ → Kind → ℕ → Option Refusal
+unfoldable pub write_refusal : Disk → Bytes → Kind → ℕ → Option Refusal
 write_refusal image name kind bytes =
     if not (is_writable kind)
     then Some WrongType

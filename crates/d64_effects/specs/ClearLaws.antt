@@ -1,34 +1,36 @@
 -- What stays while slots of the directory are cleared one after another.
 use Rattle.std.specs.Prelude.{◌≡◌, ℕ, ◌<◌, if◌then◌else◌, List, [], ◌∷◌, ◌++◌, length, All, Bool}
+use Rattle.d64_image.specs.Disk.{Disk, Bytes}
+use Rattle.d64_image.specs.Disk.{Disk, Bytes}
 use Rattle.d64_image.specs.Image.{IsImage}
 use Rattle.d64_files.specs.Directory.{directory, slots}
 use Rattle.d64_effects.specs.Clear.{slots_where, with_cleared}
 
 -- numbers of slots that an image has
-abbrev pub AreSlotsOf : List (List ℕ) → List ℕ → Type 0
+abbrev pub AreSlotsOf : Disk → List ℕ → Type 0
 AreSlotsOf image numbers = All (λ number. number < length (slots image)) numbers
 
 -- the image stays one
 abbrev pub ClearingKeepsTheImage : Type 0
-ClearingKeepsTheImage = (image : List (List ℕ)) (numbers : List ℕ) → IsImage image → AreSlotsOf image numbers → IsImage (with_cleared image numbers)
+ClearingKeepsTheImage = (image : Disk) (numbers : List ℕ) → IsImage image → AreSlotsOf image numbers → IsImage (with_cleared image numbers)
 
 -- its directory lies in the same blocks
 abbrev pub ClearingKeepsTheDirectory : Type 0
 ClearingKeepsTheDirectory =
-    (image : List (List ℕ)) (numbers : List ℕ) → IsImage image → AreSlotsOf image numbers → directory (with_cleared image numbers) ≡ directory image
+    (image : Disk) (numbers : List ℕ) → IsImage image → AreSlotsOf image numbers → directory (with_cleared image numbers) ≡ directory image
 
 -- and has as many slots
 abbrev pub ClearingKeepsTheNumberOfSlots : Type 0
 ClearingKeepsTheNumberOfSlots =
-    (image : List (List ℕ)) (numbers : List ℕ)
+    (image : Disk) (numbers : List ℕ)
     → IsImage image → AreSlotsOf image numbers → length (slots (with_cleared image numbers)) ≡ length (slots image)
 
 -- among slots and one more, that one counts if it passes the test
 abbrev pub OneMoreSlotCounts : Type 0
 OneMoreSlotCounts =
-    (test : List ℕ → Bool) (cells : List (List ℕ)) (cell : List ℕ)
+    (test : Bytes → Bool) (cells : List Bytes) (cell : Bytes)
     → slots_where test (cells ++ (cell ∷ [])) ≡ slots_where test cells ++ (if test cell then length cells ∷ [] else [])
 
 -- and the slots that pass a test are slots of the image
 abbrev pub SlotsWhereAreSlots : Type 0
-SlotsWhereAreSlots = (test : List ℕ → Bool) (cells : List (List ℕ)) → All (λ number. number < length cells) (slots_where test cells)
+SlotsWhereAreSlots = (test : Bytes → Bool) (cells : List Bytes) → All (λ number. number < length cells) (slots_where test cells)

@@ -1,18 +1,20 @@
 -- The directory's list of names and contents.
 use Rattle.std.specs.Prelude.{ℕ, Bool, List, option_map}
 use Rattle.std.specs.List.{filter_map}
+use Rattle.d64_image.specs.Disk.{Bytes}
+use Rattle.d64_image.specs.Disk.{Bytes}
 use Rattle.d64_effects.specs.View.{View, FileView}
 use Rattle.d64_files.specs.Name.{name_in}
 use Rattle.d64_files.specs.declared.kind.Kind.{Kind}
 
 -- a file as that list has it: what it is called, what it is and what it holds, and not where
 pub record ListedFile : Type 0 where
-  pub name : List ℕ
+  pub name : Bytes
   pub kind : Kind
   pub closed : Bool
   pub locked : Bool
   pub size : ℕ
-  pub content : List ℕ
+  pub content : Bytes
 
 -- what the list says of a file
 abbrev pub listed : FileView → ListedFile

@@ -1,5 +1,7 @@
 -- What the commands make of the directory's list of names and contents: on disks, and on views, whose steps are these steps on that list.
 use Rattle.std.specs.Prelude.{◌≡◌, ℕ, not, List, [], length, filter}
+use Rattle.d64_image.specs.Disk.{Disk, Bytes}
+use Rattle.d64_image.specs.Disk.{Disk, Bytes}
 use Rattle.d64_image.specs.Image.{IsSize, IsImage}
 use Rattle.d64_files.specs.Directory.{AllHold}
 use Rattle.d64_files.specs.Name.{IsName}
@@ -18,12 +20,12 @@ use Rattle.d64_files.specs.declared.kind.Kind.{Kind}
 
 -- a formatted disk lists nothing
 abbrev pub FormattedListsNothing : Type 0
-FormattedListsNothing = (count : ℕ) (name id : List ℕ) → names_and_contents (formatted_view count name id) ≡ []
+FormattedListsNothing = (count : ℕ) (name id : Bytes) → names_and_contents (formatted_view count name id) ≡ []
 
 -- the writing of a file puts that file into the list
 abbrev pub WrittenListsTheFile : Type 0
 WrittenListsTheFile =
-    (shown : View) (name : List ℕ) (kind : Kind) (bytes : List ℕ)
+    (shown : View) (name : Bytes) (kind : Kind) (bytes : Bytes)
     → IsName name
     → names_and_contents (written_view shown name kind bytes)
     ≡ list_with (names_and_contents shown) (first_vacant shown) (new_row name kind bytes (length (taken_by shown.free (length bytes))))
@@ -31,13 +33,13 @@ WrittenListsTheFile =
 -- the deleting of files leaves the others in the list
 abbrev pub ScratchedListsTheOthers : Type 0
 ScratchedListsTheOthers =
-    (shown : View) (patterns : List (List ℕ))
+    (shown : View) (patterns : List Bytes)
     → names_and_contents (scratched_view shown patterns) ≡ filter (λ row. not (is_scratched_row patterns row)) (names_and_contents shown)
 
 -- the renaming of a file changes its name in the list
 abbrev pub RenamedListsTheName : Type 0
 RenamedListsTheName =
-    (shown : View) (old new : List ℕ)
+    (shown : View) (old new : Bytes)
     → IsName new → names_and_contents (renamed_view shown old new) ≡ renamed_rows (names_and_contents shown) old new
 
 -- a validation leaves the closed files in the list
@@ -46,18 +48,18 @@ ValidatedListsTheClosed =
     (shown : View) → names_and_contents (validated_view shown) ≡ filter (λ row. row.closed) (names_and_contents shown)
 
 -- the list of a disk
-abbrev pub files_of : List (List ℕ) → List ListedFile
+abbrev pub files_of : Disk → List ListedFile
 files_of image = names_and_contents (view image)
 
 -- so a formatted disk lists nothing
 abbrev pub FormattedDiskLists : Type 0
 FormattedDiskLists =
-    (count : ℕ) (name id : List ℕ) → IsSize count → IsName name → AreTwoBytes id → files_of (formatted count name id) ≡ []
+    (count : ℕ) (name id : Bytes) → IsSize count → IsName name → AreTwoBytes id → files_of (formatted count name id) ≡ []
 
 -- a sound disk with a new file lists that file, of as many blocks as its bytes need, beside the others
 abbrev pub WrittenDiskLists : Type 0
 WrittenDiskLists =
-    (image : List (List ℕ)) (name : List ℕ) (kind : Kind) (bytes : List ℕ)
+    (image : Disk) (name : Bytes) (kind : Kind) (bytes : Bytes)
     → IsImage image → IsName name → IsWritable kind → AreBytes bytes → IsSound image → HasRoom image (length bytes)
     → files_of (written image name kind bytes)
     ≡ list_with (files_of image) (first_vacant (view image)) (new_row name kind bytes (blocks_for (length bytes)))
@@ -65,16 +67,16 @@ WrittenDiskLists =
 -- a sound disk without deleted files lists the others
 abbrev pub ScratchedDiskLists : Type 0
 ScratchedDiskLists =
-    (image patterns : List (List ℕ))
+    (image : Disk) (patterns : List Bytes)
     → IsImage image → IsSound image → files_of (scratched image patterns) ≡ filter (λ row. not (is_scratched_row patterns row)) (files_of image)
 
 -- a sound disk with a renamed file lists its other name
 abbrev pub RenamedDiskLists : Type 0
 RenamedDiskLists =
-    (image : List (List ℕ)) (old new : List ℕ)
+    (image : Disk) (old new : Bytes)
     → IsImage image → IsName new → IsSound image → files_of (renamed image old new) ≡ renamed_rows (files_of image) old new
 
 -- and a validated disk lists the closed files
 abbrev pub ValidatedDiskLists : Type 0
 ValidatedDiskLists =
-    (image : List (List ℕ)) → IsImage image → AllHold image 2 5 → files_of (validated image) ≡ filter (λ row. row.closed) (files_of image)
+    (image : Disk) → IsImage image → AllHold image 2 5 → files_of (validated image) ≡ filter (λ row. row.closed) (files_of image)

@@ -1,6 +1,8 @@
 -- The image that the deleting of files leaves, byte for byte.
 use Rattle.std.specs.Prelude.{ℕ, ◌&&◌, Bool, not, List, [], ◌∷◌, length}
 use Rattle.std.specs.List.{list_any, flat_map}
+use Rattle.d64_image.specs.Disk.{Disk, Bytes, Blocks}
+use Rattle.d64_image.specs.Disk.{Disk, Bytes, Blocks}
 use Rattle.d64_map.specs.Map.{free_blocks, with_map}
 use Rattle.d64_files.specs.Directory.{slots, slot_owns}
 use Rattle.d64_files.specs.Pattern.{matches}
@@ -8,27 +10,27 @@ use Rattle.d64_files.specs.Slot.{is_used, is_closed, is_locked, name_of}
 use Rattle.d64_effects.specs.Clear.{slots_where, with_cleared, with_freed}
 
 -- whether patterns scratch a file with these flags and this name: one that is closed and not locked, and that one pattern or more matches
-abbrev pub is_scratched : List (List ℕ) → Bool → Bool → List ℕ → Bool
+abbrev pub is_scratched : List Bytes → Bool → Bool → Bytes → Bool
 is_scratched patterns closed locked name = closed && (not locked && list_any (λ pattern. matches pattern name) patterns)
 
 -- the same for a slot, which must be used
-abbrev pub is_scratched_slot : List (List ℕ) → List ℕ → Bool
+abbrev pub is_scratched_slot : List Bytes → Bytes → Bool
 is_scratched_slot patterns cell = is_used cell && is_scratched patterns (is_closed cell) (is_locked cell) (name_of cell)
 
 -- the numbers of the slots that patterns scratch: each once, whether one pattern matches or several
-abbrev pub scratched_slots : List (List ℕ) → List (List ℕ) → List ℕ
+abbrev pub scratched_slots : Disk → List Bytes → List ℕ
 scratched_slots image patterns = slots_where (is_scratched_slot patterns) (slots image)
 
 -- how many these are
-abbrev pub scratched_count : List (List ℕ) → List (List ℕ) → ℕ
+abbrev pub scratched_count : Disk → List Bytes → ℕ
 scratched_count image patterns = length (scratched_slots image patterns)
 
 -- the image without the files of these slots, whose blocks are free; where there are none, nothing is written
-abbrev pub without_files : List (List ℕ) → List ℕ → List (List ℕ)
+abbrev pub without_files : Disk → List ℕ → Disk
 without_files image [] = image
 without_files image (slot ∷ others) =
     with_map (with_cleared image (slot ∷ others)) (with_freed (free_blocks image) (flat_map (slot_owns image) (slot ∷ others)))
 
 -- the image after the deleting of the files that patterns match
-unfoldable pub scratched : List (List ℕ) → List (List ℕ) → List (List ℕ)
+unfoldable pub scratched : Disk → List Bytes → Disk
 scratched image patterns = without_files image (scratched_slots image patterns)

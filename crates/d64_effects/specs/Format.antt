@@ -1,7 +1,10 @@
 -- The disk that a format leaves, byte for byte.
-use Rattle.std.specs.Prelude.{ℕ, List, [], ◌∷◌, ◌++◌, replicate}
-use Rattle.std.specs.Ordering.{nat_cmp}
+use Rattle.std.specs.Prelude.{ℕ, [], ◌∷◌, ◌++◌, replicate}
 use Rattle.std.specs.FinSet as set
+use Rattle.d64_image.specs.Disk.{Disk, Bytes}
+use Rattle.d64_image.specs.BlockSet.{BlockSet}
+use Rattle.d64_image.specs.Disk.{Disk, Bytes}
+use Rattle.d64_image.specs.BlockSet.{BlockSet}
 use Rattle.d64_image.specs.declared.image.TheConstants.{BLOCK_BYTES}
 use Rattle.d64_image.specs.Image.{with_sector}
 use Rattle.d64_map.specs.Map.{map_block, all_of, with_map}
@@ -14,7 +17,7 @@ directory_start = 358
 
 -- the map's block before the map is written, part after part: the directory's first track and sector, the format `A`, no
 -- map yet, the name, the id, the DOS version `2A`, and nothing more
-unfoldable pub header : List ℕ → List ℕ → List ℕ
+unfoldable pub header : Bytes → Bytes → Bytes
 header name id =
     (0x12 ∷ 0x01 ∷ [])
     ++ (0x41 ∷ 0x00 ∷ [])
@@ -28,14 +31,14 @@ header name id =
     ++ replicate 85 0x00
 
 -- the free blocks of a disk of so many: all but the map's block and the directory's first one
-unfoldable pub free_when_formatted : ℕ → set.FinSet nat_cmp
+unfoldable pub free_when_formatted : ℕ → BlockSet
 free_when_formatted count = set.remove (set.remove (all_of count) map_block) directory_start
 
 -- the blank image of so many blocks, all of whose bytes are 0
-unfoldable pub blank : ℕ → List (List ℕ)
+unfoldable pub blank : ℕ → Disk
 blank count = replicate count (replicate BLOCK_BYTES 0)
 
 -- the blank image of so many blocks with the map's block and the directory's first one, and the map of the free blocks
-unfoldable pub formatted : ℕ → List ℕ → List ℕ → List (List ℕ)
+unfoldable pub formatted : ℕ → Bytes → Bytes → Disk
 formatted count name id =
     with_map (with_sector (with_sector (blank count) map_block (header name id)) directory_start empty_directory) (free_when_formatted count)

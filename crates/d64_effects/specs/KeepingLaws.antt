@@ -1,5 +1,7 @@
 -- Files that a command doesn't name keep their slot, their chain and their content.
 use Rattle.std.specs.Prelude.{◌≡◌, ◌≢◌, ℕ, true, false, List, length, slice_get, Some}
+use Rattle.d64_image.specs.Disk.{Disk, Bytes}
+use Rattle.d64_image.specs.Disk.{Disk, Bytes}
 use Rattle.d64_files.specs.Name.{IsName, name_in}
 use Rattle.d64_files.specs.Directory.{AllHold}
 use Rattle.d64_image.specs.Image.{IsImage}
@@ -13,20 +15,20 @@ use Rattle.d64_effects.specs.Write.{written}
 use Rattle.d64_files.specs.declared.kind.Kind.{Kind}
 
 -- a disk has a file in that slot, in these blocks and with this content
-abbrev pub HasFile : List (List ℕ) → ℕ → FileView → Type 0
+abbrev pub HasFile : Disk → ℕ → FileView → Type 0
 HasFile image slot file = slice_get (view image).slots slot ≡ Some (Some file)
 
 -- the writing of a file keeps every file that is there
 abbrev pub WritingKeepsFiles : Type 0
 WritingKeepsFiles =
-    (image : List (List ℕ)) (name : List ℕ) (kind : Kind) (bytes : List ℕ)
+    (image : Disk) (name : Bytes) (kind : Kind) (bytes : Bytes)
     → IsImage image → IsName name → IsWritable kind → AreBytes bytes → IsSound image → HasRoom image (length bytes)
     → (slot : ℕ) (file : FileView) → HasFile image slot file → HasFile (written image name kind bytes) slot file
 
 -- the deleting of files keeps those that are not closed, or locked, or matched by no pattern
 abbrev pub DeletingKeepsOtherFiles : Type 0
 DeletingKeepsOtherFiles =
-    (image patterns : List (List ℕ))
+    (image : Disk) (patterns : List Bytes)
     → IsImage image → IsSound image
     → (slot : ℕ) (file : FileView)
     → is_scratched_file patterns file ≡ false → HasFile image slot file → HasFile (scratched image patterns) slot file
@@ -34,13 +36,13 @@ DeletingKeepsOtherFiles =
 -- the renaming of a file keeps those of other names
 abbrev pub RenamingKeepsOtherFiles : Type 0
 RenamingKeepsOtherFiles =
-    (image : List (List ℕ)) (old new : List ℕ)
+    (image : Disk) (old new : Bytes)
     → IsImage image → IsName new → IsSound image
     → (slot : ℕ) (file : FileView) → name_in file.field ≢ old → HasFile image slot file → HasFile (renamed image old new) slot file
 
 -- a validation keeps every closed file
 abbrev pub ValidatingKeepsClosedFiles : Type 0
 ValidatingKeepsClosedFiles =
-    (image : List (List ℕ))
+    (image : Disk)
     → IsImage image → AllHold image 2 5
     → (slot : ℕ) (file : FileView) → file.closed ≡ true → HasFile image slot file → HasFile (validated image) slot file

@@ -1,5 +1,7 @@
 -- What follows from the definitions of the effects.
 use Rattle.std.specs.Prelude.{◌≡◌, ◌≢◌, ℕ, ◌-◌, ◌<◌, ◌≤◌, List, All, length, filter, None}
+use Rattle.d64_image.specs.Disk.{Disk, Bytes}
+use Rattle.d64_image.specs.Disk.{Disk, Bytes}
 use Rattle.d64_files.specs.Name.{IsName}
 use Rattle.d64_files.specs.Directory.{slots, AllHold}
 use Rattle.d64_files.specs.Writing.{blocks_for, first_unused, dir_last}
@@ -20,20 +22,20 @@ use Rattle.d64_files.specs.declared.kind.Kind.{Kind}
 use Rattle.d64_files.specs.declared.kind.Kind.TheVariants.{Del, Rel}
 
 -- two bytes, as an id has
-abbrev pub AreTwoBytes : List ℕ → Type 0
+abbrev pub AreTwoBytes : Bytes → Type 0
 AreTwoBytes id = (length id ≡ 2) × All (λ byte. byte < 256) id
 
 -- a formatted disk is an image
 abbrev pub FormattedIsImage : Type 0
-FormattedIsImage = (count : ℕ) (name id : List ℕ) → IsSize count → IsName name → AreTwoBytes id → IsImage (formatted count name id)
+FormattedIsImage = (count : ℕ) (name id : Bytes) → IsSize count → IsName name → AreTwoBytes id → IsImage (formatted count name id)
 
 -- its map marks free all blocks but its own and the directory's first one, whatever its name and its id are
 abbrev pub FormattedIsFree : Type 0
-FormattedIsFree = (count : ℕ) (name id : List ℕ) → IsSize count → free_blocks (formatted count name id) ≡ free_when_formatted count
+FormattedIsFree = (count : ℕ) (name id : Bytes) → IsSize count → free_blocks (formatted count name id) ≡ free_when_formatted count
 
 -- and the counts of its map fit
 abbrev pub FormattedCountsFit : Type 0
-FormattedCountsFit = (count : ℕ) (name id : List ℕ) → IsSize count → CountsFit (formatted count name id)
+FormattedCountsFit = (count : ℕ) (name id : Bytes) → IsSize count → CountsFit (formatted count name id)
 
 -- how many blocks the directory of a formatted disk of so many shows as free: all but those of track 18, so 664 on 35 tracks, and 749 on 40
 abbrev pub free_count_of : ℕ → ℕ
@@ -41,23 +43,23 @@ free_count_of count = count - sectors_on 18
 
 -- the directory shows so many free blocks
 abbrev pub FormattedShowsItsFree : Type 0
-FormattedShowsItsFree = (count : ℕ) (name id : List ℕ) → IsSize count → blocks_free (formatted count name id) ≡ free_count_of count
+FormattedShowsItsFree = (count : ℕ) (name id : Bytes) → IsSize count → blocks_free (formatted count name id) ≡ free_count_of count
 
 -- a formatted disk is sound, whatever its name and its id are
 abbrev pub FormattedIsSound : Type 0
-FormattedIsSound = (count : ℕ) (name id : List ℕ) → IsSize count → IsSound (formatted count name id)
+FormattedIsSound = (count : ℕ) (name id : Bytes) → IsSize count → IsSound (formatted count name id)
 
 -- and shows what it should
 abbrev pub FormattedShows : Type 0
-FormattedShows = (count : ℕ) (name id : List ℕ) → IsSize count → IsName name → AreTwoBytes id → view (formatted count name id) ≡ formatted_view count name id
+FormattedShows = (count : ℕ) (name id : Bytes) → IsSize count → IsName name → AreTwoBytes id → view (formatted count name id) ≡ formatted_view count name id
 
 -- there is room for a file of so many bytes and its entry
-pub record HasRoom (image : List (List ℕ)) (bytes : ℕ) : Type 0 where
+pub record HasRoom (image : Disk) (bytes : ℕ) : Type 0 where
   pub blocks : blocks_for bytes ≤ room (free_blocks image)
   pub slot : first_unused (slots image) ≡ None → next_of_directory (free_blocks image) (dir_last image) ≢ None
 
 -- bytes of a file
-abbrev pub AreBytes : List ℕ → Type 0
+abbrev pub AreBytes : Bytes → Type 0
 AreBytes bytes = All (λ byte. byte < 256) bytes
 
 -- a kind of file that can be written
@@ -67,65 +69,65 @@ IsWritable kind = (kind ≢ Del) × (kind ≢ Rel)
 -- the writing of a file leaves an image
 abbrev pub WrittenIsImage : Type 0
 WrittenIsImage =
-    (image : List (List ℕ)) (name : List ℕ) (kind : Kind) (bytes : List ℕ)
+    (image : Disk) (name : Bytes) (kind : Kind) (bytes : Bytes)
     → IsImage image → IsName name → AreBytes bytes → IsSound image → HasRoom image (length bytes) → IsImage (written image name kind bytes)
 
 -- a sound image stays sound under the writing of a file
 abbrev pub WrittenIsSound : Type 0
 WrittenIsSound =
-    (image : List (List ℕ)) (name : List ℕ) (kind : Kind) (bytes : List ℕ)
+    (image : Disk) (name : Bytes) (kind : Kind) (bytes : Bytes)
     → IsImage image → IsName name → IsWritable kind → AreBytes bytes → IsSound image → HasRoom image (length bytes)
     → IsSound (written image name kind bytes)
 
 -- and its view changes as the definition says
 abbrev pub WrittenShows : Type 0
 WrittenShows =
-    (image : List (List ℕ)) (name : List ℕ) (kind : Kind) (bytes : List ℕ)
+    (image : Disk) (name : Bytes) (kind : Kind) (bytes : Bytes)
     → IsImage image → IsName name → IsWritable kind → AreBytes bytes → IsSound image → HasRoom image (length bytes)
     → view (written image name kind bytes) ≡ written_view (view image) name kind bytes
 
 -- the renaming of a file leaves an image
 abbrev pub RenamedIsImage : Type 0
-RenamedIsImage = (image : List (List ℕ)) (old new : List ℕ) → IsImage image → IsName new → IsSound image → IsImage (renamed image old new)
+RenamedIsImage = (image : Disk) (old new : Bytes) → IsImage image → IsName new → IsSound image → IsImage (renamed image old new)
 
 -- a sound image stays sound under the renaming of a file
 abbrev pub RenamedIsSound : Type 0
-RenamedIsSound = (image : List (List ℕ)) (old new : List ℕ) → IsImage image → IsName new → IsSound image → IsSound (renamed image old new)
+RenamedIsSound = (image : Disk) (old new : Bytes) → IsImage image → IsName new → IsSound image → IsSound (renamed image old new)
 
 -- and its view changes as the definition says
 abbrev pub RenamedShows : Type 0
 RenamedShows =
-    (image : List (List ℕ)) (old new : List ℕ)
+    (image : Disk) (old new : Bytes)
     → IsImage image → IsName new → IsSound image → view (renamed image old new) ≡ renamed_view (view image) old new
 
 -- the deleting of files leaves an image
 abbrev pub ScratchedIsImage : Type 0
-ScratchedIsImage = (image patterns : List (List ℕ)) → IsImage image → IsSound image → IsImage (scratched image patterns)
+ScratchedIsImage = (image : Disk) (patterns : List Bytes) → IsImage image → IsSound image → IsImage (scratched image patterns)
 
 -- a sound image stays sound under the deleting of files
 abbrev pub ScratchedIsSound : Type 0
-ScratchedIsSound = (image patterns : List (List ℕ)) → IsImage image → IsSound image → IsSound (scratched image patterns)
+ScratchedIsSound = (image : Disk) (patterns : List Bytes) → IsImage image → IsSound image → IsSound (scratched image patterns)
 
 -- its view changes as the definition says
 abbrev pub ScratchedShows : Type 0
 ScratchedShows =
-    (image patterns : List (List ℕ)) → IsImage image → IsSound image → view (scratched image patterns) ≡ scratched_view (view image) patterns
+    (image : Disk) (patterns : List Bytes) → IsImage image → IsSound image → view (scratched image patterns) ≡ scratched_view (view image) patterns
 
 -- and as many slots are scratched as files of the directory's list are closed, not locked, and matched by a pattern or more
 abbrev pub ScratchedAreCounted : Type 0
 ScratchedAreCounted =
-    (image patterns : List (List ℕ))
+    (image : Disk) (patterns : List Bytes)
     → scratched_count image patterns
     ≡ length (filter (is_scratched_row patterns) (names_and_contents (view image)))
 
 -- a validation leaves an image
 abbrev pub ValidatedIsImage : Type 0
-ValidatedIsImage = (image : List (List ℕ)) → IsImage image → AllHold image 2 5 → IsImage (validated image)
+ValidatedIsImage = (image : Disk) → IsImage image → AllHold image 2 5 → IsImage (validated image)
 
 -- a validation gives a sound image from any whose directory, files and chains are in order, whatever its map says
 abbrev pub ValidatedIsSound : Type 0
-ValidatedIsSound = (image : List (List ℕ)) → IsImage image → AllHold image 2 5 → IsSound (validated image)
+ValidatedIsSound = (image : Disk) → IsImage image → AllHold image 2 5 → IsSound (validated image)
 
 -- and its view changes as the definition says
 abbrev pub ValidatedShows : Type 0
-ValidatedShows = (image : List (List ℕ)) → IsImage image → AllHold image 2 5 → view (validated image) ≡ validated_view (view image)
+ValidatedShows = (image : Disk) → IsImage image → AllHold image 2 5 → view (validated image) ≡ validated_view (view image)

@@ -1,17 +1,19 @@
 -- The image that the renaming of a file leaves, byte for byte.
 use Rattle.std.specs.Prelude.{ℕ, List, position, Option, Some, None}
+use Rattle.d64_image.specs.Disk.{Disk, Bytes}
+use Rattle.d64_image.specs.Disk.{Disk, Bytes}
 use Rattle.d64_files.specs.Clearing.{with_name}
 use Rattle.d64_files.specs.Directory.{slots, has_name}
 
 -- the number of the first used slot of this name
-abbrev pub first_of_name : List ℕ → List (List ℕ) → Option ℕ
+abbrev pub first_of_name : Bytes → List Bytes → Option ℕ
 first_of_name name cells = position (has_name name) cells
 
 -- the image with another name in a slot, if there is one
-abbrev pub with_name_in : List (List ℕ) → Option ℕ → List ℕ → List (List ℕ)
+abbrev pub with_name_in : Disk → Option ℕ → Bytes → Disk
 with_name_in image None name = image
 with_name_in image (Some slot) name = with_name image slot name
 
 -- the image after the renaming of the first file of a name
-unfoldable pub renamed : List (List ℕ) → List ℕ → List ℕ → List (List ℕ)
+unfoldable pub renamed : Disk → Bytes → Bytes → Disk
 renamed image old new = with_name_in image (first_of_name old (slots image)) new

@@ -1,7 +1,9 @@
 -- The image that a validation leaves, byte for byte.
 use Rattle.std.specs.Prelude.{ℕ, ◌&&◌, Bool, not, List, length}
-use Rattle.std.specs.Ordering.{nat_cmp}
-use Rattle.std.specs.FinSet as set
+use Rattle.d64_image.specs.Disk.{Disk, Bytes, Blocks}
+use Rattle.d64_image.specs.BlockSet.{BlockSet}
+use Rattle.d64_image.specs.Disk.{Disk, Bytes, Blocks}
+use Rattle.d64_image.specs.BlockSet.{BlockSet}
 use Rattle.d64_map.specs.Map.{all_of, with_map}
 use Rattle.d64_files.specs.Directory.{slots, owned_blocks}
 use Rattle.d64_files.specs.Slot.{is_used, is_closed}
@@ -9,17 +11,17 @@ use Rattle.d64_effects.specs.Clear.{slots_where, with_cleared}
 use Rattle.d64_effects.specs.Write.{without}
 
 -- whether a slot is used, and its file isn't closed
-abbrev pub is_unclosed : List ℕ → Bool
+abbrev pub is_unclosed : Bytes → Bool
 is_unclosed cell = is_used cell && not (is_closed cell)
 
 -- the numbers of the slots of unclosed files
-abbrev pub unclosed_slots : List (List ℕ) → List ℕ
+abbrev pub unclosed_slots : Disk → List ℕ
 unclosed_slots image = slots_where is_unclosed (slots image)
 
 -- all of so many blocks but these
-abbrev pub all_but : ℕ → List ℕ → set.FinSet nat_cmp
+abbrev pub all_but : ℕ → Blocks → BlockSet
 all_but count owned = without (all_of count) owned
 
 -- the image after a validation: without the unclosed files, and free is what nobody owns
-unfoldable pub validated : List (List ℕ) → List (List ℕ)
+unfoldable pub validated : Disk → Disk
 validated image = with_map (with_cleared image (unclosed_slots image)) (all_but (length image) (owned_blocks image))

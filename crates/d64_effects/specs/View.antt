@@ -2,8 +2,10 @@
 use Rattle.std.specs.Prelude.{ℕ, Bool, if◌then◌else◌, List, [], length, map, slice_range, Option, Some, None}
 use Rattle.std.specs.List.{slice_get}
 use Rattle.std.specs.Option.{option_map_or}
-use Rattle.std.specs.Ordering.{nat_cmp}
-use Rattle.std.specs.FinSet as set
+use Rattle.d64_image.specs.Disk.{Disk, Bytes, Blocks}
+use Rattle.d64_image.specs.BlockSet.{BlockSet}
+use Rattle.d64_image.specs.Disk.{Disk, Bytes, Blocks}
+use Rattle.d64_image.specs.BlockSet.{BlockSet}
 use Rattle.d64_image.specs.Image.{sector_at}
 use Rattle.d64_map.specs.Map.{map_block, free_blocks}
 use Rattle.d64_files.specs.Directory.{directory, slots, AllHold}
@@ -15,30 +17,30 @@ use Rattle.d64_files.specs.declared.kind.Kind.{Kind}
 -- a used slot of the directory: what it says of a file, and the file's blocks, side blocks and content. A DEL entry and one that isn't
 -- closed have none of these three
 pub record FileView : Type 0 where
-  pub field : List ℕ
+  pub field : Bytes
   pub kind : Kind
   pub closed : Bool
   pub locked : Bool
   pub size : ℕ
-  pub blocks : List ℕ
-  pub side_blocks : List ℕ
-  pub content : List ℕ
+  pub blocks : Blocks
+  pub side_blocks : Blocks
+  pub content : Bytes
 
 -- a disk: how many blocks it has, the 16 bytes of its name, its id, the directory's blocks in order, its slots with None for an unused one, and the free blocks
 pub record View : Type 0 where
   pub count : ℕ
-  pub name : List ℕ
-  pub id : List ℕ
-  pub directory : List ℕ
+  pub name : Bytes
+  pub id : Bytes
+  pub directory : Blocks
   pub slots : List (Option FileView)
-  pub free : set.FinSet nat_cmp
+  pub free : BlockSet
 
 -- the chain from one of the roots of a slot; empty where there is no such root
-abbrev pub chain_of_root : List (List ℕ) → List ℕ → ℕ → List ℕ
+abbrev pub chain_of_root : Disk → Bytes → ℕ → Blocks
 chain_of_root image cell place = option_map_or (chain_at image) (slice_get (roots cell) place) []
 
 -- the file of a slot
-abbrev pub file_view : List (List ℕ) → List ℕ → FileView
+abbrev pub file_view : Disk → Bytes → FileView
 file_view image cell = record {
   field = field_of cell;
   kind = kind_of cell;
@@ -51,18 +53,18 @@ file_view image cell = record {
 }
 
 -- what a slot shows: None where it isn't used
-unfoldable pub slot_view : List (List ℕ) → List ℕ → Option FileView
+unfoldable pub slot_view : Disk → Bytes → Option FileView
 slot_view image cell = if is_used cell then Some (file_view image cell) else None
 
 -- the disk's name in its field, and its id
-abbrev pub disk_field : List (List ℕ) → List ℕ
+abbrev pub disk_field : Disk → Bytes
 disk_field image = slice_range (sector_at image map_block) 0x90 0xA0
 
-abbrev pub disk_id : List (List ℕ) → List ℕ
+abbrev pub disk_id : Disk → Bytes
 disk_id image = slice_range (sector_at image map_block) 0xA2 0xA4
 
 -- the view of an image
-unfoldable pub view : List (List ℕ) → View
+unfoldable pub view : Disk → View
 view image = record {
   count = length image;
   name = disk_field image;
@@ -73,5 +75,5 @@ view image = record {
 }
 
 -- an image is sound where it meets all six conditions
-abbrev pub IsSound : List (List ℕ) → Type 0
+abbrev pub IsSound : Disk → Type 0
 IsSound image = AllHold image 1 6

@@ -1,6 +1,8 @@
 -- What commands make of the view of a disk: what a case does not name stays as it was.
 use Rattle.std.specs.Prelude.{ℕ, ◌-◌, true, false, not, if◌then◌else◌, List, [], ◌∷◌, ◌++◌, map, length, replicate, position, slice_index, slice_set, bytes_eq, Bool, Option, Some, None}
 use Rattle.std.specs.List.{flat_map}
+use Rattle.d64_image.specs.Disk.{Bytes, Blocks}
+use Rattle.d64_image.specs.Disk.{Bytes, Blocks}
 use Rattle.d64_map.specs.Map.{map_block}
 use Rattle.d64_files.specs.Name.{filled, name_in}
 use Rattle.d64_effects.specs.Clear.{with_freed}
@@ -12,7 +14,7 @@ use Rattle.d64_effects.specs.Write.{taken_by, grown_by, without}
 use Rattle.d64_files.specs.declared.kind.Kind.{Kind}
 
 -- after a format of a disk of so many blocks: the name and the id, eight unused slots in one block, and all blocks free but two
-unfoldable pub formatted_view : ℕ → List ℕ → List ℕ → View
+unfoldable pub formatted_view : ℕ → Bytes → Bytes → View
 formatted_view count name id = record {
   count = count;
   name = filled name;
@@ -23,7 +25,7 @@ formatted_view count name id = record {
 }
 
 -- a new file: closed, not locked, in the blocks that it took
-abbrev pub new_file : List ℕ → Kind → List ℕ → List ℕ → FileView
+abbrev pub new_file : Bytes → Kind → Bytes → Blocks → FileView
 new_file name kind bytes taken = record {
   field = filled name;
   kind = kind;
@@ -46,7 +48,7 @@ slots_with slots (Some place) file = slice_set slots place (Some file)
 slots_with slots None file = slots ++ (Some file ∷ replicate 7 None)
 
 -- after the writing of a file into these blocks, where the directory takes those: the first unused slot holds it
-abbrev pub view_with : View → Option ℕ → FileView → List ℕ → List ℕ → View
+abbrev pub view_with : View → Option ℕ → FileView → Blocks → Blocks → View
 view_with old vacant file taken grown = record old {
   directory = old.directory ++ grown;
   slots = slots_with old.slots vacant file;
@@ -62,7 +64,7 @@ abbrev pub last_of_directory : View → ℕ
 last_of_directory old = slice_index old.directory (length old.directory - 1)
 
 -- after the writing of a file
-unfoldable pub written_view : View → List ℕ → Kind → List ℕ → View
+unfoldable pub written_view : View → Bytes → Kind → Bytes → View
 written_view old name kind bytes =
     view_with old (first_vacant old) (new_file name kind bytes (taken_by old.free (length bytes)))
     (taken_by old.free (length bytes)) (grown_by old.free (last_of_directory old) (first_vacant old))
@@ -73,38 +75,38 @@ emptied_if goes None = None
 emptied_if goes (Some file) = if goes file then None else Some file
 
 -- the chain and the side chain of a slot's file, where it passes a test
-abbrev pub blocks_if : (FileView → Bool) → Option FileView → List ℕ
+abbrev pub blocks_if : (FileView → Bool) → Option FileView → Blocks
 blocks_if goes None = []
 blocks_if goes (Some file) = if goes file then file.blocks ++ file.side_blocks else []
 
 -- whether patterns scratch a file
-abbrev pub is_scratched_file : List (List ℕ) → FileView → Bool
+abbrev pub is_scratched_file : List Bytes → FileView → Bool
 is_scratched_file patterns file = is_scratched patterns file.closed file.locked (name_in file.field)
 
 -- after the deleting of the files that patterns match: their slots are unused, and their blocks are free
-unfoldable pub scratched_view : View → List (List ℕ) → View
+unfoldable pub scratched_view : View → List Bytes → View
 scratched_view old patterns = record old {
   slots = map (emptied_if (is_scratched_file patterns)) old.slots;
   free = with_freed old.free (flat_map (blocks_if (is_scratched_file patterns)) old.slots);
 }
 
 -- a file with another name
-abbrev pub with_field : FileView → List ℕ → FileView
+abbrev pub with_field : FileView → Bytes → FileView
 with_field file name = record file { field = filled name }
 
 -- slots of which the first file of a name has another
-abbrev pub renamed_slots : List (Option FileView) → List ℕ → List ℕ → List (Option FileView)
+abbrev pub renamed_slots : List (Option FileView) → Bytes → Bytes → List (Option FileView)
 renamed_slots [] old new = []
 renamed_slots (None ∷ slots) old new = None ∷ renamed_slots slots old new
 renamed_slots (Some file ∷ slots) old new =
     if bytes_eq (name_in file.field) old then Some (with_field file new) ∷ slots else Some file ∷ renamed_slots slots old new
 
 -- after the renaming of the first file of a name
-unfoldable pub renamed_view : View → List ℕ → List ℕ → View
+unfoldable pub renamed_view : View → Bytes → Bytes → View
 renamed_view shown old new = record shown { slots = renamed_slots shown.slots old new }
 
 -- the blocks that a disk owns: the map's, the directory's, and those of its files
-abbrev pub blocks_owned : View → List ℕ
+abbrev pub blocks_owned : View → Blocks
 blocks_owned shown = map_block ∷ (shown.directory ++ flat_map (blocks_if (λ file. true)) shown.slots)
 
 -- after a validation: the slots of unclosed files are unused, and free is what nobody owns

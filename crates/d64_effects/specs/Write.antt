@@ -1,8 +1,11 @@
 -- The image that the writing of a file leaves, byte for byte.
-use Rattle.std.specs.Prelude.{ℕ, List, [], ◌∷◌, ◌++◌, length, fold, find, slice_index, Option, Some, None}
+use Rattle.std.specs.Prelude.{ℕ, [], ◌∷◌, ◌++◌, length, fold, find, slice_index, Option, Some, None}
 use Rattle.std.specs.Option.{option_map_or, option_to_list}
-use Rattle.std.specs.Ordering.{nat_cmp}
 use Rattle.std.specs.FinSet as set
+use Rattle.d64_image.specs.Disk.{Disk, Bytes, Blocks}
+use Rattle.d64_image.specs.BlockSet.{BlockSet}
+use Rattle.d64_image.specs.Disk.{Disk, Bytes, Blocks}
+use Rattle.d64_image.specs.BlockSet.{BlockSet}
 use Rattle.d64_map.specs.Map.{free_blocks, with_map}
 use Rattle.d64_map.specs.Plan.{plan}
 use Rattle.d64_map.specs.Search.{dir_order}
@@ -11,42 +14,42 @@ use Rattle.d64_files.specs.Writing.{blocks_for, with_bytes, with_chain, entry_by
 use Rattle.d64_files.specs.declared.kind.Kind.{Kind}
 
 -- the blocks that a file of so many bytes takes of the free ones; none where there is no plan
-abbrev pub taken_by : set.FinSet nat_cmp → ℕ → List ℕ
+abbrev pub taken_by : BlockSet → ℕ → Blocks
 taken_by free bytes = option_map_or (λ blocks. blocks) (plan free (blocks_for bytes)) []
 
 -- the block of the free ones that a directory with this last block takes
-abbrev pub next_of_directory : set.FinSet nat_cmp → ℕ → Option ℕ
+abbrev pub next_of_directory : BlockSet → ℕ → Option ℕ
 next_of_directory free last = find (set.contains free) (dir_order last)
 
 -- the blocks that a directory takes for one more entry: none where a slot is unused
-abbrev pub grown_by : set.FinSet nat_cmp → ℕ → Option ℕ → List ℕ
+abbrev pub grown_by : BlockSet → ℕ → Option ℕ → Blocks
 grown_by free last (Some slot) = []
 grown_by free last None = option_to_list (next_of_directory free last)
 
 -- the same for an image
-abbrev pub directory_grown : List (List ℕ) → List ℕ
+abbrev pub directory_grown : Disk → Blocks
 directory_grown image = grown_by (free_blocks image) (dir_last image) (first_unused (slots image))
 
 -- the free blocks without those that were taken
-abbrev pub without : set.FinSet nat_cmp → List ℕ → set.FinSet nat_cmp
+abbrev pub without : BlockSet → Blocks → BlockSet
 without free taken = fold set.remove free taken
 
 -- the image with an entry in an unused slot, or in the first slot of a new block of the directory
-abbrev pub with_entry_in : List (List ℕ) → Option ℕ → List ℕ → List ℕ → List (List ℕ)
+abbrev pub with_entry_in : Disk → Option ℕ → Blocks → Bytes → Disk
 with_entry_in image (Some slot) grown entry = with_entry image slot entry
 with_entry_in image None [] entry = image
 with_entry_in image None (new ∷ grown) entry = with_bytes (with_growth image new) new 2 entry
 
 -- the image with the entry of a file
-unfoldable pub with_new_entry : List (List ℕ) → List ℕ → List (List ℕ)
+unfoldable pub with_new_entry : Disk → Bytes → Disk
 with_new_entry image entry = with_entry_in image (first_unused (slots image)) (directory_grown image) entry
 
 -- the image with a file in these blocks: its entry, its data, and the map without what was taken
-unfoldable pub with_file : List (List ℕ) → List ℕ → Kind → List ℕ → List ℕ → List (List ℕ)
+unfoldable pub with_file : Disk → Bytes → Kind → Bytes → Blocks → Disk
 with_file image name kind bytes taken =
     with_map (with_chain (with_new_entry image (entry_bytes name kind (slice_index taken 0) (length taken))) taken bytes)
     (without (free_blocks image) (taken ++ directory_grown image))
 
 -- the image after the writing of a file
-unfoldable pub written : List (List ℕ) → List ℕ → Kind → List ℕ → List (List ℕ)
+unfoldable pub written : Disk → Bytes → Kind → Bytes → Disk
 written image name kind bytes = with_file image name kind bytes (taken_by (free_blocks image) (length bytes))

@@ -1,26 +1,28 @@
 -- Chains of blocks: bytes 0 and 1 of a block link it to the next.
-use Rattle.std.specs.Prelude.{◌≡◌, ℕ, zero, suc, ◌<◌, ◌==◌, nat_eq, nat_lt, false, if◌then◌else◌, List, [], ◌∷◌, All, length, slice_index, Option, Some, None}
+use Rattle.std.specs.Prelude.{◌≡◌, ℕ, zero, suc, ◌<◌, ◌==◌, nat_eq, nat_lt, false, if◌then◌else◌, [], ◌∷◌, All, length, slice_index, Option, Some, None}
 use Rattle.std.specs.List.{list_any}
 use Rattle.std.specs.Option.{option_and_then, option_map_or}
+use Rattle.d64_image.specs.Disk.{Disk, Blocks}
+use Rattle.d64_image.specs.Disk.{Disk, Bytes, Blocks}
 use Rattle.d64_image.specs.Block.{block_of}
 use Rattle.d64_image.specs.Image.{sector_at}
 use Rattle.d64_files.specs.declared.chain.Link.{Link}
 use Rattle.d64_files.specs.declared.chain.Link.TheVariants.{End, To, Broken}
 
 -- the link of a block: the track and the sector in its bytes 0 and 1
-abbrev pub link_at : List (List ℕ) → ℕ → ℕ × ℕ
+abbrev pub link_at : Disk → ℕ → ℕ × ℕ
 link_at image block = (slice_index (sector_at image block) 0, slice_index (sector_at image block) 1)
 
 -- a block, where the image has it
-abbrev pub held : List (List ℕ) → ℕ → Option ℕ
+abbrev pub held : Disk → ℕ → Option ℕ
 held image block = if nat_lt block (length image) then Some block else None
 
 -- the image has each of these blocks
-abbrev pub LieIn : List (List ℕ) → List ℕ → Type 0
+abbrev pub LieIn : Disk → Blocks → Type 0
 LieIn image blocks = All (λ block. block < length image) blocks
 
 -- the block of a track and a sector, where the image has that block
-unfoldable pub block_in : List (List ℕ) → ℕ → ℕ → Option ℕ
+unfoldable pub block_in : Disk → ℕ → ℕ → Option ℕ
 block_in image track sector = option_and_then (held image) (block_of track sector)
 
 -- a link to a block, or to none
@@ -29,37 +31,37 @@ link_to None = Broken
 link_to (Some block) = To block
 
 -- where a link leads: a track of 0 ends the chain, every other link leads to the block that it names
-unfoldable pub led_by : List (List ℕ) → ℕ × ℕ → Link
+unfoldable pub led_by : Disk → ℕ × ℕ → Link
 led_by image link = if link.0 == 0 then End else link_to (block_in image link.0 link.1)
 
 -- where the link of a block leads
-abbrev pub link_of : List (List ℕ) → ℕ → Link
+abbrev pub link_of : Disk → ℕ → Link
 link_of image block = led_by image (link_at image block)
 
 -- the list is the chain from a block that the image has: that block alone, where its link ends the chain, or that block and then the
 -- chain from the block to which its link leads, if it isn't among those
-unfoldable pub Chain : List (List ℕ) → ℕ → List ℕ → Type 0
+unfoldable pub Chain : Disk → ℕ → Blocks → Type 0
 Chain image start [] = ⊥
 Chain image start (block ∷ []) = (block ≡ start) × (start < length image) × (link_of image start ≡ End)
 Chain image start (block ∷ next ∷ rest) =
     (block ≡ start) × (start < length image) × (link_of image start ≡ To next) × Chain image next (next ∷ rest) × (list_any (nat_eq start) (next ∷ rest) ≡ false)
 
 -- a block before a chain that doesn't hold it; none where there is no chain, or it holds the block
-abbrev pub before : ℕ → List ℕ → List ℕ
+abbrev pub before : ℕ → Blocks → Blocks
 before block [] = []
 before block (next ∷ rest) = if list_any (nat_eq block) (next ∷ rest) then [] else block ∷ next ∷ rest
 
 -- the chain from a block that is linked so, where it follows at most that many links; else none
-unfoldable pub chain_by : ℕ → List (List ℕ) → ℕ → Link → List ℕ
+unfoldable pub chain_by : ℕ → Disk → ℕ → Link → Blocks
 chain_by links image block End = block ∷ []
 chain_by links image block Broken = []
 chain_by zero image block (To next) = []
 chain_by (suc links) image block (To next) = before block (chain_by links image next (link_of image next))
 
 -- the chain from a block, or the empty list where there is none
-unfoldable pub chain : List (List ℕ) → ℕ → List ℕ
+unfoldable pub chain : Disk → ℕ → Blocks
 chain image start = if nat_lt start (length image) then chain_by (length image) image start (link_of image start) else []
 
 -- the chain from the block of a track and a sector, or the empty list where there is none
-abbrev pub chain_from : List (List ℕ) → ℕ → ℕ → List ℕ
+abbrev pub chain_from : Disk → ℕ → ℕ → Blocks
 chain_from image track sector = option_map_or (chain image) (block_in image track sector) []

@@ -1,44 +1,46 @@
 -- What follows from the definition of a chain.
-use Rattle.std.specs.Prelude.{◌≡◌, ◌≢◌, ◌↔◌, ℕ, ◌<◌, ◌≤◌, nat_eq, List, [], ◌∷◌, length, All, Contains}
+use Rattle.std.specs.Prelude.{◌≡◌, ◌≢◌, ◌↔◌, ℕ, ◌<◌, ◌≤◌, nat_eq, [], ◌∷◌, length, All, Contains}
 use Rattle.std.specs.List.{IsDistinct}
+use Rattle.d64_image.specs.Disk.{Disk, Blocks}
+use Rattle.d64_image.specs.Disk.{Disk, Bytes, Blocks}
 use Rattle.d64_files.specs.Chain.{Chain, chain, link_at}
 
 -- there is at most one chain from a block
 abbrev pub AtMostOneChain : Type 0
-AtMostOneChain = (image : List (List ℕ)) (start : ℕ) (blocks others : List ℕ) → Chain image start blocks → Chain image start others → blocks ≡ others
+AtMostOneChain = (image : Disk) (start : ℕ) (blocks others : Blocks) → Chain image start blocks → Chain image start others → blocks ≡ others
 
 -- the chain from a block is the one that the relation admits, and the empty list stands for none
 abbrev pub ChainIsThatChain : Type 0
-ChainIsThatChain = (image : List (List ℕ)) (start : ℕ) (blocks : List ℕ) → Chain image start blocks ↔ ((chain image start ≡ blocks) × (blocks ≢ []))
+ChainIsThatChain = (image : Disk) (start : ℕ) (blocks : Blocks) → Chain image start blocks ↔ ((chain image start ≡ blocks) × (blocks ≢ []))
 
 -- a chain begins with the block from which it leads
 abbrev pub ChainBeginsWithItsStart : Type 0
-ChainBeginsWithItsStart = (image : List (List ℕ)) (start : ℕ) (blocks : List ℕ) → Chain image start blocks → (rest : List ℕ) × (blocks ≡ start ∷ rest)
+ChainBeginsWithItsStart = (image : Disk) (start : ℕ) (blocks : Blocks) → Chain image start blocks → (rest : Blocks) × (blocks ≡ start ∷ rest)
 
 -- no block comes twice in a chain
 abbrev pub ChainHasNoRepeats : Type 0
-ChainHasNoRepeats = (image : List (List ℕ)) (start : ℕ) (blocks : List ℕ) → Chain image start blocks → IsDistinct nat_eq blocks
+ChainHasNoRepeats = (image : Disk) (start : ℕ) (blocks : Blocks) → Chain image start blocks → IsDistinct nat_eq blocks
 
 -- a chain holds blocks of the image alone
 abbrev pub ChainLiesInImage : Type 0
-ChainLiesInImage = (image : List (List ℕ)) (start : ℕ) (blocks : List ℕ) → Chain image start blocks → All (λ block. block < length image) blocks
+ChainLiesInImage = (image : Disk) (start : ℕ) (blocks : Blocks) → Chain image start blocks → All (λ block. block < length image) blocks
 
 -- a chain is at most as long as the image has blocks
 abbrev pub ChainFitsImage : Type 0
-ChainFitsImage = (image : List (List ℕ)) (start : ℕ) (blocks : List ℕ) → Chain image start blocks → length blocks ≤ length image
+ChainFitsImage = (image : Disk) (start : ℕ) (blocks : Blocks) → Chain image start blocks → length blocks ≤ length image
 
 -- two images link these blocks alike
-abbrev pub LinkedAlike : List (List ℕ) → List (List ℕ) → List ℕ → Type 0
+abbrev pub LinkedAlike : Disk → Disk → Blocks → Type 0
 LinkedAlike image other blocks = (block : ℕ) → Contains blocks block → link_at other block ≡ link_at image block
 
 -- an image as long as another that links the blocks of a chain alike has that chain, too
 abbrev pub SameLinksSameChain : Type 0
 SameLinksSameChain =
-    (image other : List (List ℕ)) (start : ℕ) (blocks : List ℕ)
+    (image other : Disk) (start : ℕ) (blocks : Blocks)
     → Chain image start blocks → length other ≡ length image → LinkedAlike image other blocks → Chain other start blocks
 
 -- and the function gives the same for both
 abbrev pub SameLinksSameFunction : Type 0
 SameLinksSameFunction =
-    (image other : List (List ℕ)) (start : ℕ)
+    (image other : Disk) (start : ℕ)
     → chain image start ≢ [] → length other ≡ length image → LinkedAlike image other (chain image start) → chain other start ≡ chain image start

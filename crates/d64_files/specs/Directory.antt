@@ -2,6 +2,8 @@
 use Rattle.std.specs.Prelude.{◌≢◌, ℕ, ◌<◌, ◌≤◌, ◌&&◌, nat_eq, Bool, List, [], ◌∷◌, ◌++◌, All, position, map, flat_map, bytes_eq, Option}
 use Rattle.std.specs.List.{enumerate_from, list_any, IsDistinct, slice_get}
 use Rattle.std.specs.Option.{option_map_or}
+use Rattle.d64_image.specs.Disk.{Disk, Bytes, Blocks}
+use Rattle.d64_image.specs.Disk.{Disk, Bytes, Blocks}
 use Rattle.d64_image.specs.Image.{sector_at}
 use Rattle.d64_map.specs.Map.{map_block, CountsFit}
 use Rattle.d64_files.specs.Chain.{chain_from}
@@ -12,51 +14,51 @@ use Rattle.d64_files.specs.declared.dir_fault.DirFault.{DirFault}
 use Rattle.d64_files.specs.declared.dir_fault.DirFault.TheVariants.{WrongCounts, NoDirectory, UnknownKind, NoChain, CrossLinked, MarkedFree}
 
 -- the directory's blocks: the chain from track 18, sector 1; the empty list where there is none
-abbrev pub directory : List (List ℕ) → List ℕ
+abbrev pub directory : Disk → Blocks
 directory image = chain_from image 18 1
 
 -- the slots of blocks, eight a block, block after block
-abbrev pub slots_in : List (List ℕ) → List ℕ → List (List ℕ)
+abbrev pub slots_in : Disk → Blocks → List Bytes
 slots_in image blocks = flat_map (λ block. cells (sector_at image block)) blocks
 
 -- the slots of the directory
-abbrev pub slots : List (List ℕ) → List (List ℕ)
+abbrev pub slots : Disk → List Bytes
 slots image = slots_in image (directory image)
 
 -- the blocks that are owned: the map's, the directory's, and those of each slot
-unfoldable pub owned_blocks : List (List ℕ) → List ℕ
+unfoldable pub owned_blocks : Disk → Blocks
 owned_blocks image = map_block ∷ (directory image ++ flat_map (owned_by image) (slots image))
 
 -- the blocks that the slot of a number owns; none where there is no such slot
-abbrev pub slot_owns : List (List ℕ) → ℕ → List ℕ
+abbrev pub slot_owns : Disk → ℕ → Blocks
 slot_owns image slot = option_map_or (owned_by image) (slice_get (slots image) slot) []
 
 -- slots with their numbers, from 0
-abbrev pub numbered : List (List ℕ) → List (ℕ × List ℕ)
+abbrev pub numbered : List Bytes → List (ℕ × Bytes)
 numbered cells = enumerate_from 0 cells
 
 -- the entry of a numbered slot of an image
-abbrev pub entry_of : List (List ℕ) → ℕ × List ℕ → EntryView
+abbrev pub entry_of : Disk → ℕ × Bytes → EntryView
 entry_of image slot = record { slot = slot.0; bytes = slot.1; image = image }
 
 -- the entries of slots of an image
-abbrev pub entries : List (List ℕ) → List (List ℕ) → List EntryView
+abbrev pub entries : Disk → List Bytes → List EntryView
 entries image cells = map (entry_of image) (numbered cells)
 
 -- a used slot whose name the pattern matches
-abbrev pub is_named : List ℕ → List ℕ → Bool
+abbrev pub is_named : Bytes → Bytes → Bool
 is_named pattern cell = is_used cell && matches pattern (name_of cell)
 
 -- the number of the first used slot whose name the pattern matches
-abbrev pub first_named : List ℕ → List (List ℕ) → Option ℕ
+abbrev pub first_named : Bytes → List Bytes → Option ℕ
 first_named pattern cells = position (is_named pattern) cells
 
 -- a used slot of exactly this name
-abbrev pub has_name : List ℕ → List ℕ → Bool
+abbrev pub has_name : Bytes → Bytes → Bool
 has_name name cell = is_used cell && bytes_eq (name_of cell) name
 
 -- there is one among slots
-abbrev pub is_name_taken : List ℕ → List (List ℕ) → Bool
+abbrev pub is_name_taken : Bytes → List Bytes → Bool
 is_name_taken name cells = list_any (has_name name) cells
 
 -- the number of a condition
@@ -69,7 +71,7 @@ number_of CrossLinked = 5
 number_of MarkedFree = 6
 
 -- an image meets the condition that the fault names
-abbrev pub Holds : List (List ℕ) → DirFault → Type 0
+abbrev pub Holds : Disk → DirFault → Type 0
 Holds image WrongCounts = CountsFit image
 Holds image NoDirectory = directory image ≢ []
 Holds image UnknownKind = All HasKind (slots image)
@@ -78,11 +80,11 @@ Holds image CrossLinked = IsDistinct nat_eq (owned_blocks image)
 Holds image MarkedFree = NoneIsFree image (owned_blocks image)
 
 -- an image meets the conditions of these numbers
-abbrev pub AllHold : List (List ℕ) → ℕ → ℕ → Type 0
+abbrev pub AllHold : Disk → ℕ → ℕ → Type 0
 AllHold image first last = (fault : DirFault) → first ≤ number_of fault → number_of fault ≤ last → Holds image fault
 
 -- of the conditions of these numbers, the first that an image doesn't meet
-pub record IsFirstFault (image : List (List ℕ)) (first last : ℕ) (fault : DirFault) : Type 0 where
+pub record IsFirstFault (image : Disk) (first last : ℕ) (fault : DirFault) : Type 0 where
   pub not_before : first ≤ number_of fault
   pub not_after : number_of fault ≤ last
   pub fails : ¬ (Holds image fault)

@@ -1,7 +1,9 @@
 -- The first condition of a sound image that fails, as tests.
-use Rattle.std.specs.Prelude.{ℕ, nat_eq, not, Bool, true, false, List, [], ◌∷◌, length, find, Option, Some, None, Result, Ok, Err}
+use Rattle.std.specs.Prelude.{nat_eq, not, Bool, true, false, List, [], ◌∷◌, length, find, Option, Some, None, Result, Ok, Err}
 use Rattle.std.specs.List.{range_with_len, list_any, list_all}
 use Rattle.std.specs.FinSet as set
+use Rattle.d64_image.specs.Disk.{Disk, Blocks}
+use Rattle.d64_image.specs.Disk.{Disk, Blocks}
 use Rattle.d64_image.specs.Image.{tracks_of}
 use Rattle.d64_map.specs.Map.{free_blocks, count_of}
 use Rattle.d64_map.specs.Track.{members_on}
@@ -13,12 +15,12 @@ use Rattle.d64_files.specs.declared.dir_fault.DirFault.{DirFault}
 use Rattle.d64_files.specs.declared.dir_fault.DirFault.TheVariants.{WrongCounts, NoDirectory, UnknownKind, NoChain, CrossLinked, MarkedFree}
 
 -- a list of blocks is empty
-abbrev pub is_nil : List ℕ → Bool
+abbrev pub is_nil : Blocks → Bool
 is_nil [] = true
 is_nil (block ∷ blocks) = false
 
 -- whether an image fails the condition that the fault names
-unfoldable pub fails : List (List ℕ) → DirFault → Bool
+unfoldable pub fails : Disk → DirFault → Bool
 fails image WrongCounts = not (list_all (λ track. nat_eq (count_of image track) (members_on (free_blocks image) track)) (range_with_len 1 (tracks_of (length image))))
 fails image NoDirectory = is_nil (directory image)
 fails image UnknownKind = not (list_all has_kind (slots image))
@@ -44,5 +46,5 @@ err_of (Ok value) = None
 err_of (Err fault) = Some fault
 
 -- the first of some conditions that an image fails; none where it meets all of them
-unfoldable pub first_fault : List (List ℕ) → List DirFault → Option DirFault
+unfoldable pub first_fault : Disk → List DirFault → Option DirFault
 first_fault image conditions = find (fails image) conditions

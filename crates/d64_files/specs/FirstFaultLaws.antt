@@ -1,5 +1,7 @@
 -- The tests of the conditions of a sound image and the relations agree.
 use Rattle.std.specs.Prelude.{◌≡◌, ◌↔◌, ℕ, List, Some, None}
+use Rattle.d64_image.specs.Disk.{Disk}
+use Rattle.d64_image.specs.Disk.{Disk}
 use Rattle.d64_files.specs.Directory.{AllHold, IsFirstFault}
 use Rattle.d64_files.specs.FirstFault.{first_fault}
 use Rattle.d64_files.specs.declared.dir_fault.DirFault.{DirFault}
@@ -7,6 +9,6 @@ use Rattle.d64_files.specs.declared.dir_fault.DirFault.{DirFault}
 -- the tests of conditions of these numbers find none that fails exactly where all hold, and find exactly the first that fails
 abbrev pub TellsFirst : List DirFault → ℕ → ℕ → Type 0
 TellsFirst conditions first last =
-    (image : List (List ℕ))
+    (image : Disk)
     → ((first_fault image conditions ≡ None) ↔ AllHold image first last)
     × ((fault : DirFault) → (first_fault image conditions ≡ Some fault) ↔ IsFirstFault image first last fault)

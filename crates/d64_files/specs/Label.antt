@@ -1,6 +1,8 @@
 -- What names and patterns have in common.
-use Rattle.std.specs.Prelude.{◌≡◌, ◌==◌, ◌&&◌, ℕ, ◌<◌, ◌≤◌, nat_lt, nat_le, Bool, not, List, [], ◌∷◌, length, All, Any, Contains}
+use Rattle.std.specs.Prelude.{◌≡◌, ◌==◌, ◌&&◌, ℕ, ◌<◌, ◌≤◌, nat_lt, nat_le, Bool, not, [], ◌∷◌, length, All, Any, Contains}
 use Rattle.std.specs.List.{list_any}
+use Rattle.d64_image.specs.Disk.{Bytes}
+use Rattle.d64_image.specs.Disk.{Bytes}
 use Rattle.d64_files.specs.declared.label.BadName.{BadName}
 use Rattle.d64_files.specs.declared.label.BadName.TheVariants.{Empty, TooLong, Forbidden}
 
@@ -13,26 +15,26 @@ abbrev pub question_mark : ℕ
 question_mark = 0x3F
 
 -- `=`, `:`, `,`, `"`, a carriage return and a shifted space
-abbrev pub separators : List ℕ
+abbrev pub separators : Bytes
 separators = 0x3D ∷ 0x3A ∷ 0x2C ∷ 0x22 ∷ 0x0D ∷ 0xA0 ∷ []
 
 -- 1 to 16 bytes, none of them forbidden
-pub record IsLabel (forbidden bytes : List ℕ) : Type 0 where
+pub record IsLabel (forbidden bytes : Bytes) : Type 0 where
   pub not_empty : 0 < length bytes
   pub short : length bytes ≤ 16
   pub allowed : All (λ b. ¬ (Contains forbidden b)) bytes
   pub in_range : All (λ b. b < 256) bytes
 
 -- whether one of the bytes is forbidden
-abbrev pub holds_any_of : List ℕ → List ℕ → Bool
+abbrev pub holds_any_of : Bytes → Bytes → Bool
 holds_any_of forbidden bytes = list_any (λ b. list_any (λ f. f == b) forbidden) bytes
 
 -- the same as a test of bytes
-abbrev pub is_label : List ℕ → List ℕ → Bool
+abbrev pub is_label : Bytes → Bytes → Bool
 is_label forbidden bytes = nat_lt 0 (length bytes) && nat_le (length bytes) 16 && not (holds_any_of forbidden bytes)
 
 -- what is wrong with bytes that are no label: exactly one of the three
-abbrev pub IsFault : List ℕ → List ℕ → BadName → Type 0
+abbrev pub IsFault : Bytes → Bytes → BadName → Type 0
 IsFault forbidden bytes Empty = bytes ≡ []
 IsFault forbidden bytes TooLong = 16 < length bytes
 IsFault forbidden bytes Forbidden = (length bytes ≤ 16) × Any (Contains forbidden) bytes

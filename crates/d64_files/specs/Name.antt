@@ -1,23 +1,25 @@
 -- Which bytes are a name.
-use Rattle.std.specs.Prelude.{ℕ, ◌-◌, ◌==◌, Bool, not, List, ◌∷◌, ◌++◌, length, replicate, take_while}
+use Rattle.std.specs.Prelude.{◌-◌, ◌==◌, Bool, not, ◌∷◌, ◌++◌, length, replicate, take_while}
+use Rattle.d64_image.specs.Disk.{Bytes}
+use Rattle.d64_image.specs.Disk.{Bytes}
 use Rattle.d64_files.specs.Label.{IsLabel, is_label, star, question_mark, separators}
 
 -- the bytes that no name holds
-abbrev pub forbidden_in_names : List ℕ
+abbrev pub forbidden_in_names : Bytes
 forbidden_in_names = star ∷ question_mark ∷ separators
 
 -- the name of a file or a disk
-abbrev pub IsName : List ℕ → Type 0
+abbrev pub IsName : Bytes → Type 0
 IsName = IsLabel forbidden_in_names
 
 -- the same as a test of bytes
-abbrev pub is_name : List ℕ → Bool
+abbrev pub is_name : Bytes → Bool
 is_name = is_label forbidden_in_names
 
 -- the name in a field: its bytes up to the first shifted space
-abbrev pub name_in : List ℕ → List ℕ
+abbrev pub name_in : Bytes → Bytes
 name_in field = take_while (λ byte. not (byte == 0xA0)) field
 
 -- a name in its field of 16 bytes, filled with shifted spaces
-abbrev pub filled : List ℕ → List ℕ
+abbrev pub filled : Bytes → Bytes
 filled name = name ++ replicate (16 - length name) 0xA0

@@ -3,6 +3,8 @@ use Rattle.std.specs.Prelude.{◌≡◌, ◌≢◌, ℕ, false, if◌then◌else
 use Rattle.std.specs.List.{flat_map}
 use Rattle.std.specs.Option.{option_to_list}
 use Rattle.std.specs.FinSet as set
+use Rattle.d64_image.specs.Disk.{Disk, Bytes, Blocks}
+use Rattle.d64_image.specs.Disk.{Disk, Bytes, Blocks}
 use Rattle.d64_map.specs.Map.{free_blocks}
 use Rattle.d64_files.specs.Chain.{chain_from}
 use Rattle.d64_files.specs.Slot.{is_closed, kind_of, first_pair, side_pair}
@@ -10,7 +12,7 @@ use Rattle.d64_files.specs.declared.kind.Kind.{Kind}
 use Rattle.d64_files.specs.declared.kind.Kind.TheVariants.{Del, Seq, Prg, Usr, Rel}
 
 -- the track and the sector from which each chain of a closed file leads: a REL file has a second one, unless its side track is 0
-abbrev pub roots_of : Kind → List ℕ → List (ℕ × ℕ)
+abbrev pub roots_of : Kind → Bytes → List (ℕ × ℕ)
 roots_of Del cell = []
 roots_of Seq cell = first_pair cell ∷ []
 roots_of Prg cell = first_pair cell ∷ []
@@ -18,21 +20,21 @@ roots_of Usr cell = first_pair cell ∷ []
 roots_of Rel cell = first_pair cell ∷ option_to_list (side_pair cell)
 
 -- the same for any slot: one that isn't closed has none
-abbrev pub roots : List ℕ → List (ℕ × ℕ)
+abbrev pub roots : Bytes → List (ℕ × ℕ)
 roots cell = if is_closed cell then roots_of (kind_of cell) cell else []
 
 -- the chain from a track and a sector, or the empty list where there is none
-abbrev pub chain_at : List (List ℕ) → ℕ × ℕ → List ℕ
+abbrev pub chain_at : Disk → ℕ × ℕ → Blocks
 chain_at image root = chain_from image root.0 root.1
 
 -- the blocks that a slot owns: its chain and its side chain
-abbrev pub owned_by : List (List ℕ) → List ℕ → List ℕ
+abbrev pub owned_by : Disk → Bytes → Blocks
 owned_by image cell = flat_map (chain_at image) (roots cell)
 
 -- each chain that a slot should have is there
-abbrev pub HasItsChains : List (List ℕ) → List ℕ → Type 0
+abbrev pub HasItsChains : Disk → Bytes → Type 0
 HasItsChains image cell = All (λ root. chain_at image root ≢ []) (roots cell)
 
 -- the map marks none of the blocks free
-abbrev pub NoneIsFree : List (List ℕ) → List ℕ → Type 0
+abbrev pub NoneIsFree : Disk → Blocks → Type 0
 NoneIsFree image blocks = All (λ block. set.contains (free_blocks image) block ≡ false) blocks

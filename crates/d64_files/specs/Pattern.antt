@@ -1,24 +1,26 @@
 -- Which bytes are a pattern, and which names it matches.
-use Rattle.std.specs.Prelude.{ℕ, Bool, true, false, ◌==◌, ◌&&◌, ◌||◌, ◌≢◌, List, [], ◌∷◌}
+use Rattle.std.specs.Prelude.{ℕ, Bool, true, false, ◌==◌, ◌&&◌, ◌||◌, ◌≢◌, [], ◌∷◌}
+use Rattle.d64_image.specs.Disk.{Bytes}
+use Rattle.d64_image.specs.Disk.{Bytes}
 use Rattle.d64_files.specs.Label.{IsLabel, is_label, star, question_mark, separators}
 
 -- a pattern that the names of files are compared with
-abbrev pub IsPattern : List ℕ → Type 0
+abbrev pub IsPattern : Bytes → Type 0
 IsPattern = IsLabel separators
 
 -- the same as a test of bytes
-abbrev pub is_pattern : List ℕ → Bool
+abbrev pub is_pattern : Bytes → Bool
 is_pattern = is_label separators
 
 -- the four cases in which a pattern matches a name
-pub data Matches : List ℕ → List ℕ → Type 0 where
+pub data Matches : Bytes → Bytes → Type 0 where
   both_empty : Matches [] []
-  any_rest : {pattern name : List ℕ} → Matches (star ∷ pattern) name
-  any_byte : {b : ℕ} {pattern name : List ℕ} → Matches pattern name → Matches (question_mark ∷ pattern) (b ∷ name)
-  same_byte : {b : ℕ} {pattern name : List ℕ} → b ≢ star → b ≢ question_mark → Matches pattern name → Matches (b ∷ pattern) (b ∷ name)
+  any_rest : {pattern name : Bytes} → Matches (star ∷ pattern) name
+  any_byte : {b : ℕ} {pattern name : Bytes} → Matches pattern name → Matches (question_mark ∷ pattern) (b ∷ name)
+  same_byte : {b : ℕ} {pattern name : Bytes} → b ≢ star → b ≢ question_mark → Matches pattern name → Matches (b ∷ pattern) (b ∷ name)
 
 -- the same as a test of a pattern and a name
-abbrev pub matches : List ℕ → List ℕ → Bool
+abbrev pub matches : Bytes → Bytes → Bool
 matches [] [] = true
 matches [] (b ∷ name) = false
 matches (p ∷ pattern) [] = p == star

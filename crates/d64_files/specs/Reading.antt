@@ -1,6 +1,8 @@
 -- The content of a file, and what keeps it from being read.
-use Rattle.std.specs.Prelude.{ℕ, not, Bool, true, false, if◌then◌else◌, List, [], slice_get, Option, Some, None, Result, Ok, Err, option_map}
+use Rattle.std.specs.Prelude.{ℕ, not, Bool, true, false, if◌then◌else◌, [], slice_get, Option, Some, None, Result, Ok, Err, option_map}
 use Rattle.std.specs.Option.{option_or, option_map_or}
+use Rattle.d64_image.specs.Disk.{Disk, Bytes}
+use Rattle.d64_image.specs.Disk.{Disk, Bytes}
 use Rattle.d64_files.specs.Slot.{is_used, is_closed, kind_of, first_pair}
 use Rattle.d64_files.specs.Ownership.{chain_at}
 use Rattle.d64_files.specs.Directory.{slots}
@@ -18,7 +20,7 @@ is_del Del = true
 is_del kind = false
 
 -- why the file of a slot can't be read: the first that applies
-unfoldable pub file_refusal : List (List ℕ) → List ℕ → Option ReadFault
+unfoldable pub file_refusal : Disk → Bytes → Option ReadFault
 file_refusal image cell =
     if not (is_used cell) then Some NotFound
     else (if not (is_closed cell) then Some NotClosed
@@ -26,20 +28,20 @@ file_refusal image cell =
     else (if is_nil (chain_at image (first_pair cell)) then Some (Directory NoChain) else None)))
 
 -- the same where there may be no such slot
-abbrev pub slot_refusal : List (List ℕ) → Option (List ℕ) → Option ReadFault
+abbrev pub slot_refusal : Disk → Option Bytes → Option ReadFault
 slot_refusal image None = Some NotFound
 slot_refusal image (Some cell) = file_refusal image cell
 
 -- why the content of a slot can't be read: what is wrong with the directory, or else with the slot
-unfoldable pub content_refusal : List (List ℕ) → ℕ → Option ReadFault
+unfoldable pub content_refusal : Disk → ℕ → Option ReadFault
 content_refusal image slot = option_or (option_map Directory (first_fault image reading_conditions)) (slot_refusal image (slice_get (slots image) slot))
 
 -- the content of the file of a slot's bytes: the data of its chain
-abbrev pub file_content : List (List ℕ) → List ℕ → List ℕ
+abbrev pub file_content : Disk → Bytes → Bytes
 file_content image cell = data_along image (chain_at image (first_pair cell))
 
 -- the content of the file of a slot; nothing where there is no such slot
-abbrev pub content_at : List (List ℕ) → ℕ → List ℕ
+abbrev pub content_at : Disk → ℕ → Bytes
 content_at image slot = option_map_or (file_content image) (slice_get (slots image) slot) []
 
 -- the refusal that a result holds; want of memory is none

@@ -1,6 +1,8 @@
 -- A slot of the directory: its 32 bytes, and what they say of a file.
 use Rattle.std.specs.Prelude.{ℕ, ◌+◌, ◌*◌, ◌%◌, ◌^◌, ◌≤◌, ◌==◌, nat_le, Bool, not, if◌then◌else◌, List, [], ◌∷◌, map, take, drop, slice_index, slice_index_or, slice_range, bit_and, Option, Some, None}
 use Rattle.std.specs.List.{range_with_len}
+use Rattle.d64_image.specs.Disk.{Disk, Bytes}
+use Rattle.d64_image.specs.Disk.{Disk, Bytes}
 use Rattle.d64_files.specs.Name.{name_in}
 use Rattle.d64_files.specs.declared.kind.Kind.{Kind}
 use Rattle.d64_files.specs.declared.kind.Kind.TheVariants.{Del, Seq, Prg, Usr, Rel}
@@ -8,19 +10,19 @@ use Rattle.d64_files.specs.declared.kind.Kind.TheVariants.{Del, Seq, Prg, Usr, R
 -- an entry of a directory: the number of its slot, from 0, the 32 bytes there, and the image that it stands in
 pub record EntryView : Type 0 where
   pub slot : ℕ
-  pub bytes : List ℕ
-  pub image : List (List ℕ)
+  pub bytes : Bytes
+  pub image : Disk
 
 -- the bytes of one slot of a block
-abbrev pub cell : List ℕ → ℕ → List ℕ
+abbrev pub cell : Bytes → ℕ → Bytes
 cell bytes index = take 32 (drop (32 * index) bytes)
 
 -- the eight slots of a block
-unfoldable pub cells : List ℕ → List (List ℕ)
+unfoldable pub cells : Bytes → List Bytes
 cells bytes = map (cell bytes) (range_with_len 0 8)
 
 -- the type byte
-abbrev pub type_byte : List ℕ → ℕ
+abbrev pub type_byte : Bytes → ℕ
 type_byte cell = slice_index cell 2
 
 -- a bit of a byte is 1
@@ -28,19 +30,19 @@ abbrev pub has_bit : ℕ → ℕ → Bool
 has_bit byte bit = not (bit_and byte (2 ^ bit) == 0)
 
 -- a slot is used where its type byte isn't 0
-abbrev pub is_used : List ℕ → Bool
+abbrev pub is_used : Bytes → Bool
 is_used cell = not (type_byte cell == 0)
 
 -- the number of a file's kind, the low four bits of the type byte
-abbrev pub kind_number : List ℕ → ℕ
+abbrev pub kind_number : Bytes → ℕ
 kind_number cell = type_byte cell % 16
 
 -- there is a kind of that number
-abbrev pub HasKind : List ℕ → Type 0
+abbrev pub HasKind : Bytes → Type 0
 HasKind cell = kind_number cell ≤ 4
 
 -- the same as a test
-abbrev pub has_kind : List ℕ → Bool
+abbrev pub has_kind : Bytes → Bool
 has_kind cell = nat_le (kind_number cell) 4
 
 -- the kinds, in the order of their numbers
@@ -48,33 +50,33 @@ abbrev pub kinds : List Kind
 kinds = Del ∷ Seq ∷ Prg ∷ Usr ∷ Rel ∷ []
 
 -- a file's kind
-abbrev pub kind_of : List ℕ → Kind
+abbrev pub kind_of : Bytes → Kind
 kind_of cell = slice_index_or kinds (kind_number cell) Del
 
 -- a file is locked where bit 6 of the type byte is 1
-abbrev pub is_locked : List ℕ → Bool
+abbrev pub is_locked : Bytes → Bool
 is_locked cell = has_bit (type_byte cell) 6
 
 -- a file is closed where bit 7 of the type byte is 1
-abbrev pub is_closed : List ℕ → Bool
+abbrev pub is_closed : Bytes → Bool
 is_closed cell = has_bit (type_byte cell) 7
 
 -- the track and the sector of a file's first block
-abbrev pub first_pair : List ℕ → ℕ × ℕ
+abbrev pub first_pair : Bytes → ℕ × ℕ
 first_pair cell = (slice_index cell 3, slice_index cell 4)
 
 -- the field of the name: 16 bytes
-abbrev pub field_of : List ℕ → List ℕ
+abbrev pub field_of : Bytes → Bytes
 field_of cell = slice_range cell 5 21
 
 -- a file's name
-abbrev pub name_of : List ℕ → List ℕ
+abbrev pub name_of : Bytes → Bytes
 name_of cell = name_in (field_of cell)
 
 -- the track and the sector of a file's first side block; none where that track is 0
-abbrev pub side_pair : List ℕ → Option (ℕ × ℕ)
+abbrev pub side_pair : Bytes → Option (ℕ × ℕ)
 side_pair cell = if slice_index cell 0x15 == 0 then None else Some (slice_index cell 0x15, slice_index cell 0x16)
 
 -- a file's shown size in blocks: two bytes, low first
-abbrev pub size_of : List ℕ → ℕ
+abbrev pub size_of : Bytes → ℕ
 size_of cell = slice_index cell 0x1E + 256 * slice_index cell 0x1F

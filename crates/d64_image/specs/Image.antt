@@ -1,11 +1,13 @@
 -- Images: lists of blocks of 256 bytes, of 35 or of 40 tracks, and how two of them differ.
-use Rattle.std.specs.Prelude.{◌≡◌, ℕ, ◌<◌, ◌==◌, ◌||◌, ◌⊎◌, not, Bool, if◌then◌else◌, Option, Some, None, List, [], length, filter, All, slice_index_or, slice_set, nat_eq}
+use Rattle.std.specs.Prelude.{◌≡◌, ℕ, ◌<◌, ◌==◌, ◌||◌, ◌⊎◌, not, Bool, if◌then◌else◌, Option, Some, None, [], length, filter, All, slice_index_or, slice_set, nat_eq}
 use Rattle.std.specs.List.{flat_map, range_with_len}
 use Rattle.std.specs.Cmp.Lexicographic.{pointwise}
+use Rattle.d64_image.specs.Disk.{Disk, Bytes, Blocks}
+use Rattle.d64_image.specs.Disk.{Disk, Bytes, Blocks}
 use Rattle.d64_image.specs.declared.image.TheConstants.{BLOCK_BYTES}
 
 -- a block's content: 256 bytes, and a byte is a number below 256
-abbrev pub IsBlock : List ℕ → Type 0
+abbrev pub IsBlock : Bytes → Type 0
 IsBlock bytes = (length bytes ≡ BLOCK_BYTES) × All (λ byte. byte < 256) bytes
 
 -- how many blocks an image has: those of 35 tracks or of 40
@@ -29,22 +31,22 @@ abbrev pub is_image_length : ℕ → Bool
 is_image_length len = (len == 174848) || (len == 196608)
 
 -- an image is a list of so many blocks
-abbrev pub IsImage : List (List ℕ) → Type 0
+abbrev pub IsImage : Disk → Type 0
 IsImage image = IsSize (length image) × All IsBlock image
 
 -- the content of a block
-abbrev pub sector_at : List (List ℕ) → ℕ → List ℕ
+abbrev pub sector_at : Disk → ℕ → Bytes
 sector_at image block = slice_index_or image block []
 
 -- the bytes of an image, block after block
-abbrev pub bytes_of : List (List ℕ) → List ℕ
+abbrev pub bytes_of : Disk → Bytes
 bytes_of image = flat_map (λ sector. sector) image
 
 -- the image with one block replaced
-abbrev pub with_sector : List (List ℕ) → ℕ → List ℕ → List (List ℕ)
+abbrev pub with_sector : Disk → ℕ → Bytes → Disk
 with_sector image block bytes = slice_set image block bytes
 
 -- the blocks in which two images differ, ascending
-abbrev pub differences : List (List ℕ) → List (List ℕ) → List ℕ
+abbrev pub differences : Disk → Disk → Blocks
 differences image other =
     filter (λ block. not (pointwise nat_eq (sector_at image block) (sector_at other block))) (range_with_len 0 (length image))

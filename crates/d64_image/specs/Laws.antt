@@ -1,7 +1,10 @@
 -- what follows from the definitions of blocks, images and sets of blocks
-use Rattle.std.specs.Prelude.{◌≡◌, ◌≢◌, ◌↔◌, ℕ, ◌+◌, ◌<◌, List, [], Some, length, Contains, IsTrue}
-use Rattle.std.specs.Ordering.{nat_cmp}
+use Rattle.std.specs.Prelude.{◌≡◌, ◌≢◌, ◌↔◌, ℕ, ◌+◌, ◌<◌, [], Some, length, Contains, IsTrue}
 use Rattle.std.specs.FinSet as set
+use Rattle.d64_image.specs.Disk.{Disk}
+use Rattle.d64_image.specs.BlockSet.{BlockSet}
+use Rattle.d64_image.specs.Disk.{Disk}
+use Rattle.d64_image.specs.BlockSet.{BlockSet}
 use Rattle.d64_image.specs.declared.block.TheConstants.{BLOCKS}
 use Rattle.d64_image.specs.Block.{IsLegal, first_block, pair_at, block_of}
 use Rattle.d64_image.specs.BlockSet.{same_members}
@@ -31,28 +34,28 @@ EachSizeHasItsTracks = (count : ℕ) → IsSize count → first_block (tracks_of
 -- the blocks in which two images differ are those at which their sectors differ
 abbrev pub DifferencesTell : Type 0
 DifferencesTell =
-    (image other : List (List ℕ)) (block : ℕ) → Contains (differences image other) block ↔ ((block < length image) × (sector_at image block ≢ sector_at other block))
+    (image other : Disk) (block : ℕ) → Contains (differences image other) block ↔ ((block < length image) × (sector_at image block ≢ sector_at other block))
 
 -- images as long as one another that differ nowhere are equal
 abbrev pub AlikeImagesAreEqual : Type 0
-AlikeImagesAreEqual = (image other : List (List ℕ)) → length image ≡ length other → differences image other ≡ [] → image ≡ other
+AlikeImagesAreEqual = (image other : Disk) → length image ≡ length other → differences image other ≡ [] → image ≡ other
 
 -- sets with the same members are equal
 abbrev pub AlikeSetsAreEqual : Type 0
-AlikeSetsAreEqual = (blocks others : set.FinSet nat_cmp) → ((block : ℕ) → set.contains blocks block ≡ set.contains others block) → blocks ≡ others
+AlikeSetsAreEqual = (blocks others : BlockSet) → ((block : ℕ) → set.contains blocks block ≡ set.contains others block) → blocks ≡ others
 
 -- the test of two sets tells whether they are equal
 abbrev pub SameMembersTells : Type 0
-SameMembersTells = (blocks others : set.FinSet nat_cmp) → IsTrue (same_members blocks others) ↔ (blocks ≡ others)
+SameMembersTells = (blocks others : BlockSet) → IsTrue (same_members blocks others) ↔ (blocks ≡ others)
 
 -- a patch that keeps nothing puts nothing back
 abbrev pub EmptyPatchPutsNothingBack : Type 0
-EmptyPatchPutsNothingBack = (image : List (List ℕ)) → back image [] ≡ image
+EmptyPatchPutsNothingBack = (image : Disk) → back image [] ≡ image
 
 -- the patch of all that changed puts back the image from before
 abbrev pub ChangesPutBack : Type 0
-ChangesPutBack = (before after : List (List ℕ)) → length before ≡ length after → back after (changed before after) ≡ before
+ChangesPutBack = (before after : Disk) → length before ≡ length after → back after (changed before after) ≡ before
 
 -- it keeps as many blocks as differ
 abbrev pub ChangesCount : Type 0
-ChangesCount = (before after : List (List ℕ)) → length (changed before after) ≡ length (differences before after)
+ChangesCount = (before after : Disk) → length (changed before after) ≡ length (differences before after)

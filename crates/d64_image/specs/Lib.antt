@@ -1,3 +1,4 @@
+pub mod Disk
 pub mod Block
 pub mod Zone
 pub mod BlockSet

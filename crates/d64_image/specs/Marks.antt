@@ -8,6 +8,8 @@ use Rattle.std.specs.FinSet as set
 use Rattle.std.specs.FinSet.{contains-empty, contains-insert, same_set, is_subset-contains, contains-is_subset, nat_cmp-IsAntisymmetric}
 use Rattle.std.proofs.lemmas.Bool.Decides.{nat_tests}
 use Rattle.std.proofs.lemmas.List.FromFn.{fill_by_all}
+use Rattle.d64_image.specs.BlockSet.{BlockSet}
+use Rattle.d64_image.specs.BlockSet.{BlockSet}
 use Rattle.d64_image.specs.declared.block.TheConstants.{BLOCKS}
 use Rattle.d64_image.specs.BlockSet.{marked, marks_of, same_members}
 
@@ -73,12 +75,12 @@ alike false true to from = from refl
 alike false false to from = refl
 
 -- sets with the same members are equal
-pub Decides-same_members : (s t : set.FinSet nat_cmp) → Decides (same_members s t) (s ≡ t)
+pub Decides-same_members : (s t : BlockSet) → Decides (same_members s t) (s ≡ t)
 Decides-same_members s t = (
   λ h. let both = both_true (set.is_subset s t) (set.is_subset t s) h in
       same_set nat_cmp_total nat_cmp-IsAntisymmetric s t (λ q.
       alike (set.contains s q) (set.contains t q) (is_subset-contains nat_cmp_total s t both.0 q) (is_subset-contains nat_cmp_total t s both.1 q)),
-  λ e. subst (λ (u : set.FinSet nat_cmp). same_members s u ≡ true) e
+  λ e. subst (λ (u : BlockSet). same_members s u ≡ true) e
       (let h : set.is_subset s s ≡ true = contains-is_subset nat_cmp_total s s (λ q one. one) in ap₂ ◌&&◌ h h),
 )
 

@@ -2,12 +2,14 @@
 use Rattle.std.specs.Prelude.{ℕ, ◌+◌, ◌<◌, ◌≤◌, ◌==◌, not, nat_lt, nat_eq, if◌then◌else◌, Bool, List, [], ◌∷◌, length, map, filter, fold, count_by, All}
 use Rattle.std.specs.Cmp.Lexicographic.{pointwise}
 use Rattle.std.specs.List.{list_any, insert}
+use Rattle.d64_image.specs.Disk.{Disk, Bytes}
+use Rattle.d64_image.specs.Disk.{Disk, Bytes}
 use Rattle.d64_image.specs.declared.block.TheConstants.{BLOCKS}
 use Rattle.d64_image.specs.Image.{IsBlock, sector_at, with_sector, differences}
 
 -- blocks, each with 256 bytes that it had
 abbrev pub Kept : Type 0
-Kept = List (ℕ × List ℕ)
+Kept = List (ℕ × Bytes)
 
 -- the kept blocks lie between these two, ascending and so each once
 unfoldable pub RisesBetween : ℕ → ℕ → Kept → Type 0
@@ -19,7 +21,7 @@ abbrev pub IsPatch : Kept → Type 0
 IsPatch patch = RisesBetween 0 BLOCKS patch
 
 -- a patch keeps blocks of that image
-abbrev pub IsPatchOf : List (List ℕ) → Kept → Type 0
+abbrev pub IsPatchOf : Disk → Kept → Type 0
 IsPatchOf image patch = RisesBetween 0 (length image) patch
 
 -- what a patch keeps of each block are the bytes of one
@@ -27,7 +29,7 @@ abbrev pub HaveBlocks : Kept → Type 0
 HaveBlocks patch = All (λ entry. IsBlock entry.1) patch
 
 -- the image with the kept blocks put back
-unfoldable pub back : List (List ℕ) → Kept → List (List ℕ)
+unfoldable pub back : Disk → Kept → Disk
 back image patch = fold (λ held entry. with_sector held entry.0 entry.1) image patch
 
 -- a patch keeps the block
@@ -35,18 +37,18 @@ abbrev pub is_kept : Kept → ℕ → Bool
 is_kept patch block = list_any (λ entry. entry.0 == block) patch
 
 -- the patch with a block added in its place, where it isn't kept yet
-unfoldable pub with_kept : Kept → ℕ → List ℕ → Kept
+unfoldable pub with_kept : Kept → ℕ → Bytes → Kept
 with_kept patch block bytes =
     if is_kept patch block then patch else insert patch (count_by (λ entry. nat_lt entry.0 block) patch) (block, bytes)
 
 -- the same blocks, each with the bytes that an image has there
-unfoldable pub taken : List (List ℕ) → Kept → Kept
+unfoldable pub taken : Disk → Kept → Kept
 taken image patch = map (λ entry. (entry.0, sector_at image entry.0)) patch
 
 -- the kept blocks whose bytes an image doesn't have
-unfoldable pub trimmed : List (List ℕ) → Kept → Kept
+unfoldable pub trimmed : Disk → Kept → Kept
 trimmed image patch = filter (λ entry. not (pointwise nat_eq entry.1 (sector_at image entry.0))) patch
 
 -- the blocks in which an image differs from the one before it, with their bytes from before
-unfoldable pub changed : List (List ℕ) → List (List ℕ) → Kept
+unfoldable pub changed : Disk → Disk → Kept
 changed before after = map (λ block. (block, sector_at before block)) (differences before after)

@@ -1,8 +1,11 @@
 -- what follows from the definitions of the map and of the search
-use Rattle.std.specs.Prelude.{◌≡◌, ◌≢◌, ℕ, ◌<◌, ◌&&◌, nat_lt, nat_le, nat_eq, true, false, List, length, slice_index, find, All, Some, is_some, MatchOption}
+use Rattle.std.specs.Prelude.{◌≡◌, ◌≢◌, ℕ, ◌<◌, ◌&&◌, nat_lt, nat_le, nat_eq, true, false, length, slice_index, find, All, Some, is_some, MatchOption}
 use Rattle.std.specs.List.{IsDistinct}
-use Rattle.std.specs.Ordering.{nat_cmp}
 use Rattle.std.specs.FinSet as set
+use Rattle.d64_image.specs.Disk.{Disk, Blocks}
+use Rattle.d64_image.specs.BlockSet.{BlockSet}
+use Rattle.d64_image.specs.Disk.{Disk, Blocks}
+use Rattle.d64_image.specs.BlockSet.{BlockSet}
 use Rattle.d64_image.specs.declared.block.TheConstants.{BLOCKS}
 use Rattle.d64_image.specs.BlockSet.{MembersAreBelow}
 use Rattle.d64_image.specs.Image.{IsImage, tracks_of, sector_at}
@@ -13,48 +16,48 @@ use Rattle.d64_map.specs.Plan.{plan, room}
 
 -- the free blocks are the image's blocks whose bit is 1
 abbrev pub FreeBlocksHaveTheirBit : Type 0
-FreeBlocksHaveTheirBit = (image : List (List ℕ)) (block : ℕ) → set.contains (free_blocks image) block ≡ (nat_lt block (length image) && is_free image block)
+FreeBlocksHaveTheirBit = (image : Disk) (block : ℕ) → set.contains (free_blocks image) block ≡ (nat_lt block (length image) && is_free image block)
 
 -- the map that is written for a set marks free exactly that set
 abbrev pub MapIsTheSet : Type 0
 MapIsTheSet =
-    (image : List (List ℕ)) (free : set.FinSet nat_cmp) → IsImage image → MembersAreBelow (length image) free → free_blocks (with_map image free) ≡ free
+    (image : Disk) (free : BlockSet) → IsImage image → MembersAreBelow (length image) free → free_blocks (with_map image free) ≡ free
 
 -- the counts of a map that is written for a set fit
 abbrev pub WrittenCountsFit : Type 0
 WrittenCountsFit =
-    (image : List (List ℕ)) (free : set.FinSet nat_cmp) → IsImage image → MembersAreBelow (length image) free → CountsFit (with_map image free)
+    (image : Disk) (free : BlockSet) → IsImage image → MembersAreBelow (length image) free → CountsFit (with_map image free)
 
 -- a written map leaves an image, with the same other blocks, and in the map's block the same bytes outside the entries
 abbrev pub OnlyEntriesChange : Type 0
 OnlyEntriesChange =
-    (image : List (List ℕ)) (free : set.FinSet nat_cmp)
+    (image : Disk) (free : BlockSet)
     → IsImage image
     → IsImage (with_map image free)
     × ((block : ℕ) → block ≢ map_block → sector_at (with_map image free) block ≡ sector_at image block)
     × ((place : ℕ) → is_entry (tracks_of (length image)) place ≡ false → slice_index (sector_at (with_map image free) map_block) place ≡ slice_index (sector_at image map_block) place)
 
 -- a free block outside track 18
-abbrev pub IsFreeForFiles : set.FinSet nat_cmp → ℕ → Type 0
+abbrev pub IsFreeForFiles : BlockSet → ℕ → Type 0
 IsFreeForFiles free block = (set.contains free block ≡ true) × (block < BLOCKS) × ((pair_at block).0 ≢ 18)
 
 -- a plan has as many blocks as it is asked for, and they are distinct, free, and outside track 18
 abbrev pub PlanTakesFreeBlocks : Type 0
 PlanTakesFreeBlocks =
-    (free : set.FinSet nat_cmp) (count : ℕ) (taken : List ℕ)
+    (free : BlockSet) (count : ℕ) (taken : Blocks)
     → plan free count ≡ Some taken
     → (length taken ≡ count) × All (IsFreeForFiles free) taken × IsDistinct nat_eq taken
 
 -- a plan is there exactly where so many blocks outside track 18 are free
 abbrev pub PlanIsThere : Type 0
-PlanIsThere = (free : set.FinSet nat_cmp) (count : ℕ) → is_some (plan free count) ≡ nat_le count (room free)
+PlanIsThere = (free : BlockSet) (count : ℕ) → is_some (plan free count) ≡ nat_le count (room free)
 
 -- a free block of track 18
-abbrev pub IsFreeForDirectory : set.FinSet nat_cmp → ℕ → Type 0
+abbrev pub IsFreeForDirectory : BlockSet → ℕ → Type 0
 IsFreeForDirectory free block = (set.contains free block ≡ true) × (block < BLOCKS) × ((pair_at block).0 ≡ 18)
 
 -- a pick for the directory is a free block of track 18; where there is none, no block of track 18 is free
 abbrev pub DirPickIsOnTrack18 : Type 0
 DirPickIsOnTrack18 =
-    (free : set.FinSet nat_cmp) (last : ℕ)
+    (free : BlockSet) (last : ℕ)
     → MatchOption (find (set.contains free) (dir_order last)) ((block : ℕ) → ¬ IsFreeForDirectory free block) (λ block. IsFreeForDirectory free block)

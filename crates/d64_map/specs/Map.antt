@@ -1,9 +1,12 @@
 -- The block allocation map: the counts and bits of free blocks, read and written.
-use Rattle.std.specs.Prelude.{◌≡◌, ℕ, ◌+◌, ◌-◌, ◌*◌, ◌/◌, ◌%◌, ◌^◌, ◌<◌, ◌≤◌, ◌==◌, ◌&&◌, ◌||◌, nat_lt, nat_le, not, Bool, true, false, if◌then◌else◌, List, length, map, filter, sum_by, slice_index}
+use Rattle.std.specs.Prelude.{◌≡◌, ℕ, ◌+◌, ◌-◌, ◌*◌, ◌/◌, ◌%◌, ◌^◌, ◌<◌, ◌≤◌, ◌==◌, ◌&&◌, ◌||◌, nat_lt, nat_le, not, Bool, true, false, if◌then◌else◌, length, map, filter, sum_by, slice_index}
 use Rattle.std.specs.List.{range_with_len}
 use Rattle.std.specs.Int.{bit_at}
-use Rattle.std.specs.Ordering.{nat_cmp}
 use Rattle.std.specs.FinSet as set
+use Rattle.d64_image.specs.Disk.{Disk, Bytes, Blocks}
+use Rattle.d64_image.specs.BlockSet.{BlockSet}
+use Rattle.d64_image.specs.Disk.{Disk, Bytes, Blocks}
+use Rattle.d64_image.specs.BlockSet.{BlockSet}
 use Rattle.d64_image.specs.Block.{pair_at}
 use Rattle.d64_image.specs.Image.{tracks_of, sector_at, with_sector}
 use Rattle.d64_image.specs.declared.block.TheConstants.{BLOCKS}
@@ -23,52 +26,52 @@ abbrev pub IsOfTrack : ℕ → ℕ → Type 0
 IsOfTrack track place = (entry_of track ≤ place) × (place < entry_of track + 4)
 
 -- the count byte of a track, the first of its four bytes in the map
-abbrev pub count_of : List (List ℕ) → ℕ → ℕ
+abbrev pub count_of : Disk → ℕ → ℕ
 count_of image track = slice_index (sector_at image map_block) (entry_of track)
 
 -- the bit of a sector in the map's block: in the three bytes after its track's count, eight sectors a byte
-abbrev pub bit_in : List ℕ → ℕ → ℕ → ℕ
+abbrev pub bit_in : Bytes → ℕ → ℕ → ℕ
 bit_in bytes track sector = bit_at (slice_index bytes (entry_of track + 1 + sector / 8)) (sector % 8)
 
 -- the bit of a sector in an image
-abbrev pub bit_of : List (List ℕ) → ℕ → ℕ → ℕ
+abbrev pub bit_of : Disk → ℕ → ℕ → ℕ
 bit_of image track sector = bit_in (sector_at image map_block) track sector
 
 -- whether the map marks a block free: its bit is 1
-unfoldable pub is_free : List (List ℕ) → ℕ → Bool
+unfoldable pub is_free : Disk → ℕ → Bool
 is_free image block = bit_of image (pair_at block).0 (pair_at block).1 == 1
 
 -- all blocks that a disk may have
-unfoldable pub blocks : List ℕ
+unfoldable pub blocks : Blocks
 blocks = range_with_len 0 BLOCKS
 
 -- all blocks of a disk that has so many
-abbrev pub all_of : ℕ → set.FinSet nat_cmp
+abbrev pub all_of : ℕ → BlockSet
 all_of count = set.from_list (range_with_len 0 count)
 
 -- the set of the blocks below a number that the map marks free
-abbrev pub free_below : List (List ℕ) → ℕ → set.FinSet nat_cmp
+abbrev pub free_below : Disk → ℕ → BlockSet
 free_below image n = set.from_list (filter (is_free image) (range_with_len 0 n))
 
 -- the set of the image's blocks that the map marks free
-unfoldable pub free_blocks : List (List ℕ) → set.FinSet nat_cmp
+unfoldable pub free_blocks : Disk → BlockSet
 free_blocks image = free_below image (length image)
 
 -- the map marks none of the members from one block up to another free
-abbrev pub NoneIsFreeBetween : List (List ℕ) → set.FinSet nat_cmp → ℕ → ℕ → Type 0
+abbrev pub NoneIsFreeBetween : Disk → BlockSet → ℕ → ℕ → Type 0
 NoneIsFreeBetween image members first end =
     (block : ℕ) → first ≤ block → block < end → set.contains members block ≡ true → set.contains (free_blocks image) block ≡ false
 
 -- 'blocks free': the sum of the count bytes of all tracks but 18
-unfoldable pub blocks_free : List (List ℕ) → ℕ
+unfoldable pub blocks_free : Disk → ℕ
 blocks_free image = sum_by (count_of image) (filter (λ track. not (track == 18)) (range_with_len 1 (tracks_of (length image))))
 
 -- each track's count byte is the number of its blocks that the map marks free
-pub record CountsFit (image : List (List ℕ)) : Type 0 where
+pub record CountsFit (image : Disk) : Type 0 where
   pub each : (track : ℕ) → 1 ≤ track → track ≤ tracks_of (length image) → count_of image track ≡ members_on (free_blocks image) track
 
 -- the byte of bits for eight sectors of a track, in which bit b stands for the b-th of them
-unfoldable pub bits_for : set.FinSet nat_cmp → ℕ → ℕ → ℕ
+unfoldable pub bits_for : BlockSet → ℕ → ℕ → ℕ
 bits_for free track first = sum_by (λ b. if has_sector free track (first + b) then 2 ^ b else 0) (range_with_len 0 8)
 
 -- the track of a place among the map's entries
@@ -76,7 +79,7 @@ unfoldable pub entry_track : ℕ → ℕ
 entry_track place = if nat_lt place 0xC0 then place / 4 else (place - 0x30) / 4
 
 -- the byte at a place among the map's entries, for a set of free blocks: a count, or bits
-unfoldable pub map_byte : set.FinSet nat_cmp → ℕ → ℕ
+unfoldable pub map_byte : BlockSet → ℕ → ℕ
 map_byte free place =
     if place % 4 == 0
     then members_on free (entry_track place)
@@ -90,10 +93,10 @@ is_entry tracks place =
 
 -- the map's block of a disk of so many tracks, rewritten for a set of free blocks: its entries are new, all its other bytes are the
 -- old ones
-unfoldable pub map_for : ℕ → List ℕ → set.FinSet nat_cmp → List ℕ
+unfoldable pub map_for : ℕ → Bytes → BlockSet → Bytes
 map_for tracks bytes free =
     map (λ place. if is_entry tracks place then map_byte free place else slice_index bytes place) (range_with_len 0 BLOCK_BYTES)
 
 -- the image whose map marks free exactly that set
-unfoldable pub with_map : List (List ℕ) → set.FinSet nat_cmp → List (List ℕ)
+unfoldable pub with_map : Disk → BlockSet → Disk
 with_map image free = with_sector image map_block (map_for (tracks_of (length image)) (sector_at image map_block) free)

@@ -1,6 +1,8 @@
 -- The orders in which free blocks are searched.
 use Rattle.std.specs.Prelude.{ℕ, ◌+◌, ◌-◌, ◌==◌, nat_lt, if◌then◌else◌, List, ◌++◌, map, take, drop}
 use Rattle.std.specs.List.{range_with_len, flat_map}
+use Rattle.d64_image.specs.Disk.{Blocks}
+use Rattle.d64_image.specs.Disk.{Blocks}
 use Rattle.d64_image.specs.Block.{sectors_on, pair_at}
 use Rattle.d64_map.specs.Track.{blocks_on}
 
@@ -13,7 +15,7 @@ unfoldable pub upper_tracks : List ℕ
 upper_tracks = map (λ distance. 18 + distance) (range_with_len 1 22)
 
 -- the order for a file's first block: tracks 17, 19, 16, 20, and so on to 1, 35, then 36 to 40, on each track sectors rising
-unfoldable pub first_order : List ℕ
+unfoldable pub first_order : Blocks
 first_order =
     flat_map (λ distance. blocks_on (18 - distance) ++ blocks_on (18 + distance)) (range_with_len 1 17) ++ flat_map blocks_on (range_with_len 36 5)
 
@@ -39,7 +41,7 @@ tracks_after track =
     else drop (track - 18) upper_tracks ++ lower_tracks ++ take (track - 19) upper_tracks
 
 -- the order for a file's next block, after the block that was taken last
-unfoldable pub next_order : ℕ → List ℕ
+unfoldable pub next_order : ℕ → Blocks
 next_order last =
     if track == 18
     then first_order
@@ -49,6 +51,6 @@ next_order last =
     track = (pair_at last).0
 
 -- the order for a new block of the directory, after the directory's last block
-unfoldable pub dir_order : ℕ → List ℕ
+unfoldable pub dir_order : ℕ → Blocks
 dir_order last =
     if (pair_at last).0 == 18 then rotated (sector_after 3 (sectors_on 18) (pair_at last).1) (blocks_on 18) else blocks_on 18

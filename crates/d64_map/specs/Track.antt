@@ -1,19 +1,22 @@
 -- The blocks of a track, and those of them that are members of a set.
-use Rattle.std.specs.Prelude.{ℕ, Bool, false, List, count_by}
+use Rattle.std.specs.Prelude.{ℕ, Bool, false, count_by}
 use Rattle.std.specs.List.{range_with_len}
 use Rattle.std.specs.Option.{option_map_or}
-use Rattle.std.specs.Ordering.{nat_cmp}
 use Rattle.std.specs.FinSet as set
+use Rattle.d64_image.specs.Disk.{Blocks}
+use Rattle.d64_image.specs.BlockSet.{BlockSet}
+use Rattle.d64_image.specs.Disk.{Blocks}
+use Rattle.d64_image.specs.BlockSet.{BlockSet}
 use Rattle.d64_image.specs.Block.{sectors_on, first_block, block_of}
 
 -- the blocks of a track, by sectors rising from 0
-unfoldable pub blocks_on : ℕ → List ℕ
+unfoldable pub blocks_on : ℕ → Blocks
 blocks_on track = range_with_len (first_block track) (sectors_on track)
 
 -- the disk has that sector, and its block is a member
-unfoldable pub has_sector : set.FinSet nat_cmp → ℕ → ℕ → Bool
+unfoldable pub has_sector : BlockSet → ℕ → ℕ → Bool
 has_sector blocks track sector = option_map_or (set.contains blocks) (block_of track sector) false
 
 -- how many blocks of a track are members
-unfoldable pub members_on : set.FinSet nat_cmp → ℕ → ℕ
+unfoldable pub members_on : BlockSet → ℕ → ℕ
 members_on blocks track = count_by (set.contains blocks) (blocks_on track)

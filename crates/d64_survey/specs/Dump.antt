@@ -1,6 +1,7 @@
 -- Dumps: an image and, where they were noted, the read code of each of its blocks.
-use Rattle.std.specs.Prelude.{◌≡◌, ℕ, ◌+◌, ◌==◌, ◌&&◌, nat_le, not, Bool, if◌then◌else◌, List, [], ◌++◌, length, Option, Some, None, Result, Ok, Err}
+use Rattle.std.specs.Prelude.{◌≡◌, ℕ, ◌+◌, ◌==◌, ◌&&◌, nat_le, not, Bool, if◌then◌else◌, [], ◌++◌, length, Option, Some, None, Result, Ok, Err}
 use Rattle.std.specs.Option.{option_map_or}
+use Rattle.d64_image.specs.Disk.{Disk, Bytes}
 use Rattle.d64_image.specs.Image.{IsImage, bytes_of}
 use Rattle.d64_image.specs.declared.image.ImageFault.{ImageFault}
 use Rattle.d64_image.specs.declared.image.ImageFault.TheVariants as image_faults
@@ -9,11 +10,11 @@ use Rattle.d64_survey.specs.declared.dump.DumpFault.TheVariants.{WrongLength, Me
 
 -- an image, and the read codes of its blocks in their order, or none
 pub record DumpView : Type 0 where
-  pub image : List (List ℕ)
-  pub codes : Option (List ℕ)
+  pub image : Disk
+  pub codes : Option Bytes
 
 -- each block of the image has a code
-abbrev pub HasCodes : List (List ℕ) → Option (List ℕ) → Type 0
+abbrev pub HasCodes : Disk → Option Bytes → Type 0
 HasCodes image None = Unit {0}
 HasCodes image (Some codes) = length codes ≡ length image
 
@@ -22,11 +23,11 @@ abbrev pub IsDump : DumpView → Type 0
 IsDump dump = IsImage dump.image × HasCodes dump.image dump.codes
 
 -- the bytes of the codes
-abbrev pub code_bytes : Option (List ℕ) → List ℕ
+abbrev pub code_bytes : Option Bytes → Bytes
 code_bytes codes = option_map_or (λ bytes. bytes) codes []
 
 -- the bytes of a dump: those of its image, and then the codes
-abbrev pub dump_bytes : DumpView → List ℕ
+abbrev pub dump_bytes : DumpView → Bytes
 dump_bytes dump = bytes_of dump.image ++ code_bytes dump.codes
 
 -- how many bytes the image has in a dump of so many, without codes or with them; none where no dump has so many

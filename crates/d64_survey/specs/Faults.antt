@@ -3,6 +3,7 @@ use Rattle.std.specs.Prelude.{ℕ, ◌-◌, ◌==◌, ◌&&◌, not, Bool, if◌
 use Rattle.std.specs.List.{flat_map, range_with_len, slice_get}
 use Rattle.std.specs.Option.{option_map_or}
 use Rattle.std.specs.FinSet as set
+use Rattle.d64_image.specs.Disk.{Disk, Bytes, Blocks}
 use Rattle.d64_image.specs.Image.{tracks_of}
 use Rattle.d64_map.specs.Map.{blocks, count_of, free_blocks}
 use Rattle.d64_map.specs.Track.{members_on}
@@ -16,7 +17,6 @@ use Rattle.d64_survey.specs.declared.fault.Fault.{Fault}
 use Rattle.d64_survey.specs.declared.fault.Fault.TheVariants.{WrongCount, BrokenDirectory, UnknownKind, BrokenFile, Shared, MarkedFree}
 use Rattle.d64_survey.specs.declared.owner.Part.{Part}
 use Rattle.d64_survey.specs.declared.owner.Part.TheVariants.{Data, Side}
-use Rattle.d64_survey.specs.declared.way_end.WayEnd.{WayEnd}
 
 -- the number of the condition that fails
 abbrev pub number : Fault → ℕ
@@ -37,51 +37,51 @@ last_from None = Missing
 last_from (Some block) = Block block
 
 -- the last of the blocks of a way
-abbrev pub last_of : List ℕ → LastBlock
+abbrev pub last_of : Blocks → LastBlock
 last_of blocks = last_from (slice_get blocks (length blocks - 1))
 
 -- a track's count byte isn't the number of its sectors that the map marks free
-abbrev pub count_fault : List (List ℕ) → ℕ → List Fault
+abbrev pub count_fault : Disk → ℕ → List Fault
 count_fault image track =
     where_so (not (count_of image track == members_on (free_blocks image) track)) (WrongCount track (count_of image track) (members_on (free_blocks image) track))
 
 -- 1: one for each such track
-abbrev pub count_faults : List (List ℕ) → List Fault
+abbrev pub count_faults : Disk → List Fault
 count_faults image = flat_map (count_fault image) (range_with_len 1 (tracks_of (length image)))
 
 -- 2: the directory's way doesn't end after a last block
-abbrev pub directory_faults : List (List ℕ) → List Fault
+abbrev pub directory_faults : Disk → List Fault
 directory_faults image = where_so (not (is_whole (directory_way image).1)) (BrokenDirectory (last_of (directory_way image).0) (directory_way image).1)
 
 -- a slot's type byte has no kind; such a slot is used
-abbrev pub kind_fault : ℕ × List ℕ → List Fault
+abbrev pub kind_fault : ℕ × Bytes → List Fault
 kind_fault slot = where_so (not (has_kind slot.1)) (UnknownKind slot.0 (type_byte slot.1))
 
 -- 3: one for each such slot
-abbrev pub kind_faults : List (List ℕ) → List Fault
+abbrev pub kind_faults : Disk → List Fault
 kind_faults image = flat_map kind_fault (numbered (way_slots image))
 
 -- the way from a pair, of a part of a slot's file, doesn't end after a last block
-abbrev pub way_fault : List (List ℕ) → ℕ → Part → ℕ × ℕ → List Fault
+abbrev pub way_fault : Disk → ℕ → Part → ℕ × ℕ → List Fault
 way_fault image slot part pair = where_so (not (is_whole (way image pair).1)) (BrokenFile slot part (last_of (way image pair).0) (way image pair).1)
 
 -- a part of a slot's file has such a way
-abbrev pub part_fault : List (List ℕ) → ℕ × List ℕ → Part → List Fault
+abbrev pub part_fault : Disk → ℕ × Bytes → Part → List Fault
 part_fault image slot part = option_map_or (way_fault image slot.0 part) (pair_of part slot.1) []
 
 -- 4: one for each such part, a slot's data before its side blocks
-abbrev pub file_faults : List (List ℕ) → List Fault
+abbrev pub file_faults : Disk → List Fault
 file_faults image = flat_map (λ slot. part_fault image slot Data ++ part_fault image slot Side) (numbered (way_slots image))
 
 -- 5: one for each block with more than one owner
-abbrev pub shared_faults : List (List ℕ) → List Fault
+abbrev pub shared_faults : Disk → List Fault
 shared_faults image = flat_map (λ block. where_so (is_shared image block) (Shared block)) blocks
 
 -- 6: one for each block that has an owner and that the map marks free
-abbrev pub free_faults : List (List ℕ) → List Fault
+abbrev pub free_faults : Disk → List Fault
 free_faults image = flat_map (λ block. where_so (is_owned image block && set.contains (free_blocks image) block) (MarkedFree block)) blocks
 
 -- the faults of an image, by their numbers
-unfoldable pub faults : List (List ℕ) → List Fault
+unfoldable pub faults : Disk → List Fault
 faults image =
     count_faults image ++ (directory_faults image ++ (kind_faults image ++ (file_faults image ++ (shared_faults image ++ free_faults image))))

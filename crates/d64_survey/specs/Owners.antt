@@ -1,7 +1,8 @@
 -- The owners of the blocks of an image: the map, the directory, and the files of the slots.
-use Rattle.std.specs.Prelude.{ℕ, ◌==◌, nat_lt, nat_eq, Bool, List, [], ◌∷◌, ◌++◌, map, filter, length, Option}
-use Rattle.std.specs.List.{flat_map, list_any, slice_get}
+use Rattle.std.specs.Prelude.{ℕ, nat_lt, nat_eq, Bool, List, [], ◌∷◌, ◌++◌, map, filter, length, Option}
+use Rattle.std.specs.List.{flat_map, slice_get}
 use Rattle.std.specs.Option.{option_map_or}
+use Rattle.d64_image.specs.Disk.{Disk, Bytes, Blocks}
 use Rattle.d64_map.specs.Map.{map_block}
 use Rattle.d64_files.specs.Directory.{slots_in, numbered}
 use Rattle.d64_files.specs.Ownership.{roots}
@@ -13,50 +14,50 @@ use Rattle.d64_survey.specs.declared.owner.Owner.TheVariants.{Map, Directory, Fi
 use Rattle.d64_survey.specs.declared.way_end.WayEnd.{WayEnd}
 
 -- the directory's way: that from track 18, sector 1
-abbrev pub directory_way : List (List ℕ) → List ℕ × WayEnd
+abbrev pub directory_way : Disk → Blocks × WayEnd
 directory_way image = way image (18, 1)
 
 -- the slots of an image: those of the blocks of the directory's way, however it ends
-abbrev pub way_slots : List (List ℕ) → List (List ℕ)
+abbrev pub way_slots : Disk → List Bytes
 way_slots image = slots_in image (directory_way image).0
 
 -- the pair from which a part of a slot's file leads; none where the slot has no such part
-abbrev pub pair_of : Part → List ℕ → Option (ℕ × ℕ)
+abbrev pub pair_of : Part → Bytes → Option (ℕ × ℕ)
 pair_of Data cell = slice_get (roots cell) 0
 pair_of Side cell = slice_get (roots cell) 1
 
 -- the blocks of the way from a pair, where there is one
-abbrev pub blocks_from : List (List ℕ) → Option (ℕ × ℕ) → List ℕ
+abbrev pub blocks_from : Disk → Option (ℕ × ℕ) → Blocks
 blocks_from image pair = option_map_or (λ pair. (way image pair).0) pair []
 
 -- the blocks, each with this owner
-abbrev pub owned_as : Owner → List ℕ → List (ℕ × Owner)
+abbrev pub owned_as : Owner → Blocks → List (ℕ × Owner)
 owned_as owner blocks = map (λ block. (block, owner)) blocks
 
 -- the blocks that a part of a slot's file owns
-abbrev pub part_owners : List (List ℕ) → ℕ × List ℕ → Part → List (ℕ × Owner)
+abbrev pub part_owners : Disk → ℕ × Bytes → Part → List (ℕ × Owner)
 part_owners image slot part = owned_as (File slot.0 part) (blocks_from image (pair_of part slot.1))
 
 -- the blocks that a slot's file owns: its data and then its side blocks
-abbrev pub slot_owners : List (List ℕ) → ℕ × List ℕ → List (ℕ × Owner)
+abbrev pub slot_owners : Disk → ℕ × Bytes → List (ℕ × Owner)
 slot_owners image slot = part_owners image slot Data ++ part_owners image slot Side
 
 -- each block that has an owner, with its owner: the map's block, the directory's way, and then the files by their slots
-unfoldable pub owners : List (List ℕ) → List (ℕ × Owner)
+unfoldable pub owners : Disk → List (ℕ × Owner)
 owners image = (map_block, Map) ∷ (owned_as Directory (directory_way image).0 ++ flat_map (slot_owners image) (numbered (way_slots image)))
 
 -- the blocks that have an owner, as often as they have one
-abbrev pub blocks_owned : List (List ℕ) → List ℕ
+abbrev pub blocks_owned : Disk → Blocks
 blocks_owned image = map (λ (owned : ℕ × Owner). owned.0) (owners image)
 
 -- the owners of a block
-abbrev pub owners_of : List (List ℕ) → ℕ → List Owner
+abbrev pub owners_of : Disk → ℕ → List Owner
 owners_of image block = map (λ (owned : ℕ × Owner). owned.1) (filter (λ (owned : ℕ × Owner). nat_eq block owned.0) (owners image))
 
 -- whether a block has an owner
-abbrev pub is_owned : List (List ℕ) → ℕ → Bool
+abbrev pub is_owned : Disk → ℕ → Bool
 is_owned image block = nat_lt 0 (length (owners_of image block))
 
 -- whether a block has more than one owner
-abbrev pub is_shared : List (List ℕ) → ℕ → Bool
+abbrev pub is_shared : Disk → ℕ → Bool
 is_shared image block = nat_lt 1 (length (owners_of image block))

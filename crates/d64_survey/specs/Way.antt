@@ -1,6 +1,7 @@
 -- The way along the links of blocks from a pair of track and sector: its blocks, and how it ends.
-use Rattle.std.specs.Prelude.{ℕ, zero, suc, ◌==◌, nat_eq, Bool, true, false, if◌then◌else◌, List, [], ◌∷◌, ◌++◌, length, Option, Some, None}
+use Rattle.std.specs.Prelude.{ℕ, zero, suc, ◌==◌, nat_eq, Bool, true, false, if◌then◌else◌, [], ◌∷◌, ◌++◌, length, Option, Some, None}
 use Rattle.std.specs.List.{list_any}
+use Rattle.d64_image.specs.Disk.{Disk, Blocks}
 use Rattle.d64_files.specs.Chain.{block_in, link_at}
 use Rattle.d64_survey.specs.declared.way_end.WayEnd.{WayEnd}
 use Rattle.d64_survey.specs.declared.way_end.WayEnd.TheVariants.{End, Off, Loop}
@@ -12,13 +13,13 @@ is_whole (Off track sector) = false
 is_whole (Loop track sector) = false
 
 -- the block of a pair of track and sector, where the image has that block
-abbrev pub block_at : List (List ℕ) → ℕ × ℕ → Option ℕ
+abbrev pub block_at : Disk → ℕ × ℕ → Option ℕ
 block_at image pair = block_in image pair.0 pair.1
 
 -- the way of which these blocks are walked, with so many blocks of the image left, and on from a pair and its block: it ends where
 -- the image has no such block, where that block is walked already, as each one is where none is left, and after a block whose link
 -- has track 0
-unfoldable pub way_on : ℕ → List (List ℕ) → List ℕ → ℕ × ℕ → Option ℕ → List ℕ × WayEnd
+unfoldable pub way_on : ℕ → Disk → Blocks → ℕ × ℕ → Option ℕ → Blocks × WayEnd
 way_on left image walked pair None = (walked, Off pair.0 pair.1)
 way_on zero image walked pair (Some block) = (walked, Loop pair.0 pair.1)
 way_on (suc left) image walked pair (Some block) =
@@ -27,5 +28,5 @@ way_on (suc left) image walked pair (Some block) =
     else way_on left image (walked ++ block ∷ []) (link_at image block) (block_at image (link_at image block))
 
 -- the way from a pair: its blocks, and how it ends
-unfoldable pub way : List (List ℕ) → ℕ × ℕ → List ℕ × WayEnd
+unfoldable pub way : Disk → ℕ × ℕ → Blocks × WayEnd
 way image pair = way_on (length image) image [] pair (block_at image pair)

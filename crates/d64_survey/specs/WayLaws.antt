@@ -1,26 +1,27 @@
 -- What follows from the definition of a way.
-use Rattle.std.specs.Prelude.{◌≡◌, ◌≢◌, ◌↔◌, ℕ, ◌<◌, ◌≤◌, nat_eq, List, [], length, All}
+use Rattle.std.specs.Prelude.{◌≡◌, ◌≢◌, ◌↔◌, ℕ, ◌<◌, ◌≤◌, nat_eq, [], length, All}
 use Rattle.std.specs.List.{IsDistinct}
+use Rattle.d64_image.specs.Disk.{Disk}
 use Rattle.d64_files.specs.Ownership.{chain_at}
 use Rattle.d64_survey.specs.Way.{way}
 use Rattle.d64_survey.specs.declared.way_end.WayEnd.TheVariants.{End}
 
 -- a way ends after a last block exactly where there is a chain
 abbrev pub WayThatEndsIsTheChain : Type 0
-WayThatEndsIsTheChain = (image : List (List ℕ)) (pair : ℕ × ℕ) → ((way image pair).1 ≡ End) ↔ (chain_at image pair ≢ [])
+WayThatEndsIsTheChain = (image : Disk) (pair : ℕ × ℕ) → ((way image pair).1 ≡ End) ↔ (chain_at image pair ≢ [])
 
 -- and the chain is then the way
 abbrev pub ChainIsTheWay : Type 0
-ChainIsTheWay = (image : List (List ℕ)) (pair : ℕ × ℕ) → (way image pair).1 ≡ End → chain_at image pair ≡ (way image pair).0
+ChainIsTheWay = (image : Disk) (pair : ℕ × ℕ) → (way image pair).1 ≡ End → chain_at image pair ≡ (way image pair).0
 
 -- no block comes twice in a way
 abbrev pub WayHasNoRepeats : Type 0
-WayHasNoRepeats = (image : List (List ℕ)) (pair : ℕ × ℕ) → IsDistinct nat_eq (way image pair).0
+WayHasNoRepeats = (image : Disk) (pair : ℕ × ℕ) → IsDistinct nat_eq (way image pair).0
 
 -- a way holds blocks of the image alone
 abbrev pub WayLiesInImage : Type 0
-WayLiesInImage = (image : List (List ℕ)) (pair : ℕ × ℕ) → All (λ block. block < length image) (way image pair).0
+WayLiesInImage = (image : Disk) (pair : ℕ × ℕ) → All (λ block. block < length image) (way image pair).0
 
 -- a way is at most as long as the image has blocks
 abbrev pub WayFitsImage : Type 0
-WayFitsImage = (image : List (List ℕ)) (pair : ℕ × ℕ) → length (way image pair).0 ≤ length image
+WayFitsImage = (image : Disk) (pair : ℕ × ℕ) → length (way image pair).0 ≤ length image

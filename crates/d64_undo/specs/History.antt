@@ -1,11 +1,13 @@
 -- Histories: whole images in a list with a cursor, and what commands, undo and redo make of them.
 use Rattle.std.specs.Prelude.{ℕ, ◌+◌, ◌-◌, ◌<◌, nat_lt, if◌then◌else◌, Option, Some, None, List, [], ◌∷◌, ◌++◌, length, take, slice_index_or}
+use Rattle.d64_image.specs.Disk.{Disk}
+use Rattle.d64_image.specs.Disk.{Disk}
 use Rattle.d64_image.specs.Image.{differences}
 use Rattle.d64_image.specs.Patch.{Kept, changed}
 
 -- a history is a list of whole images with a cursor
 pub record History : Type 0 where
-  pub images : List (List (List ℕ))
+  pub images : List Disk
   pub cursor : ℕ
 
 -- the cursor stands on an image
@@ -13,19 +15,19 @@ abbrev pub IsHistory : History → Type 0
 IsHistory history = history.cursor < length history.images
 
 -- the image at a place of the history, from 0
-abbrev pub image_at : History → ℕ → List (List ℕ)
+abbrev pub image_at : History → ℕ → Disk
 image_at history place = slice_index_or history.images place []
 
 -- the image at the cursor
-abbrev pub present : History → List (List ℕ)
+abbrev pub present : History → Disk
 present history = image_at history history.cursor
 
 -- the history that begins with an image
-abbrev pub begun : List (List ℕ) → History
+abbrev pub begun : Disk → History
 begun image = record { images = image ∷ []; cursor = 0 }
 
 -- an image is added after the present one, and what lay after the cursor is dropped, also where nothing changed
-abbrev pub added : History → List (List ℕ) → History
+abbrev pub added : History → Disk → History
 added history image = record {
   images = take (history.cursor + 1) history.images ++ image ∷ [];
   cursor = history.cursor + 1;

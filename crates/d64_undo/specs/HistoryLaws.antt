@@ -1,12 +1,14 @@
 -- What follows from the definitions of histories: undo and redo pass through each image again.
 use Rattle.std.specs.Prelude.{◌≡◌, ℕ, ◌+◌, ◌-◌, ◌<◌, ◌≤◌, List, ◌∷◌, [], length, fold, slice_index_or}
 use Rattle.std.specs.Fn.{iterate}
+use Rattle.d64_image.specs.Disk.{Disk}
+use Rattle.d64_image.specs.Disk.{Disk}
 use Rattle.d64_undo.specs.History.{History, IsHistory, present, added, undone, redone}
 
 -- undo after an accepted command gives the image from before it
 abbrev pub UndoAfterCommand : Type 0
 UndoAfterCommand =
-    (history : History) (image : List (List ℕ)) → IsHistory history → present (undone (added history image)) ≡ present history
+    (history : History) (image : Disk) → IsHistory history → present (undone (added history image)) ≡ present history
 
 -- redo takes back an undo that was possible, and undo takes back a redo
 pub record Inverse (history : History) : Type 0 where
@@ -18,7 +20,7 @@ abbrev pub RedoAfterUndo : Type 0
 RedoAfterUndo = (history : History) → Inverse history
 
 -- the history after commands were accepted, each with its image
-abbrev pub added_all : History → List (List (List ℕ)) → History
+abbrev pub added_all : History → List Disk → History
 added_all history images = fold added history images
 
 -- the history after undos
@@ -31,7 +33,7 @@ redone_by count history = iterate redone count history
 
 -- after accepted commands, as many undos as there were commands are possible, then as many redos as there were undos; the undos,
 -- and each redo after them, stand on the image that stood there while the commands ran
-pub record Retraces (history : History) (images : List (List (List ℕ))) (undos : ℕ) : Type 0 where
+pub record Retraces (history : History) (images : List Disk) (undos : ℕ) : Type 0 where
   pub can_undo : undos < length images → 0 < (undone_by undos (added_all history images)).cursor
   pub can_redo : (redos : ℕ) → redos < undos
       → (redone_by redos (undone_by undos (added_all history images))).cursor + 1
@@ -43,5 +45,5 @@ pub record Retraces (history : History) (images : List (List (List ℕ))) (undos
 -- undos after accepted commands, and then redos, pass through each image again
 abbrev pub Retraced : Type 0
 Retraced =
-    (history : History) (images : List (List (List ℕ))) (undos : ℕ)
+    (history : History) (images : List Disk) (undos : ℕ)
     → IsHistory history → undos ≤ length images → Retraces history images undos

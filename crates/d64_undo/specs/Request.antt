@@ -1,5 +1,7 @@
 -- Requests to a session, their answers, and runs of them.
-use Rattle.std.specs.Prelude.{◌≡◌, ◌≢◌, ℕ, ◌+◌, ◌<◌, ◌≤◌, List, [], ◌∷◌, length, None, All}
+use Rattle.std.specs.Prelude.{◌≡◌, ◌≢◌, ◌+◌, ◌<◌, ◌≤◌, List, [], ◌∷◌, length, None, All}
+use Rattle.d64_image.specs.Disk.{Disk}
+use Rattle.d64_image.specs.Disk.{Disk}
 use Rattle.d64_dos.specs.Command.{after, reply_to, refusal_of, IsWithin}
 use Rattle.d64_dos.specs.Refusal.{cause_of}
 use Rattle.d64_undo.specs.History.{History, present, added, undone, redone}
@@ -24,7 +26,7 @@ asked requests.Undo = Undo
 asked requests.Redo = Redo
 
 -- an image has the block that a request names by itself
-abbrev pub IsAskedOf : List (List ℕ) → Asked → Type 0
+abbrev pub IsAskedOf : Disk → Asked → Type 0
 IsAskedOf image (Apply change) = IsWithin image change
 IsAskedOf image Undo = Unit {0}
 IsAskedOf image Redo = Unit {0}

@@ -4,6 +4,8 @@ use Rattle.std.specs.Int.{Width, byte_len, w16, w64, from_le_bytes}
 use Rattle.std.specs.List.{list_all}
 use Rattle.std.specs.Cmp.Lexicographic.{pointwise}
 use Rattle.std.specs.Simd.{first_chunks}
+use Rattle.d64_image.specs.Disk.{Disk, Bytes}
+use Rattle.d64_image.specs.Disk.{Disk, Bytes}
 use Rattle.d64_image.specs.declared.image.TheConstants.{BLOCK_BYTES}
 use Rattle.d64_image.specs.Image.{blocks_of, sector_at}
 use Rattle.d64_image.specs.Patch.{Kept, back}
@@ -22,7 +24,7 @@ fault_number (Memory error) = 6
 
 -- a part of the bytes that was read, and the bytes after it; or the first fault
 abbrev pub Reading : Type 0 → Type 0
-Reading Part = Result (Part × List ℕ) ResumeFault
+Reading Part = Result (Part × Bytes) ResumeFault
 
 -- reading goes on after a part without fault
 infixl 10 ◌>>=◌
@@ -31,17 +33,17 @@ abbrev pub ◌>>=◌ : {A B : Type 0} → Result A ResumeFault → (A → Result
 (Err fault) >>= next = Err fault
 
 -- so many bytes
-abbrev pub bytes_at : ℕ → List ℕ → Reading (List ℕ)
+abbrev pub bytes_at : ℕ → Bytes → Reading Bytes
 bytes_at count bytes = if nat_lt (length bytes) count then Err Truncated else Ok (take count bytes, drop count bytes)
 
 -- a number, low byte first
-abbrev pub number_at : Width → List ℕ → Reading ℕ
+abbrev pub number_at : Width → Bytes → Reading ℕ
 number_at width bytes = do
   digits ← bytes_at (byte_len width) bytes
   Ok (from_le_bytes width digits.0, digits.1)
 
 -- the bytes after those with which each session file begins
-unfoldable pub after_magic : List ℕ → List ℕ → Result (List ℕ) ResumeFault
+unfoldable pub after_magic : Bytes → Bytes → Result Bytes ResumeFault
 after_magic [] bytes = Ok bytes
 after_magic (byte ∷ others) [] = Err Truncated
 after_magic (byte ∷ others) (first ∷ bytes) = if first == byte then after_magic others bytes else Err NotSession
@@ -52,14 +54,14 @@ or_not_session None = Err NotSession
 or_not_session (Some part) = Ok part
 
 -- how many blocks the image has: the byte that is read is the number of the disk's tracks
-unfoldable pub block_count_at : List ℕ → Reading ℕ
+unfoldable pub block_count_at : Bytes → Reading ℕ
 block_count_at [] = Err Truncated
 block_count_at (tracks ∷ bytes) = do
   blocks ← or_not_session (blocks_of tracks)
   Ok (blocks, bytes)
 
 -- the beginning, and the image
-unfoldable pub image_at : List ℕ → Reading (List (List ℕ))
+unfoldable pub image_at : Bytes → Reading Disk
 image_at bytes = do
   rest ← after_magic magic bytes
   blocks ← block_count_at rest
@@ -67,27 +69,27 @@ image_at bytes = do
   Ok (first_chunks BLOCK_BYTES blocks.0 content.0, content.1)
 
 -- how many records are done, and how many there are
-unfoldable pub counts_at : List ℕ → Reading (ℕ × ℕ)
+unfoldable pub counts_at : Bytes → Reading (ℕ × ℕ)
 counts_at bytes = do
   done ← number_at w64 bytes
   count ← number_at w64 done.1
   if nat_lt count.0 done.0 then Err BadCursor else Ok ((done.0, count.0), count.1)
 
 -- the index of a block that lies from one on in an image of so many blocks
-unfoldable pub index_at : ℕ → ℕ → List ℕ → Reading ℕ
+unfoldable pub index_at : ℕ → ℕ → Bytes → Reading ℕ
 index_at blocks low bytes = do
   index ← number_at w16 bytes
   if nat_lt index.0 low || not (nat_lt index.0 blocks) then Err BadRecord else Ok index
 
 -- such a block, with its bytes
-unfoldable pub block_at : ℕ → ℕ → List ℕ → Reading (ℕ × List ℕ)
+unfoldable pub block_at : ℕ → ℕ → Bytes → Reading (ℕ × Bytes)
 block_at blocks low bytes = do
   index ← index_at blocks low bytes
   content ← bytes_at BLOCK_BYTES index.1
   Ok ((index.0, content.0), content.1)
 
 -- so many ascending blocks that lie from one on
-unfoldable pub blocks_at : ℕ → ℕ → ℕ → List ℕ → Reading Kept
+unfoldable pub blocks_at : ℕ → ℕ → ℕ → Bytes → Reading Kept
 blocks_at blocks zero low bytes = Ok ([], bytes)
 blocks_at blocks (suc count) low bytes = do
   first ← block_at blocks low bytes
@@ -95,13 +97,13 @@ blocks_at blocks (suc count) low bytes = do
   Ok (first.0 ∷ others.0, others.1)
 
 -- a record: how many blocks it has, and these
-unfoldable pub record_file_at : ℕ → List ℕ → Reading Kept
+unfoldable pub record_file_at : ℕ → Bytes → Reading Kept
 record_file_at blocks bytes = do
   count ← number_at w16 bytes
   blocks_at blocks count.0 0 count.1
 
 -- so many records of an image of so many blocks
-unfoldable pub records_at : ℕ → ℕ → List ℕ → Reading (List Kept)
+unfoldable pub records_at : ℕ → ℕ → Bytes → Reading (List Kept)
 records_at blocks zero bytes = Ok ([], bytes)
 records_at blocks (suc count) bytes = do
   first ← record_file_at blocks bytes
@@ -110,12 +112,12 @@ records_at blocks (suc count) bytes = do
 
 -- the parts of a session file
 pub record Parts : Type 0 where
-  pub image : List (List ℕ)
+  pub image : Disk
   pub done : ℕ
   pub records : List Kept
 
 -- all parts in their order, with no bytes after them
-unfoldable pub parts_at : List ℕ → Result Parts ResumeFault
+unfoldable pub parts_at : Bytes → Result Parts ResumeFault
 parts_at bytes = do
   image ← image_at bytes
   counts ← counts_at image.1
@@ -123,21 +125,21 @@ parts_at bytes = do
   if length records.1 == 0 then Ok (record { image = image.0; done = counts.0.0; records = records.0 }) else Err Trailing
 
 -- each block of a record differs from that of an image
-unfoldable pub all_differ : List (List ℕ) → Kept → Bool
+unfoldable pub all_differ : Disk → Kept → Bool
 all_differ image patch = list_all (λ entry. not (pointwise nat_eq entry.1 (sector_at image entry.0))) patch
 
 -- each block of records that lead away from an image differs from that of the image at its moment: right before the record is put back
-unfoldable pub differ_along : List (List ℕ) → List Kept → Bool
+unfoldable pub differ_along : Disk → List Kept → Bool
 differ_along image [] = true
 differ_along image (patch ∷ patches) = all_differ image patch && differ_along (back image patch) patches
 
 -- each block of the records differs from that of the image at its moment, both ways from the present image: back along those that are
 -- done, and on along the others
-abbrev pub lead_both_ways : List (List ℕ) → ℕ → List Kept → Bool
+abbrev pub lead_both_ways : Disk → ℕ → List Kept → Bool
 lead_both_ways image done records = differ_along image (reverse (take done records)) && differ_along image (drop done records)
 
 -- the parts of a file in which each block differs from that of the image at its moment
-unfoldable pub session_at : List ℕ → Result Parts ResumeFault
+unfoldable pub session_at : Bytes → Result Parts ResumeFault
 session_at bytes = do
   parts ← parts_at bytes
   if lead_both_ways parts.image parts.done parts.records then Ok parts else Err BadRecord
@@ -148,7 +150,7 @@ fault_in (Ok parts) = None
 fault_in (Err fault) = Some fault
 
 -- the first fault of bytes that are no session file
-abbrev pub first_fault : List ℕ → Option ResumeFault
+abbrev pub first_fault : Bytes → Option ResumeFault
 first_fault bytes = fault_in (session_at bytes)
 
 -- the fault that a refusal tells; want of memory tells none of the bytes', and leaves what would have been told

@@ -2,24 +2,26 @@
 use Rattle.std.specs.Prelude.{◌≡◌, ℕ, ◌-◌, ◌≤◌, ◌^◌, All, List, [], ◌∷◌, ◌++◌, length, map}
 use Rattle.std.specs.Int.{w16, w64, to_le_bytes}
 use Rattle.std.specs.List.{flat_map, range_with_len}
+use Rattle.d64_image.specs.Disk.{Disk, Bytes}
+use Rattle.d64_image.specs.Disk.{Disk, Bytes}
 use Rattle.d64_image.specs.Image.{IsImage, tracks_of, bytes_of}
 use Rattle.d64_image.specs.Patch.{Kept}
 use Rattle.d64_undo.specs.History.{History, IsHistory, present, record_blocks}
 
 -- the bytes with which each session file begins: D64S
-abbrev pub magic : List ℕ
+abbrev pub magic : Bytes
 magic = 0x44 ∷ 0x36 ∷ 0x34 ∷ 0x53 ∷ []
 
 -- a block of a record: its index, and its bytes
-abbrev pub block_file : ℕ × List ℕ → List ℕ
+abbrev pub block_file : ℕ × Bytes → Bytes
 block_file entry = to_le_bytes w16 entry.0 ++ entry.1
 
 -- a record: its number of blocks, and each block
-abbrev pub record_file : Kept → List ℕ
+abbrev pub record_file : Kept → Bytes
 record_file patch = to_le_bytes w16 (length patch) ++ flat_map block_file patch
 
 -- the file of a present image, of how many records are done, and of all records, oldest first
-unfoldable pub file_with : List (List ℕ) → ℕ → List Kept → List ℕ
+unfoldable pub file_with : Disk → ℕ → List Kept → Bytes
 file_with image done records =
     magic ++ tracks_of (length image) ∷ bytes_of image ++ to_le_bytes w64 done ++ to_le_bytes w64 (length records) ++ flat_map record_file records
 
@@ -28,7 +30,7 @@ unfoldable pub records_of : History → List Kept
 records_of history = map (record_blocks history) (range_with_len 0 (length history.images - 1))
 
 -- the file of a history
-abbrev pub file_of : History → List ℕ
+abbrev pub file_of : History → Bytes
 file_of history = file_with (present history) history.cursor (records_of history)
 
 -- the histories that a session can hold: the cursor stands on one of the images, these are images of disks of as many tracks, and a

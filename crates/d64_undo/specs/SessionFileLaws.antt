@@ -1,5 +1,7 @@
 -- What follows from the definitions of session files and of their faults.
-use Rattle.std.specs.Prelude.{◌≡◌, ℕ, ◌<◌, List, All, None, Result, Ok, Err, IfOk}
+use Rattle.std.specs.Prelude.{◌≡◌, ◌<◌, All, None, Result, Ok, Err, IfOk}
+use Rattle.d64_image.specs.Disk.{Bytes}
+use Rattle.d64_image.specs.Disk.{Bytes}
 use Rattle.d64_undo.specs.History.{History}
 use Rattle.d64_undo.specs.SessionFile.{file_of, IsSession}
 use Rattle.d64_undo.specs.ResumeFault.{first_fault, fault_number, refused_by}
@@ -16,10 +18,10 @@ FilesAreFaultless = (history : History) → IsSession history → first_fault (f
 -- bytes without a fault are the file of a history
 abbrev pub FaultlessAreFiles : Type 0
 FaultlessAreFiles =
-    (bytes : List ℕ) → All (λ byte. byte < 256) bytes → first_fault bytes ≡ None → (history : History) × IsSession history × (file_of history ≡ bytes)
+    (bytes : Bytes) → All (λ byte. byte < 256) bytes → first_fault bytes ≡ None → (history : History) × IsSession history × (file_of history ≡ bytes)
 
 -- what may be answered to bytes that are to be resumed
-pub record IsAnswer (bytes : List ℕ) (answer : Result History ResumeFault) : Type 0 where
+pub record IsAnswer (bytes : Bytes) (answer : Result History ResumeFault) : Type 0 where
   pub refused : refused_by answer (first_fault bytes) ≡ first_fault bytes
   pub file : IfOk answer (λ session. file_of session ≡ bytes)
   pub session : IfOk answer IsSession
