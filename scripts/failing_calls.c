@@ -1,7 +1,7 @@
 /* Makes calls of the system fail, or kills the process at one. Preloaded by scripts/sweep-stores, scripts/sweep-memory and scripts/sweep-faults.
  *
- * A call is counted where its path is relative or its descriptor is none of the standard streams; with SWEEP_STREAMS those
- * count too. SWEEP_LOG names the file that gets a line for each: its name and the path, or the number of a standard stream.
+ * A call is counted where its path is relative or its descriptor is none of the standard streams and of no file below /proc,
+ * in which the system tells of the process; with SWEEP_STREAMS the standard streams count too. SWEEP_LOG names the file that gets a line for each: its name and the path, or the number of a standard stream.
  * SWEEP_AT is the number of the call, from 1, and SWEEP_HOW what becomes of it: the number of an error; `short`, half of a
  * write, or one byte of a read; `full`, half of a write, and no room from then on; `gone`, an error of the device, as every
  * later call on a file has it; `kill`, the end before the call; `killed-half`, the end after half of a write;
@@ -73,8 +73,8 @@ static int turn(const char *name, const char *path, int is_on_file)
 }
 
 #define OF_PATH(path) ((path)[0] != '/')
-#define OF_FILE(fd) ((fd) > 2)
 #define PATH_OF(fd) ((fd) >= 0 && (fd) < MOST_FILES ? paths[fd] : "")
+#define OF_FILE(fd) ((fd) > 2 && strncmp(PATH_OF(fd), "/proc/", 6))
 #define REAL(name) ((__typeof__(&name))dlsym(RTLD_NEXT, #name))
 #define CALL(is_counted, name, path, real)                             \
     do {                                                               \
@@ -130,7 +130,7 @@ int close(int fd) { CALL(OF_FILE(fd), "close", PATH_OF(fd), REAL(close)(fd)); }
 /* What becomes of a read or a write. */
 static int turn_of(const char *name, int fd)
 {
-    int is_counted = fd >= 0 && (OF_FILE(fd) || getenv("SWEEP_STREAMS"));
+    int is_counted = fd >= 0 && (OF_FILE(fd) || (fd <= 2 && getenv("SWEEP_STREAMS")));
     return is_counted ? turn(name, PATH_OF(fd), OF_FILE(fd)) : PASS;
 }
 

@@ -1,41 +1,36 @@
 //! The limit of the system on the size of a file. A write at the limit ends the process by a
 //! signal, so what writes to a file looks first.
 
+use crate::process_status::number_after;
 use crate::standard_streams::StandardStream;
 use std::rt::Files;
 
-/// The number by which the system is asked for this limit.
-const RLIMIT_FSIZE: i32 = 1;
+/// How many bytes the system lets a file have.
+#[derive(Clone, Copy, Debug, PartialEq, Eq)]
+pub struct SizeLimit(u64);
 
-/// Whether a file may have so many bytes.
-pub fn can_hold(length: usize) -> bool {
-    length as u64 <= file_size_limit()
-}
-
-/// Whether a standard stream goes to a file that has all the bytes that the system lets it have: a
-/// write to it would end the process by a signal.
-pub fn is_at_size_limit<R: Files>(rt: &R, stream: StandardStream) -> bool {
-    let limit = file_size_limit();
-    if limit == u64::MAX {
-        return false;
+impl SizeLimit {
+    /// The limit of this process: the greatest number where there is none, or the system does not
+    /// say.
+    pub fn of_process<R: Files>(rt: &R) -> SizeLimit {
+        let limit = number_after(rt, "/proc/self/limits", "Max file size");
+        SizeLimit(limit.unwrap_or(u64::MAX))
     }
-    match stream.metadata(rt) {
-        Some(found) if found.is_file() => limit <= found.len().max(position_in(stream)),
-        _ => false,
+
+    /// Whether a file may have so many bytes.
+    pub fn holds(self, length: usize) -> bool {
+        length as u64 <= self.0
     }
-}
 
-/// Where the next write to a file goes, unless it is appended to.
-fn position_in(stream: StandardStream) -> u64 {
-    libc::lseek(stream.descriptor(), 0, libc::SEEK_CUR).unsigned_abs()
-}
-
-/// How many bytes a file may have: the greatest number where there is no limit.
-fn file_size_limit() -> u64 {
-    let mut limit = libc::types::rlimit {
-        rlim_cur: u64::MAX,
-        rlim_max: u64::MAX,
-    };
-    libc::getrlimit(RLIMIT_FSIZE, &mut limit);
-    limit.rlim_cur
+    /// Whether a standard stream goes to a file that has all the bytes that it may have: a write to
+    /// it would end the process by a signal.
+    pub fn is_reached_by<R: Files>(self, rt: &R, stream: StandardStream) -> bool {
+        if self.0 == u64::MAX {
+            return false;
+        }
+        match stream.metadata(rt) {
+            Some(found) if found.is_file() => self.0 <= found.len().max(stream.position(rt)),
+            _ => false,
+        }
+    }
 }

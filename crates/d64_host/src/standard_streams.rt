@@ -1,8 +1,8 @@
 //! The standard streams of the process, and the files that are open as them.
 
+use crate::process_status::number_after;
 use std::fs::{self, Metadata};
 use std::io::ErrorKind;
-use std::os::fd::RawFd;
 use std::os::unix::fs::MetadataExt;
 use std::rt::Files;
 
@@ -18,15 +18,6 @@ pub enum StandardStream {
 }
 
 impl StandardStream {
-    /// The descriptor under which it is open.
-    pub fn descriptor(self) -> RawFd {
-        match self {
-            StandardStream::Input => libc::STDIN_FILENO,
-            StandardStream::Output => libc::STDOUT_FILENO,
-            StandardStream::Error => libc::STDERR_FILENO,
-        }
-    }
-
     /// What the system says of what is open as this stream, where something is.
     pub fn metadata<R: Files>(self, rt: &R) -> Option<Metadata> {
         let path = match self {
@@ -35,6 +26,16 @@ impl StandardStream {
             StandardStream::Error => "/proc/self/fd/2",
         };
         fs::metadata(rt, path).ok()
+    }
+
+    /// Where the next write goes in the file that is open as this stream, unless it is appended to.
+    pub fn position<R: Files>(self, rt: &R) -> u64 {
+        let path = match self {
+            StandardStream::Input => "/proc/self/fdinfo/0",
+            StandardStream::Output => "/proc/self/fdinfo/1",
+            StandardStream::Error => "/proc/self/fdinfo/2",
+        };
+        number_after(rt, path, "pos:").unwrap_or(0)
     }
 
     /// Whether this file is open as this stream.

@@ -9,7 +9,7 @@ ghost use Rattle.d64_host.specs.Host.{IsOfDeviceOrMemory};
 use crate::draft::replace_by;
 use crate::host::HostFault;
 use crate::new_file::{NewFile, write_to_end};
-use crate::size_limit::can_hold;
+use crate::size_limit::SizeLimit;
 use crate::standard_streams::{is_same_file, may_be_standard_stream};
 use std::alloc::{AllocError, Global};
 use std::fs::{self, File, Metadata, OpenFile, OpenOptions};
@@ -77,7 +77,7 @@ where
     let Ok(opened) = old.metadata() else {
         return Err(HostFault::Device);
     };
-    if opened.is_file() && !can_hold(bytes.len()) {
+    if opened.is_file() && !SizeLimit::of_process(rt).holds(bytes.len()) {
         return Err(HostFault::Device);
     }
     if !opened.is_file() || found.is_symlink() {
@@ -94,7 +94,7 @@ where
 fn make<R: Files>(rt: &R, path: Path<'_>, bytes: &[u8]) -> Result<(), HostFault>
     ensures { IfErr result (λ fault. fault ≡ HostFault.Device) }
 {
-    if !can_hold(bytes.len()) {
+    if !SizeLimit::of_process(rt).holds(bytes.len()) {
         return Err(HostFault::Device);
     }
     let Ok(mut file) = File::create_new(rt, path) else {

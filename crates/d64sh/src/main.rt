@@ -4,7 +4,7 @@
 mod retrying;
 mod within_limit;
 
-use d64_host::StandardStream;
+use d64_host::{SizeLimit, StandardStream};
 use d64_shell::{FolderHost, ProgramFault, program};
 use retrying::Retrying;
 use std::env;
@@ -13,8 +13,9 @@ use std::process::ExitCode;
 use within_limit::WithinLimit;
 
 fn main(rt: HostRuntime) -> ExitCode {
-    let mut faults = Retrying(WithinLimit::new(&rt, StandardStream::Error, rt.stderr()));
-    let status = match start(&rt, &mut faults) {
+    let limit = SizeLimit::of_process(&rt);
+    let mut faults = Retrying(WithinLimit::new(&rt, limit, StandardStream::Error, rt.stderr()));
+    let status = match start(&rt, limit, &mut faults) {
         Ok(status) => status,
         Err(fault) => fault.report(&mut faults),
     };
@@ -22,14 +23,14 @@ fn main(rt: HostRuntime) -> ExitCode {
 }
 
 /// Does what the words of the process ask for, and answers the exit status.
-fn start<E: Write>(rt: &HostRuntime, faults: &mut E) -> Result<u8, ProgramFault> {
+fn start<E: Write>(rt: &HostRuntime, limit: SizeLimit, faults: &mut E) -> Result<u8, ProgramFault> {
     let arguments = env::args(rt).map_err(fault_of_words)?;
     let arguments: Vec<String> = arguments.skip(1).collect(rt.alloc())?;
     let words: Vec<&str> = arguments
         .iter()
         .map(|word| word.as_str())
         .collect(rt.alloc())?;
-    let output = WithinLimit::new(rt, StandardStream::Output, rt.stdout());
+    let output = WithinLimit::new(rt, limit, StandardStream::Output, rt.stdout());
     let mut output = BufWriter::new(rt.alloc(), output).map_err(|_| ProgramFault::Memory)?;
     Ok(program(
         rt.alloc(),

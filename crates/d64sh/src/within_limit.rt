@@ -4,7 +4,7 @@ ghost use Rattle.std.specs.Prelude.{◌≡◌};
 ghost use Rattle.std.specs.Io.{WritesAtMost};
 ghost use Rattle.std.specs.Io.KnownBytes.{WriteAppends, Keeps};
 
-use d64_host::{StandardStream, is_at_size_limit};
+use d64_host::{SizeLimit, StandardStream};
 use std::io::{self, ErrorKind, Write};
 use std::rt::Files;
 
@@ -13,14 +13,25 @@ use std::rt::Files;
 #[derive(Drop)]
 pub struct WithinLimit<'a, R, W> {
     rt: &'a R,
+    limit: SizeLimit,
     stream: StandardStream,
     writer: W,
 }
 
 impl<'a, R, W> WithinLimit<'a, R, W> {
-    /// What writes to this stream by this writer.
-    pub fn new(rt: &'a R, stream: StandardStream, writer: W) -> WithinLimit<'a, R, W> {
-        WithinLimit { rt, stream, writer }
+    /// What writes to this stream by this writer, under the process's limit.
+    pub fn new(
+        rt: &'a R,
+        limit: SizeLimit,
+        stream: StandardStream,
+        writer: W,
+    ) -> WithinLimit<'a, R, W> {
+        WithinLimit {
+            rt,
+            limit,
+            stream,
+            writer,
+        }
     }
 }
 
@@ -31,7 +42,7 @@ impl<'a, R: Files, W: Write> Write for WithinLimit<'a, R, W> {
         ensures bound { WritesAtMost result bytes.now }
         ensures bytes { WriteAppends (W.contents self.old.writer) (W.contents self.new.writer) result bytes.now }
     {
-        if is_at_size_limit(self.rt, self.stream) {
+        if self.limit.is_reached_by(self.rt, self.stream) {
             return Err(io::Error::from(ErrorKind::FileTooLarge));
         }
         self.writer.write(bytes)
