@@ -1,5 +1,6 @@
 //! The program's words: which `clap` takes and refuses, and its texts.
 
+use d64_script::output::WriteFault;
 use d64_words::{JobFault, job};
 use std::test::Fail;
 
@@ -171,5 +172,27 @@ fn shows_help_and_version(rt: HostRuntime) -> Result<(), Fail> {
     );
     assert!(rt; is_told(rt, &["d64sh", "petcat", "--help"], petcat, true)?);
     assert!(rt; is_told(rt, &["d64sh", "-V"], "d64sh 0.1.0", true)?);
+    Ok(())
+}
+
+/// Whether the fault has this text.
+fn is_shown_as(rt: &HostRuntime, fault: &JobFault, text: &str) -> Result<bool, Fail> {
+    let shown = format!(in rt.alloc(); "{fault}")?;
+    Ok(shown.as_str() == text)
+}
+
+#[test]
+fn shows_each_fault(rt: HostRuntime) -> Result<(), Fail> {
+    let rt = &rt;
+    let start = "usage: --start takes one to four hexadecimal digits";
+    assert!(rt; is_shown_as(rt, &JobFault::Start, start)?);
+    assert!(rt; is_shown_as(rt, &JobFault::Memory, "out of memory")?);
+    let tracks = "usage: --tracks takes 35 or 40 and no IMAGE";
+    assert!(rt; is_shown_as(rt, &JobFault::Tracks, tracks)?);
+    let both = "usage: --resume and --tracks exclude each other";
+    assert!(rt; is_shown_as(rt, &JobFault::Both, both)?);
+    let fault = WriteFault;
+    let shown = format!(in rt.alloc(); "{fault}")?;
+    assert_eq!(rt; shown.as_str(), "the output took no more bytes");
     Ok(())
 }
