@@ -5,7 +5,8 @@ use crate::end::{Bench, End};
 use crate::hosts::{self, host};
 use crate::sessions::Beside;
 use crate::texts::{START, TEXT};
-use d64_shell::{Outcome, ShellFault, ToolFault};
+use d64_shell::{Outcome, ProgramFault, ShellFault, ToolFault};
+use std::alloc::{AllocError, Global};
 use std::test::Fail;
 
 /// Room for all that a call writes, so that its writer asks for no memory.
@@ -78,4 +79,58 @@ fn end_of_tool(answer: Result<(), ToolFault>, written: &[u8]) -> End {
         }
         Err(_) => End::Refused,
     }
+}
+
+/// The texts of faults, one a line.
+const FAULT_TEXTS: &str = "the script cannot be read to its end
+the answers cannot be written
+the input cannot be read to its end
+the output takes no more bytes
+usage: a word is no text in UTF-8
+usage: --start takes one to four hexadecimal digits
+usage: --tracks takes 35 or 40 and no IMAGE
+usage: --resume and --tracks exclude each other
+image: wrong length 9
+image: cannot be read
+session: cannot be read
+session: fault 2
+read fault
+write fault
+out of memory
+";
+
+/// The texts of the faults of scripts, tools and the program, one a line.
+fn shown_faults(alloc: Global) -> Result<String, AllocError> {
+    let mut text = String::new(alloc);
+    for fault in [ShellFault::Read, ShellFault::Write] {
+        write!(text, "{fault}\n")?;
+    }
+    for fault in [ToolFault::Read, ToolFault::Write] {
+        write!(text, "{fault}\n")?;
+    }
+    for fault in [
+        ProgramFault::UnreadableWords,
+        ProgramFault::Start,
+        ProgramFault::Tracks,
+        ProgramFault::Both,
+        ProgramFault::WrongLength(9),
+        ProgramFault::UnreadableImage,
+        ProgramFault::UnreadableSession,
+        ProgramFault::NoSession(2),
+        ProgramFault::Read,
+        ProgramFault::Write,
+        ProgramFault::Memory,
+    ] {
+        write!(text, "{fault}\n")?;
+    }
+    Ok(text)
+}
+
+pub fn fault_texts(bench: &Bench) -> Result<End, Fail> {
+    bench.begin()?;
+    Ok(match shown_faults(bench.alloc()) {
+        Ok(text) if text.as_str() == FAULT_TEXTS => End::Made(text.len()),
+        Ok(_) => End::Wrong("a text"),
+        Err(_) => End::WantOfMemory,
+    })
 }
