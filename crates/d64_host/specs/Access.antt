@@ -1,3 +1,4 @@
+-- Who may use a file that stands for another one.
 use Rattle.std.specs.Prelude.{ℕ, ◌+◌, ◌*◌, ◌/◌, ◌%◌, Bool, if◌then◌else◌, bit_and}
 
 -- what a mode lets the owner of a file do, its group, and all others: three bits each

@@ -1,3 +1,4 @@
+-- What a host may answer to a fetch and a store, and how it counts its failures.
 use Rattle.std.specs.Prelude.{◌≡◌, ℕ, ◌+◌, ◌-◌, min, ◌^◌, ◌<◌, ◌≤◌, ⊤, List, length, Option, Some, None, option_map, IsSomeAnd, Result, Ok, Err, Vec}
 use Rattle.std.specs.FinMap.{get, insert}
 use Rattle.d64_host.specs.Files.{Files}

@@ -1,3 +1,4 @@
+-- What a host in memory is seen as, and what keeps its calls from being accepted.
 use Rattle.std.specs.Prelude.{zero, suc, refl, ℕ, ◌-◌, ◌==◌, nat_lt, List, map, length, if◌then◌else◌, Option, Some, None, String, Vec, string_bytes}
 use Rattle.std.specs.FinMap.{get, from_entries, code}
 use Rattle.std.specs.Coded.{Coded, code_by, coded×, coded_list, coded_ℕ}

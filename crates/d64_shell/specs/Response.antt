@@ -1,3 +1,4 @@
+-- What a line prints, as the code holds it, and that it responds as an act asks.
 use Rattle.std.specs.Prelude.{ℕ, nat_lt, if◌then◌else◌, List, [], length, Result, Ok, Err}
 use Rattle.d64_image.specs.Image.{sector_at}
 use Rattle.d64_script.specs.Dump.{dump}

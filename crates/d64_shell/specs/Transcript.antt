@@ -1,3 +1,4 @@
+-- What a script prints and leaves: its lines, one after another.
 use Rattle.std.specs.Prelude.{◌≡◌, ℕ, ◌+◌, List, [], ◌∷◌, ◌++◌, Bool, MatchBool, MatchOption, if◌then◌else◌}
 use Rattle.d64_shell.specs.Act.{Does, LineAnswer, World}
 use Rattle.d64_shell.specs.Line.{act_of_line}
