@@ -38,7 +38,8 @@ pub(crate) const NOT_RUN: u8 = 2;
 /// under this name, which is also where `save` stores it by default; `shell --resume FILE` runs it on the session that the host
 /// has in this file, and an IMAGE beside it is where `save` stores by default, and isn't read. `petcat` and `crunch` work on what `reader` gives, or on
 /// the file that the host has under the name that they are given. The writer is flushed before a status comes; each answer
-/// is a few writes, so a writer that buffers is the faster one.
+/// is a few writes, so a writer that buffers is the faster one. Of plain streams no contract can say whether a call of theirs failed:
+/// `program_on` takes streams that can.
 pub fn program<R: Read, W: Write, F: Write, H: Host>(
     alloc: Global,
     words: &[&str],

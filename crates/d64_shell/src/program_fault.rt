@@ -59,8 +59,8 @@ pub enum ProgramFault {
 }
 
 impl ProgramFault {
-    /// Writes the line that tells the fault, and answers the exit status. Where a write fails or takes nothing, the rest
-    /// of the line is dropped.
+    /// Writes the line that tells the fault, and returns the exit status. Where a write fails or takes nothing, the rest
+    /// of the line is dropped. Of a plain writer no contract can say whether one has: `report_on` is for a stream that can.
     pub fn report<F: Write>(self, faults: &mut F) -> u8
         ensures { (failed : Bool) × Reports self (account_of (F.contents faults.old) false) (account_of (F.contents faults.new) failed) result }
     {
@@ -68,8 +68,8 @@ impl ProgramFault {
         self.report_on(&mut stream)
     }
 
-    /// Writes the line that tells the fault, and answers the exit status.
-    pub(crate) fn report_on<F: Write>(self, faults: &mut OutputStream<'_, F>) -> u8
+    /// Writes the line that tells the fault, whole unless writing it fails, and returns the exit status.
+    pub fn report_on<F: Write>(self, faults: &mut OutputStream<'_, F>) -> u8
         ensures faults { faults.new.writer.ghost_name ≡ faults.old.writer.ghost_name }
         ensures reported { Reports self (account_of (F.contents faults.old.writer.now) faults.old.has_failed)
             (account_of (F.contents faults.new.writer.now) faults.new.has_failed) result }

@@ -5,7 +5,9 @@ mod retrying;
 mod within_limit;
 
 use d64_host::{SizeLimit, StandardStream};
-use d64_shell::{FolderHost, ProgramFault, program};
+use d64_script::input::InputStream;
+use d64_script::output::OutputStream;
+use d64_shell::{FolderHost, ProgramFault, program_on};
 use retrying::Retrying;
 use std::env;
 use std::io::{self, BufWriter, ErrorKind, Write};
@@ -14,16 +16,21 @@ use within_limit::WithinLimit;
 
 fn main(rt: HostRuntime) -> ExitCode {
     let limit = SizeLimit::of_process(&rt);
-    let mut faults = Retrying(WithinLimit::new(&rt, limit, StandardStream::Error, rt.stderr()));
+    let mut errors = Retrying(WithinLimit::new(&rt, limit, StandardStream::Error, rt.stderr()));
+    let mut faults = OutputStream::new(&mut errors);
     let status = match start(&rt, limit, &mut faults) {
         Ok(status) => status,
-        Err(fault) => fault.report(&mut faults),
+        Err(fault) => fault.report_on(&mut faults),
     };
     ExitCode::from(status)
 }
 
 /// Does what the words of the process ask for, and answers the exit status.
-fn start<E: Write>(rt: &HostRuntime, limit: SizeLimit, faults: &mut E) -> Result<u8, ProgramFault> {
+fn start<E: Write>(
+    rt: &HostRuntime,
+    limit: SizeLimit,
+    faults: &mut OutputStream<'_, E>,
+) -> Result<u8, ProgramFault> {
     let arguments = env::args(rt).map_err(fault_of_words)?;
     let arguments: Vec<String> = arguments.skip(1).collect(rt.alloc())?;
     let words: Vec<&str> = arguments
@@ -32,11 +39,12 @@ fn start<E: Write>(rt: &HostRuntime, limit: SizeLimit, faults: &mut E) -> Result
         .collect(rt.alloc())?;
     let output = WithinLimit::new(rt, limit, StandardStream::Output, rt.stdout());
     let mut output = BufWriter::new(rt.alloc(), output).map_err(|_| ProgramFault::Memory)?;
-    Ok(program(
+    let mut input = Retrying(rt.stdin());
+    Ok(program_on(
         rt.alloc(),
         words.as_slice(),
-        &mut Retrying(rt.stdin()),
-        &mut output,
+        &mut InputStream::new(&mut input),
+        &mut OutputStream::new(&mut output),
         faults,
         &mut FolderHost::new(rt),
     ))

@@ -5,6 +5,7 @@ use crate::end::{Bench, End};
 use crate::hosts::{self, host};
 use crate::sessions::Beside;
 use crate::texts::{START, TEXT};
+use cbm_text::{BasicFault, ListFault};
 use d64_shell::{Outcome, ProgramFault, ShellFault, ToolFault};
 use std::alloc::{AllocError, Global};
 use std::test::Fail;
@@ -84,8 +85,12 @@ fn end_of_tool(answer: Result<(), ToolFault>, written: &[u8]) -> End {
 /// The texts of faults, one a line.
 const FAULT_TEXTS: &str = "the script cannot be read to its end
 the answers cannot be written
+out of memory
 the input cannot be read to its end
 the output takes no more bytes
+out of memory
+line 3: a line holds no byte $00
+the program is cut short
 usage: a word is no text in UTF-8
 usage: --start takes one to four hexadecimal digits
 usage: --tracks takes 35 or 40 and no IMAGE
@@ -102,10 +107,20 @@ out of memory
 /// The texts of the faults of scripts, tools and the program, one a line.
 fn shown_faults(alloc: Global) -> Result<String, AllocError> {
     let mut text = String::new(alloc);
-    for fault in [ShellFault::Read, ShellFault::Write] {
+    for fault in [
+        ShellFault::Read,
+        ShellFault::Write,
+        ShellFault::Memory(AllocError),
+    ] {
         write!(text, "{fault}\n")?;
     }
-    for fault in [ToolFault::Read, ToolFault::Write] {
+    for fault in [
+        ToolFault::Read,
+        ToolFault::Write,
+        ToolFault::Memory(AllocError),
+        ToolFault::Text(BasicFault::ZeroByte { line: 3 }),
+        ToolFault::NotBasic(ListFault::Truncated),
+    ] {
         write!(text, "{fault}\n")?;
     }
     for fault in [
