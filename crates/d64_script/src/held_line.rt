@@ -1,8 +1,8 @@
 //! The line of a script that is being read, held in a fixed room.
 
-ghost use Rattle.std.specs.Prelude.{◌≡◌, ◌≤◌, ◌++◌, ◌∷◌, [], ◌==◌, ℕ, List, true, false, length, MatchOption};
+ghost use Rattle.std.specs.Prelude.{◌≡◌, ◌≤◌, ◌++◌, ◌∷◌, [], ◌==◌, ℕ, List, true, false, length, IfSome, MatchOption};
 ghost use Rattle.std.specs.Io.BufRead.{ends_with_byte};
-ghost use Rattle.d64_script.specs.RawLines.{is_ended, is_too_long, line_limit, text_of};
+ghost use Rattle.d64_script.specs.RawLines.{is_too_long, line_limit, text_of};
 ghost use Rattle.d64_script.specs.HeldLine.{Holds, IsOpen, Says};
 
 use crate::raw_lines::LINE_BYTES;
@@ -69,9 +69,10 @@ impl HeldLine {
 
     /// What the line says, or None where it is too long.
     pub fn text(&self) -> Option<&[u8]>
-        ensures { (raw : List ℕ) → Says self.now raw → MatchOption result
+        ensures fits { IfSome result (λ text. length text.now ≤ line_limit) }
+        ensures says { (raw : List ℕ) → Says self.now raw → MatchOption result
             (is_too_long raw ≡ true)
-            (λ text. (is_too_long raw ≡ false) × (text_of raw ≡ text.now) × (is_ended text.now ≡ false) × (length text.now ≤ line_limit)) }
+            (λ text. (is_too_long raw ≡ false) × (text_of raw ≡ text.now)) }
     {
         if self.is_long {
             return None;

@@ -1,15 +1,1 @@
-pub mod Acts
-pub mod BasicActs
-pub mod ScriptRuns
-pub mod Transcripts
-pub mod TextArguments
-pub mod WordRows
-pub mod LastParts
-pub mod AsciiTexts
-pub mod FoundFiles
 pub mod ProgramRuns
-pub mod ScriptHistories
-pub mod LinesSoFar
-pub mod HeldAnswers
-pub mod PieceSteps
-pub mod RunEnds

@@ -7,15 +7,15 @@ use Rattle.d64_script.specs.Output.{account_of}
 use Rattle.d64_script.specs.RawLines.{lines_of, ended_lines}
 use Rattle.d64_script.specs.Script.{script_limit}
 use Rattle.d64_host.specs.Files.{Files}
-use Rattle.d64_shell.specs.Act.{HostState}
+use Rattle.d64_line.specs.Act.{HostState}
 use Rattle.d64_undo.specs.History.{History}
 use Rattle.d64_shell.specs.Program.{Beginning, Ended, home_of, IsFirstHistory, Outside, outside_of, RanShell, IsToldOf}
 use Rattle.d64_shell.specs.declared.program_fault.ProgramFault.TheVariants as faults
-use Rattle.d64_shell.specs.Runner.{Stand, RanLines, StoppedAt, Ran}
-use Rattle.d64_shell.specs.Transcript.{Progress}
-use Rattle.d64_shell.specs.declared.runner.Outcome.{Outcome}
-use Rattle.d64_shell.specs.declared.runner.ShellFault.{ShellFault}
-use Rattle.d64_shell.specs.declared.runner.ShellFault.TheVariants.{Read, Write, Memory}
+use Rattle.d64_runner.specs.Runner.{Stand, RanLines, StoppedAt, Ran}
+use Rattle.d64_runner.specs.Transcript.{Progress}
+use Rattle.d64_runner.specs.declared.runner.Outcome.{Outcome}
+use Rattle.d64_runner.specs.declared.runner.ShellFault.{ShellFault}
+use Rattle.d64_runner.specs.declared.runner.ShellFault.TheVariants.{Read, Write, Memory}
 
 -- where `save` stores by default
 pub home_is : (name : Option (Bor (List ℕ))) (empty : Bor (List ℕ)) → empty.now ≡ [] → (unwrap_or name empty).now ≡ home_of (option_copied name)

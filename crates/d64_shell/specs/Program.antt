@@ -16,18 +16,18 @@ use Rattle.d64_words.specs.declared.asked.Job.{Job}
 use Rattle.d64_words.specs.declared.asked.Job.TheVariants.{Shell, Petcat, Crunch}
 use Rattle.d64_words.specs.declared.asked.JobFault.{JobFault}
 use Rattle.d64_words.specs.declared.asked.JobFault.TheVariants as words
-use Rattle.d64_shell.specs.Act.{HostState, FetchesFile}
-use Rattle.d64_shell.specs.BasicFiles.{status_of_basic, status_of_listing}
+use Rattle.d64_line.specs.Act.{HostState, FetchesFile}
+use Rattle.d64_line.specs.BasicFiles.{status_of_basic, status_of_listing}
 use Rattle.d64_undo.specs.History.{History, begun}
 use Rattle.d64_undo.specs.ResumeFault.{fault_number, first_fault}
 use Rattle.d64_undo.specs.SessionFile.{IsSession, file_of}
 use Rattle.d64_undo.specs.declared.resume_fault.ResumeFault.{ResumeFault}
 use Rattle.d64_undo.specs.declared.resume_fault.ResumeFault.TheVariants as resumes
-use Rattle.d64_shell.specs.Runner.{Ran}
+use Rattle.d64_runner.specs.Runner.{Ran}
 use Rattle.d64_shell.specs.Tools.{HasWritten, RanTool}
-use Rattle.d64_shell.specs.declared.runner.Outcome.{Outcome}
-use Rattle.d64_shell.specs.declared.runner.ShellFault.{ShellFault}
-use Rattle.d64_shell.specs.declared.runner.ShellFault.TheVariants as runs
+use Rattle.d64_runner.specs.declared.runner.Outcome.{Outcome}
+use Rattle.d64_runner.specs.declared.runner.ShellFault.{ShellFault}
+use Rattle.d64_runner.specs.declared.runner.ShellFault.TheVariants as runs
 use Rattle.d64_shell.specs.declared.tools.Tool.{Tool}
 use Rattle.d64_shell.specs.declared.tools.Tool.TheVariants as tools
 use Rattle.d64_shell.specs.declared.tools.ToolFault.{ToolFault}

@@ -6,10 +6,10 @@ ghost use Rattle.d64_shell.specs.Program.{Reports, fault_line, fault_of_file, fa
 ghost use Rattle.d64_shell.specs.declared.program_fault.ProgramFault.TheVariants.{Memory};
 
 use crate::entry::NOT_RUN;
-use crate::runner::ShellFault;
 use arrayvec::ArrayVec;
 use d64_host::HostFault;
 use d64_image::ImageFault;
+use d64_runner::ShellFault;
 use d64_script::output::OutputStream;
 use d64_undo::ResumeFault;
 use itoa::Buffer;

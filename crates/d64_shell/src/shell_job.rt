@@ -4,15 +4,15 @@ ghost use Rattle.d64_host.specs.declared.host.HostFault.{HostFault};
 ghost use Rattle.d64_image.specs.Image.{IsImage, bytes_of};
 ghost use Rattle.d64_undo.specs.SessionFile.{IsSession, file_of};
 ghost use Rattle.d64_script.specs.Input.{IsUnread, reading_of};
-ghost use Rattle.d64_shell.specs.Act.{FetchesFile};
+ghost use Rattle.d64_line.specs.Act.{FetchesFile};
 ghost use Rattle.d64_shell.specs.Program.{IsFirstHistory, HasNoHistory, GivesNoImage, GivesNoSession, RanShell, StoppedBy, beginning_of, blank, file_limit, home_of, outside_of, session_limit, status_of};
 
 use crate::entry::{ALL_ACCEPTED, FILE_BYTES, SESSION_BYTES, SOME_REFUSED};
-use crate::host_file::fetch;
 use crate::program_fault::ProgramFault;
-use crate::runner::{Outcome, run_on};
 use d64_host::Host;
 use d64_image::{BLOCKS, Image, blocks_of};
+use d64_line::host_file::fetch;
+use d64_runner::{Outcome, run_on};
 use d64_script::input::InputStream;
 use d64_script::output::OutputStream;
 use d64_undo::{Session, resume};

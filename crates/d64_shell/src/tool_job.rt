@@ -7,11 +7,11 @@ ghost use Rattle.d64_shell.specs.Program.{RanToolOn, TellsAnswer, outside_of};
 ghost use Rattle.d64_shell.specs.Tools.{ReadsWith, TellsSmallLine, WritesWith};
 
 use crate::entry::{ALL_ACCEPTED, FILE_BYTES, SOME_REFUSED};
-use crate::host_file::fetch;
 use crate::program_fault::ProgramFault;
-use crate::status_from::{of_basic_fault, of_list_fault};
 use crate::tools::{Tool, ToolFault};
 use d64_host::{Host, HostFault};
+use d64_line::host_file::fetch;
+use d64_line::status_from::{of_basic_fault, of_list_fault};
 use d64_script::input::InputStream;
 use d64_script::output::OutputStream;
 use d64_script::status::Status;

@@ -1,0 +1,85 @@
+-- Acts, done step by step.
+use Rattle.std.proofs.Common.{◌≡◌, ℕ, ◌≤◌, List, length, map, Bor, Option, Some, None, Ok, Err, inl, inr, refl, ap, subst, arith}
+use Rattle.std.proofs.lemmas.List.{length-map}
+use Rattle.std.proofs.lemmas.Bool.{le-leb}
+use Rattle.d64_dos.specs.Refusal.{cause_of}
+use Rattle.d64_dos.specs.declared.refusal.Refusal.{Refusal}
+use Rattle.d64_dos.specs.declared.refusal.Refusal.TheVariants.{NotClosed, NotFound, Exists, WrongType, Directory, DiskFull, Memory}
+use Rattle.d64_script.specs.declared.status.Status.{Status}
+use Rattle.d64_script.specs.declared.status.Status.TheVariants.{OutOfMemory}
+use Rattle.d64_line.specs.Act.{Act, Give, Refuse, Then, ◌>>=◌, Call, Gives, Does, Ending, HostState, LineAnswer, World, plain}
+use Rattle.d64_undo.specs.History.{History}
+use Rattle.d64_line.specs.Line.{allowed, act_of, act_of_command, status_of_refusal}
+use Rattle.d64_line.specs.CommandWord.{counts}
+use Rattle.d64_line.specs.declared.command_word.CommandWord.{CommandWord}
+
+-- a call gave bytes, and what follows them was done
+pub Does-given : (call : Call) (next : List ℕ → Act Ending) (bytes : List ℕ) (old new : HostState) (history : History) (answer : LineAnswer) (after : World)
+    → Gives call old (Ok bytes) new → Does (next bytes) (record { host = new; history = history }) answer after
+    → Does (Then call next) (record { host = old; history = history }) answer after
+unfolding Does
+Does-given call next bytes old new history answer after gives done = inl (Ok bytes, new, gives, done)
+
+-- a call was refused
+pub Does-refused : (call : Call) (next : List ℕ → Act Ending) (status : Status) (old new : HostState) (history : History)
+    → Gives call old (Err status) new
+    → Does (Then call next) (record { host = old; history = history }) (plain status) (record { host = new; history = history })
+unfolding Does
+Does-refused call next status old new history gives = inl (Err status, new, gives, (refl, refl))
+
+-- the steps of an act are done however they are grouped
+pub Does-grouped : {A B : Type 0} (act : Act A) (next : A → Act B) (last : B → Act Ending) (world : World) (answer : LineAnswer) (after : World)
+    → Does (act >>= (λ value. next value >>= last)) world answer after → Does (act >>= next >>= last) world answer after
+unfolding Does
+Does-grouped (Give value) next last world answer after done = done
+Does-grouped (Refuse status) next last world answer after done = done
+Does-grouped (Then call more) next last world answer after (inl (Ok bytes, host, gives, done)) =
+    inl (Ok bytes, host, gives, Does-grouped (more bytes) next last _ answer after done)
+Does-grouped (Then call more) next last world answer after (inl (Err status, host, gives, done)) = inl (Err status, host, gives, done)
+Does-grouped (Then call more) next last world answer after (inr memory) = inr memory
+
+-- an act is refused
+pub Does-refuse : (status : Status) (world : World) → Does (Refuse status) world (plain status) world
+unfolding Does
+Does-refuse status world = (refl, refl)
+
+-- before a call memory may be wanting
+pub Does-no_memory : (call : Call) (next : List ℕ → Act Ending) (world : World) → Does (Then call next) world (plain OutOfMemory) world
+unfolding Does
+Does-no_memory call next world = inr (refl, refl)
+
+-- an act is refused by its cause
+by_cause : (refusal : Refusal) (cause : Option Refusal) (act : Act Ending) (world : World) → Some refusal ≡ cause
+    → Does (allowed cause >>= (λ _. act)) world (plain (status_of_refusal refusal)) world
+unfolding Does
+by_cause refusal cause act world is =
+    subst (λ (c : Option Refusal). Does (allowed c >>= (λ _. act)) world (plain (status_of_refusal refusal)) world) is (refl, refl)
+
+-- where nothing refuses an act, it is done
+pub Does-allowed : (cause : Option Refusal) (act : Act Ending) (world : World) (answer : LineAnswer) (after : World)
+    → None ≡ cause → Does act world answer after → Does (allowed cause >>= (λ _. act)) world answer after
+Does-allowed cause act world answer after none done = subst (λ (c : Option Refusal). Does (allowed c >>= (λ _. act)) world answer after) none done
+
+-- an act that begins with a call is refused by its cause, or for want of memory
+pub Does-not_allowed : (refusal : Refusal) (cause : Option Refusal) (call : Call) (next : List ℕ → Act Ending) (world : World) → cause_of refusal ≡ cause
+    → Does (allowed cause >>= (λ _. Then call next)) world (plain (status_of_refusal refusal)) world
+Does-not_allowed NotClosed cause call next world is = by_cause NotClosed cause (Then call next) world is
+Does-not_allowed NotFound cause call next world is = by_cause NotFound cause (Then call next) world is
+Does-not_allowed Exists cause call next world is = by_cause Exists cause (Then call next) world is
+Does-not_allowed WrongType cause call next world is = by_cause WrongType cause (Then call next) world is
+Does-not_allowed (Directory fault) cause call next world is = by_cause (Directory fault) cause (Then call next) world is
+Does-not_allowed DiskFull cause call next world is = by_cause DiskFull cause (Then call next) world is
+Does-not_allowed Memory cause call next world is = Does-allowed cause (Then call next) world (plain OutOfMemory) world is (Does-no_memory call next world)
+
+-- as many words follow as the command takes
+pub Does-counted : (home : List ℕ) (history : History) (command : CommandWord) (words : List (Bor (List ℕ))) (found : ℕ × ℕ)
+    (world : World) (answer : LineAnswer) (after : World)
+    → found ≡ counts home command → found.0 ≤ length words → length words ≤ found.1
+    → Does (act_of home history command (map (λ word. word.now) words)) world answer after
+    → Does (act_of_command home history command (map (λ word. word.now) words)) world answer after
+Does-counted home history command words found world answer after is enough within done =
+    let count = length-map words (λ (word : Bor (List ℕ)). word.now) in
+    let lists = map (λ (word : Bor (List ℕ)). word.now) words in
+    let least = ap (λ (pair : ℕ × ℕ). pair.0) is in
+    let greatest = ap (λ (pair : ℕ × ℕ). pair.1) is in
+    rw (le-leb (counts home command).0 (length lists) (omega arith), le-leb (length lists) (counts home command).1 (omega arith)) done

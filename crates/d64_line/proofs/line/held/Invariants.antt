@@ -1,0 +1,9 @@
+use Rattle.std.proofs.Common.{◌≡◌, ◌+◌, ◌≤◌, ◌++◌, length, map}
+use Rattle.arrayvec.specs.ArrayVec.{array_vec_len}
+use Rattle.d64_line.proofs.line.held.Given as goal
+
+abbrev pub invariant-loop-word : goal.invariant-loop-word
+invariant-loop-word g l = record {
+  words : map (λ word. word.now) l.found.items ++ l.word-iterator ≡ l.fn.words;
+  room : array_vec_len l.found + length l.word-iterator ≤ g.row.ROOM;
+}

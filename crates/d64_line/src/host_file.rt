@@ -1,0 +1,29 @@
+//! Files of the host, as they are fetched.
+ghost use Rattle.d64_effects.specs.Laws.{AreBytes};
+ghost use Rattle.d64_host.specs.Host.{fetched};
+ghost use Rattle.d64_line.specs.Act.{FetchesFile};
+
+use d64_host::{Host, HostFault};
+use std::alloc::Global;
+
+/// The bytes of a host file, of which there are at most `limit`.
+pub fn fetch<H: Host>(
+    alloc: Global,
+    host: &mut H,
+    name: &str,
+    limit: usize,
+) -> Result<Vec<u8>, HostFault>
+    ensures { FetchesFile
+        (record { files = H.files host.old; failures = H.failure_count host.old })
+        name.now limit (fetched result)
+        (record { files = H.files host.new; failures = H.failure_count host.new }) }
+{
+    let bytes = host.fetch(alloc, name, limit)?;
+    known_bytes(&bytes);
+    Ok(bytes)
+}
+
+/// The bytes of a slice are known to be bytes.
+fn known_bytes(_bytes: &[u8])
+    ensures { AreBytes _bytes.now }
+{}

@@ -1,0 +1,185 @@
+//! One line of a script.
+#![tactic(auto, unfolding(crate::specs::Act::Does, crate::specs::Line::act_of_line))]
+
+ghost use Rattle.std.specs.Prelude.{◌≡◌, ◌≤◌, ℕ, List, All, map, length, MatchOption};
+ghost use Rattle.d64_script.specs.HeldLine.{Says};
+ghost use Rattle.d64_script.specs.Words.{IsPrintable};
+ghost use Rattle.d64_undo.specs.History.{present};
+ghost use Rattle.d64_line.specs.Act.{world_of};
+ghost use Rattle.d64_line.specs.Response.{shown, Responds};
+ghost use Rattle.d64_line.specs.Line.{act_of_command, act_of_words, act_of_text, act_of_line, IsSkipped, IsAnswered};
+
+use crate::command_word::CommandWord;
+use crate::handlers;
+use crate::response::Response;
+use arrayvec::ArrayVec;
+use d64_host::Host;
+use d64_script::held_line::HeldLine;
+use d64_script::raw_lines;
+use d64_script::status::Status;
+use d64_script::words::{MAX_WORDS, Words};
+use d64_undo::Session;
+use std::alloc::Global;
+
+/// The most words that a command takes, its own counted, but for `delete`. A room for so many is made sooner than one for
+/// all that a line may have.
+const FEW_WORDS: usize = 4;
+
+/// The response to a line that has come to its end, or None where it is skipped: an empty line, or a comment.
+///
+/// `home` is the name of the host file in which `save` stores by default, or empty.
+pub fn answer_line<H: Host>(
+    alloc: Global,
+    host: &mut H,
+    home: &str,
+    session: &mut Session,
+    line: &HeldLine,
+) -> Option<Response>
+    ensures { (raw : List ℕ) → Says line.now raw → MatchOption result
+        (IsSkipped home.now session.old raw
+        (world_of (H.files host.old) (H.failure_count host.old) session.old)
+        (world_of (H.files host.new) (H.failure_count host.new) session.new))
+        (λ response. IsAnswered home.now session.old raw
+        (world_of (H.files host.old) (H.failure_count host.old) session.old)
+        (shown (present session.new) response)
+        (world_of (H.files host.new) (H.failure_count host.new) session.new)) }
+{
+    let Some(text) = line.text() else {
+        return Some(Response::plain(Status::LongLine));
+    };
+    if raw_lines::is_skipped(text) {
+        return None;
+    }
+    let answer = answer_text(alloc, host, home, session, text);
+    Some(Response::of(answer))
+}
+
+/// The response to the text of a line that is not skipped.
+fn answer_text<H: Host>(
+    alloc: Global,
+    host: &mut H,
+    home: &str,
+    session: &mut Session,
+    text: &[u8],
+) -> Result<Response, Status>
+    requires { length text.now ≤ 1024 }
+    ensures { Responds (act_of_text home.now session.old text.now)
+        (world_of (H.files host.old) (H.failure_count host.old) session.old)
+        result
+        (world_of (H.files host.new) (H.failure_count host.new) session.new) }
+{
+    let Ok(words) = Words::of(text) else {
+        return Err(Status::SyntaxError);
+    };
+    if words.len() <= FEW_WORDS {
+        let few = held::<FEW_WORDS>(words);
+        answer_words(alloc, host, home, session, few.as_slice())
+    } else {
+        answer_many(alloc, host, home, session, words)
+    }
+}
+
+/// The response to the words of a line, as many as it may have.
+///
+/// It is a call of its own: room for so many words would else be cleared for each line.
+#[inline(never)]
+fn answer_many<H: Host>(
+    alloc: Global,
+    host: &mut H,
+    home: &str,
+    session: &mut Session,
+    words: Words,
+) -> Result<Response, Status>
+    requires len { length words ≤ 512 }
+    requires printable { All (All IsPrintable) words }
+    ensures { Responds (act_of_words home.now session.old words.entry)
+        (world_of (H.files host.old) (H.failure_count host.old) session.old)
+        result
+        (world_of (H.files host.new) (H.failure_count host.new) session.new) }
+{
+    let many = held::<MAX_WORDS>(words);
+    answer_words(alloc, host, home, session, many.as_slice())
+}
+
+/// The words in a row, in a room that is large enough.
+fn held<'a, const ROOM: usize>(words: Words<'a>) -> ArrayVec<&'a [u8], ROOM>
+    requires { length words ≤ ROOM }
+    ensures { map (λ word. word.now) result.items ≡ words.entry }
+{
+    let mut found = ArrayVec::new();
+    for word in words {
+        found.push(word);
+    }
+    found
+}
+
+/// The response to the words of a line.
+fn answer_words<H: Host>(
+    alloc: Global,
+    host: &mut H,
+    home: &str,
+    session: &mut Session,
+    words: &[&[u8]],
+) -> Result<Response, Status>
+    requires { All (λ word. All IsPrintable word.now) words.now }
+    ensures { Responds (act_of_words home.now session.old (map (λ word. word.now) words.now))
+        (world_of (H.files host.old) (H.failure_count host.old) session.old)
+        result
+        (world_of (H.files host.new) (H.failure_count host.new) session.new) }
+{
+    let Some((first, arguments)) = words.split_first() else {
+        return Err(Status::UnknownCommand);
+    };
+    let Some(command) = CommandWord::of(first) else {
+        return Err(Status::UnknownCommand);
+    };
+    answer_command(alloc, host, home, session, command, arguments)
+}
+
+/// The response to a command and the words after it.
+fn answer_command<H: Host>(
+    alloc: Global,
+    host: &mut H,
+    home: &str,
+    session: &mut Session,
+    command: CommandWord,
+    words: &[&[u8]],
+) -> Result<Response, Status>
+    requires { All (λ word. All IsPrintable word.now) words.now }
+    ensures { Responds (act_of_command home.now session.old command (map (λ word. word.now) words.now))
+        (world_of (H.files host.old) (H.failure_count host.old) session.old)
+        result
+        (world_of (H.files host.new) (H.failure_count host.new) session.new) }
+{
+    let (fewest, most) = command.counts(home);
+    if words.len() < fewest {
+        return Err(Status::MissingWord);
+    }
+    if most < words.len() {
+        return Err(Status::SyntaxError);
+    }
+    match command {
+        CommandWord::Block => handlers::block(session, words[0], words[1]),
+        CommandWord::BlockRead => handlers::block_read(
+            alloc, host, session, words[0], words[1], words[2],
+        ),
+        CommandWord::BlockWrite => handlers::block_write(
+            alloc, host, session, words[0], words[1], words[2],
+        ),
+        CommandWord::Crunch => handlers::crunch(alloc, host, session, words[0], &words[1..]),
+        CommandWord::Delete => handlers::delete(alloc, session, words),
+        CommandWord::Format => handlers::format(alloc, session, words[0]),
+        CommandWord::ListHistory => handlers::history(alloc, session),
+        CommandWord::Keep => handlers::keep(alloc, host, session, words[0]),
+        CommandWord::ListDirectory => handlers::list(alloc, session),
+        CommandWord::Petcat => handlers::petcat(alloc, session, words[0]),
+        CommandWord::Quit => handlers::quit(session),
+        CommandWord::Read => handlers::read(alloc, host, session, words[0], &words[1..]),
+        CommandWord::Redo => handlers::redo(session),
+        CommandWord::Rename => handlers::rename(alloc, session, words[0], words[1]),
+        CommandWord::Save => handlers::save(alloc, host, home, session, words),
+        CommandWord::Undo => handlers::undo(session),
+        CommandWord::Validate => handlers::validate(session),
+        CommandWord::Write => handlers::write(alloc, host, session, words[0], &words[1..]),
+    }
+}

@@ -1,0 +1,23 @@
+use Rattle.std.proofs.Common.{◌≡◌, ℕ, ◌+◌, ◌<◌, ◌≤◌, true, false, List, ◌++◌, length}
+use Rattle.d64_line.specs.Act.{world_of}
+use Rattle.d64_runner.specs.LineByLine.{HasCome}
+use Rattle.d64_runner.specs.Runner.{Stand, stand_of}
+use Rattle.d64_runner.proofs.runner.run_piece.Given as goal
+
+-- a first part of the piece has come
+abbrev pub invariant-loop-part : goal.invariant-loop-part
+invariant-loop-part g l = record {
+  done : List ℕ;
+  split : done ++ l.part-iterator.0.now ≡ l.piece;
+  came : (first : Stand) (before : List ℕ)
+      → HasCome l.home first
+      (stand_of (g.W.Write.contents l.initial.output.writer.now) (world_of (g.H.Host.files l.initial.host) (g.H.Host.failure_count l.initial.host) l.initial.session))
+      l.initial.tally l.initial.line before
+      → HasCome l.home first
+      (stand_of (g.W.Write.contents l.output.writer.now) (world_of (g.H.Host.files l.host) (g.H.Host.failure_count l.host) l.session))
+      l.tally l.line (before ++ done);
+  few : l.tally.outcome.accepted + l.tally.outcome.refused ≤ l.initial.tally.outcome.accepted + l.initial.tally.outcome.refused + length done;
+  same : l.output.writer.ghost_name ≡ l.initial.output.writer.ghost_name;
+  unfailed : l.output.has_failed ≡ l.initial.output.has_failed;
+  heard : l.output.is_delivered ≡ false → l.initial.output.is_delivered ≡ true → 0 < l.tally.outcome.accepted + l.tally.outcome.refused;
+}

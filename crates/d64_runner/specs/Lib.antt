@@ -1,0 +1,4 @@
+pub mod Transcript
+pub mod ScriptLaws
+pub mod Runner
+pub mod LineByLine

@@ -1,0 +1,39 @@
+-- What follows from the definition of a transcript.
+use Rattle.std.specs.Prelude.{◌≡◌, ℕ, ◌≤◌, List, ◌∷◌, length, All, Some}
+use Rattle.d64_undo.specs.History.{History}
+use Rattle.d64_undo.specs.Request.{Asked, Run}
+use Rattle.d64_undo.specs.SoundHistory.{HoldsSoundDisks}
+use Rattle.d64_undo.specs.declared.request.Answer.{Answer}
+use Rattle.d64_script.specs.RawLines.{text_of}
+use Rattle.d64_script.specs.Words.{words_of}
+use Rattle.d64_line.specs.CommandWord.{command_word_of}
+use Rattle.d64_runner.specs.Transcript.{Progress, Transcript}
+use Rattle.d64_line.specs.declared.command_word.CommandWord.TheVariants.{BlockWrite}
+
+-- a run of at most so many requests leads from one history to another
+pub record IsReachedIn (most : ℕ) (before after : History) : Type 0 where
+  pub requests : List Asked
+  pub answers : List Answer
+  pub few : length requests ≤ most
+  pub run : Run before requests answers after
+
+-- what the lines of a script leave of the history is what a run of requests leaves, at most one a line
+abbrev pub ScriptsAreRuns : Type 0
+ScriptsAreRuns =
+    (home : List ℕ) (lines : List (List ℕ)) (progress : Progress) (out : List ℕ) (after : Progress)
+    → Transcript home lines progress out after
+    → IsReachedIn (length lines) progress.world.history after.world.history
+
+-- the first word of a line is that of a block write
+pub record IsBlockWrite (line : List ℕ) : Type 0 where
+  pub first : List ℕ
+  pub words : List (List ℕ)
+  pub cut : words_of (text_of line) ≡ Some (first ∷ words)
+  pub command : command_word_of first ≡ Some BlockWrite
+
+-- lines of which none is a block write leave sound disks, whatever the host does
+abbrev pub ScriptsKeepDisksSound : Type 0
+ScriptsKeepDisksSound =
+    (home : List ℕ) (lines : List (List ℕ)) (progress : Progress) (out : List ℕ) (after : Progress)
+    → Transcript home lines progress out after → All (λ line. ¬ (IsBlockWrite line)) lines
+    → HoldsSoundDisks progress.world.history → HoldsSoundDisks after.world.history

@@ -1,0 +1,7 @@
+//! The run of a script over a disk image, from the bytes of a reader to those of a writer, line by line.
+#![tactic(auto)]
+
+pub mod laws;
+mod runner;
+
+pub use runner::{Outcome, ShellFault, run, run_on};

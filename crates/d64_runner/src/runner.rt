@@ -1,0 +1,287 @@
+//! A script, from its bytes to the bytes of its answers, line by line.
+ghost use Rattle.std.specs.Prelude.{◌≡◌, ◌≤◌, ◌<◌, ◌^◌, ◌+◌, ◌++◌, true, false, ℕ, List, length, MatchOption, OnOk, OnErr};
+ghost use Rattle.std.specs.Io.KnownBytes.{Keeps};
+ghost use Rattle.d64_script.specs.HeldLine.{Says};
+ghost use Rattle.d64_script.specs.Input.{IsUnread, reading_of};
+ghost use Rattle.d64_script.specs.Output.{FailsWith};
+ghost use Rattle.d64_script.specs.RawLines.{lines_of};
+ghost use Rattle.d64_undo.specs.History.{present};
+ghost use Rattle.d64_line.specs.Act.{world_of};
+ghost use Rattle.d64_line.specs.Line.{IsSkipped, IsAnswered};
+ghost use Rattle.d64_line.specs.Response.{shown};
+ghost use Rattle.d64_runner.specs.Runner.{Stand, stand_of, Ran, StoppedAt, EndsWith};
+ghost use Rattle.d64_runner.specs.LineByLine.{HasCome, ComesTo, EndsRun, RunsLine, StopsInLine};
+
+use d64_host::Host;
+use d64_line::{Response, answer_line};
+use d64_script::held_line::HeldLine;
+use d64_script::input::InputStream;
+use d64_script::output::{OutputStream, WriteFault};
+use d64_script::raw_lines::{RawLines, before_end, is_ended};
+use d64_script::script::{READ_BYTES, SCRIPT_BYTES, SCRIPT_READS};
+use d64_script::status::Status;
+use d64_undo::Session;
+use std::alloc::{AllocError, Global};
+use std::io::{Read, Write};
+use thiserror::Error;
+
+/// How many lines of a script were accepted and refused. Skipped lines count as neither.
+#[derive(Clone, Copy, Debug, PartialEq, Eq)]
+pub struct Outcome {
+    pub accepted: u64,
+    pub refused: u64,
+}
+
+/// Why a script did not run to its end.
+#[derive(Clone, Copy, Debug, PartialEq, Eq, Error)]
+pub enum ShellFault {
+    /// A read failed, or the script has more than 16,777,216 bytes or takes more than 1,000,000 reads.
+    /// Every line that was ended before has run, and no other.
+    #[error("the script cannot be read to its end")]
+    Read,
+    /// A write failed, or took nothing. A part of the answers was written.
+    #[error("the answers cannot be written")]
+    Write,
+    /// There is no memory but for a command, whose line answers that. It never comes, since reading takes no memory.
+    #[error("out of memory")]
+    Memory(AllocError),
+}
+
+/// How far a run has come: its counts, and whether a `quit` was accepted.
+#[derive(Clone, Copy)]
+struct Tally {
+    outcome: Outcome,
+    closed: bool,
+}
+
+impl Tally {
+    ghost use Rattle.std.specs.Prelude.{if◌then◌else◌};
+    ghost use Rattle.d64_script.specs.Status.{is_accepted};
+
+    /// No line was answered.
+    fn new() -> Tally
+        ensures { result ≡ record { outcome = record { accepted = 0; refused = 0 }; closed = false } }
+    {
+        Tally {
+            outcome: Outcome {
+                accepted: 0,
+                refused: 0,
+            },
+            closed: false,
+        }
+    }
+
+    /// Counts an answer.
+    fn count(&mut self, response: &Response)
+        requires { self.old.outcome.accepted + self.old.outcome.refused < 2 ^ 63 }
+        ensures accepted { self.new.outcome.accepted ≡ self.old.outcome.accepted + (if is_accepted response.now.status then 1 else 0) }
+        ensures refused { self.new.outcome.refused ≡ self.old.outcome.refused + (if is_accepted response.now.status then 0 else 1) }
+        ensures closed { self.new.closed ≡ response.now.closes }
+    {
+        if response.status.is_accepted() {
+            self.outcome.accepted += 1;
+        } else {
+            self.outcome.refused += 1;
+        }
+        self.closed = response.closes;
+    }
+}
+
+/// Runs a script. `home` is the name of the host file in which `save` stores by default, or empty.
+///
+/// The answers are those of the transcript, however the script is cut into reads. A line is answered, and the writer
+/// flushed, before the next read, so that a person at a terminal sees an answer before typing on. After an accepted `quit`
+/// nothing more is read. Reading takes no memory: one line is held, and what one read gave.
+pub fn run<R: Read, W: Write, H: Host>(
+    alloc: Global,
+    reader: &mut R,
+    writer: &mut W,
+    host: &mut H,
+    home: &str,
+    session: &mut Session,
+) -> Result<Outcome, ShellFault>
+    ensures { Ran home.now (R.remaining reader.old) (R.remaining reader.new)
+        (stand_of (W.contents writer.old) (world_of (H.files host.old) (H.failure_count host.old) session.old))
+        (stand_of (W.contents writer.new) (world_of (H.files host.new) (H.failure_count host.new) session.new))
+        result }
+{
+    let mut input = InputStream::new(reader);
+    let mut output = OutputStream::new(writer);
+    run_on(alloc, &mut input, &mut output, host, home, session)
+}
+
+/// Runs the script of an input of which nothing was read yet, and prints on an output that has not failed.
+///
+/// `Read` comes where a read failed or a limit was reached, and `Write` where a write or a flush failed; no read is made
+/// while something printed has not been delivered, nor after a call that failed or an accepted `quit`.
+pub fn run_on<R: Read, W: Write, H: Host>(
+    alloc: Global,
+    input: &mut InputStream<'_, R>,
+    output: &mut OutputStream<'_, W>,
+    host: &mut H,
+    home: &str,
+    session: &mut Session,
+) -> Result<Outcome, ShellFault>
+    requires unread { IsUnread (reading_of input.old.reads input.old.came input.old.has_failed) }
+    requires unfailed { output.old.has_failed ≡ false }
+    requires delivered { output.old.is_delivered ≡ true }
+    ensures input { input.new.reader.ghost_name ≡ input.old.reader.ghost_name }
+    ensures output { output.new.writer.ghost_name ≡ output.old.writer.ghost_name }
+    ensures ran { Ran home.now (R.remaining input.old.reader.now) (R.remaining input.new.reader.now)
+        (stand_of (W.contents output.old.writer.now) (world_of (H.files host.old) (H.failure_count host.old) session.old))
+        (stand_of (W.contents output.new.writer.now) (world_of (H.files host.new) (H.failure_count host.new) session.new))
+        result }
+    ensures streams { EndsWith result (reading_of input.new.reads input.new.came input.new.has_failed) output.new.has_failed }
+{
+    let mut tally = Tally::new();
+    let mut line = HeldLine::new();
+    let mut room = SCRIPT_BYTES;
+    let mut buffer = [0; READ_BYTES];
+    for _ in 0..SCRIPT_READS {
+        let Ok(()) = deliver(output) else {
+            return Err(ShellFault::Write);
+        };
+        let count = match input.read_after(output, &mut buffer) {
+            Ok(0) => return run_last(alloc, output, host, home, session, &line, &mut tally),
+            Ok(count) => count,
+            Err(_) => return Err(ShellFault::Read),
+        };
+        let piece = &buffer[..count.min(room)];
+        let Ok(()) = run_piece(
+            alloc, output, host, home, session, &mut line, &mut tally, piece,
+        ) else {
+            return Err(ShellFault::Write);
+        };
+        if tally.closed {
+            return Ok(tally.outcome);
+        }
+        if count > room {
+            return Err(ShellFault::Read);
+        }
+        room -= count;
+    }
+    Err(ShellFault::Read)
+}
+
+/// Delivers what was printed, where something was since the last time.
+fn deliver<W: Write>(output: &mut OutputStream<'_, W>) -> Result<(), WriteFault>
+    ensures same { output.new.writer.ghost_name ≡ output.old.writer.ghost_name }
+    ensures kept { Keeps (W.contents output.old.writer.now) (W.contents output.new.writer.now) }
+    ensures all { OnOk result (output.new.is_delivered ≡ true) }
+    ensures some { OnErr result (output.old.is_delivered ≡ false) }
+    ensures failed { FailsWith result output.old.has_failed output.new.has_failed }
+{
+    if output.is_delivered() {
+        return Ok(());
+    }
+    output.flush()
+}
+
+/// Runs the line that the script's end ends, if bytes of one have come.
+fn run_last<W: Write, H: Host>(
+    alloc: Global,
+    output: &mut OutputStream<'_, W>,
+    host: &mut H,
+    home: &str,
+    session: &mut Session,
+    line: &HeldLine,
+    tally: &mut Tally,
+) -> Result<Outcome, ShellFault>
+    requires { tally.old.outcome.accepted + tally.old.outcome.refused ≤ 2 ^ 32 }
+    ensures same { output.new.writer.ghost_name ≡ output.old.writer.ghost_name }
+    ensures failed { FailsWith result output.old.has_failed output.new.has_failed }
+    ensures ended { (first : Stand) (script : List ℕ)
+        → HasCome home.now first
+        (stand_of (W.contents output.old.writer.now) (world_of (H.files host.old) (H.failure_count host.old) session.old))
+        tally.old line.now script
+        → EndsRun home.now first
+        (stand_of (W.contents output.new.writer.now) (world_of (H.files host.new) (H.failure_count host.new) session.new))
+        script result }
+{
+    if line.is_empty() {
+        return Ok(tally.outcome);
+    }
+    line.end_with_script();
+    match run_line(alloc, output, host, home, session, line, tally) {
+        Ok(()) => Ok(tally.outcome),
+        Err(_) => Err(ShellFault::Write),
+    }
+}
+
+/// Runs the lines that end in the next piece of the script, up to an accepted `quit`, and holds what comes after the last.
+fn run_piece<W: Write, H: Host>(
+    alloc: Global,
+    output: &mut OutputStream<'_, W>,
+    host: &mut H,
+    home: &str,
+    session: &mut Session,
+    line: &mut HeldLine,
+    tally: &mut Tally,
+    piece: &[u8],
+) -> Result<(), WriteFault>
+    requires { tally.old.outcome.accepted + tally.old.outcome.refused + length piece.now ≤ 2 ^ 32 }
+    ensures same { output.new.writer.ghost_name ≡ output.old.writer.ghost_name }
+    ensures failed { FailsWith result output.old.has_failed output.new.has_failed }
+    ensures few { tally.new.outcome.accepted + tally.new.outcome.refused ≤ tally.old.outcome.accepted + tally.old.outcome.refused + length piece.now }
+    ensures heard { output.new.is_delivered ≡ false → output.old.is_delivered ≡ true → 0 < tally.new.outcome.accepted + tally.new.outcome.refused }
+    ensures came { (first : Stand) (before : List ℕ)
+        → HasCome home.now first
+        (stand_of (W.contents output.old.writer.now) (world_of (H.files host.old) (H.failure_count host.old) session.old))
+        tally.old line.old before
+        → OnOk result (ComesTo home.now first
+        (stand_of (W.contents output.new.writer.now) (world_of (H.files host.new) (H.failure_count host.new) session.new))
+        tally.new line.new (before ++ piece.now)) }
+    ensures stopped { (first : Stand) (before : List ℕ)
+        → HasCome home.now first
+        (stand_of (W.contents output.old.writer.now) (world_of (H.files host.old) (H.failure_count host.old) session.old))
+        tally.old line.old before
+        → OnErr result ((more : List ℕ) → StoppedAt home.now first
+        (stand_of (W.contents output.new.writer.now) (world_of (H.files host.new) (H.failure_count host.new) session.new))
+        (lines_of ((before ++ piece.now) ++ more))) }
+{
+    for part in RawLines(piece) {
+        line.push(before_end(part));
+        if !is_ended(part) {
+            continue;
+        }
+        line.end_with_line_feed();
+        run_line(alloc, output, host, home, session, line, tally)?;
+        if tally.closed {
+            return Ok(());
+        }
+        line.clear();
+    }
+    Ok(())
+}
+
+/// Runs a line that has come to its end, and writes its answer.
+fn run_line<W: Write, H: Host>(
+    alloc: Global,
+    output: &mut OutputStream<'_, W>,
+    host: &mut H,
+    home: &str,
+    session: &mut Session,
+    line: &HeldLine,
+    tally: &mut Tally,
+) -> Result<(), WriteFault>
+    requires { tally.old.outcome.accepted + tally.old.outcome.refused < 2 ^ 63 }
+    ensures same { output.new.writer.ghost_name ≡ output.old.writer.ghost_name }
+    ensures failed { FailsWith result output.old.has_failed output.new.has_failed }
+    ensures few { tally.new.outcome.accepted + tally.new.outcome.refused ≤ tally.old.outcome.accepted + tally.old.outcome.refused + 1 }
+    ensures more { tally.old.outcome.accepted + tally.old.outcome.refused ≤ tally.new.outcome.accepted + tally.new.outcome.refused }
+    ensures heard { output.new.is_delivered ≡ false → output.old.is_delivered ≡ true → 0 < tally.new.outcome.accepted + tally.new.outcome.refused }
+    ensures ran { (raw : List ℕ) → Says line.now raw → tally.old.closed ≡ false → OnOk result (RunsLine home.now raw
+        (stand_of (W.contents output.old.writer.now) (world_of (H.files host.old) (H.failure_count host.old) session.old))
+        (stand_of (W.contents output.new.writer.now) (world_of (H.files host.new) (H.failure_count host.new) session.new))
+        tally.old tally.new) }
+    ensures stopped { (raw : List ℕ) → Says line.now raw → tally.old.closed ≡ false → OnErr result (StopsInLine home.now raw
+        (stand_of (W.contents output.old.writer.now) (world_of (H.files host.old) (H.failure_count host.old) session.old))
+        (stand_of (W.contents output.new.writer.now) (world_of (H.files host.new) (H.failure_count host.new) session.new))
+        tally.old) }
+{
+    let Some(response) = answer_line(alloc, host, home, session, line) else {
+        return Ok(());
+    };
+    tally.count(&response);
+    response.write(output, session.image())
+}
