@@ -182,12 +182,14 @@ session_again : (history : History) (records : List Kept) → IsSession history 
 unfolding session_at AreRecords
 session_again history records is h =
     let image = present history in
-    let spelled : file_of history ≡ file_with image history.cursor records = sym (file-held records image history.cursor history h.within h.lead h.is) in
+    let spelled : file_of history ≡ file_with image history.cursor records = sym (file-held h.holds) in
     let most = is.count in
     let count = h.count in
+    let within = h.holds.within in
+    let leads = h.holds.lead in
     let read : parts_at (file_of history) ≡ Ok (parts_of image history.cursor records) =
-    ap parts_at spelled ∙ parts_again image history.cursor records h.image h.within (omega arith) h.each in
-    rw (read, lead-differ (reverse (take history.cursor records)) image h.lead.0, lead-differ (drop history.cursor records) image h.lead.1) refl
+    ap parts_at spelled ∙ parts_again image history.cursor records h.image within (omega arith) h.each in
+    rw (read, lead-differ (reverse (take history.cursor records)) image leads.0, lead-differ (drop history.cursor records) image leads.1) refl
 
 -- the file of a history has no fault
 pub faultless : FilesAreFaultless
@@ -200,7 +202,7 @@ told (Err fault) = history_of [] [] 0
 
 -- and so it is told by its file
 again : (history : History) → IsSession history → told (session_at (file_of history)) ≡ history
-again history is = let h = held history is in ap told (session_again history h.0 is h.1) ∙ h.1.is
+again history is = let h = held history is in ap told (session_again history h.0 is h.1) ∙ h.1.holds.is
 
 -- bytes are the file of at most one history
 pub one_history : FilesTell

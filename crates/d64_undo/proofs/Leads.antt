@@ -13,7 +13,7 @@ use Rattle.d64_image.proofs.Patches.{back-changed, rises-changed}
 use Rattle.d64_undo.specs.History.{History, present}
 use Rattle.d64_undo.specs.Records.{along, LeadAlong, images_of, AreRecords}
 use Rattle.d64_undo.specs.SessionFile.{IsSession}
-use Rattle.d64_undo.proofs.Sessions.{history_of}
+use Rattle.d64_undo.proofs.Sessions.{Holds}
 
 -- an image of so many blocks
 abbrev IsImageOf : ℕ → List (List ℕ) → Type 0
@@ -104,10 +104,8 @@ All-turned P (x ∷ xs) each =
 
 -- what a session holds of a history: it is that of these records and this image
 pub record Held (history : History) (records : List Kept) : Type 0 where
-  pub within : history.cursor ≤ length records
+  pub holds : Holds records (present history) history.cursor history
   pub count : length records + 1 ≡ length history.images
-  pub lead : AreRecords records (present history) history.cursor
-  pub is : history_of records (present history) history.cursor ≡ history
   pub each : All (IsRecord (length (present history))) records
   pub image : IsImage (present history)
 
@@ -144,15 +142,17 @@ held history is =
     let after : along image (drop done records) ≡ rest = ap (along image) end ∙ along-leads count rest image is_image are_rest in (
       records,
       record {
-        within = omega arith;
+        holds = record {
+          within = omega arith;
+          lead = (
+            subst (LeadAlong image) (sym turned) (lead-leads count past image is_image are_past),
+            subst (LeadAlong image) (sym end) (lead-leads count rest image is_image are_rest),
+          );
+          is =
+              ap (λ (xs : List (List (List ℕ))). let h : History = record { images = xs; cursor = done } in h)
+              (ap₂ (λ (xs ys : List (List (List ℕ))). xs ++ image ∷ ys) before after ∙ sym parted);
+        };
         count = omega arith;
-        lead = (
-          subst (LeadAlong image) (sym turned) (lead-leads count past image is_image are_past),
-          subst (LeadAlong image) (sym end) (lead-leads count rest image is_image are_rest),
-        );
-        is =
-            ap (λ (xs : List (List (List ℕ))). let h : History = record { images = xs; cursor = done } in h)
-            (ap₂ (λ (xs ys : List (List (List ℕ))). xs ++ image ∷ ys) before after ∙ sym parted);
         each =
             All-append (IsRecord count) first on_leads (All-turned (IsRecord count) back_leads (leads-records count past image are_past)) (leads-records count rest image are_rest);
         image = is.images done [] lt;

@@ -1,5 +1,5 @@
 -- records: the images that they lead to, and what commands, undos and redos leave of them
-use Rattle.std.proofs.Common.{◌≡◌, ℕ, ◌+◌, ◌-◌, ◌<◌, ◌≤◌, zero, suc, List, [], ◌∷◌, ◌++◌, length, reverse, take, drop, get_or, set, refl, sym, ap, ap₂, ◌∙◌, subst, arith, append_assoc}
+use Rattle.std.proofs.Common.{◌≡◌, ℕ, ◌+◌, ◌-◌, ◌<◌, ◌≤◌, ◌↔◌, ◌⊎◌, zero, suc, List, [], ◌∷◌, ◌++◌, length, reverse, take, drop, get_or, set, refl, sym, ap, ap₂, ◌∙◌, subst, inl, inr, arith, append_assoc}
 use Rattle.std.proofs.lemmas.Grind.{reverse_onto}
 use Rattle.std.proofs.lemmas.List.{length-append, length-reverse, length-map, length-take-le, length-drop, length_push, reverse-append, get_or_at, get_or-reverse, get_or-drop, get_or-take, get_or-append-add, get_or_append_left, take_all, take_at, drop_all, take_more, take_more_set, drop_more, take-set, drop-set, drop-set-lt}
 use Rattle.d64_image.specs.Image.{sector_at, differences}
@@ -111,20 +111,20 @@ unfolding LeadAlong
 lead-tail patches image patch leads = leads.1
 
 -- what lies after the cursor is dropped and a record is added
+pub length-added : (records kept : List Kept) (patch : Kept) (done : ℕ) → done ≤ length records → kept ≡ take done records ++ patch ∷ []
+    → length kept ≡ done + 1
+length-added records kept patch done within e =
+    ap length e ∙ length_push (take done records) patch ∙ ap (λ (n : ℕ). n + 1) (length-take-le done records within)
+
 past-added : (records kept : List Kept) (patch : Kept) (done : ℕ) → done ≤ length records → kept ≡ take done records ++ patch ∷ []
     → past kept (done + 1) ≡ patch ∷ past records done
 unfolding past
 past-added records kept patch done within e =
-    let long : length kept ≡ done + 1 =
-    ap length e ∙ length_push (take done records) patch ∙ ap (λ (n : ℕ). n + 1) (length-take-le done records within) in
-    ap reverse (take_all (done + 1) kept (omega arith) ∙ e) ∙ reverse-push (take done records) patch
+    ap reverse (take_all (done + 1) kept (omega (arith, length-added records kept patch done within e)) ∙ e) ∙ reverse-push (take done records) patch
 
 rest-added : (records kept : List Kept) (patch : Kept) (done : ℕ) → done ≤ length records → kept ≡ take done records ++ patch ∷ []
     → drop (done + 1) kept ≡ []
-rest-added records kept patch done within e =
-    let long : length kept ≡ done + 1 =
-    ap length e ∙ length_push (take done records) patch ∙ ap (λ (n : ℕ). n + 1) (length-take-le done records within) in
-    drop_all (done + 1) kept (omega arith)
+rest-added records kept patch done within e = drop_all (done + 1) kept (omega (arith, length-added records kept patch done within e))
 
 pub kept_added : (records kept : List Kept) (patch : Kept) (image next : List (List ℕ)) (done : ℕ) → done ≤ length records
     → kept ≡ take done records ++ patch ∷ [] → back next patch ≡ image
@@ -150,71 +150,131 @@ records_added records kept patch image next done within e put_back differs leads
   subst (LeadAlong next) (sym (rest-added records kept patch done within e)) (lead-none next),
 )
 
--- the record before the cursor is the difference to the image before
-pub last_done : (records : List Kept) (image : List (List ℕ)) (n : ℕ) (patch : Kept) → n < length records → patch ≡ get_or records n patch
-    → AreRecords records image (n + 1) → patch ≡ changed (back image patch) image
-unfolding AreRecords past
-last_done records image n patch h is leads =
-    lead-head (past records n) image patch (subst (LeadAlong image) (past-more records n patch h is) leads.0)
+-- two images, and the patches that lead from each to the other, which are exactly their differences
+pub record AreBetween (image other : List (List ℕ)) (patch exchanged : Kept) : Type 0 where
+  pub there : back image patch ≡ other
+  pub here : back other exchanged ≡ image
+  pub is_patch : patch ≡ changed other image
+  pub is_exchanged : exchanged ≡ changed image other
 
--- the record after the cursor is the difference to the image after
-pub next_undone : (records : List Kept) (image : List (List ℕ)) (n : ℕ) (patch : Kept) → n < length records → patch ≡ get_or records n patch
-    → AreRecords records image n → patch ≡ changed (back image patch) image
-unfolding AreRecords
-next_undone records image n patch h is leads =
-    lead-head (drop (n + 1) records) image patch (subst (LeadAlong image) (rest-more records n patch h is) leads.1)
+-- the other way they are exchanged
+turned : {image other : List (List ℕ)} {patch exchanged : Kept} → AreBetween image other patch exchanged → AreBetween other image exchanged patch
+turned b = record { there = b.here; here = b.there; is_patch = b.is_exchanged; is_exchanged = b.is_patch }
 
--- the images are the same where a record is exchanged with the image after it
-pub kept_undone : (records : List Kept) (image other : List (List ℕ)) (n : ℕ) (patch exchanged : Kept) → n < length records
-    → patch ≡ get_or records n patch → other ≡ back image patch → back other exchanged ≡ image
-    → images_of (set records n exchanged) other n ≡ images_of records image (n + 1)
+-- a list of records with a record in its place, those before it, the last one first, and those after it
+record StandsBetween (records : List Kept) (n : ℕ) (patch : Kept) (earlier later : List Kept) : Type 0 where
+  pub before : past records n ≡ earlier
+  pub with_it : past records (n + 1) ≡ patch ∷ earlier
+  pub from_it : drop n records ≡ patch ∷ later
+  pub after : drop (n + 1) records ≡ later
+
+stands-between : (records : List Kept) (n : ℕ) (patch : Kept) → n < length records → patch ≡ get_or records n patch
+    → StandsBetween records n patch (past records n) (drop (n + 1) records)
+stands-between records n patch h is = record { before = refl; with_it = past-more records n patch h is; from_it = rest-more records n patch h is; after = refl }
+
+-- another record in that place leaves those before it and after it
+stands-set : (records : List Kept) (n : ℕ) (exchanged : Kept) → n < length records
+    → StandsBetween (set records n exchanged) n exchanged (past records n) (drop (n + 1) records)
+unfolding past
+stands-set records n exchanged h = record {
+  before = ap reverse (take-set records n exchanged);
+  with_it = ap reverse (take_more_set records n exchanged h) ∙ reverse-push (take n records) exchanged;
+  from_it = drop-set records n exchanged h;
+  after = drop-set-lt (n + 1) records n exchanged (omega arith);
+}
+
+-- a record is passed: the patch that leads back over it is the first of those on the other side
+passed : (image other : List (List ℕ)) (patch exchanged : Kept) (from towards : List Kept) → AreBetween image other patch exchanged
+    → LeadAlong image (patch ∷ from) → LeadAlong image towards → LeadAlong other from × LeadAlong other (exchanged ∷ towards)
+passed image other patch exchanged from towards b leads on =
+    (subst (λ (x : List (List ℕ)). LeadAlong x from) b.there (lead-tail from image patch leads), lead-more towards image other exchanged b.here b.is_exchanged on)
+
+-- the same images stand before it and after it
+same-images : (image other : List (List ℕ)) (patch exchanged : Kept) (earlier later : List Kept) → AreBetween image other patch exchanged
+    → reverse (along other earlier) ++ other ∷ along other (exchanged ∷ later) ≡ reverse (along image (patch ∷ earlier)) ++ image ∷ along image later
+same-images image other patch exchanged earlier later b =
+    ap (λ (list : List (List (List ℕ))). reverse (along other earlier) ++ other ∷ list) (along-one later other image exchanged b.here)
+    ∙ sym (append_assoc (reverse (along other earlier)) (other ∷ []) (image ∷ along image later))
+    ∙ ap (λ (list : List (List (List ℕ))). list ++ image ∷ along image later) (sym (before-more earlier other image patch b.there))
+
+-- records with one in its place, which stands on one side of the image or on the other
+images-after : {records : List Kept} {n : ℕ} {patch : Kept} {earlier later : List Kept} (image : List (List ℕ)) → StandsBetween records n patch earlier later
+    → images_of records image n ≡ reverse (along image earlier) ++ image ∷ along image (patch ∷ later)
 unfolding images_of past
-kept_undone records image other n patch exchanged h is there here =
-    let earlier : reverse (along image (past records (n + 1))) ≡ reverse (along other (past records n)) ++ other ∷ [] =
-    ap (λ (ps : List Kept). reverse (along image ps)) (past-more records n patch h is) ∙ before-more (past records n) other image patch (sym there) in
-    let later : along other (drop n (set records n exchanged)) ≡ image ∷ along image (drop (n + 1) records) =
-    ap (along other) (drop-set records n exchanged h) ∙ along-one (drop (n + 1) records) other image exchanged here in
-    ap₂ (λ (xs : List Kept) (ys : List (List (List ℕ))). reverse (along other (reverse xs)) ++ other ∷ ys) (take-set records n exchanged) later
-    ∙ sym (append_assoc (reverse (along other (past records n))) (other ∷ []) (image ∷ along image (drop (n + 1) records)))
-    ∙ ap (λ (xs : List (List (List ℕ))). xs ++ image ∷ along image (drop (n + 1) records)) (sym earlier)
+images-after image s = ap₂ (λ (ps qs : List Kept). reverse (along image ps) ++ image ∷ along image qs) s.before s.from_it
 
-pub records_undone : (records : List Kept) (image other : List (List ℕ)) (n : ℕ) (patch exchanged : Kept) → n < length records
-    → patch ≡ get_or records n patch → other ≡ back image patch → back other exchanged ≡ image → exchanged ≡ changed image other
-    → AreRecords records image (n + 1) → AreRecords (set records n exchanged) other n
+images-before : {records : List Kept} {n : ℕ} {patch : Kept} {earlier later : List Kept} (image : List (List ℕ)) → StandsBetween records n patch earlier later
+    → images_of records image (n + 1) ≡ reverse (along image (patch ∷ earlier)) ++ image ∷ along image later
+unfolding images_of past
+images-before image s = ap₂ (λ (ps qs : List Kept). reverse (along image ps) ++ image ∷ along image qs) s.with_it s.after
+
+-- and where they lead away from the image
+lead-after : {records : List Kept} {n : ℕ} {patch : Kept} {earlier later : List Kept} (image : List (List ℕ)) → StandsBetween records n patch earlier later
+    → AreRecords records image n ↔ (LeadAlong image earlier × LeadAlong image (patch ∷ later))
 unfolding AreRecords past
-records_undone records image other n patch exchanged h is there here differs leads = (
-  subst (λ (xs : List Kept). LeadAlong other (reverse xs)) (sym (take-set records n exchanged))
-      (subst (λ (x : List (List ℕ)). LeadAlong x (past records n)) (sym there)
-      (lead-tail (past records n) image patch (subst (LeadAlong image) (past-more records n patch h is) leads.0))),
-  subst (LeadAlong other) (sym (drop-set records n exchanged h)) (lead-more (drop (n + 1) records) image other exchanged here differs leads.1),
+lead-after image s = (
+  λ leads. (subst (LeadAlong image) s.before leads.0, subst (LeadAlong image) s.from_it leads.1),
+  λ leads. (subst (LeadAlong image) (sym s.before) leads.0, subst (LeadAlong image) (sym s.from_it) leads.1),
 )
 
-pub kept_redone : (records : List Kept) (image other : List (List ℕ)) (n : ℕ) (patch exchanged : Kept) → n < length records
-    → patch ≡ get_or records n patch → other ≡ back image patch → back other exchanged ≡ image
-    → images_of (set records n exchanged) other (n + 1) ≡ images_of records image n
-unfolding images_of past
-kept_redone records image other n patch exchanged h is there here =
-    let earlier : reverse (along other (past (set records n exchanged) (n + 1))) ≡ reverse (along image (past records n)) ++ image ∷ [] =
-    ap (λ (xs : List Kept). reverse (along other (reverse xs))) (take_more_set records n exchanged h)
-    ∙ ap (λ (ps : List Kept). reverse (along other ps)) (reverse-push (take n records) exchanged)
-    ∙ before-more (past records n) image other exchanged here in
-    let later : along image (drop n records) ≡ other ∷ along other (drop (n + 1) records) =
-    ap (along image) (rest-more records n patch h is) ∙ along-one (drop (n + 1) records) image other patch (sym there) in
-    ap₂ (λ (xs : List (List (List ℕ))) (ps : List Kept). xs ++ other ∷ along other ps) earlier (drop-set-lt (n + 1) records n exchanged (omega arith))
-    ∙ append_assoc (reverse (along image (past records n))) (image ∷ []) (other ∷ along other (drop (n + 1) records))
-    ∙ ap (λ (ys : List (List (List ℕ))). reverse (along image (past records n)) ++ image ∷ ys) (sym later)
-
-pub records_redone : (records : List Kept) (image other : List (List ℕ)) (n : ℕ) (patch exchanged : Kept) → n < length records
-    → patch ≡ get_or records n patch → other ≡ back image patch → back other exchanged ≡ image → exchanged ≡ changed image other
-    → AreRecords records image n → AreRecords (set records n exchanged) other (n + 1)
+lead-before : {records : List Kept} {n : ℕ} {patch : Kept} {earlier later : List Kept} (image : List (List ℕ)) → StandsBetween records n patch earlier later
+    → AreRecords records image (n + 1) ↔ (LeadAlong image (patch ∷ earlier) × LeadAlong image later)
 unfolding AreRecords past
-records_redone records image other n patch exchanged h is there here differs leads = (
-  subst (LeadAlong other) (sym (ap reverse (take_more_set records n exchanged h) ∙ reverse-push (take n records) exchanged))
-      (lead-more (past records n) image other exchanged here differs leads.0),
-  subst (LeadAlong other) (sym (drop-set-lt (n + 1) records n exchanged (omega arith)))
-      (subst (λ (x : List (List ℕ)). LeadAlong x (drop (n + 1) records)) (sym there)
-      (lead-tail (drop (n + 1) records) image patch (subst (LeadAlong image) (rest-more records n patch h is) leads.1))),
+lead-before image s = (
+  λ leads. (subst (LeadAlong image) s.with_it leads.0, subst (LeadAlong image) s.after leads.1),
+  λ leads. (subst (LeadAlong image) (sym s.with_it) leads.0, subst (LeadAlong image) (sym s.after) leads.1),
 )
+
+-- the cursor beside a record, and on its other side
+abbrev pub IsBeside : ℕ → ℕ → ℕ → Type 0
+IsBeside n done cursor = ((done ≡ n + 1) × (cursor ≡ n)) ⊎ ((done ≡ n) × (cursor ≡ n + 1))
+
+-- a record beside the cursor is the difference to the image on its other side
+pub beside-differs : (records : List Kept) (image : List (List ℕ)) (n done cursor : ℕ) (patch : Kept) → n < length records → patch ≡ get_or records n patch
+    → IsBeside n done cursor → AreRecords records image done → patch ≡ changed (back image patch) image
+beside-differs records image n done cursor patch h is beside leads =
+    let s = stands-between records n patch h is in
+    elim beside [
+      | inl back ↦ lead-head (past records n) image patch ((lead-before image s).0 (subst (AreRecords records image) back.0 leads)).0
+      | inr on ↦ lead-head (drop (n + 1) records) image patch ((lead-after image s).0 (subst (AreRecords records image) on.0 leads)).1
+    ]
+
+-- the images are the same where the record beside the cursor is exchanged with the present image, and the cursor steps over it
+pub images-stepped : (records : List Kept) (image other : List (List ℕ)) (n done cursor : ℕ) (patch exchanged : Kept) → n < length records
+    → patch ≡ get_or records n patch → AreBetween image other patch exchanged → IsBeside n done cursor
+    → images_of (set records n exchanged) other cursor ≡ images_of records image done
+images-stepped records image other n done cursor patch exchanged h is between beside =
+    let old = stands-between records n patch h is in
+    let new = stands-set records n exchanged h in
+    let kept = set records n exchanged in
+    elim beside [
+      | inl back ↦
+          ap (images_of kept other) back.1 ∙ images-after other new
+          ∙ same-images image other patch exchanged (past records n) (drop (n + 1) records) between
+          ∙ sym (ap (images_of records image) back.0 ∙ images-before image old)
+      | inr on ↦
+          ap (images_of kept other) on.1 ∙ images-before other new
+          ∙ sym (same-images other image exchanged patch (past records n) (drop (n + 1) records) (turned between))
+          ∙ sym (ap (images_of records image) on.0 ∙ images-after image old)
+    ]
+
+-- and the records lead away from the other image
+pub records-stepped : (records : List Kept) (image other : List (List ℕ)) (n done cursor : ℕ) (patch exchanged : Kept) → n < length records
+    → patch ≡ get_or records n patch → AreBetween image other patch exchanged → IsBeside n done cursor
+    → AreRecords records image done → AreRecords (set records n exchanged) other cursor
+records-stepped records image other n done cursor patch exchanged h is between beside leads =
+    let old = stands-between records n patch h is in
+    let new = stands-set records n exchanged h in
+    elim beside [
+      | inl back ↦
+          let led = (lead-before image old).0 (subst (AreRecords records image) back.0 leads) in
+          subst (AreRecords (set records n exchanged) other) (sym back.1)
+          ((lead-after other new).1 (passed image other patch exchanged (past records n) (drop (n + 1) records) between led.0 led.1))
+      | inr on ↦
+          let led = (lead-after image old).0 (subst (AreRecords records image) on.0 leads) in
+          let there = passed image other patch exchanged (drop (n + 1) records) (past records n) between led.1 led.0 in
+          subst (AreRecords (set records n exchanged) other) (sym on.1) ((lead-before other new).1 (there.1, there.0))
+    ]
 
 -- an image that was put back is as long as the one before it
 same_length : (patches : List Kept) (image : List (List ℕ)) (k : ℕ) → k < length patches

@@ -15,7 +15,7 @@ use Rattle.d64_undo.specs.SessionFileLaws.{FaultlessAreFiles, KeptIsResumed}
 use Rattle.d64_undo.specs.declared.resume_fault.ResumeFault.{ResumeFault}
 use Rattle.d64_undo.specs.declared.resume_fault.ResumeFault.TheVariants.{NotSession, Truncated, Trailing, BadCursor, BadRecord, Memory}
 use Rattle.d64_undo.proofs.Leads.{All-turned}
-use Rattle.d64_undo.proofs.Sessions.{history_of}
+use Rattle.d64_undo.proofs.Sessions.{history_of, Holds}
 use Rattle.d64_undo.proofs.SessionFiles.{file-held, holds-session}
 use Rattle.d64_undo.proofs.FilesRead.{faultless, one_history}
 use Rattle.d64_undo.proofs.Reading.{fails_then}
@@ -71,10 +71,8 @@ resumed bytes parts are e =
     let leads = are-records parts.records parts.image parts.done are.each e in
     let blocks : All HaveBlocks parts.records =
     All-weaker (IsRecordOf (length parts.image) 0) HaveBlocks (λ patch is. is.1) parts.records are.each in
-    record {
-      session = holds-session parts.records parts.image parts.done history are.within are.count are.image blocks refl;
-      file = sym (file-held parts.records parts.image parts.done history are.within leads refl) ∙ are.file;
-    }
+    let holds : Holds parts.records parts.image parts.done history = record { within = are.within; lead = leads; is = refl } in
+    record { session = holds-session holds are.count are.image blocks; file = sym (file-held holds) ∙ are.file }
 
 -- the parts that were read without fault
 pub session_take : (bytes : List ℕ) (parts : Parts) → AreBytes bytes → session_at bytes ≡ Ok parts → IsResumed bytes parts

@@ -15,7 +15,7 @@ use Rattle.d64_undo.specs.Records.{along, images_of, AreRecords}
 use Rattle.d64_undo.specs.SessionFile.{magic, record_file, records_of, file_with, file_of, IsSession}
 use Rattle.d64_undo.proofs.Leads.{All-turned}
 use Rattle.d64_undo.proofs.Records.{length-images, record-done, record-undone}
-use Rattle.d64_undo.proofs.Sessions.{history_of, present_is, stands, image_count}
+use Rattle.d64_undo.proofs.Sessions.{history_of, Holds, present_is, stands, image_count}
 
 -- a record of the history is the one that the session holds
 record_blocks-held : (records : List Kept) (image : List (List ℕ)) (done n : ℕ) → done ≤ length records → n < length records
@@ -58,12 +58,13 @@ added-parts image tracks done records same =
     ap (λ (t : ℕ). magic ++ t ∷ bytes_of image ++ to_le_bytes w64 done ++ to_le_bytes w64 (length records) ++ flat_map record_file records) same
 
 -- the file of what a session holds is that of its history
-pub file-held : (records : List Kept) (image : List (List ℕ)) (done : ℕ) (history : History) → done ≤ length records
-    → AreRecords records image done → history_of records image done ≡ history → file_with image done records ≡ file_of history
-file-held records image done history within leads is =
+pub file-held : {records : List Kept} {image : List (List ℕ)} {done : ℕ} {history : History} → Holds records image done history
+    → file_with image done records ≡ file_of history
+file-held {records} {image} {done} {history} h =
+    let same = ap present h.is in
     ap₂ (λ (shown : List (List ℕ)) (rs : List Kept). file_with shown done rs)
-    (sym (present_is records image done (history_of records image done) within refl)) (sym (records-held records image done within leads))
-    ∙ ap file_of is
+    (sym (same ∙ present_is h)) (sym (records-held records image done h.within h.lead))
+    ∙ ap file_of h.is
 
 -- an image with the bytes of blocks put back is an image
 back-image : (patch : Kept) (image : List (List ℕ)) → IsImage image → HaveBlocks patch → IsImage (back image patch)
@@ -92,10 +93,10 @@ along-kind (patch ∷ patches) image count long =
     All-cons (λ other. length other ≡ count) (back image patch) (along (back image patch) patches) next (along-kind patches (back image patch) count next)
 
 -- a session's history is one that a session can hold
-pub holds-session : (records : List Kept) (image : List (List ℕ)) (done : ℕ) (history : History) → done ≤ length records
-    → length records < 2 ^ 64 → IsImage image → All HaveBlocks records → history_of records image done ≡ history → IsSession history
+pub holds-session : {records : List Kept} {image : List (List ℕ)} {done : ℕ} {history : History} → Holds records image done history
+    → length records < 2 ^ 64 → IsImage image → All HaveBlocks records → IsSession history
 unfolding images_of
-holds-session records image done history within most is_image blocks is =
+holds-session {records} {image} {done} {history} h most is_image blocks =
     let past = take done records in
     let images : All IsImage (images_of records image done) =
     All-append IsImage (reverse (along image (reverse past))) (image ∷ along image (drop done records))
@@ -106,13 +107,13 @@ holds-session records image done history within most is_image blocks is =
     All-append one (reverse (along image (reverse past))) (image ∷ along image (drop done records))
     (All-turned one (along image (reverse past)) (along-kind (reverse past) image (length image) refl))
     (All-cons one image (along image (drop done records)) refl (along-kind (drop done records) image (length image) refl)) in
-    let count = (image_count records image done history within is).1 in
+    let count = image_count h in
     record {
-      cursor = stands records image done history within is;
-      images = subst (λ (h : History). All IsImage h.images) is images;
+      cursor = stands h;
+      images = subst (λ (other : History). All IsImage other.images) h.is images;
       kind =
-          subst (λ (h : History). All (λ other. length other ≡ length (present h)) h.images) is
+          subst (λ (next : History). All (λ other. length other ≡ length (present next)) next.images) h.is
           (subst (λ (shown : List (List ℕ)). All (λ other. length other ≡ length shown) (images_of records image done))
-          (sym (present_is records image done (history_of records image done) within refl)) kinds);
+          (sym (ap present h.is ∙ present_is h)) kinds);
       count = omega arith;
     }

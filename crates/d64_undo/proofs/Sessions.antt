@@ -1,13 +1,15 @@
 -- sessions: the history of what a session holds, and what it becomes
-use Rattle.std.proofs.Common.{◌≡◌, ℕ, ◌+◌, ◌<◌, ◌≤◌, ◌-◌, Bool, true, false, cond, nat_lt, Some, None, List, [], ◌∷◌, ◌++◌, length, take, get_or, set, sym, ap, ap₂, ◌∙◌, subst, inl, inr, arith}
+use Rattle.std.proofs.Common.{◌≡◌, ℕ, ◌+◌, ◌<◌, ◌≤◌, ◌⊎◌, Bool, true, false, cond, nat_lt, Some, None, List, [], ◌∷◌, ◌++◌, length, take, get_or, set, sym, ap, ap₂, ◌∙◌, subst, inl, inr, arith}
 use Rattle.std.proofs.lemmas.Bool.{cases_lt}
 use Rattle.std.proofs.lemmas.Bool.Decides.{nat_tests}
-use Rattle.std.proofs.lemmas.List.{get_or_default, length_push, length-take-le}
+use Rattle.std.proofs.lemmas.List.{get_or_default, length-set}
+use Rattle.std.proofs.Math.Nat.{min-eq_left, min-eq_right}
+use Rattle.std.specs.Prelude.{min}
 use Rattle.d64_image.specs.Image.{differences}
 use Rattle.d64_image.specs.Patch.{Kept, back, changed}
-use Rattle.d64_undo.specs.History.{History, IsHistory, present, begun, added, undone, redone, record_len, record_at}
+use Rattle.d64_undo.specs.History.{History, IsHistory, present, begun, added, record_len, record_at}
 use Rattle.d64_undo.specs.Records.{images_of, AreRecords}
-use Rattle.d64_undo.proofs.Records.{length-images, image-at_cursor, images-begun, begun-records, kept_added, kept_undone, kept_redone, record-done, record-undone, lengths-undone, length-changed, length-changed_back}
+use Rattle.d64_undo.proofs.Records.{length-images, image-at_cursor, images-begun, begun-records, AreBetween, IsBeside, length-added, kept_added, records_added, images-stepped, records-stepped, record-done, record-undone, lengths-undone, length-changed, length-changed_back}
 
 -- the history of records, the present image, and how many records are done
 abbrev pub history_of : List Kept → List (List ℕ) → ℕ → History
@@ -25,72 +27,96 @@ history-begun records image none =
 pub none-are_records : (records : List Kept) (image : List (List ℕ)) → records ≡ [] → AreRecords records image 0
 none-are_records records image none = subst (λ (ps : List Kept). AreRecords ps image 0) (sym none) (begun-records image)
 
+-- a history is that of these records, of which so many are done, and of this present image
+pub record Holds (records : List Kept) (image : List (List ℕ)) (done : ℕ) (history : History) : Type 0 where
+  pub within : done ≤ length records
+  pub lead : AreRecords records image done
+  pub is : history_of records image done ≡ history
+
+-- what a session promises of itself
+pub holds : {records : List Kept} {image : List (List ℕ)} {done : ℕ} {history : History} → (done ≤ length records) × AreRecords records image done
+    → history_of records image done ≡ history → Holds records image done history
+holds invariant is = record { within = invariant.0; lead = invariant.1; is = is }
+
+pub cursor-is : {records : List Kept} {image : List (List ℕ)} {done : ℕ} {history : History} → Holds records image done history → history.cursor ≡ done
+cursor-is h = ap (λ (other : History). other.cursor) (sym h.is)
+
 -- each record stands between two images of the history
-pub image_count : (records : List Kept) (image : List (List ℕ)) (done : ℕ) (history : History) → done ≤ length records
-    → history_of records image done ≡ history → (history.cursor ≡ done) × (length history.images ≡ length records + 1)
-image_count records image done history within is =
-    (ap (λ (h : History). h.cursor) (sym is), ap (λ (h : History). length h.images) (sym is) ∙ length-images records image done within)
+pub image_count : {records : List Kept} {image : List (List ℕ)} {done : ℕ} {history : History} → Holds records image done history
+    → length history.images ≡ length records + 1
+image_count {records} {image} {done} {history} h =
+    ap (λ (other : History). length other.images) (sym h.is) ∙ length-images records image done h.within
 
--- where there is something to undo, there is a record before the cursor
-pub record_before : (records : List Kept) (image : List (List ℕ)) (done : ℕ) (history : History) → done ≤ length records
-    → history_of records image done ≡ history → 0 < history.cursor → (done ≡ (done - 1) + 1) × (done - 1 < length records)
-record_before records image done history within is some =
-    let cursor = (image_count records image done history within is).0 in (omega arith, omega arith)
-
--- and where there is something to redo, one after it
-pub record_after : (records : List Kept) (image : List (List ℕ)) (done : ℕ) (history : History) → done ≤ length records
-    → history_of records image done ≡ history → history.cursor + 1 < length history.images → done < length records
-record_after records image done history within is some =
-    let count = image_count records image done history within is in
-    let cursor = count.0 in
-    let images = count.1 in
+pub stands : {records : List Kept} {image : List (List ℕ)} {done : ℕ} {history : History} → Holds records image done history → IsHistory history
+stands {records} {image} {done} {history} h =
+    let cursor = cursor-is h in
+    let images = image_count h in
+    let within = h.within in
     omega arith
 
-pub stands : (records : List Kept) (image : List (List ℕ)) (done : ℕ) (history : History) → done ≤ length records
-    → history_of records image done ≡ history → IsHistory history
-stands records image done history within is =
-    let count = image_count records image done history within is in
-    let cursor = count.0 in
-    let images = count.1 in
-    omega arith
+pub present_is : {records : List Kept} {image : List (List ℕ)} {done : ℕ} {history : History} → Holds records image done history → present history ≡ image
+present_is {records} {image} {done} {history} h = ap present (sym h.is) ∙ image-at_cursor records image done h.within
 
-pub present_is : (records : List Kept) (image : List (List ℕ)) (done : ℕ) (history : History) → done ≤ length records
-    → history_of records image done ≡ history → present history ≡ image
-present_is records image done history within is = ap present (sym is) ∙ image-at_cursor records image done within
+-- a record is added, and what lay after the cursor is dropped
+pub holds-added : {records : List Kept} {image : List (List ℕ)} {done : ℕ} {history : History} (kept : List Kept) (patch : Kept) (next : List (List ℕ)) (count : ℕ)
+    → Holds records image done history → kept ≡ take done records ++ patch ∷ [] → count ≡ done + 1 → back next patch ≡ image → patch ≡ changed image next
+    → Holds kept next count (added history next)
+holds-added {records} {image} {done} {history} kept patch next count h e n put_back differs =
+    let long = length-added records kept patch done h.within e in
+    record {
+      within = omega arith;
+      lead = subst (AreRecords kept next) (sym n) (records_added records kept patch image next done h.within e put_back differs h.lead);
+      is =
+          ap (history_of kept next) n
+          ∙ same_images (images_of kept next (done + 1)) (take (done + 1) (images_of records image done) ++ next ∷ []) (done + 1)
+          (kept_added records kept patch image next done h.within e put_back)
+          ∙ ap (λ (other : History). added other next) h.is;
+    }
 
-pub history-added : (records kept : List Kept) (patch : Kept) (image next : List (List ℕ)) (done count : ℕ) (history : History)
-    → done ≤ length records → history_of records image done ≡ history → kept ≡ take done records ++ patch ∷ [] → count ≡ done + 1
-    → back next patch ≡ image → history_of kept next count ≡ added history next
-history-added records kept patch image next done count history within is e n put_back =
-    ap (history_of kept next) n
-    ∙ same_images (images_of kept next (done + 1)) (take (done + 1) (images_of records image done) ++ next ∷ []) (done + 1)
-    (kept_added records kept patch image next done within e put_back)
-    ∙ ap (λ (h : History). added h next) is
+-- the record between the cursor and an image beside it
+pub step-beside : {records : List Kept} {image : List (List ℕ)} {done : ℕ} {history : History} (n cursor : ℕ) → Holds records image done history
+    → n ≡ min done cursor → (cursor + 1 ≡ history.cursor) ⊎ (history.cursor + 1 ≡ cursor) → IsBeside n done cursor
+step-beside {records} {image} {done} {history} n cursor h lower next =
+    let at = cursor-is h in
+    elim next [
+      | inl back ↦
+          let less : cursor ≤ done = omega arith in
+          let lowest = lower ∙ min-eq_right less in
+          inl (omega arith, sym lowest)
+      | inr on ↦
+          let less : done ≤ cursor = omega arith in
+          let lowest = lower ∙ min-eq_left less in
+          inr (sym lowest, omega arith)
+    ]
 
--- so many records are kept where one is added
-pub count-added : (records kept : List Kept) (patch : Kept) (done : ℕ) → done ≤ length records → kept ≡ take done records ++ patch ∷ []
-    → length kept ≡ done + 1
-count-added records kept patch done within e =
-    ap length e ∙ length_push (take done records) patch ∙ ap (λ (n : ℕ). n + 1) (length-take-le done records within)
+pub step-within : {records : List Kept} {image : List (List ℕ)} {done : ℕ} {history : History} (n cursor : ℕ) → Holds records image done history
+    → IsBeside n done cursor → cursor < length history.images → n < length records
+step-within n cursor h beside lt =
+    let count = image_count h in
+    let within = h.within in
+    elim beside [
+      | inl back ↦ let one = back.0 in omega arith
+      | inr on ↦ let one = on.1 in omega arith
+    ]
 
-pub history-undone : (records : List Kept) (image other : List (List ℕ)) (done n : ℕ) (patch exchanged : Kept) (history : History)
-    → n < length records → done ≡ n + 1 → history_of records image done ≡ history
-    → patch ≡ get_or records n patch → other ≡ back image patch → back other exchanged ≡ image
-    → history_of (set records n exchanged) other n ≡ undone history
-history-undone records image other done n patch exchanged history h one is kept there here =
-    let cursor : n ≡ done - 1 = omega arith in
-    ap₂ (λ (xs : List (List (List ℕ))) (k : ℕ). let h : History = record { images = xs; cursor = k } in h)
-    (kept_undone records image other n patch exchanged h kept there here ∙ ap (images_of records image) (sym one)) cursor
-    ∙ ap undone is
-
-pub history-redone : (records : List Kept) (image other : List (List ℕ)) (n : ℕ) (patch exchanged : Kept) (history : History)
-    → n < length records → history_of records image n ≡ history
-    → patch ≡ get_or records n patch → other ≡ back image patch → back other exchanged ≡ image
-    → history_of (set records n exchanged) other (n + 1) ≡ redone history
-history-redone records image other n patch exchanged history h is kept there here =
-    same_images (images_of (set records n exchanged) other (n + 1)) (images_of records image n) (n + 1)
-    (kept_redone records image other n patch exchanged h kept there here)
-    ∙ ap redone is
+-- the cursor steps over a record, which is exchanged with the present image
+pub holds-stepped : {records : List Kept} {image : List (List ℕ)} {done : ℕ} {history : History} (other : List (List ℕ)) (n cursor : ℕ) (patch exchanged : Kept)
+    → Holds records image done history → n < length records → patch ≡ get_or records n patch → AreBetween image other patch exchanged
+    → IsBeside n done cursor → Holds (set records n exchanged) other cursor (record history { cursor = cursor })
+holds-stepped {records} {image} {done} {history} other n cursor patch exchanged h lt is between beside =
+    let long = length-set records n exchanged in
+    let within = h.within in
+    record {
+      within = elim beside [
+        | inl back ↦ let one = back.1 in omega arith
+        | inr on ↦ let one = on.1 in omega arith
+      ];
+      lead = records-stepped records image other n done cursor patch exchanged lt is between beside h.lead;
+      is =
+          same_images (images_of (set records n exchanged) other cursor) (images_of records image done) cursor
+          (images-stepped records image other n done cursor patch exchanged lt is between beside)
+          ∙ ap (λ (old : History). let moved : History = record old { cursor = cursor } in moved) h.is;
+    }
 
 -- there is a record where two images stand
 found : (records : List Kept) (image : List (List ℕ)) (done number : ℕ) → done ≤ length records → number < length records
@@ -107,56 +133,53 @@ missing records image done number within h =
     let more : length (images_of records image done) ≤ number + 1 = omega arith in
     grind (arith, nat_tests)
 
-pub record_found : (records : List Kept) (image : List (List ℕ)) (done number : ℕ) (patch : Kept) (history : History) → done ≤ length records
-    → AreRecords records image done → history_of records image done ≡ history → number < length records → patch ≡ get_or records number patch
-    → Some patch ≡ record_at history number
-record_found records image done number patch history within leads is h read =
+pub record_found : {records : List Kept} {image : List (List ℕ)} {done : ℕ} {history : History} (number : ℕ) (patch : Kept) → Holds records image done history
+    → number < length records → patch ≡ get_or records number patch → Some patch ≡ record_at history number
+record_found {records} {image} {done} {history} number patch holds h read =
     let images = images_of records image done in
     let first : Kept = changed (get_or images number []) (get_or images (number + 1) []) in
     let second : Kept = changed (get_or images (number + 1) []) (get_or images number []) in
-    let found = found records image done number within h in
+    let found = found records image done number holds.within h in
     let same : patch ≡ get_or records number [] = read ∙ get_or_default records number patch [] h in
     elim (cases_lt number done) [
       | inl before ↦
           let side : nat_lt number done ≡ true = grind (arith, nat_tests) in
-          ap Some (same ∙ record-done records image done number within before leads)
+          ap Some (same ∙ record-done records image done number holds.within before holds.lead)
           ∙ sym (ap₂ (λ (t u : Bool). cond t (Some (cond u first second)) None) found side)
-          ∙ ap (λ (h : History). record_at h number) is
+          ∙ ap (λ (h : History). record_at h number) holds.is
       | inr after ↦
           let side : nat_lt number done ≡ false = grind (arith, nat_tests) in
-          ap Some (same ∙ record-undone records image done number after h leads)
+          ap Some (same ∙ record-undone records image done number after h holds.lead)
           ∙ sym (ap₂ (λ (t u : Bool). cond t (Some (cond u first second)) None) found side)
-          ∙ ap (λ (h : History). record_at h number) is
+          ∙ ap (λ (h : History). record_at h number) holds.is
     ]
 
-pub record_missing : (records : List Kept) (image : List (List ℕ)) (done number : ℕ) (history : History) → done ≤ length records
-    → history_of records image done ≡ history → length records ≤ number
-    → (None ≡ record_at history number) × (None ≡ record_len history number)
-record_missing records image done number history within is h =
+pub record_missing : {records : List Kept} {image : List (List ℕ)} {done : ℕ} {history : History} (number : ℕ) → Holds records image done history
+    → length records ≤ number → (None ≡ record_at history number) × (None ≡ record_len history number)
+record_missing {records} {image} {done} {history} number holds h =
     let images = images_of records image done in
     let first : Kept = changed (get_or images number []) (get_or images (number + 1) []) in
     let second : Kept = changed (get_or images (number + 1) []) (get_or images number []) in
-    let missing = missing records image done number within h in (
-      sym (ap (λ (t : Bool). cond t (Some (cond (nat_lt number done) first second)) None) missing) ∙ ap (λ (h : History). record_at h number) is,
+    let missing = missing records image done number holds.within h in (
+      sym (ap (λ (t : Bool). cond t (Some (cond (nat_lt number done) first second)) None) missing) ∙ ap (λ (h : History). record_at h number) holds.is,
       sym (ap (λ (t : Bool). cond t (Some (length (differences (get_or images number []) (get_or images (number + 1) [])))) None) missing)
-          ∙ ap (λ (h : History). record_len h number) is,
+          ∙ ap (λ (h : History). record_len h number) holds.is,
     )
 
-pub record_counted : (records : List Kept) (image : List (List ℕ)) (done number : ℕ) (patch : Kept) (history : History) → done ≤ length records
-    → AreRecords records image done → history_of records image done ≡ history → number < length records → patch ≡ get_or records number patch
-    → Some (length patch) ≡ record_len history number
-record_counted records image done number patch history within leads is h read =
+pub record_counted : {records : List Kept} {image : List (List ℕ)} {done : ℕ} {history : History} (number : ℕ) (patch : Kept) → Holds records image done history
+    → number < length records → patch ≡ get_or records number patch → Some (length patch) ≡ record_len history number
+record_counted {records} {image} {done} {history} number patch holds h read =
     let images = images_of records image done in
     let this : List (List ℕ) = get_or images number [] in
     let next : List (List ℕ) = get_or images (number + 1) [] in
-    let found = found records image done number within h in
+    let found = found records image done number holds.within h in
     let same : patch ≡ get_or records number [] = read ∙ get_or_default records number patch [] h in
     let count : length patch ≡ length (differences this next) = elim (cases_lt number done) [
-      | inl before ↦ ap length (same ∙ record-done records image done number within before leads) ∙ length-changed this next
+      | inl before ↦ ap length (same ∙ record-done records image done number holds.within before holds.lead) ∙ length-changed this next
       | inr after ↦
-          ap length (same ∙ record-undone records image done number after h leads)
+          ap length (same ∙ record-undone records image done number after h holds.lead)
           ∙ length-changed_back this next (sym (lengths-undone records image done number after h))
     ] in
     ap Some count
     ∙ sym (ap (λ (t : Bool). cond t (Some (length (differences this next))) None) found)
-    ∙ ap (λ (h : History). record_len h number) is
+    ∙ ap (λ (h : History). record_len h number) holds.is

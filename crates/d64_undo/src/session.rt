@@ -1,5 +1,5 @@
 //! Sessions: an image with undo and redo.
-ghost use Rattle.std.specs.Prelude.{◌≡◌, ◌+◌, ◌^◌, ◌<◌, ◌≤◌, ◌↔◌, length, option_copied, IsOk, OnOk, OnErr, IfOk};
+ghost use Rattle.std.specs.Prelude.{◌≡◌, ◌+◌, ◌^◌, ◌<◌, ◌≤◌, ◌↔◌, ◌⊎◌, length, option_copied, IsOk, OnOk, OnErr, IfOk};
 ghost use Rattle.d64_dos.specs.Change.{said};
 ghost use Rattle.d64_dos.specs.Command.{after, reply_to, refusal_of, IsWithin};
 ghost use Rattle.d64_dos.specs.Refusal.{refused_by};
@@ -175,18 +175,19 @@ impl Session {
         if self.done == 0 {
             return Err(NothingToUndo);
         }
-        self.step_back();
+        self.move_to(self.done - 1);
         Ok(())
     }
 
-    /// The cursor one record back.
-    fn step_back(&mut self)
-        requires { 0 < self.old.cursor }
-        ensures moved { self.new ≡ undone self.old }
+    /// The cursor on an image beside the present one: the record between them is exchanged with the image.
+    fn move_to(&mut self, cursor: usize)
+        requires beside { (cursor + 1 ≡ self.old.cursor) ⊎ (self.old.cursor + 1 ≡ cursor) }
+        requires within { cursor < length self.old.images }
+        ensures moved { self.new ≡ record self.old { cursor = cursor } }
         ensures kind { length (present self.new) ≡ length (present self.old) }
     {
-        self.done -= 1;
-        self.records[self.done].swap(&mut self.image);
+        self.records[self.done.min(cursor)].swap(&mut self.image);
+        self.done = cursor;
     }
 
     /// Goes one record forward. Refused where none is undone. Takes no memory.
@@ -200,17 +201,7 @@ impl Session {
         if self.undone() == 0 {
             return Err(NothingToRedo);
         }
-        self.step_on();
+        self.move_to(self.done + 1);
         Ok(())
-    }
-
-    /// The cursor one record on.
-    fn step_on(&mut self)
-        requires { self.old.cursor + 1 < length self.old.images }
-        ensures moved { self.new ≡ redone self.old }
-        ensures kind { length (present self.new) ≡ length (present self.old) }
-    {
-        self.records[self.done].swap(&mut self.image);
-        self.done += 1;
     }
 }

@@ -1,9 +1,17 @@
-use Rattle.std.proofs.Common.{refl, sym, subst}
-use Rattle.d64_undo.specs.History.{redone}
+use Rattle.std.proofs.Common.{◌+◌, ℕ, refl, sym, ap, ◌∙◌, subst}
+use Rattle.d64_undo.specs.History.{History}
 use Rattle.d64_undo.specs.SoundHistory.{IsSoundHistory}
+use Rattle.d64_undo.proofs.Sessions.{holds, cursor-is}
 use Rattle.d64_undo.proofs.SoundHistories.{moved-sound}
 use Rattle.d64_undo.proofs.session.Session.redo.Goals as goal
 
+-- the cursor is that of the history
+pub returns-clause-moved : goal.returns-clause-moved
+returns-clause-moved c =
+    c.move_to-2.ensures.moved
+    ∙ ap (λ (n : ℕ). let moved : History = record c.args.self.now { cursor = n + 1 } in moved) (sym (cursor-is (holds c.move_to.invariant c.move_to.view_is)))
+
 -- the images are the same
 pub returns-clause-sound : goal.returns-clause-sound
-returns-clause-sound c all = subst IsSoundHistory (sym c.step_on.ensures.moved) (moved-sound c.args.self.now (redone c.args.self.now) refl all)
+returns-clause-sound c all =
+    subst IsSoundHistory (sym c.move_to-2.ensures.moved) (moved-sound c.args.self.now (record c.args.self.now { cursor = c.move_to.inside.done + 1 }) refl all)

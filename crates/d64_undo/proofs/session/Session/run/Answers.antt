@@ -1,4 +1,4 @@
-use Rattle.std.proofs.Common.{arith, rules, ◌≡◌, ◌+◌, ◌++◌, ◌∷◌, [], List, ℕ, length, take, refl, sym, ap, ◌∙◌, subst}
+use Rattle.std.proofs.Common.{arith, rules, ◌≡◌, ◌++◌, ◌∷◌, [], List, ℕ, length, take, sym, ap, ◌∙◌, subst}
 use Rattle.d64_dos.specs.Change.{said}
 use Rattle.d64_dos.specs.Command.{after, refusal_of, reply_to, IsWithin}
 use Rattle.d64_dos.specs.Refusal.{refused_by}
@@ -8,79 +8,67 @@ use Rattle.d64_effects.specs.View.{IsSound}
 use Rattle.d64_image.specs.Patch.{RisesBetween}
 use Rattle.d64_image.proofs.Patches.{rises-changed}
 use Rattle.d64_undo.specs.History.{present, added}
-use Rattle.d64_undo.specs.Records.{AreRecords}
 use Rattle.d64_undo.specs.SoundHistory.{IsSoundHistory}
-use Rattle.d64_undo.proofs.Records.{records_added}
-use Rattle.d64_undo.proofs.Sessions.{count-added, history-added, present_is, stands}
+use Rattle.d64_undo.proofs.Records.{length-added}
+use Rattle.d64_undo.proofs.Sessions.{Holds, holds, holds-added, present_is, stands}
 use Rattle.d64_undo.proofs.SoundHistories.{present-sound, added-sound}
 use Rattle.d64_undo.proofs.session.Session.run.Goals as goal
+use Rattle.d64_undo.proofs.session.Session.run.Goals.{After-self-1}
 
 -- the command is refused, and so nothing was changed
 pub returns-in_err-reply-clause-refused : goal.returns-in_err-reply-clause-refused
 returns-in_err-reply-clause-refused c =
     let s = c.self.inside in
-    let old : present c.args.self.now ≡ s.image = present_is s.records.items s.image s.done c.args.self.now c.self.invariant.0 c.self.view_is in
+    let old : present c.args.self.now ≡ s.image = present_is (holds c.self.invariant c.self.view_is) in
     subst (λ (image : List (List ℕ)). refused_by c.from_residual.result ≡ refusal_of image (said c.args.command.now)) (sym old) (search rules)
 
 -- the command would have been accepted
 pub returns-then-is_err-clause-refused : goal.returns-then-is_err-clause-refused
 returns-then-is_err-clause-refused c =
     let s = c.self.inside in
-    let old : present c.args.self.now ≡ s.image = present_is s.records.items s.image s.done c.args.self.now c.self.invariant.0 c.self.view_is in
+    let old : present c.args.self.now ≡ s.image = present_is (holds c.self.invariant c.self.view_is) in
     c.in_ok-reply.ensures.refused ∙ ap (λ (image : List (List ℕ)). refusal_of image (said c.args.command.now)) (sym old)
 
 pub returns-clause-refused : goal.returns-clause-refused
 returns-clause-refused c =
     let s = c.self.inside in
-    let old : present c.args.self.now ≡ s.image = present_is s.records.items s.image s.done c.args.self.now c.self.invariant.0 c.self.view_is in
+    let old : present c.args.self.now ≡ s.image = present_is (holds c.self.invariant c.self.view_is) in
     c.in_ok-reply.ensures.refused ∙ ap (λ (image : List (List ℕ)). refusal_of image (said c.args.command.now)) (sym old)
 
 pub returns-clause-reply : goal.returns-clause-reply
 returns-clause-reply c =
     let s = c.self.inside in
-    let old : present c.args.self.now ≡ s.image = present_is s.records.items s.image s.done c.args.self.now c.self.invariant.0 c.self.view_is in
+    let old : present c.args.self.now ≡ s.image = present_is (holds c.self.invariant c.self.view_is) in
     c.in_ok-reply.ensures.reply ∙ ap (λ (image : List (List ℕ)). reply_to image (said c.args.command.now)) (sym old)
 
 -- what lies after the cursor is dropped, and the record of this command is added
-pub invariant_of-self-2 : goal.invariant_of-self-2
-invariant_of-self-2 c =
+with_record : (c : After-self-1) → Holds c.push.new.self.items c.apply.new.image c.len-self-inside.result (added c.args.self.now c.apply.new.image)
+with_record c =
     let s = c.self.inside in
-    let within = c.self.invariant.0 in
     let reserved = c.reserve.ensures.items in
     let truncated = c.truncate.ensures.items in
     let pushed = rw c.unwrap.ensures at c.push.ensures.items in
     let kept : c.push.new.self.items ≡ take s.done s.records.items ++ c.apply.new.patch ∷ [] = cc in
-    let long = count-added s.records.items c.push.new.self.items c.apply.new.patch s.done within kept in
-    let count : c.len-self-inside.result ≡ s.done + 1 = omega arith in (
-      omega arith,
-      subst (AreRecords c.push.new.self.items c.apply.new.image) (sym count)
-          (records_added s.records.items c.push.new.self.items c.apply.new.patch s.image c.apply.new.image s.done within kept
-          c.in_ok-reply.ensures.back c.in_ok-reply.ensures.changed c.self.invariant.1),
-    )
+    let long = length-added s.records.items c.push.new.self.items c.apply.new.patch s.done c.self.invariant.0 kept in
+    holds-added c.push.new.self.items c.apply.new.patch c.apply.new.image c.len-self-inside.result (holds c.self.invariant c.self.view_is) kept (omega arith)
+    c.in_ok-reply.ensures.back c.in_ok-reply.ensures.changed
+
+pub invariant_of-self-2 : goal.invariant_of-self-2
+invariant_of-self-2 c = let h = with_record c in (h.within, h.lead)
 
 -- the new image is added to the history
 pub returns-clause-accepted : goal.returns-clause-accepted
 returns-clause-accepted c =
-    let s = c.self.inside in
-    let within = c.self.invariant.0 in
-    let reserved = c.reserve.ensures.items in
-    let truncated = c.truncate.ensures.items in
-    let pushed = rw c.unwrap.ensures at c.push.ensures.items in
-    let kept : c.push.new.self.items ≡ take s.done s.records.items ++ c.apply.new.patch ∷ [] = cc in
-    let old : present c.args.self.now ≡ s.image = present_is s.records.items s.image s.done c.args.self.now within c.self.view_is in
-    let long = count-added s.records.items c.push.new.self.items c.apply.new.patch s.done within kept in
-    let count : c.len-self-inside.result ≡ s.done + 1 = omega arith in
-    history-added s.records.items c.push.new.self.items c.apply.new.patch s.image c.apply.new.image s.done c.len-self-inside.result c.args.self.now within
-    c.self.view_is kept count c.in_ok-reply.ensures.back
-    ∙ ap (added c.args.self.now) (c.in_ok-reply.ensures.accepted ∙ ap (λ (image : List (List ℕ)). after image (said c.args.command.now)) (sym old))
+    (with_record c).is
+    ∙ ap (added c.args.self.now)
+    (c.in_ok-reply.ensures.accepted ∙ ap (λ (image : List (List ℕ)). after image (said c.args.command.now)) (sym (present_is (holds c.self.invariant c.self.view_is))))
 
 -- a sound image is added
 pub returns-clause-sound : goal.returns-clause-sound
 returns-clause-sound c is all =
     let s = c.self.inside in
-    let within = c.self.invariant.0 in
-    let old : present c.args.self.now ≡ s.image = present_is s.records.items s.image s.done c.args.self.now within c.self.view_is in
-    let standing = stands s.records.items s.image s.done c.args.self.now within c.self.view_is in
+    let old : present c.args.self.now ≡ s.image = present_is (holds c.self.invariant c.self.view_is) in
+    let standing = stands (holds c.self.invariant c.self.view_is) in
     let sound : IsSound s.image = subst IsSound old (present-sound c.args.self.now standing all) in
     let left : Leaves s.image (said c.args.command.now) c.in_ok-reply.reply c.apply.new.image =
     c.in_ok-reply.ensures.step (starts_from_sound s.image (said c.args.command.now) is sound) in
@@ -93,7 +81,7 @@ pub apply-requires-clause-block : goal.apply-requires-clause-block
 apply-requires-clause-block c =
     let s = c.self.inside in
     subst (λ (image : List (List ℕ)). IsWithin image (said c.args.command.now))
-    (present_is s.records.items s.image s.done c.args.self.now c.self.invariant.0 c.self.view_is) c.requires
+    (present_is (holds c.self.invariant c.self.view_is)) c.requires
 
 -- the record is a difference of the image
 pub swap-requires : goal.swap-requires
@@ -106,6 +94,6 @@ swap-requires c =
 pub returns-clause-kind : goal.returns-clause-kind
 returns-clause-kind c =
     let s = c.self.inside in
-    ap length (present_is _ c.apply.new.image _ _ (invariant_of-self-2 c).0 refl)
+    ap (λ h. length (present h)) (with_record c).is ∙ ap length (present_is (with_record c))
     ∙ c.in_ok-reply.ensures.kind
-    ∙ sym (ap length (present_is s.records.items s.image s.done c.args.self.now c.self.invariant.0 c.self.view_is))
+    ∙ sym (ap length (present_is (holds c.self.invariant c.self.view_is)))

@@ -1,12 +1,12 @@
 use Rattle.std.proofs.Common.{arith}
-use Rattle.d64_undo.proofs.Sessions.{image_count}
+use Rattle.d64_undo.proofs.Sessions.{holds, cursor-is, image_count}
 use Rattle.d64_undo.proofs.session.Session.undone.Goals as goal
 
 -- there is one image more than records
 pub returns-clause-count : goal.returns-clause-count
 returns-clause-count c =
     let within = c.self.invariant.0 in
-    let count = image_count c.self.inside.records.items c.self.inside.image c.self.inside.done c.args.self.now within c.self.view_is in
-    let cursor = count.0 in
-    let images = count.1 in
+    let held = holds c.self.invariant c.self.view_is in
+    let cursor = cursor-is held in
+    let images = image_count held in
     omega arith
