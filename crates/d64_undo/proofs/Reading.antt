@@ -1,15 +1,16 @@
 -- reading part after part, as the code does
 use Rattle.std.proofs.Common.{◌≡◌, ℕ, suc, ◌+◌, ◌-◌, ◌<◌, ◌≤◌, ◌==◌, cond, Bool, true, false, ◌&&◌, ◌||◌, not, nat_lt, List, [], ◌∷◌, ◌++◌, length, get_or, drop, reverse, Result, Ok, Err, refl, sym, ap, ap₂, ◌∙◌, subst, arith, append_assoc, eq-eqb}
 use Rattle.std.proofs.lemmas.Bool.{ltb-false, ltb-true, ne_eqb}
-use Rattle.std.proofs.lemmas.List.{append-nil, drop_all, drop_more, nil_from_length}
+use Rattle.std.proofs.lemmas.List.{append-nil, drop_all, drop_more, nil_from_length, length-reverse, get_or_default}
 use Rattle.std.specs.Int.{w16}
 use Rattle.d64_image.specs.declared.image.TheConstants.{BLOCK_BYTES}
 use Rattle.d64_image.specs.Patch.{Kept, RisesBetween, back}
 use Rattle.d64_undo.specs.ResumeFault.{◌>>=◌, Reading, bytes_at, number_at, after_magic, index_at, block_at, blocks_at, record_file_at, records_at, all_differ, differ_along}
-use Rattle.d64_undo.specs.Resuming.{Fails}
+use Rattle.d64_undo.specs.Resuming.{Fails, in_turn}
 use Rattle.d64_undo.specs.declared.resume_fault.ResumeFault.{ResumeFault}
 use Rattle.d64_undo.specs.declared.resume_fault.ResumeFault.TheVariants.{NotSession, Truncated, Trailing, BadCursor, BadRecord, Memory}
-use Rattle.d64_undo.proofs.Records.{reverse-push}
+use Rattle.std.specs.List.{All}
+use Rattle.d64_undo.proofs.Leads.{All-turned}
 use Rattle.d64_undo.proofs.FilesTaken.{bind_ok, guard_ok, ok_is, either_false}
 
 -- a fault ends the reading
@@ -72,28 +73,18 @@ pub differ_all : (records : List Kept) (image : List (List ℕ)) (i : ℕ) → l
 unfolding differ_along
 differ_all records image i h = sym (ap (differ_along image) (drop_all i records h))
 
--- ---- records that lead back, the last one first
+-- ---- records in their order, or the last one first
 
-turned : (left more : List Kept) (image : List (List ℕ)) (patch : Kept) → left ≡ more ++ patch ∷ []
-    → differ_along image (reverse left) ≡ (all_differ image patch && differ_along (back image patch) (reverse more))
-unfolding differ_along
-turned left more image patch e = ap (λ (xs : List Kept). differ_along image (reverse xs)) e ∙ ap (differ_along image) (reverse-push more patch)
+pub length-in_turn : (is_back : Bool) (records : List Kept) → length (in_turn is_back records) ≡ length records
+length-in_turn true records = length-reverse records
+length-in_turn false records = refl
 
--- a record with a block that doesn't differ
-pub back_ends : (left more : List Kept) (image : List (List ℕ)) (patch : Kept) → left ≡ more ++ patch ∷ []
-    → false ≡ all_differ image patch → false ≡ differ_along image (reverse left)
-back_ends left more image patch e f =
-    ap (λ (t : Bool). t && differ_along (back image patch) (reverse more)) f ∙ sym (turned left more image patch e)
+pub All-in_turn : (P : Kept → Type 0) (is_back : Bool) (records : List Kept) → All P records → All P (in_turn is_back records)
+All-in_turn P true records each = All-turned P records each
+All-in_turn P false records each = each
 
--- a record whose blocks differ
-pub back_on : (left more : List Kept) (image : List (List ℕ)) (patch : Kept) → left ≡ more ++ patch ∷ []
-    → true ≡ all_differ image patch → differ_along (back image patch) (reverse more) ≡ differ_along image (reverse left)
-back_on left more image patch e f =
-    ap (λ (t : Bool). t && differ_along (back image patch) (reverse more)) f ∙ sym (turned left more image patch e)
-
-pub back_all : (left : List Kept) (image : List (List ℕ)) → length left ≡ 0 → true ≡ differ_along image (reverse left)
-unfolding differ_along
-back_all left image none = sym (ap (λ (xs : List Kept). differ_along image (reverse xs)) (nil_from_length left none))
+pub get_or_same : (records : List Kept) (i : ℕ) (patch : Kept) → i < length records → patch ≡ get_or records i [] → patch ≡ get_or records i patch
+get_or_same records i patch h is = is ∙ sym (get_or_default records i patch [] h)
 
 -- ---- loops over what is counted
 

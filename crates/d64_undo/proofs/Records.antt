@@ -12,7 +12,7 @@ reverse-cons : {X : Type 0} (x : X) (xs : List X) → reverse (x ∷ xs) ≡ rev
 reverse-cons x xs = reverse_onto xs x []
 
 -- a list with one more at its end, reversed
-pub reverse-push : {X : Type 0} (xs : List X) (x : X) → reverse (xs ++ x ∷ []) ≡ x ∷ reverse xs
+reverse-push : {X : Type 0} (xs : List X) (x : X) → reverse (xs ++ x ∷ []) ≡ x ∷ reverse xs
 reverse-push xs x = reverse-append xs (x ∷ [])
 
 length-along : (patches : List Kept) (image : List (List ℕ)) → length (along image patches) ≡ length patches

@@ -1,5 +1,6 @@
 -- What is answered by the calls that read a session file.
-use Rattle.std.specs.Prelude.{◌≡◌, Result, Ok, Err}
+use Rattle.std.specs.Prelude.{◌≡◌, if◌then◌else◌, Bool, List, reverse, Result, Ok, Err}
+use Rattle.d64_image.specs.Patch.{Kept}
 use Rattle.d64_undo.specs.ResumeFault.{Parts}
 use Rattle.d64_undo.specs.declared.resume_fault.ResumeFault.{ResumeFault}
 use Rattle.d64_undo.specs.declared.resume_fault.ResumeFault.TheVariants.{NotSession, Truncated, Trailing, BadCursor, BadRecord, Memory}
@@ -22,3 +23,7 @@ Gives seen (Err fault) reading = Fails fault reading
 -- the parts of a file, without where they lie in memory
 abbrev pub parts_seen : FileParts → Parts
 parts_seen parts = record { image = parts.image; done = parts.done; records = parts.records.items }
+
+-- records as they are gone along: in their order, or the last one first
+abbrev pub in_turn : Bool → List Kept → List Kept
+in_turn is_back records = if is_back then reverse records else records

@@ -1,5 +1,5 @@
 //! Session files are read: part after part, up to the first fault.
-ghost use Rattle.std.specs.Prelude.{◌≡◌, ◌*◌, ◌≤◌, length, take, drop, reverse, All, Ok, IfOk};
+ghost use Rattle.std.specs.Prelude.{◌≡◌, ◌*◌, ◌<◌, ◌≤◌, [], length, slice_index_or, All, Ok, IfOk};
 ghost use Rattle.std.specs.Int.{w16, w64};
 ghost use Rattle.std.specs.Simd.{first_chunks};
 ghost use Rattle.d64_image.specs.Image.{IsSize};
@@ -7,7 +7,7 @@ ghost use Rattle.d64_image.specs.Patch.{IsPatchOf};
 ghost use Rattle.d64_image.specs.declared.block.TheConstants.{BLOCKS};
 ghost use Rattle.d64_image.specs.declared.image.TheConstants.{BLOCK_BYTES};
 ghost use Rattle.d64_undo.specs.ResumeFault.{bytes_at, number_at, after_magic, block_count_at, image_at, counts_at, index_at, block_at, blocks_at, record_file_at, records_at, parts_at, all_differ, differ_along, lead_both_ways, first_fault, refused_by};
-ghost use Rattle.d64_undo.specs.Resuming.{Gives, parts_seen};
+ghost use Rattle.d64_undo.specs.Resuming.{Gives, in_turn, parts_seen};
 ghost use Rattle.d64_undo.specs.SessionFile.{magic, file_of, IsSession};
 
 use crate::keeping::MAGIC;
@@ -259,26 +259,26 @@ fn is_difference(image: &Image, patch: &Patch) -> bool
         .all(|entry| !image.has_bytes(entry.0, &entry.1))
 }
 
-/// Whether each block of records that lead on from an image differs from that of the image at its moment.
-fn lead_on(mut image: Image, records: &[Patch]) -> bool
-    requires { All (IsPatchOf image) records.now }
-    ensures { result ≡ differ_along image records.now }
+/// The record that comes after so many others: in turn, or the last one first.
+fn record_of(records: &[Patch], is_back: bool, step: usize) -> &Patch
+    requires { step < length records.now }
+    ensures { result.now ≡ slice_index_or (in_turn is_back records.now) step [] }
 {
-    for record in records {
-        if !is_difference(&image, record) {
-            return false;
-        }
-        record.put_back(&mut image);
+    if is_back {
+        &records[records.len() - 1 - step]
+    } else {
+        &records[step]
     }
-    true
 }
 
-/// Whether each block of records that lead back from an image, the last one first, differs from that of the image at its moment.
-fn lead_back(mut image: Image, records: &[Patch]) -> bool
+/// Whether each block of records that lead away from an image, in turn or the last one first, differs from that of the image at
+/// its moment.
+fn all_lead(mut image: Image, records: &[Patch], is_back: bool) -> bool
     requires { All (IsPatchOf image) records.now }
-    ensures { result ≡ differ_along image (reverse records.now) }
+    ensures { result ≡ differ_along image (in_turn is_back records.now) }
 {
-    for record in records.iter().rev() {
+    for step in 0..records.len() {
+        let record = record_of(records, is_back, step);
         if !is_difference(&image, record) {
             return false;
         }
@@ -294,10 +294,10 @@ fn lead_away(alloc: Global, parts: &FileParts) -> Result<bool, AllocError>
     ensures { IfOk result (λ answer. answer ≡ lead_both_ways parts.now.image parts.now.done parts.now.records.items) }
 {
     let (past, rest) = parts.records.split_at(parts.done);
-    if !lead_back(parts.image.try_clone(alloc)?, past) {
+    if !all_lead(parts.image.try_clone(alloc)?, past, true) {
         return Ok(false);
     }
-    Ok(lead_on(parts.image.try_clone(alloc)?, rest))
+    Ok(all_lead(parts.image.try_clone(alloc)?, rest, false))
 }
 
 /// The session of which these bytes are the file. Refused for the first fault that is met in reading them, or for want of
