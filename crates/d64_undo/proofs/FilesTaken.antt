@@ -29,10 +29,10 @@ pub bind_ok : {A B : Type 0} (r : Result A ResumeFault) (next : A → Result B R
 bind_ok (Ok x) next y e = (x, refl, e)
 bind_ok (Err fault) next y e = absurd cc
 
-abbrev done : {A : Type 0} → A → Result A ResumeFault
-done x = Ok x
+abbrev without_fault : {A : Type 0} → A → Result A ResumeFault
+without_fault x = Ok x
 
-pub ok_is : {A : Type 0} (x y : A) → done x ≡ done y → x ≡ y
+pub ok_is : {A : Type 0} (x y : A) → without_fault x ≡ without_fault y → x ≡ y
 ok_is x y e = cc
 
 -- a fault that was not met

@@ -1,5 +1,5 @@
 -- reading part after part, as the code does
-use Rattle.std.proofs.Common.{◌≡◌, ℕ, suc, ◌+◌, ◌-◌, ◌<◌, ◌≤◌, ◌==◌, cond, Bool, true, false, ◌&&◌, ◌||◌, not, nat_lt, List, [], ◌∷◌, ◌++◌, length, get_or, drop, reverse, Result, Ok, Err, refl, sym, ap, ap₂, ◌∙◌, subst, arith, append_assoc, eq-eqb}
+use Rattle.std.proofs.Common.{◌≡◌, ℕ, suc, ◌+◌, ◌-◌, ◌<◌, ◌≤◌, ◌==◌, cond, Bool, true, false, ◌&&◌, ◌||◌, not, nat_lt, List, [], ◌∷◌, ◌++◌, length, get_or, drop, Result, Ok, Err, refl, sym, ap, ap₂, ◌∙◌, subst, arith, append_assoc, eq-eqb}
 use Rattle.std.proofs.lemmas.Bool.{ltb-false, ltb-true, ne_eqb}
 use Rattle.std.proofs.lemmas.List.{append-nil, drop_all, drop_more, nil_from_length, length-reverse, get_or_default}
 use Rattle.std.specs.Int.{w16}
@@ -120,10 +120,10 @@ records_end fault front blocks count i bytes total h read so_far =
     fails_then fault (records_at blocks (suc (count - (i + 1))) bytes) (λ list. Ok (front ++ list.0, list.1)) one in
     subst (λ (r : Reading (List Kept)). Fails fault r) (ap (λ (n : ℕ). with_front front (records_at blocks n bytes)) (sym k) ∙ so_far) all
 
-pub records_done : (front : List Kept) (blocks count i : ℕ) (bytes : List ℕ) (total : Reading (List Kept)) → count ≤ i
+pub records_all_read : (front : List Kept) (blocks count i : ℕ) (bytes : List ℕ) (total : Reading (List Kept)) → count ≤ i
     → with_front front (records_at blocks (count - i) bytes) ≡ total → total ≡ Ok (front, bytes)
 unfolding records_at
-records_done front blocks count i bytes total h so_far =
+records_all_read front blocks count i bytes total h so_far =
     let k : count - i ≡ 0 = omega arith in
     let one : with_front front (records_at blocks (count - i) bytes) ≡ Ok (front, bytes) = rw k (ap (λ (list : List Kept). Ok (list, bytes)) (append-nil front)) in
     sym so_far ∙ one
@@ -151,10 +151,10 @@ blocks_end fault front blocks count i low bytes total h read so_far =
     fails_then fault (blocks_at blocks (suc (count - (i + 1))) low bytes) (λ list. Ok (front ++ list.0, list.1)) one in
     subst (λ (r : Reading Kept). Fails fault r) (ap (λ (n : ℕ). with_front front (blocks_at blocks n low bytes)) (sym k) ∙ so_far) all
 
-pub blocks_done : (front : Kept) (blocks count i low : ℕ) (bytes : List ℕ) (total : Reading Kept) → count ≤ i
+pub blocks_all_read : (front : Kept) (blocks count i low : ℕ) (bytes : List ℕ) (total : Reading Kept) → count ≤ i
     → with_front front (blocks_at blocks (count - i) low bytes) ≡ total → total ≡ Ok (front, bytes)
 unfolding blocks_at
-blocks_done front blocks count i low bytes total h so_far =
+blocks_all_read front blocks count i low bytes total h so_far =
     let k : count - i ≡ 0 = omega arith in
     let one : with_front front (blocks_at blocks (count - i) low bytes) ≡ Ok (front, bytes) = rw k (ap (λ (list : Kept). Ok (list, bytes)) (append-nil front)) in
     sym so_far ∙ one

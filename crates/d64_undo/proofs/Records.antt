@@ -244,18 +244,18 @@ pub images-stepped : (records : List Kept) (image other : List (List ℕ)) (n do
     → patch ≡ get_or records n patch → AreBetween image other patch exchanged → IsBeside n done cursor
     → images_of (set records n exchanged) other cursor ≡ images_of records image done
 images-stepped records image other n done cursor patch exchanged h is between beside =
-    let old = stands-between records n patch h is in
-    let new = stands-set records n exchanged h in
+    let first = stands-between records n patch h is in
+    let second = stands-set records n exchanged h in
     let kept = set records n exchanged in
     elim beside [
       | inl back ↦
-          ap (images_of kept other) back.1 ∙ images-after other new
+          ap (images_of kept other) back.1 ∙ images-after other second
           ∙ same-images image other patch exchanged (past records n) (drop (n + 1) records) between
-          ∙ sym (ap (images_of records image) back.0 ∙ images-before image old)
+          ∙ sym (ap (images_of records image) back.0 ∙ images-before image first)
       | inr on ↦
-          ap (images_of kept other) on.1 ∙ images-before other new
+          ap (images_of kept other) on.1 ∙ images-before other second
           ∙ sym (same-images other image exchanged patch (past records n) (drop (n + 1) records) (turned between))
-          ∙ sym (ap (images_of records image) on.0 ∙ images-after image old)
+          ∙ sym (ap (images_of records image) on.0 ∙ images-after image first)
     ]
 
 -- and the records lead away from the other image
@@ -263,17 +263,17 @@ pub records-stepped : (records : List Kept) (image other : List (List ℕ)) (n d
     → patch ≡ get_or records n patch → AreBetween image other patch exchanged → IsBeside n done cursor
     → AreRecords records image done → AreRecords (set records n exchanged) other cursor
 records-stepped records image other n done cursor patch exchanged h is between beside leads =
-    let old = stands-between records n patch h is in
-    let new = stands-set records n exchanged h in
+    let first = stands-between records n patch h is in
+    let second = stands-set records n exchanged h in
     elim beside [
       | inl back ↦
-          let led = (lead-before image old).0 (subst (AreRecords records image) back.0 leads) in
+          let led = (lead-before image first).0 (subst (AreRecords records image) back.0 leads) in
           subst (AreRecords (set records n exchanged) other) (sym back.1)
-          ((lead-after other new).1 (passed image other patch exchanged (past records n) (drop (n + 1) records) between led.0 led.1))
+          ((lead-after other second).1 (passed image other patch exchanged (past records n) (drop (n + 1) records) between led.0 led.1))
       | inr on ↦
-          let led = (lead-after image old).0 (subst (AreRecords records image) on.0 leads) in
+          let led = (lead-after image first).0 (subst (AreRecords records image) on.0 leads) in
           let there = passed image other patch exchanged (drop (n + 1) records) (past records n) between led.1 led.0 in
-          subst (AreRecords (set records n exchanged) other) (sym on.1) ((lead-before other new).1 (there.1, there.0))
+          subst (AreRecords (set records n exchanged) other) (sym on.1) ((lead-before other second).1 (there.1, there.0))
     ]
 
 -- an image that was put back is as long as the one before it

@@ -115,7 +115,7 @@ holds-stepped {records} {image} {done} {history} other n cursor patch exchanged 
       is =
           same_images (images_of (set records n exchanged) other cursor) (images_of records image done) cursor
           (images-stepped records image other n done cursor patch exchanged lt is between beside)
-          ∙ ap (λ (old : History). let moved : History = record old { cursor = cursor } in moved) h.is;
+          ∙ ap (λ (other : History). let moved : History = record other { cursor = cursor } in moved) h.is;
     }
 
 -- there is a record where two images stand

@@ -20,10 +20,10 @@ pub data Asked : Type 0 where
   Redo : Asked
 
 -- what a request asks
-abbrev pub asked : Request → Asked
-asked (requests.Apply command) = Apply (said command)
-asked requests.Undo = Undo
-asked requests.Redo = Redo
+abbrev pub asked_by : Request → Asked
+asked_by (requests.Apply command) = Apply (said command)
+asked_by requests.Undo = Undo
+asked_by requests.Redo = Redo
 
 -- an image has the block that a request names by itself
 abbrev pub IsAskedOf : Disk → Asked → Type 0

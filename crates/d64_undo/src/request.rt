@@ -1,7 +1,7 @@
 //! Requests to a session, and whole runs of them.
 ghost use Rattle.std.specs.Prelude.{◌≡◌, length, map, All, IfOk, OnErr};
 ghost use Rattle.d64_undo.specs.History.{present};
-ghost use Rattle.d64_undo.specs.Request.{asked, IsAskedOf, Step, Run};
+ghost use Rattle.d64_undo.specs.Request.{asked_by, IsAskedOf, Step, Run};
 
 use crate::session::{NothingToRedo, NothingToUndo, Session};
 use d64_dos::{Command, Refusal, Reply};
@@ -29,8 +29,8 @@ pub enum Answer {
 
 /// The answer to one request.
 fn run_one(session: &mut Session, request: &Request) -> Answer
-    requires { IsAskedOf (present session.old) (asked request.now) }
-    ensures step { Step session.old (asked request.now) result session.new }
+    requires { IsAskedOf (present session.old) (asked_by request.now) }
+    ensures step { Step session.old (asked_by request.now) result session.new }
     ensures kind { length (present session.new) ≡ length (present session.old) }
 {
     match request {
@@ -56,8 +56,8 @@ pub fn run_all(
     session: &mut Session,
     requests: &[Request],
 ) -> Result<Vec<Answer>, AllocError>
-    requires { All (λ request. IsAskedOf (present session.old) (asked request)) requests.now }
-    ensures ran { IfOk result (λ answers. Run session.old (map asked requests.now) answers.items session.new) }
+    requires { All (λ request. IsAskedOf (present session.old) (asked_by request)) requests.now }
+    ensures ran { IfOk result (λ answers. Run session.old (map asked_by requests.now) answers.items session.new) }
     ensures unchanged { OnErr result (session.new ≡ session.old) }
 {
     let mut answers = Vec::with_capacity(alloc, requests.len())?;

@@ -1,8 +1,8 @@
 //! Session files are read: part after part, up to the first fault.
-ghost use Rattle.std.specs.Prelude.{◌≡◌, ◌*◌, ◌<◌, ◌≤◌, [], length, slice_index_or, All, Ok, IfOk};
+ghost use Rattle.std.specs.Prelude.{◌≡◌, ℕ, true, ◌*◌, ◌<◌, ◌≤◌, [], length, slice_index_or, All, Ok, IfOk};
 ghost use Rattle.std.specs.Int.{w16, w64};
 ghost use Rattle.std.specs.Simd.{first_chunks};
-ghost use Rattle.d64_image.specs.Image.{IsSize};
+ghost use Rattle.d64_image.specs.Image.{IsSize, is_image_length};
 ghost use Rattle.d64_image.specs.Patch.{IsPatchOf};
 ghost use Rattle.d64_image.specs.declared.block.TheConstants.{BLOCKS};
 ghost use Rattle.d64_image.specs.declared.image.TheConstants.{BLOCK_BYTES};
@@ -90,17 +90,15 @@ fn read_block_count(bytes: &[u8]) -> Result<(usize, &[u8]), ResumeFault>
     }
 }
 
-/// The image of so many blocks that has these bytes.
-fn image_of(alloc: Global, blocks: usize, bytes: &[u8]) -> Result<Image, ResumeFault>
-    requires size { IsSize blocks }
-    requires len { length bytes.now ≡ blocks * BLOCK_BYTES }
-    ensures { Gives (λ image. image) result (Ok (first_chunks BLOCK_BYTES blocks bytes.now)) }
+/// The image that has these bytes.
+fn image_of(alloc: Global, bytes: &[u8]) -> Result<Image, ResumeFault>
+    requires { is_image_length (length bytes.now) ≡ true }
+    ensures { (blocks : ℕ) → length bytes.now ≡ blocks * BLOCK_BYTES → Gives (λ image. image) result (Ok (first_chunks BLOCK_BYTES blocks bytes.now)) }
 {
-    let _ = blocks;
     match Image::from_bytes(alloc, bytes) {
         Ok(image) => Ok(image),
         Err(ImageFault::Memory(error)) => Err(ResumeFault::Memory(error)),
-        Err(ImageFault::WrongLength(_)) => Err(ResumeFault::Truncated),
+        Err(ImageFault::WrongLength(_)) => unreachable!(),
     }
 }
 
@@ -112,7 +110,7 @@ fn read_image(alloc: Global, bytes: &[u8]) -> Result<(Image, &[u8]), ResumeFault
     let rest = skip_magic(bytes)?;
     let (blocks, rest) = read_block_count(rest)?;
     let (content, rest) = take_bytes(rest, blocks * BLOCK_BYTES)?;
-    Ok((image_of(alloc, blocks, content)?, rest))
+    Ok((image_of(alloc, content)?, rest))
 }
 
 /// How many records are done, and how many there are.

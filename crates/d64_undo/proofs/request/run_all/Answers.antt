@@ -2,7 +2,7 @@ use Rattle.std.proofs.Common.{◌≡◌, ◌+◌, List, [], ◌∷◌, ◌++◌,
 use Rattle.std.specs.Vec.{vec_len}
 use Rattle.std.proofs.lemmas.List.{map-append, take_more}
 use Rattle.d64_undo.specs.History.{present}
-use Rattle.d64_undo.specs.Request.{Asked, asked, IsAskedOf, Run}
+use Rattle.d64_undo.specs.Request.{Asked, asked_by, IsAskedOf, Run}
 use Rattle.d64_undo.specs.declared.request.Request.{Request}
 use Rattle.d64_undo.specs.declared.request.Answer.{Answer}
 use Rattle.d64_undo.proofs.Runs.{Run-push, asked_alike}
@@ -16,15 +16,15 @@ loop-request-preserved c =
     let taken : take (c.loop-request.request-index + 1) c.args.requests.now ≡ before ++ c.request-item.result ∷ [] =
     take_more c.args.requests.now c.loop-request.request-index c.request-item.result c.loop-request-test.true
     ∙ ap (λ (r : Request). before ++ r ∷ []) (sym c.request-item.is) in
-    let requests : map asked (take (c.loop-request.request-index + 1) c.args.requests.now) ≡ map asked before ++ asked c.request-item.result ∷ [] =
-    ap (map asked) taken ∙ map-append asked before (c.request-item.result ∷ []) in
+    let requests : map asked_by (take (c.loop-request.request-index + 1) c.args.requests.now) ≡ map asked_by before ++ asked_by c.request-item.result ∷ [] =
+    ap (map asked_by) taken ∙ map-append asked_by before (c.request-item.result ∷ []) in
     let count : vec_len c.push.new.self ≡ vec_len c.loop-request.answers + 1 = rw c.unwrap.ensures at c.push.ensures.len in
     record {
       ran =
           subst (λ (rs : List Asked). Run c.args.session.now rs c.push.new.self.items c.run_one.new.session) (sym requests)
-          (subst (λ (xs : List Answer). Run c.args.session.now (map asked before ++ asked c.request-item.result ∷ []) xs c.run_one.new.session) (sym answers)
-          (Run-push c.args.session.now c.loop-request.session c.run_one.new.session (map asked before) c.loop-request.answers.items
-          (asked c.request-item.result) c.run_one.result c.loop-request.invariant.ran c.run_one.ensures.step));
+          (subst (λ (xs : List Answer). Run c.args.session.now (map asked_by before ++ asked_by c.request-item.result ∷ []) xs c.run_one.new.session) (sym answers)
+          (Run-push c.args.session.now c.loop-request.session c.run_one.new.session (map asked_by before) c.loop-request.answers.items
+          (asked_by c.request-item.result) c.run_one.result c.loop-request.invariant.ran c.run_one.ensures.step));
       kind = c.run_one.ensures.kind ∙ c.loop-request.invariant.kind;
       count = omega arith;
       room = omega (arith, c.push.ensures.capacity);
@@ -33,6 +33,6 @@ loop-request-preserved c =
 -- the image has as many blocks as before, and so the one that the request names
 pub run_one-requires : goal.run_one-requires
 run_one-requires c =
-    asked_alike (present c.args.session.now) (present c.loop-request.session) (asked c.request-item.result) c.loop-request.invariant.kind
-    (subst (λ (r : Request). IsAskedOf (present c.args.session.now) (asked r)) (sym c.request-item.is)
+    asked_alike (present c.args.session.now) (present c.loop-request.session) (asked_by c.request-item.result) c.loop-request.invariant.kind
+    (subst (λ (r : Request). IsAskedOf (present c.args.session.now) (asked_by r)) (sym c.request-item.is)
     (c.requires c.loop-request.request-index c.request-item.result c.loop-request-test.true))

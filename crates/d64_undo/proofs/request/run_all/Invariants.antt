@@ -1,13 +1,13 @@
 use Rattle.std.proofs.Common.{◌≡◌, ◌≤◌, length, map, take}
 use Rattle.std.specs.Vec.{vec_len, vec_capacity}
 use Rattle.d64_undo.specs.History.{present}
-use Rattle.d64_undo.specs.Request.{asked, Run}
+use Rattle.d64_undo.specs.Request.{asked_by, Run}
 use Rattle.d64_undo.proofs.request.run_all.Given as goal
 
 -- the requests so far have run, and there is room for the answers to the others
 abbrev pub invariant-loop-request : goal.invariant-loop-request
 invariant-loop-request l = record {
-  ran : Run l.initial.session (map asked (take l.request-index l.requests)) l.answers.items l.session;
+  ran : Run l.initial.session (map asked_by (take l.request-index l.requests)) l.answers.items l.session;
   kind : length (present l.session) ≡ length (present l.initial.session);
   count : vec_len l.answers ≡ l.request-index;
   room : length l.requests ≤ vec_capacity l.answers;

@@ -1,6 +1,6 @@
-use Rattle.std.proofs.Common.{◌≡◌, ◌+◌, ◌<◌, ℕ, List, [], length, drop, sym, ap, ◌∙◌, subst, arith}
+use Rattle.std.proofs.Common.{◌+◌, ◌<◌, ℕ, List, [], length, drop, sym, ap, ◌∙◌, subst, arith}
 use Rattle.std.proofs.lemmas.List.Elements.{All-get_or}
-use Rattle.d64_image.specs.Patch.{Kept, IsPatchOf, RisesBetween}
+use Rattle.d64_image.specs.Patch.{IsPatchOf, RisesBetween}
 use Rattle.d64_image.proofs.Patches.{length-back}
 use Rattle.d64_undo.specs.ResumeFault.{differ_along}
 use Rattle.d64_undo.specs.Resuming.{in_turn}

@@ -6,13 +6,12 @@ use Rattle.d64_undo.proofs.resuming.image_of.Goals as goal
 
 -- an image is its bytes in pieces of a block each
 pub returns-in-Ok : goal.returns-in-Ok
-returns-in-Ok c =
+returns-in-Ok c = λ blocks asked.
     let image : List (List ℕ) = c.in-Ok.image in
     let all = length-joined image BLOCK_BYTES (λ k d h. (c.in-Ok.ensures.image.1 k d h).0) in
     let given = ap length c.in-Ok.ensures.kept in
-    let asked = c.requires.len in
-    let long : c.args.blocks ≡ length image = omega arith in
-    let again : first_chunks BLOCK_BYTES c.args.blocks c.args.bytes.now ≡ image =
+    let long : blocks ≡ length image = omega arith in
+    let again : first_chunks BLOCK_BYTES blocks c.args.bytes.now ≡ image =
     ap (λ (n : ℕ). first_chunks BLOCK_BYTES n c.args.bytes.now) long
     ∙ ap (first_chunks BLOCK_BYTES (length image)) (sym c.in-Ok.ensures.kept)
     ∙ image_again image c.in-Ok.ensures.image in

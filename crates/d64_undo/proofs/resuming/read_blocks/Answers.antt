@@ -2,7 +2,7 @@ use Rattle.std.proofs.Common.{◌≡◌, ◌+◌, ◌-◌, ◌++◌, ◌∷◌, 
 use Rattle.d64_image.specs.Patch.{Kept, RisesBetween}
 use Rattle.d64_image.proofs.Patches.{rises-pushed}
 use Rattle.d64_undo.specs.ResumeFault.{blocks_at}
-use Rattle.d64_undo.proofs.Reading.{with_front, blocks_whole, blocks_on, blocks_end, blocks_done, block_within, rises_none, rises_higher}
+use Rattle.d64_undo.proofs.Reading.{with_front, blocks_whole, blocks_on, blocks_end, blocks_all_read, block_within, rises_none, rises_higher}
 use Rattle.d64_undo.proofs.resuming.read_blocks.Goals as goal
 
 pub loop-init : goal.loop-init
@@ -49,5 +49,5 @@ loop-preserved c =
 
 pub returns : goal.returns
 returns c =
-    blocks_done c.loop.patch c.args.blocks c.args.count c.loop.counter c.loop.low c.loop.rest.now
+    blocks_all_read c.loop.patch c.args.blocks c.args.count c.loop.counter c.loop.low c.loop.rest.now
     (blocks_at c.args.blocks c.args.count 0 c.args.bytes.now) c.loop-test.false c.loop.invariant.read

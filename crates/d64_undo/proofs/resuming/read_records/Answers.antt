@@ -2,7 +2,7 @@ use Rattle.std.proofs.Common.{◌≡◌, ◌+◌, ◌-◌, ◌++◌, ◌∷◌, 
 use Rattle.std.proofs.lemmas.Result.{err_from_is_err_and}
 use Rattle.d64_image.specs.Patch.{Kept}
 use Rattle.d64_undo.specs.ResumeFault.{records_at}
-use Rattle.d64_undo.proofs.Reading.{with_front, records_on, records_end, records_done}
+use Rattle.d64_undo.proofs.Reading.{with_front, records_on, records_end, records_all_read}
 use Rattle.d64_undo.proofs.resuming.read_records.Goals as goal
 
 pub returns-in_err-record : goal.returns-in_err-record
@@ -25,5 +25,5 @@ loop-preserved c =
 
 pub returns : goal.returns
 returns c =
-    records_done c.loop.records.items c.args.blocks c.args.count c.loop.counter c.loop.rest.now
+    records_all_read c.loop.records.items c.args.blocks c.args.count c.loop.counter c.loop.rest.now
     (records_at c.args.blocks c.args.count c.args.bytes.now) c.loop-test.false c.loop.invariant

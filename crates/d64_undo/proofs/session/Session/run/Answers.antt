@@ -19,27 +19,27 @@ use Rattle.d64_undo.proofs.session.Session.run.Goals.{After-self-1}
 pub returns-in_err-reply-clause-refused : goal.returns-in_err-reply-clause-refused
 returns-in_err-reply-clause-refused c =
     let s = c.self.inside in
-    let old : present c.args.self.now ≡ s.image = present_is (holds c.self.invariant c.self.view_is) in
-    subst (λ (image : List (List ℕ)). refused_by c.from_residual.result ≡ refusal_of image (said c.args.command.now)) (sym old) (search rules)
+    let shown : present c.args.self.now ≡ s.image = present_is (holds c.self.invariant c.self.view_is) in
+    subst (λ (image : List (List ℕ)). refused_by c.from_residual.result ≡ refusal_of image (said c.args.command.now)) (sym shown) (search rules)
 
 -- the command would have been accepted
 pub returns-then-is_err-clause-refused : goal.returns-then-is_err-clause-refused
 returns-then-is_err-clause-refused c =
     let s = c.self.inside in
-    let old : present c.args.self.now ≡ s.image = present_is (holds c.self.invariant c.self.view_is) in
-    c.in_ok-reply.ensures.refused ∙ ap (λ (image : List (List ℕ)). refusal_of image (said c.args.command.now)) (sym old)
+    let shown : present c.args.self.now ≡ s.image = present_is (holds c.self.invariant c.self.view_is) in
+    c.in_ok-reply.ensures.refused ∙ ap (λ (image : List (List ℕ)). refusal_of image (said c.args.command.now)) (sym shown)
 
 pub returns-clause-refused : goal.returns-clause-refused
 returns-clause-refused c =
     let s = c.self.inside in
-    let old : present c.args.self.now ≡ s.image = present_is (holds c.self.invariant c.self.view_is) in
-    c.in_ok-reply.ensures.refused ∙ ap (λ (image : List (List ℕ)). refusal_of image (said c.args.command.now)) (sym old)
+    let shown : present c.args.self.now ≡ s.image = present_is (holds c.self.invariant c.self.view_is) in
+    c.in_ok-reply.ensures.refused ∙ ap (λ (image : List (List ℕ)). refusal_of image (said c.args.command.now)) (sym shown)
 
 pub returns-clause-reply : goal.returns-clause-reply
 returns-clause-reply c =
     let s = c.self.inside in
-    let old : present c.args.self.now ≡ s.image = present_is (holds c.self.invariant c.self.view_is) in
-    c.in_ok-reply.ensures.reply ∙ ap (λ (image : List (List ℕ)). reply_to image (said c.args.command.now)) (sym old)
+    let shown : present c.args.self.now ≡ s.image = present_is (holds c.self.invariant c.self.view_is) in
+    c.in_ok-reply.ensures.reply ∙ ap (λ (image : List (List ℕ)). reply_to image (said c.args.command.now)) (sym shown)
 
 -- what lies after the cursor is dropped, and the record of this command is added
 with_record : (c : After-self-1) → Holds c.push.new.self.items c.apply.new.image c.len-self-inside.result (added c.args.self.now c.apply.new.image)
@@ -67,14 +67,14 @@ returns-clause-accepted c =
 pub returns-clause-sound : goal.returns-clause-sound
 returns-clause-sound c is all =
     let s = c.self.inside in
-    let old : present c.args.self.now ≡ s.image = present_is (holds c.self.invariant c.self.view_is) in
+    let shown : present c.args.self.now ≡ s.image = present_is (holds c.self.invariant c.self.view_is) in
     let standing = stands (holds c.self.invariant c.self.view_is) in
-    let sound : IsSound s.image = subst IsSound old (present-sound c.args.self.now standing all) in
+    let sound : IsSound s.image = subst IsSound shown (present-sound c.args.self.now standing all) in
     let left : Leaves s.image (said c.args.command.now) c.in_ok-reply.reply c.apply.new.image =
     c.in_ok-reply.ensures.step (starts_from_sound s.image (said c.args.command.now) is sound) in
     subst IsSoundHistory (sym (returns-clause-accepted c))
     (added-sound c.args.self.now (after (present c.args.self.now) (said c.args.command.now)) all
-    (subst IsSound (c.in_ok-reply.ensures.accepted ∙ ap (λ (image : List (List ℕ)). after image (said c.args.command.now)) (sym old)) left.sound))
+    (subst IsSound (c.in_ok-reply.ensures.accepted ∙ ap (λ (image : List (List ℕ)). after image (said c.args.command.now)) (sym shown)) left.sound))
 
 -- the present image has the block that the command names
 pub apply-requires-clause-block : goal.apply-requires-clause-block
