@@ -7,6 +7,10 @@ use Rattle.d64_image.specs.Patch.{Kept, back, changed, taken}
 use Rattle.d64_image.proofs.Patches.{length-back, taken-changed}
 use Rattle.d64_undo.specs.Records.{along, LeadAlong, images_of, AreRecords}
 
+-- the first elements of a list, and one more
+pub take_on : {X : Type 0} (xs : List X) (i : ℕ) (x : X) → i < length xs → x ≡ get_or xs i x → take (i + 1) xs ≡ take i xs ++ x ∷ []
+take_on xs i x h is = take_more xs i x h ∙ ap (λ (y : _). take i xs ++ y ∷ []) (sym is)
+
 -- a list with one more in front, reversed
 reverse-cons : {X : Type 0} (x : X) (xs : List X) → reverse (x ∷ xs) ≡ reverse xs ++ x ∷ []
 reverse-cons x xs = reverse_onto xs x []
@@ -68,7 +72,7 @@ past-more : (records : List Kept) (n : ℕ) (patch : Kept) → n < length record
     → past records (n + 1) ≡ patch ∷ past records n
 unfolding past
 past-more records n patch h e =
-    ap reverse (take_more records n patch h) ∙ reverse-push (take n records) (get_or records n patch) ∙ ap (λ (p : Kept). p ∷ reverse (take n records)) (sym e)
+    ap reverse (take_on records n patch h e) ∙ reverse-push (take n records) patch
 
 -- one image more before the present one
 before-more : (past' : List Kept) (image next : List (List ℕ)) (patch : Kept) → back next patch ≡ image

@@ -1,12 +1,13 @@
 use Rattle.std.proofs.Common.{◌≡◌, ℕ, ◌+◌, ◌++◌, ◌∷◌, [], List, length, take, ap, ap₂, ◌∙◌, sym, subst, arith}
 use Rattle.std.specs.Io.Iter.{u64_saturate}
 use Rattle.std.specs.List.{All, flat_map}
-use Rattle.std.proofs.lemmas.List.{flat_map_more, length-append, take_all, take_more}
+use Rattle.std.proofs.lemmas.List.{flat_map_more, length-append, take_all}
 use Rattle.std.proofs.lemmas.List.Elements.{All-nil, All-cons, All-append}
 use Rattle.d64_image.specs.Image.{bytes_of}
 use Rattle.d64_image.specs.Patch.{Kept, HaveBlocks}
 use Rattle.d64_undo.specs.SessionFile.{record_file}
 use Rattle.d64_undo.proofs.FileLengths.{length-file, counted_on}
+use Rattle.d64_undo.proofs.Records.{take_on}
 use Rattle.d64_undo.proofs.keeping.file_len.Goals as goal
 
 -- one record more is counted
@@ -14,8 +15,7 @@ pub loop-patch-preserved : goal.loop-patch-preserved
 loop-patch-preserved c =
     let patch : Kept = c.patch-item.result in
     let before : List Kept = take c.loop-patch.patch-index c.args.records.now in
-    let taken : take (c.loop-patch.patch-index + 1) c.args.records.now ≡ before ++ patch ∷ [] =
-    take_more c.args.records.now c.loop-patch.patch-index patch c.loop-patch-test.true ∙ ap (λ (p : Kept). before ++ p ∷ []) (sym c.patch-item.is) in
+    let taken = take_on c.args.records.now c.loop-patch.patch-index patch c.loop-patch-test.true c.patch-item.is in
     let sum : ℕ = 21 + length (bytes_of c.args.image.now) + length (flat_map record_file before) in
     let joined = length-append (flat_map record_file before) (record_file patch) in
     let last : length (flat_map record_file before ++ record_file patch) ≡ length (flat_map record_file (before ++ patch ∷ [])) =

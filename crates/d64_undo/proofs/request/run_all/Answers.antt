@@ -1,11 +1,12 @@
 use Rattle.std.proofs.Common.{◌≡◌, ◌+◌, List, [], ◌∷◌, ◌++◌, map, take, ap, sym, ◌∙◌, subst, arith}
 use Rattle.std.specs.Vec.{vec_len}
-use Rattle.std.proofs.lemmas.List.{map-append, take_more}
+use Rattle.std.proofs.lemmas.List.{map-append}
 use Rattle.d64_undo.specs.History.{present}
 use Rattle.d64_undo.specs.Request.{Asked, asked_by, IsAskedOf, Run}
 use Rattle.d64_undo.specs.declared.request.Request.{Request}
 use Rattle.d64_undo.specs.declared.request.Answer.{Answer}
 use Rattle.d64_undo.proofs.Runs.{Run-push, asked_alike}
+use Rattle.d64_undo.proofs.Records.{take_on}
 use Rattle.d64_undo.proofs.request.run_all.Goals as goal
 
 -- the run so far, and the step of this request
@@ -13,9 +14,7 @@ pub loop-request-preserved : goal.loop-request-preserved
 loop-request-preserved c =
     let answers : c.push.new.self.items ≡ c.loop-request.answers.items ++ c.run_one.result ∷ [] = rw c.unwrap.ensures at c.push.ensures.items in
     let before = take c.loop-request.request-index c.args.requests.now in
-    let taken : take (c.loop-request.request-index + 1) c.args.requests.now ≡ before ++ c.request-item.result ∷ [] =
-    take_more c.args.requests.now c.loop-request.request-index c.request-item.result c.loop-request-test.true
-    ∙ ap (λ (r : Request). before ++ r ∷ []) (sym c.request-item.is) in
+    let taken = take_on c.args.requests.now c.loop-request.request-index c.request-item.result c.loop-request-test.true c.request-item.is in
     let requests : map asked_by (take (c.loop-request.request-index + 1) c.args.requests.now) ≡ map asked_by before ++ asked_by c.request-item.result ∷ [] =
     ap (map asked_by) taken ∙ map-append asked_by before (c.request-item.result ∷ []) in
     let count : vec_len c.push.new.self ≡ vec_len c.loop-request.answers + 1 = rw c.unwrap.ensures at c.push.ensures.len in
