@@ -4,7 +4,8 @@ use d64_dos::Command;
 use d64_files::{Kind, Name};
 use d64_image::Image;
 use d64_undo::{ResumeFault, Session, resume};
-use std::alloc::AllocError;
+use std::alloc::{AllocError, Global};
+use std::process::Abort;
 use std::test::Fail;
 
 /// Where the block of `x`, 17/0, lies in the image of a file.
@@ -29,17 +30,22 @@ fn with_x(rt: &HostRuntime) -> Result<Session, Fail> {
     Ok(session)
 }
 
-/// Whether a file has these bytes from a place on.
-fn has_at(file: &[u8], place: usize, bytes: &[u8]) -> Result<bool, Fail> {
-    let (_, rest) = file.split_at_checked(place).ok_or("the file is too short")?;
-    Ok(rest.starts_with(bytes))
+/// A file has these bytes, each row from its place on.
+fn has_rows(rt: &impl Abort, file: &[u8], rows: &[(usize, &[u8])]) -> Result<(), Fail> {
+    for (place, bytes) in rows {
+        let (_, rest) = file
+            .split_at_checked(*place)
+            .ok_or("the file is too short")?;
+        assert!(rt; rest.starts_with(bytes), "at {place}");
+    }
+    Ok(())
 }
 
 #[test]
 fn file_of_a_blank_image(rt: HostRuntime) -> Result<(), Fail> {
     let file = Session::new(rt.alloc(), Image::zeroed(rt.alloc())?).keep(rt.alloc())?;
     assert_eq!(rt; file.len(), 174_869);
-    assert!(rt; has_at(&file, 0, &[0x44, 0x36, 0x34, 0x53, 0x23])?);
+    has_rows(&rt, &file, &[(0, &[0x44, 0x36, 0x34, 0x53, 0x23])])?;
     assert!(rt; file.iter().skip(5).all(|byte| *byte == 0));
     Ok(())
 }
@@ -48,28 +54,42 @@ fn file_of_a_blank_image(rt: HostRuntime) -> Result<(), Fail> {
 fn file_of_a_format_and_a_write(rt: HostRuntime) -> Result<(), Fail> {
     let file = with_x(&rt)?.keep(rt.alloc())?;
     assert_eq!(rt; file.len(), 176_163);
-    assert!(rt; has_at(&file, 174_853, &[2, 0, 0, 0, 0, 0, 0, 0])?);
-    assert!(rt; has_at(&file, 174_861, &[2, 0, 0, 0, 0, 0, 0, 0])?);
-    assert!(rt; has_at(&file, 174_869, &[0x02, 0x00, 0x65, 0x01])?);
-    assert!(rt; has_at(&file, 175_387, &[0x03, 0x00, 0x50, 0x01])?);
-    Ok(())
+    has_rows(
+        &rt,
+        &file,
+        &[
+            (174_853, &[2, 0, 0, 0, 0, 0, 0, 0]),
+            (174_861, &[2, 0, 0, 0, 0, 0, 0, 0]),
+            (174_869, &[0x02, 0x00, 0x65, 0x01]),
+            (175_387, &[0x03, 0x00, 0x50, 0x01]),
+            // The block of `x`, 17/0, is written in the image, and in the record where the write is undone.
+            (IMAGE_BLOCK, &[0x00, 0x02, 0x51]),
+            (RECORD_BLOCK, &[0x00, 0x00, 0x00]),
+        ],
+    )
+}
+
+/// A session after a format and a write of `x`, which is undone.
+fn with_x_undone(rt: &HostRuntime) -> Result<Session, Fail> {
+    let mut session = with_x(rt)?;
+    session.undo()?;
+    Ok(session)
 }
 
 #[test]
 fn file_of_an_undone_write(rt: HostRuntime) -> Result<(), Fail> {
-    let mut session = with_x(&rt)?;
-    let done = session.keep(rt.alloc())?;
-    session.undo()?;
-    let undone = session.keep(rt.alloc())?;
-    assert_eq!(rt; undone.len(), 176_163);
-    assert!(rt; has_at(&undone, 174_853, &[1, 0, 0, 0, 0, 0, 0, 0])?);
-    assert!(rt; has_at(&undone, 174_861, &[2, 0, 0, 0, 0, 0, 0, 0])?);
-    // The block of `x`, 17/0, is written in the image of the one and in the record of the other.
-    assert!(rt; has_at(&done, IMAGE_BLOCK, &[0x00, 0x02, 0x51])?);
-    assert!(rt; has_at(&done, RECORD_BLOCK, &[0x00, 0x00, 0x00])?);
-    assert!(rt; has_at(&undone, IMAGE_BLOCK, &[0x00, 0x00, 0x00])?);
-    assert!(rt; has_at(&undone, RECORD_BLOCK, &[0x00, 0x02, 0x51])?);
-    Ok(())
+    let file = with_x_undone(&rt)?.keep(rt.alloc())?;
+    assert_eq!(rt; file.len(), 176_163);
+    has_rows(
+        &rt,
+        &file,
+        &[
+            (174_853, &[1, 0, 0, 0, 0, 0, 0, 0]),
+            (174_861, &[2, 0, 0, 0, 0, 0, 0, 0]),
+            (IMAGE_BLOCK, &[0x00, 0x00, 0x00]),
+            (RECORD_BLOCK, &[0x00, 0x02, 0x51]),
+        ],
+    )
 }
 
 /// The session files of a blank image, and of a format and a write.
@@ -112,17 +132,41 @@ fn files_are_resumed(rt: HostRuntime) -> Result<(), Fail> {
 
 #[test]
 fn an_undone_write_is_resumed(rt: HostRuntime) -> Result<(), Fail> {
-    let mut session = with_x(&rt)?;
-    session.undo()?;
-    let mut resumed = resume(rt.alloc(), &session.keep(rt.alloc())?)?;
+    let file = with_x_undone(&rt)?.keep(rt.alloc())?;
+    let resumed = resume(rt.alloc(), &file)?;
     assert_eq!(rt; resumed.done(), 1);
     assert_eq!(rt; resumed.undone(), 1);
-    session.redo()?;
-    resumed.redo()?;
-    assert!(rt; resumed.redo().is_err());
-    assert!(rt; resumed.image().bytes() == session.image().bytes());
-    assert!(rt; resumed.keep(rt.alloc())? == session.keep(rt.alloc())?);
     Ok(())
+}
+
+/// An undone write is redone once, and then the session has the image and the file of one that was never undone.
+fn is_redone(
+    rt: &impl Abort,
+    alloc: Global,
+    session: &mut Session,
+    never_undone: &Session,
+) -> Result<(), Fail> {
+    session.redo()?;
+    assert!(rt; session.redo().is_err());
+    assert!(rt; session.image().bytes() == never_undone.image().bytes());
+    assert!(rt; session.keep(alloc)? == never_undone.keep(alloc)?);
+    Ok(())
+}
+
+#[test]
+fn an_undone_write_is_redone(rt: HostRuntime) -> Result<(), Fail> {
+    is_redone(&rt, rt.alloc(), &mut with_x_undone(&rt)?, &with_x(&rt)?)
+}
+
+#[test]
+fn a_resumed_write_is_redone(rt: HostRuntime) -> Result<(), Fail> {
+    let file = with_x_undone(&rt)?.keep(rt.alloc())?;
+    is_redone(
+        &rt,
+        rt.alloc(),
+        &mut resume(rt.alloc(), &file)?,
+        &with_x(&rt)?,
+    )
 }
 
 #[test]
