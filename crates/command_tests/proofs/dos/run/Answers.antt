@@ -1,5 +1,5 @@
-use Rattle.session_tests.proofs.Kept.{is_patch_of}
-use Rattle.session_tests.proofs.dos.run.Goals as goal
+use Rattle.command_tests.proofs.Kept.{is_patch_of}
+use Rattle.command_tests.proofs.dos.run.Goals as goal
 
 -- what changed are blocks of the image
 pub returns : goal.returns
