@@ -5,3 +5,4 @@ pub mod Steps
 pub mod Tallying
 pub mod Told
 pub mod Trails
+pub mod FaultLists

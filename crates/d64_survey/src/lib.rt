@@ -5,8 +5,10 @@
 mod dump;
 mod fault;
 pub mod fault_laws;
+mod fault_list;
 mod owner;
 pub mod owner_laws;
+mod pushing;
 mod survey;
 mod tally;
 mod walking;
