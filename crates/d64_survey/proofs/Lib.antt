@@ -6,3 +6,4 @@ pub mod Tallying
 pub mod Told
 pub mod Trails
 pub mod FaultLists
+pub mod OwnerLists

@@ -1,7 +1,9 @@
 pub mod Dump
+pub mod ReadErrors
 pub mod Way
 pub mod WayLaws
 pub mod Owners
+pub mod OwnerLists
 pub mod OwnerLaws
 pub mod SlotBlocks
 pub mod Tallies

@@ -1,9 +1,10 @@
 -- The owners of the blocks of an image: the map, the directory, and the files of the slots.
-use Rattle.std.specs.Prelude.{ℕ, nat_lt, nat_eq, Bool, List, [], ◌∷◌, ◌++◌, map, filter, length, Option}
-use Rattle.std.specs.List.{flat_map, slice_get}
+use Rattle.std.specs.Prelude.{ℕ, ◌&&◌, nat_lt, nat_eq, not, Bool, List, [], ◌∷◌, ◌++◌, map, filter, count_by, length, Option}
+use Rattle.std.specs.List.{flat_map, range_with_len, slice_get}
 use Rattle.std.specs.Option.{option_map_or}
+use Rattle.std.specs.FinSet as set
 use Rattle.d64_image.specs.Disk.{Disk, Bytes, Blocks}
-use Rattle.d64_map.specs.Map.{map_block}
+use Rattle.d64_map.specs.Map.{map_block, free_blocks}
 use Rattle.d64_files.specs.Directory.{slots_in, numbered}
 use Rattle.d64_files.specs.Ownership.{roots}
 use Rattle.d64_survey.specs.Way.{way}
@@ -61,3 +62,11 @@ is_owned image block = nat_lt 0 (length (owners_of image block))
 -- whether a block has more than one owner
 abbrev pub is_shared : Disk → ℕ → Bool
 is_shared image block = nat_lt 1 (length (owners_of image block))
+
+-- a block has no owner, and the map doesn't mark it free
+abbrev pub is_unowned : Disk → ℕ → Bool
+is_unowned image block = not (is_owned image block) && not (set.contains (free_blocks image) block)
+
+-- how many such blocks the image has
+unfoldable pub unowned : Disk → ℕ
+unowned image = count_by (is_unowned image) (range_with_len 0 (length image))

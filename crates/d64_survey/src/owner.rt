@@ -14,10 +14,11 @@ pub enum Part {
     Side,
 }
 
-/// Who owns a block.
-#[derive(Clone, Copy, Debug, PartialEq, Eq)]
+/// Who owns a block. The default is the map.
+#[derive(Clone, Copy, Debug, Default, PartialEq, Eq)]
 pub enum Owner {
     /// The block allocation map.
+    #[default]
     Map,
     /// The directory.
     Directory,

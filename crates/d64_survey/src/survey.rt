@@ -1,5 +1,6 @@
 //! The survey of an image: its slots, who owns its blocks, and its faults.
-ghost use Rattle.std.specs.Prelude.{◌≡◌};
+ghost use Rattle.std.specs.Prelude.{◌≡◌, ◌*◌, ◌≤◌, length};
+ghost use Rattle.d64_image.specs.declared.block.TheConstants.{BLOCKS};
 ghost use Rattle.d64_files.specs.Directory.{entries};
 ghost use Rattle.d64_survey.specs.Owners.{directory_way, way_slots, is_owned, is_shared};
 
@@ -65,7 +66,8 @@ impl<'a> Survey<'a> {
 
     /// The blocks of the directory's way, in its order.
     pub fn directory(&self) -> &[BlockNo]
-        ensures { result.now ≡ (directory_way self.now).0 }
+        ensures value { result.now ≡ (directory_way self.now).0 }
+        ensures len { length result.now ≤ BLOCKS }
     {
         self.directory.as_slice()
     }
@@ -79,7 +81,8 @@ impl<'a> Survey<'a> {
 
     /// The slots of the directory's way, also where it doesn't end as a chain, and of whatever kinds.
     pub fn slots(&self) -> Slots<'a>
-        ensures { result ≡ entries self.now (way_slots self.now) }
+        ensures slots { result ≡ entries self.now (way_slots self.now) }
+        ensures len { length result ≤ 8 * BLOCKS }
     {
         Slots::along(self.image, self.directory.copy())
     }

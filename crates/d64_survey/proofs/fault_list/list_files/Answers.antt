@@ -13,4 +13,4 @@ loop-entry-init c =
     let image = c.args.survey.now in
     let broken : ℕ × List ℕ → List Fault = λ slot. part_fault image slot Data ++ part_fault image slot Side in
     let listed : List EntryView → List Fault = flat_map (λ (entry : EntryView). broken (entry.slot, entry.bytes)) in
-    ap (λ (l : List Fault). c.args.faults.now.items ++ l) (ap listed (c.into_iter-entry-iterator.ensures.into_iter_gives ∙ c.slots-entry-items.ensures) ∙ entries_list broken image (way_slots image))
+    ap (λ (l : List Fault). c.args.faults.now.items ++ l) (ap listed (c.into_iter-entry-iterator.ensures.into_iter_gives ∙ c.slots-entry-items.ensures.slots) ∙ entries_list broken image (way_slots image))

@@ -11,4 +11,4 @@ pub loop-entry-init : goal.loop-entry-init
 loop-entry-init c =
     let image = c.args.survey.now in
     let listed : List EntryView → List Fault = flat_map (λ (entry : EntryView). kind_fault (entry.slot, entry.bytes)) in
-    ap (λ (l : List Fault). c.args.faults.now.items ++ l) (ap listed (c.into_iter-entry-iterator.ensures.into_iter_gives ∙ c.slots-entry-items.ensures) ∙ entries_list kind_fault image (way_slots image))
+    ap (λ (l : List Fault). c.args.faults.now.items ++ l) (ap listed (c.into_iter-entry-iterator.ensures.into_iter_gives ∙ c.slots-entry-items.ensures.slots) ∙ entries_list kind_fault image (way_slots image))
