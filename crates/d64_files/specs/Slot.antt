@@ -77,6 +77,10 @@ name_of cell = name_in (field_of cell)
 abbrev pub side_pair : Bytes → Option (ℕ × ℕ)
 side_pair cell = if slice_index cell 0x15 == 0 then None else Some (slice_index cell 0x15, slice_index cell 0x16)
 
+-- the type of a GEOS file; elsewhere 0
+abbrev pub geos_type : Bytes → ℕ
+geos_type cell = slice_index cell 0x18
+
 -- a file's shown size in blocks: two bytes, low first
 abbrev pub size_of : Bytes → ℕ
 size_of cell = slice_index cell 0x1E + 256 * slice_index cell 0x1F

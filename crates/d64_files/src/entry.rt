@@ -1,7 +1,7 @@
 //! The slots of a directory, one at a time.
 ghost use Rattle.std.specs.Prelude.{◌≡◌, ◌*◌, ◌+◌, length, option_map};
 ghost use Rattle.d64_files.specs.Chain.{block_in};
-ghost use Rattle.d64_files.specs.Slot.{type_byte, has_kind, is_used, kind_of, is_locked, is_closed, first_pair, field_of, name_of, side_pair, size_of};
+ghost use Rattle.d64_files.specs.Slot.{type_byte, has_kind, is_used, kind_of, is_locked, is_closed, first_pair, field_of, name_of, side_pair, geos_type, size_of};
 
 use crate::chain::block_in;
 use crate::kind::Kind;
@@ -171,6 +171,13 @@ impl<'a> Entry<'a> {
         } else {
             Some((self.bytes[0x15], self.bytes[0x16]))
         }
+    }
+
+    /// The byte $18 of the slot: the type of a GEOS file; elsewhere 0.
+    pub fn geos_type(&self) -> u8
+        ensures { result ≡ geos_type self.now.bytes }
+    {
+        self.bytes[0x18]
     }
 
     /// The size of the file in blocks that the directory shows.
