@@ -7,3 +7,5 @@ pub mod Told
 pub mod Trails
 pub mod FaultLists
 pub mod OwnerLists
+pub mod SoundWays
+pub mod FlawLists

@@ -9,3 +9,4 @@ pub mod SlotBlocks
 pub mod Tallies
 pub mod Faults
 pub mod FaultLaws
+pub mod Flaws

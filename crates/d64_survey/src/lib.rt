@@ -6,6 +6,8 @@ mod dump;
 mod fault;
 pub mod fault_laws;
 mod fault_list;
+mod flaw;
+mod flaw_list;
 mod owner;
 pub mod owner_laws;
 mod owner_list;
@@ -20,6 +22,8 @@ pub mod way_laws;
 
 pub use dump::{Dump, DumpFault, drive_status, is_read_error};
 pub use fault::{Fault, LastBlock};
+pub use flaw::Flaw;
+pub use flaw_list::{FLAWS, wholeness};
 pub use owner::{Owner, Part, data_pair, side_pair};
 pub use owner_list::{Owners, SHOWN_OWNERS};
 pub use read_error::{ReadError, code_of};

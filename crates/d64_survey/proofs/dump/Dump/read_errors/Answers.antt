@@ -1,4 +1,4 @@
-use Rattle.std.proofs.Common.{◌≡◌, ℕ, List, ◌++◌, length, ap, ap₂, ◌∙◌}
+use Rattle.std.proofs.Common.{ℕ, List, ◌++◌, length, ap, ap₂, ◌∙◌}
 use Rattle.std.specs.List.{flat_map, range_with_len}
 use Rattle.d64_survey.specs.ReadErrors.{read_error_at, read_errors}
 use Rattle.d64_survey.specs.declared.read_error.ReadError.{ReadError}

@@ -1,4 +1,4 @@
-use Rattle.std.proofs.Common.{ℕ, ◌+◌, ◌*◌, List, [], ◌∷◌, ◌++◌, length, sym, ap, ◌∙◌, subst, append_assoc, length-append, arith}
+use Rattle.std.proofs.Common.{List, [], ◌∷◌, ◌++◌, sym, ap, ◌∙◌, subst, append_assoc, length-append, arith}
 use Rattle.std.specs.List.{flat_map}
 use Rattle.d64_files.specs.Slot.{EntryView}
 use Rattle.d64_files.proofs.Owners.{owned_more}

@@ -1,4 +1,4 @@
-use Rattle.std.proofs.Common.{ℕ, ◌+◌, ◌≤◌, List, ◌++◌, take}
+use Rattle.std.proofs.Common.{◌+◌, ◌≤◌, List, ◌++◌, take}
 use Rattle.d64_survey.specs.Owners.{owned_as}
 use Rattle.d64_survey.specs.OwnerLists.{AreTold, owners_among}
 use Rattle.d64_survey.specs.declared.owner.Owner.{Owner}

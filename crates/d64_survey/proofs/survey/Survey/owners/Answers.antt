@@ -1,4 +1,4 @@
-use Rattle.std.proofs.Common.{◌≡◌, ℕ, List, [], eqb, length, take, ap, ◌∙◌, arith}
+use Rattle.std.proofs.Common.{List, [], eqb, length, take, ap, ◌∙◌, arith}
 use Rattle.d64_survey.specs.declared.owner.Owner.{Owner}
 use Rattle.d64_survey.proofs.OwnerLists.{all_owners}
 use Rattle.d64_survey.proofs.survey.Survey.owners.Goals as goal

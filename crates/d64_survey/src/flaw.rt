@@ -1,0 +1,21 @@
+//! Why a file is not whole.
+
+/// A reason why a file is not whole, in the order in which they are told. The default is the first.
+#[derive(Clone, Copy, Debug, Default, PartialEq, Eq)]
+pub enum Flaw {
+    /// It isn't closed.
+    #[default]
+    Unclosed,
+    /// Its type byte has no kind.
+    Kindless,
+    /// A way of it isn't a whole chain.
+    Broken,
+    /// A block of it has more than one owner.
+    Shared,
+    /// A block of it couldn't be read well.
+    Unreadable,
+    /// Its ways are whole chains, and the size that the directory shows isn't theirs.
+    Missized,
+    /// It is a GEOS file, whose records aren't walked: whether it is whole isn't known.
+    Geos,
+}
