@@ -64,6 +64,10 @@ is_whole_with [] = Some true
 is_whole_with (Geos ∷ flaws) = None
 is_whole_with (flaw ∷ flaws) = Some false
 
--- whether a file is whole, where that is known
+-- whether the file of a slot with these flaws is whole; not known of an entry that marks a deleted file
+abbrev pub wholeness_by : Bytes → List Flaw → Option Bool
+wholeness_by cell flaws = if is_del_entry cell then None else is_whole_with flaws
+
+-- whether the file of a slot is whole, where that is known
 abbrev pub wholeness : Disk → Option Bytes → Bytes → Option Bool
-wholeness image codes cell = if is_del_entry cell then None else is_whole_with (why image codes cell)
+wholeness image codes cell = wholeness_by cell (why image codes cell)

@@ -1,8 +1,8 @@
 //! The files of an image that are not whole, and why.
-ghost use Rattle.std.specs.Prelude.{◌≡◌, ◌+◌, ◌<◌, ◌≤◌, ◌&&◌, not, if◌then◌else◌, None, ◌++◌, length, option_map};
+ghost use Rattle.std.specs.Prelude.{◌≡◌, ◌+◌, ◌<◌, ◌≤◌, ◌&&◌, not, ◌++◌, length, option_map};
 ghost use Rattle.d64_survey.specs.Owners.{blocks_from};
 ghost use Rattle.d64_survey.specs.SlotBlocks.{slot_blocks};
-ghost use Rattle.d64_survey.specs.Flaws.{is_del_entry, is_geos, is_broken_from, is_broken, any_shared, any_unreadable, is_missized, where_flawed, why, is_whole_with};
+ghost use Rattle.d64_survey.specs.Flaws.{is_del_entry, is_geos, is_broken_from, is_broken, any_shared, any_unreadable, is_missized, where_flawed, why, wholeness_by};
 
 use crate::dump::is_read_error;
 use crate::flaw::Flaw;
@@ -167,7 +167,7 @@ impl Survey<'_> {
 
 /// Whether a file with these flaws is whole, or None where that isn't known: of a DEL entry, and of a GEOS file without others.
 pub fn wholeness(entry: &Entry, flaws: &[Flaw]) -> Option<bool>
-    ensures { result ≡ (if is_del_entry entry.now.bytes then None else is_whole_with flaws.now) }
+    ensures { result ≡ wholeness_by entry.now.bytes flaws.now }
 {
     if is_del(entry) {
         return None;
