@@ -1,12 +1,10 @@
 -- Why bytes make no image.
 use Rattle.std.specs.Prelude.{ℕ, Option, Some, None, Result, Ok, Err}
-use Rattle.d64_image.specs.Disk.{Disk}
-use Rattle.d64_image.specs.Disk.{Disk}
 use Rattle.d64_image.specs.declared.image.ImageFault.{ImageFault}
 use Rattle.d64_image.specs.declared.image.ImageFault.TheVariants.{WrongLength, Memory}
 
 -- the length with which bytes were refused; none where they made an image, or memory was wanting
-abbrev pub wrong_length : Result Disk ImageFault → Option ℕ
+abbrev pub wrong_length : {A : Type 0} → Result A ImageFault → Option ℕ
 wrong_length (Ok image) = None
 wrong_length (Err (WrongLength length)) = Some length
 wrong_length (Err (Memory fault)) = None

@@ -1,9 +1,10 @@
 //! Images of disks.
-ghost use Rattle.std.specs.Prelude.{◌≡◌, ◌<◌, ◌*◌, if◌then◌else◌, Option, Some, None, IfOk, IfSome, All, nat_eq, nat_lt, replicate, length};
+ghost use Rattle.std.specs.Prelude.{◌≡◌, ◌<◌, ◌*◌, if◌then◌else◌, Option, Some, None, IfOk, IfErr, IfSome, OnOk, OnErr, All, nat_eq, nat_lt, replicate, length};
 ghost use Rattle.std.specs.Borrow.{sem};
 ghost use Rattle.std.specs.List.{range_with_len};
 ghost use Rattle.std.specs.Cmp.Lexicographic.{pointwise};
 ghost use Rattle.d64_image.specs.Image.{IsBlock, IsImage, IsSize, blocks_of, bytes_of, is_image_length, sector_at, tracks_of};
+ghost use Rattle.d64_image.specs.ImageFault.{wrong_length};
 
 use crate::block::{BLOCKS, BlockNo, Blocks, TRACKS};
 use crate::block_bytes::same_bytes;
@@ -70,6 +71,21 @@ pub fn blocks_of(tracks: u8) -> Option<usize>
     }
 }
 
+/// The blocks of these bytes, where an image has so many.
+fn sectors_in(bytes: &[u8]) -> Result<&[[u8; BLOCK_BYTES]], ImageFault>
+    ensures refused { wrong_length result ≡ (if is_image_length (length bytes.now) then None else Some (length bytes.now)) }
+    ensures ample { IfErr result (λ fault. fault ≡ ImageFault.WrongLength (length bytes.now)) }
+    ensures kept { IfOk result (λ sectors. bytes_of sectors.now ≡ bytes.now) }
+    ensures image { IfOk result (λ sectors. IsImage sectors.now) }
+{
+    if bytes.len() != BLOCKS_OF_35 * BLOCK_BYTES && bytes.len() != BLOCKS * BLOCK_BYTES {
+        return Err(ImageFault::WrongLength(bytes.len()));
+    }
+    known_bytes(bytes);
+    let (sectors, _) = bytes.as_chunks::<BLOCK_BYTES>();
+    Ok(sectors)
+}
+
 /// So many blocks, all of whose bytes are 0.
 fn blank(alloc: Global, count: usize) -> Result<Vec<[u8; BLOCK_BYTES]>, AllocError>
     ensures { IfOk result (λ sectors. sectors.items ≡ replicate count (replicate BLOCK_BYTES 0)) }
@@ -83,7 +99,6 @@ fn blank(alloc: Global, count: usize) -> Result<Vec<[u8; BLOCK_BYTES]>, AllocErr
 
 impl Image {
     ghost use Rattle.d64_image.specs.Lending.{LendsSector};
-    ghost use Rattle.d64_image.specs.ImageFault.{wrong_length};
 
     /// The image with these bytes, as they lie in a D64 file. Refused where they are neither 174,848, as of 35
     /// tracks, nor 196,608, as of 40.
@@ -92,14 +107,30 @@ impl Image {
         ensures kept { IfOk result (λ image. bytes_of image ≡ bytes.now) }
         ensures image { IfOk result IsImage }
     {
-        if bytes.len() != BLOCKS_OF_35 * BLOCK_BYTES && bytes.len() != BLOCKS * BLOCK_BYTES {
-            return Err(ImageFault::WrongLength(bytes.len()));
-        }
-        known_bytes(bytes);
-        let (sectors, _) = bytes.as_chunks::<BLOCK_BYTES>();
+        let sectors = sectors_in(bytes)?;
         Ok(Image {
             sectors: Vec::from_slice(alloc, sectors).map_err(ImageFault::Memory)?,
         })
+    }
+
+    /// Puts the image with these bytes, as `from_bytes` takes them, in the place of this one. Where that is refused the image is
+    /// as before. Memory is asked for only where the new image has more blocks than each one before it.
+    pub fn refill(&mut self, bytes: &[u8]) -> Result<(), ImageFault>
+        ensures refused { wrong_length result ≡ (if is_image_length (length bytes.now) then None else Some (length bytes.now)) }
+        ensures filled { OnOk result (bytes_of self.new ≡ bytes.now) }
+        ensures image { OnOk result (IsImage self.new) }
+        ensures unchanged { OnErr result (self.new ≡ self.old) }
+    {
+        let sectors = sectors_in(bytes)?;
+        let count = self.sectors.len();
+        if count < sectors.len() {
+            self.sectors
+                .extend_from_slice(&sectors[count..])
+                .map_err(ImageFault::Memory)?;
+        }
+        self.sectors.truncate(sectors.len());
+        self.sectors.as_mut_slice().copy_from_slice(sectors);
+        Ok(())
     }
 
     /// The blank image of 35 tracks, all of whose bytes are 0.
