@@ -17,6 +17,11 @@ abbrev pub fetched : {A : Type 0} → Result (Vec ℕ A) HostFault → Result (L
 fetched (Ok bytes) = Ok bytes.items
 fetched (Err fault) = Err fault
 
+-- the answer to a fetch that fills a buffer, which then has the bytes
+abbrev pub filled : {A B : Type 0} → Result B HostFault → Vec ℕ A → Result (List ℕ) HostFault
+filled (Ok done) bytes = Ok bytes.items
+filled (Err fault) bytes = Err fault
+
 -- what a fetch of a name may answer where these are the files: the file, of at most `limit` bytes;
 -- that it is not there; that it is longer; and in place of any of these the device's fault or want of memory
 abbrev pub FetchesOf : Files → List ℕ → ℕ → Result (List ℕ) HostFault → Type 0

@@ -13,7 +13,7 @@ use std::os::fd::AsFd;
 use std::rt::Files;
 
 /// How many bytes one read asks for.
-const READ_BYTES: usize = 4096;
+const READ_BYTES: usize = 65_536;
 
 /// The files of the system, by their paths from the current folder.
 ///
@@ -51,7 +51,13 @@ where
     ghost failure_count = { λ count. count };
 
     fn fetch(&mut self, alloc: Global, name: &str, limit: usize) -> Result<Vec<u8>, HostFault> {
-        let outcome = read_file(&self.rt, alloc, name, limit);
+        let mut bytes = Vec::new(alloc);
+        self.fill(name, limit, &mut bytes)?;
+        Ok(bytes)
+    }
+
+    fn fill(&mut self, name: &str, limit: usize, bytes: &mut Vec<u8>) -> Result<(), HostFault> {
+        let outcome = read_file(&self.rt, name, limit, bytes);
         count_failure(&mut self.failures, &outcome);
         outcome
     }
@@ -76,17 +82,17 @@ fn count_failure<T>(failures: &mut u64, outcome: &Result<T, HostFault>)
     }
 }
 
-/// The bytes of the file at this path.
+/// Fills a buffer with the bytes of the file at this path.
 fn read_file<R: Files>(
     rt: &R,
-    alloc: Global,
     path: &str,
     limit: usize,
-) -> Result<Vec<u8>, HostFault>
-    ensures { IfOk result (λ bytes. length bytes.items ≤ limit) }
+    bytes: &mut Vec<u8>,
+) -> Result<(), HostFault>
+    ensures { OnOk result (length bytes.new.items ≤ limit) }
 {
     match File::open(rt, path) {
-        Ok(mut file) => read_to_end(&mut file, alloc, limit),
+        Ok(mut file) => read_to_end(&mut file, limit, bytes),
         Err(error) => Err(open_fault(error.kind())),
     }
 }
@@ -102,19 +108,19 @@ fn open_fault(kind: ErrorKind) -> HostFault
     }
 }
 
-/// All that a file has left. The read that passes the limit is the last one.
-fn read_to_end<F: Read>(file: &mut F, alloc: Global, limit: usize) -> Result<Vec<u8>, HostFault>
-    ensures within { IfOk result (λ bytes. length bytes.items ≤ limit) }
-    ensures whole { IfOk result (λ bytes. IfSome (F.remaining file.old) (λ rest. bytes.items ≡ rest)) }
+/// Fills a buffer with all that a file has left. The read that passes the limit is the last one.
+fn read_to_end<F: Read>(file: &mut F, limit: usize, bytes: &mut Vec<u8>) -> Result<(), HostFault>
+    ensures within { OnOk result (length bytes.new.items ≤ limit) }
+    ensures whole { OnOk result (IfSome (F.remaining file.old) (λ rest. bytes.new.items ≡ rest)) }
     ensures too_long { result ≡ Err HostFault.TooLong → IfSome (F.remaining file.old) (λ rest. limit < length rest) }
     ensures never_missing { result ≢ Err HostFault.Missing }
 {
-    let mut bytes = Vec::new(alloc);
+    bytes.clear();
     let mut buffer = [0u8; READ_BYTES];
     for _ in 0..u64::MAX {
         match file.read(&mut buffer) {
-            Ok(0) => return Ok(bytes),
-            Ok(count) => add_piece(&mut bytes, &buffer[..count], limit)?,
+            Ok(0) => return Ok(()),
+            Ok(count) => add_piece(bytes, &buffer[..count], limit)?,
             Err(error) if error.kind() == ErrorKind::Interrupted => {}
             Err(_) => return Err(HostFault::Device),
         }
@@ -174,14 +180,10 @@ mod tests {
 
     #[test]
     fn reads_again_where_a_read_is_interrupted(rt: HostRuntime) -> Result<(), Fail> {
-        let bytes = read_to_end(&mut three_bytes(), rt.alloc(), 3)?;
+        let mut bytes = Vec::from_slice(rt.alloc(), &[9])?;
+        read_to_end(&mut three_bytes(), 3, &mut bytes)?;
         assert_eq!(rt; bytes.as_slice(), [3, 2, 1].as_slice());
-        assert!(rt;
-            matches!(
-                read_to_end(&mut three_bytes(), rt.alloc(), 2),
-                Err(HostFault::TooLong)
-            )
-        );
+        assert!(rt; read_to_end(&mut three_bytes(), 2, &mut bytes) == Err(HostFault::TooLong));
         Ok(())
     }
 
@@ -198,6 +200,9 @@ mod tests {
             [4, 5].as_slice()
         );
         assert!(rt; matches!(host.fetch(rt.alloc(), name, 1), Err(HostFault::TooLong)));
+        let mut bytes = Vec::from_slice(rt.alloc(), &[9, 9, 9])?;
+        host.fill(name, 2, &mut bytes)?;
+        assert_eq!(rt; bytes.as_slice(), [4, 5].as_slice());
         let through_a_file = format!(in rt.alloc(); "{name}/one")?;
         assert!(rt;
             matches!(

@@ -2,7 +2,7 @@
 
 ghost use Rattle.std.specs.Prelude.{◌≡◌, ℕ, Option};
 ghost use Rattle.d64_host.specs.Files.{Files};
-ghost use Rattle.d64_host.specs.Host.{fault_number, fetched, Fetches, Stores, CountsDevice};
+ghost use Rattle.d64_host.specs.Host.{fault_number, fetched, filled, Fetches, Stores, CountsDevice};
 
 use std::alloc::{AllocError, Global};
 use thiserror::Error;
@@ -53,6 +53,13 @@ pub trait Host {
     /// such file, `TooLong` where it has more bytes, and else only `Device` or `Memory`.
     fn fetch(&mut self, alloc: Global, name: &str, limit: usize) -> Result<Vec<u8>, HostFault>
         ensures answer { Fetches (files self.old) name.now limit (fetched result) }
+        ensures files_kept { files self.new ≡ files self.old }
+        ensures counted { CountsDevice (failure_count self.old) (failure_count self.new) result };
+
+    /// Puts the bytes of the named file in the place of what `bytes` has, in the memory that it has, where that is enough. It is
+    /// refused as `fetch` is; `bytes` then has no content that is told.
+    fn fill(&mut self, name: &str, limit: usize, bytes: &mut Vec<u8>) -> Result<(), HostFault>
+        ensures answer { Fetches (files self.old) name.now limit (filled result bytes.new) }
         ensures files_kept { files self.new ≡ files self.old }
         ensures counted { CountsDevice (failure_count self.old) (failure_count self.new) result };
 

@@ -2,7 +2,7 @@
 
 ghost use Rattle.std.specs.Prelude.{◌≡◌, ℕ, ◌+◌, ◌↔◌, Some, OnOk, OnErr, IsTrue, option_copied};
 ghost use Rattle.std.specs.FinMap.{empty, get, insert};
-ghost use Rattle.d64_host.specs.Host.{fetched, Fetches, Stores, CountsDevice, answered_fault};
+ghost use Rattle.d64_host.specs.Host.{fetched, filled, Fetches, Stores, CountsDevice, answered_fault};
 ghost use Rattle.d64_host.specs.MemoryHost.{after_call, countdown_after, fetch_refusal, store_refusal};
 
 use crate::host::{Host, HostFault};
@@ -97,16 +97,29 @@ impl Host for MemoryHost {
         ensures files_kept { Some self.new.files ≡ Some self.old.files }
         ensures counted { CountsDevice self.old.failures self.new.failures result }
     {
+        let mut bytes = Vec::new(alloc);
+        self.fill(name, limit, &mut bytes)?;
+        Ok(bytes)
+    }
+
+    fn fill(&mut self, name: &str, limit: usize, bytes: &mut Vec<u8>) -> Result<(), HostFault>
+        ensures refused { answered_fault result ≡ fetch_refusal self.old name.now limit }
+        ensures after { self.new ≡ after_call self.old }
+        ensures answer { Fetches (Some self.old.files) name.now limit (filled result bytes.new) }
+        ensures files_kept { Some self.new.files ≡ Some self.old.files }
+        ensures counted { CountsDevice self.old.failures self.new.failures result }
+    {
         if self.count_call() {
             return Err(HostFault::Device);
         }
-        let Some(bytes) = self.file(name) else {
+        let Some(file) = self.file(name) else {
             return Err(HostFault::Missing);
         };
-        if bytes.len() > limit {
+        if file.len() > limit {
             return Err(HostFault::TooLong);
         }
-        Vec::from_slice(alloc, bytes).map_err(HostFault::Memory)
+        bytes.clear();
+        bytes.extend_from_slice(file).map_err(HostFault::Memory)
     }
 
     fn store(&mut self, _alloc: Global, name: &str, bytes: &[u8]) -> Result<(), HostFault>
@@ -147,6 +160,9 @@ mod tests {
             [1, 2].as_slice()
         );
         assert!(rt; matches!(host.fetch(rt.alloc(), "two", 1), Err(HostFault::TooLong)));
+        let mut bytes = Vec::from_slice(rt.alloc(), &[9, 9, 9])?;
+        host.fill("two", 2, &mut bytes)?;
+        assert_eq!(rt; bytes.as_slice(), [1, 2].as_slice());
         assert!(rt; matches!(host.fetch(rt.alloc(), "three", 9), Err(HostFault::Missing)));
         assert_eq!(rt; host.failures(), 0);
         Ok(())
