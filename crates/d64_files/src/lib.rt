@@ -37,7 +37,7 @@ pub use lookup::find;
 pub use name::{FILLER, Name, name_in};
 pub use pattern::{Pattern, matches};
 pub use reading::{ReadFault, content, entry_content};
-pub use slots::Slots;
+pub use slots::{SLOTS_PER_BLOCK, Slots, entry_in};
 pub use soundness::{check, checked, owned, slot_blocks};
 pub use vacancy::{dir_last, first_empty, is_taken};
 pub use writing::{

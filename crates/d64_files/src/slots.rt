@@ -1,20 +1,21 @@
 //! The directory of an image and the walk along its slots.
-ghost use Rattle.std.specs.Prelude.{◌≡◌, ◌*◌, ◌<◌, ◌≤◌, ◌↔◌, IsTrue, IfOk, All, List, ℕ, length, MatchResult};
+ghost use Rattle.std.specs.Prelude.{◌≡◌, ◌*◌, ◌%◌, ◌<◌, ◌≤◌, ◌↔◌, IsTrue, IfOk, All, List, ℕ, length, MatchResult};
 ghost use Rattle.std.specs.Iterator.{YieldsFirst, item_count};
 ghost use Rattle.d64_image.specs.declared.block.TheConstants.{BLOCKS};
+ghost use Rattle.d64_image.specs.Image.{sector_at};
 ghost use Rattle.d64_files.specs.Chain.{LieIn};
 ghost use Rattle.d64_files.specs.Slot.{HasKind, cell as slot_bytes, cells};
-ghost use Rattle.d64_files.specs.Directory.{slots, slots_in, entries, AllHold, IsFirstFault};
+ghost use Rattle.d64_files.specs.Directory.{slots, slots_in, entry_of, entries, AllHold, IsFirstFault};
 
 use crate::block_list::BlockList;
 use crate::dir_fault::DirFault;
 use crate::directory_blocks::Directory;
 use crate::entry::{Entry, LAST_KIND, SLOT_BYTES, SlotNo};
-use d64_image::{BLOCK_BYTES, Image};
+use d64_image::{BLOCK_BYTES, BlockNo, Image};
 use std::marker::Model;
 
 /// How many slots a block of the directory has.
-pub(crate) const SLOTS_PER_BLOCK: usize = BLOCK_BYTES / SLOT_BYTES;
+pub const SLOTS_PER_BLOCK: usize = BLOCK_BYTES / SLOT_BYTES;
 
 /// The slots of a directory that are left of a walk along its blocks, in their order.
 #[derive(Drop)]
@@ -46,6 +47,15 @@ fn slot_of(block: &[u8; BLOCK_BYTES], index: usize) -> &[u8]
 {
     let start = SLOT_BYTES * index;
     &block[start..start + SLOT_BYTES]
+}
+
+/// The entry of a slot that stands in this block of the image.
+pub fn entry_in<'a>(image: &'a Image, block: BlockNo, slot: SlotNo) -> Entry<'a>
+    requires { block < length image.now }
+    ensures { result ≡ entry_of image.now (slot, slot_bytes (sector_at image.now block) (slot % 8)) }
+{
+    let bytes = slot_of(image.sector(block), slot.place() % SLOTS_PER_BLOCK);
+    Entry::of(image, slot, bytes)
 }
 
 /// Whether the type byte of each slot of a block names a kind.
@@ -103,8 +113,8 @@ impl<'a> Iterator for Slots<'a> {
         if index >= blocks.len() {
             return None;
         }
-        let bytes = slot_of(image.sector(blocks[index]), place % SLOTS_PER_BLOCK);
+        let block = blocks[index];
         self.place += 1;
-        Some(Entry::of(image, SlotNo::at(place), bytes))
+        Some(entry_in(image, block, SlotNo::at(place)))
     }
 }

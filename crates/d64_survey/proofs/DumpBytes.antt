@@ -1,10 +1,11 @@
 -- The bytes of a dump.
-use Rattle.std.proofs.Common.{◌≡◌, ℕ, ◌+◌, ◌*◌, Bool, true, false, cond, eqb, Some, None, sym, List, [], ◌∷◌, length, refl, ap, ◌∙◌, inl, inr, arith, length-append}
+use Rattle.std.proofs.Common.{◌≡◌, ℕ, ◌+◌, ◌*◌, Bool, true, false, cond, eqb, Some, None, sym, List, [], ◌∷◌, ◌++◌, length, take, drop, refl, ap, ap₂, ◌∙◌, inl, inr, arith, length-append}
 use Rattle.std.specs.Prelude.{All, ◌⊎◌}
 use Rattle.std.proofs.lemmas.Bool.{eqb-true}
+use Rattle.std.proofs.lemmas.List.{take-append-drop}
 use Rattle.std.proofs.lemmas.List.Elements.{All-head, All-tail}
 use Rattle.d64_image.specs.Image.{IsBlock, IsImage, bytes_of}
-use Rattle.d64_survey.specs.Dump.{image_bytes}
+use Rattle.d64_survey.specs.Dump.{HasCodes, image_bytes, codes_in, code_bytes}
 
 -- an image has 256 bytes a block
 length-bytes : (image : List (List ℕ)) → All IsBlock image → length (bytes_of image) ≡ length image * 256
@@ -40,3 +41,26 @@ codes_fit image front codes of_image all is kept front_len back_len coded =
       | inl fewer ↦ let a = fewer.0 in let b = fewer.1 in omega arith
       | inr more ↦ let a = more.0 in let b = more.1 in omega arith
     ]
+
+-- bytes as codes are those bytes
+bytes_of_codes : (codes : List ℕ) → code_bytes (codes_in codes) ≡ codes
+bytes_of_codes [] = refl
+bytes_of_codes (code ∷ codes) = refl
+
+-- where there are codes there is one for each block
+some_fit : (image : List (List ℕ)) (codes : List ℕ) → ((length codes ≡ 0 → ⊥) → length codes ≡ length image) → HasCodes image (codes_in codes)
+some_fit image [] h = tt
+some_fit image (code ∷ codes) h = h (λ (none : length (code ∷ codes) ≡ 0). omega arith)
+
+-- what follows the image's bytes are codes for it, or nothing
+pub dump_fits : (image : List (List ℕ)) (front back codes : List ℕ) (of_image all : ℕ) → Some of_image ≡ image_bytes all → IsImage image → bytes_of image ≡ front
+    → length front ≡ of_image → length back + of_image ≡ all → codes ≡ back → HasCodes image (codes_in codes)
+dump_fits image front back codes of_image all coded is kept front_len back_len same =
+    let long = ap length same in
+    some_fit image codes (λ some. long ∙ codes_fit image front back of_image all is kept front_len back_len (coded_by of_image all coded (λ none. some (omega arith))))
+
+-- the image's bytes and the codes are all bytes
+pub dump_kept : (image bytes front back codes : List ℕ) (count : ℕ) → image ≡ front → front ≡ take count bytes → back ≡ drop count bytes → codes ≡ back
+    → image ++ code_bytes (codes_in codes) ≡ bytes
+dump_kept image bytes front back codes count kept is_front is_back same =
+    ap₂ (λ (a b : List ℕ). a ++ b) (kept ∙ is_front) (bytes_of_codes codes ∙ same ∙ is_back) ∙ take-append-drop count bytes

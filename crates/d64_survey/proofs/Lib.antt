@@ -2,10 +2,14 @@ pub mod DumpBytes
 pub mod FaultOrder
 pub mod Owning
 pub mod Steps
-pub mod Tallying
 pub mod Told
 pub mod Trails
 pub mod FaultLists
 pub mod OwnerLists
+pub mod OwnerRows
 pub mod SoundWays
 pub mod FlawLists
+pub mod FileCounts
+pub mod SlotCells
+pub mod Amiss
+pub mod NotedWays

@@ -1,14 +1,19 @@
 -- The owners of a block, one after another.
-use Rattle.std.proofs.Common.{◌≡◌, ℕ, Bool, true, false, cond, eqb, List, [], ◌∷◌, ◌++◌, map, refl, sym, ap, ◌∙◌, append_assoc}
-use Rattle.std.specs.Prelude.{filter}
+use Rattle.std.proofs.Common.{◌≡◌, ℕ, ◌+◌, ◌<◌, ◌≤◌, Bool, true, false, cond, eqb, List, [], ◌∷◌, ◌++◌, length, map, refl, sym, ap, ◌∙◌, subst, append_assoc, arith}
+use Rattle.std.specs.Prelude.{All, filter}
 use Rattle.std.specs.List.{flat_map}
+use Rattle.std.proofs.lemmas.List.Elements.{All-nil, All-cons}
+use Rattle.d64_image.specs.declared.block.TheConstants.{BLOCKS}
 use Rattle.d64_map.specs.Map.{map_block}
 use Rattle.d64_files.specs.Slot.{EntryView}
-use Rattle.d64_files.specs.Directory.{entries, numbered}
-use Rattle.d64_survey.specs.Owners.{directory_way, way_slots, owned_as, slot_owners, owners, owners_of}
-use Rattle.d64_survey.specs.OwnerLists.{owners_among}
+use Rattle.d64_files.specs.Directory.{entries, entry_of}
+use Rattle.d64_files.proofs.Owners.{entries_from}
+use Rattle.d64_survey.specs.Owners.{directory_way, way_slots, owned_as, slot_owners, owners}
+use Rattle.d64_survey.specs.OwnerLists.{AreTold, owners_among}
+use Rattle.d64_survey.specs.OwnerTables.{told_by, row_of, Adds, TellsOwners}
 use Rattle.d64_survey.specs.declared.owner.Owner.{Owner}
 use Rattle.d64_survey.specs.declared.owner.Owner.TheVariants.{Map, Directory}
+use Rattle.d64_survey.specs.declared.owner_table.OwnerTable.{OwnerTable}
 use Rattle.d64_survey.proofs.FaultLists.{entries_list}
 
 -- the owners among blocks of two lists
@@ -22,40 +27,36 @@ among-append block (o ∷ owned) others = by_test (eqb block o.0) (among-append 
     by_test true e = ap (λ (l : List Owner). o.1 ∷ l) e
     by_test false e = e
 
--- and of many lists
-among_all : {A : Type 0} (block : ℕ) (owned : A → List (ℕ × Owner)) (xs : List A)
-    → owners_among block (flat_map owned xs) ≡ flat_map (λ x. owners_among block (owned x)) xs
-among_all block owned [] = refl
-among_all block owned (x ∷ xs) =
-    among-append block (owned x) (flat_map owned xs) ∙ ap (λ (l : List Owner). owners_among block (owned x) ++ l) (among_all block owned xs)
+-- owners that are added after others
+pub then_added : (first second third : OwnerTable) (owned others : List (ℕ × Owner)) → Adds first owned second → Adds second others third → Adds first (owned ++ others) third
+then_added first second third owned others f g = λ block within all is.
+    subst (λ (l : List Owner). AreTold l (told_by (row_of third block)))
+    (append_assoc all (owners_among block owned) (owners_among block others) ∙ ap (λ (l : List Owner). all ++ l) (sym (among-append block owned others)))
+    (g block within (all ++ owners_among block owned) (f block within all is))
 
--- the map is an owner where the block is its block
-map_first : (is_map : Bool) (block : ℕ) (rest : List (ℕ × Owner))
-    → map (λ (o : ℕ × Owner). o.1) (cond is_map ((map_block, Map) ∷ filter (λ (o : ℕ × Owner). eqb block o.0) rest) (filter (λ (o : ℕ × Owner). eqb block o.0) rest))
-    ≡ cond is_map (Map ∷ []) [] ++ owners_among block rest
-map_first true block rest = refl
-map_first false block rest = refl
-
--- the map, the directory and the files, one after another, are the owners of a block
-pub all_owners : (image other : List (List ℕ)) (block : ℕ) (is_map : Bool) (directory : List ℕ) (walk : List EntryView) → other ≡ image → is_map ≡ eqb block map_block
-    → directory ≡ (directory_way image).0 → walk ≡ entries image (way_slots image)
-    → ((cond is_map (Map ∷ []) [] ++ owners_among block (owned_as Directory directory))
-    ++ flat_map (λ (entry : EntryView). owners_among block (slot_owners other (entry.slot, entry.bytes))) walk)
-    ≡ owners_of image block
+-- the map, the directory and the files, one after another, have all blocks
+pub all_claimed : (image : List (List ℕ)) (block : ℕ) (directory : List ℕ) (walk : List EntryView) → block ≡ map_block → directory ≡ (directory_way image).0
+    → walk ≡ entries image (way_slots image)
+    → (((block, Map) ∷ []) ++ owned_as Directory directory) ++ flat_map (λ (entry : EntryView). slot_owners image (entry.slot, entry.bytes)) walk ≡ owners image
 unfolding owners
-all_owners image other block is_map directory walk is_image map_is is_directory is_walk =
-    let slots = numbered (way_slots image) in
-    let of_files : List (List ℕ) → List EntryView → List Owner = λ i. flat_map (λ (entry : EntryView). owners_among block (slot_owners i (entry.slot, entry.bytes))) in
-    let first : Bool → List Owner = λ is. cond is (Map ∷ []) [] in
-    let own_map = eqb block map_block in
-    let second : List ℕ → List Owner = λ bs. owners_among block (owned_as Directory bs) in
-    let third = of_files image walk in
-    let own = (directory_way image).0 in
-    ap (λ (i : List (List ℕ)). (first is_map ++ second directory) ++ of_files i walk) is_image
-    ∙ ap (λ (is : Bool). (first is ++ second directory) ++ third) map_is
-    ∙ ap (λ (bs : List ℕ). (first own_map ++ second bs) ++ third) is_directory
-    ∙ append_assoc (first own_map) (second own) third
-    ∙ ap (λ (l : List Owner). first own_map ++ (second own ++ l))
-    (ap (of_files image) is_walk ∙ entries_list (λ slot. owners_among block (slot_owners image slot)) image (way_slots image) ∙ sym (among_all block (slot_owners image) slots))
-    ∙ ap (λ (l : List Owner). first own_map ++ l) (sym (among-append block (owned_as Directory own) (flat_map (slot_owners image) slots)))
-    ∙ sym (map_first (eqb block map_block) block (owned_as Directory own ++ flat_map (slot_owners image) slots))
+all_claimed image block directory walk is_map is_directory is_walk =
+    let files : List EntryView → List (ℕ × Owner) = flat_map (λ (entry : EntryView). slot_owners image (entry.slot, entry.bytes)) in
+    ap (λ (b : ℕ). (((b, Map) ∷ []) ++ owned_as Directory directory) ++ files walk) is_map
+    ∙ ap (λ (bs : List ℕ). (((map_block, Map) ∷ []) ++ owned_as Directory bs) ++ files walk) is_directory
+    ∙ ap (λ (l : List (ℕ × Owner)). (map_block, Map) ∷ (owned_as Directory (directory_way image).0 ++ l)) (ap files is_walk ∙ entries_list (slot_owners image) image (way_slots image))
+
+-- a table to which these are added tells the owners of the image
+pub all_told : (image : List (List ℕ)) (none table : OwnerTable) (owned : List (ℕ × Owner)) → ((block : ℕ) → block < BLOCKS → AreTold [] (told_by (row_of none block)))
+    → Adds none owned table → owned ≡ owners image → TellsOwners image table
+all_told image none table owned empty adds same = λ block within.
+    subst (λ (os : List (ℕ × Owner)). AreTold (owners_among block os) (told_by (row_of table block))) same (adds block within [] (empty block within))
+
+-- the numbers of entries are below their number
+numbers_from : (image : List (List ℕ)) (n limit : ℕ) (cells : List (List ℕ)) → n + length cells ≤ limit → All (λ (entry : EntryView). entry.slot < limit) (entries_from image n cells)
+numbers_from image n limit [] few = All-nil (λ (entry : EntryView). entry.slot < limit)
+numbers_from image n limit (cell ∷ cells) few =
+    All-cons (λ (entry : EntryView). entry.slot < limit) (entry_of image (n, cell)) (entries_from image (n + 1) cells) (omega arith)
+    (numbers_from image (n + 1) limit cells (omega arith))
+
+pub numbers_below : (image : List (List ℕ)) (limit : ℕ) (cells : List (List ℕ)) → length cells ≤ limit → All (λ (entry : EntryView). entry.slot < limit) (entries image cells)
+numbers_below image limit cells few = numbers_from image 0 limit cells (omega arith)

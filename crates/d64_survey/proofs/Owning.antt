@@ -6,10 +6,9 @@ use Rattle.std.specs.Option.{option_to_list}
 use Rattle.std.proofs.lemmas.List.{map-append}
 use Rattle.std.proofs.lemmas.List.Elements.{All-head, All-tail}
 use Rattle.d64_map.specs.Map.{map_block}
-use Rattle.d64_files.specs.Slot.{EntryView, is_closed, kind_of, side_pair}
+use Rattle.d64_files.specs.Slot.{is_closed, kind_of, side_pair}
 use Rattle.d64_files.specs.Ownership.{chain_at, roots, roots_of, owned_by, HasItsChains}
-use Rattle.d64_files.specs.Directory.{directory, slots, slots_in, entries, owned_blocks}
-use Rattle.d64_files.proofs.Owners.{entries_owned}
+use Rattle.d64_files.specs.Directory.{directory, slots, slots_in, owned_blocks}
 use Rattle.d64_files.specs.declared.kind.Kind.{Kind}
 use Rattle.d64_files.specs.declared.kind.Kind.TheVariants.{Del, Seq, Prg, Usr, Rel}
 use Rattle.d64_survey.specs.Way.{way}
@@ -53,17 +52,6 @@ blocks_owned-are image =
     ap (λ (bs : List ℕ). map_block ∷ bs)
     (blocks_joined (owned_as Directory directory) (flat_map (slot_owners image) (enumerate_from 0 (way_slots image))) directory (flat_map (slot_blocks image) (way_slots image))
     (blocks_as Directory directory) (blocks_of_slots image 0 (way_slots image)))
-
--- the map's block, the directory's way and the blocks of the entries' files are all
-pub all_tallied : (image : List (List ℕ)) (block : ℕ) (items : List ℕ) (walk : List EntryView) → block ≡ map_block → items ≡ (directory_way image).0
-    → walk ≡ entries image (way_slots image)
-    → ((block ∷ []) ++ items) ++ flat_map (λ (entry : EntryView). slot_blocks image entry.bytes) walk ≡ blocks_owned image
-all_tallied image block items walk is_map is_directory is_walk =
-    let files : List EntryView → List ℕ = flat_map (λ (entry : EntryView). slot_blocks image entry.bytes) in
-    ap (λ (b : ℕ). ((b ∷ []) ++ items) ++ files walk) is_map
-    ∙ ap (λ (bs : List ℕ). ((map_block ∷ []) ++ bs) ++ files walk) is_directory
-    ∙ ap (λ (bs : List ℕ). map_block ∷ ((directory_way image).0 ++ bs)) (ap files is_walk ∙ entries_owned (slot_blocks image) image 0 (way_slots image))
-    ∙ sym (blocks_owned-are image)
 
 -- where there is a chain it is the way
 pub chain_is_way : (image : List (List ℕ)) (pair : ℕ × ℕ) → chain_at image pair ≢ [] → chain_at image pair ≡ (way image pair).0

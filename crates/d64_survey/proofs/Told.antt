@@ -106,6 +106,15 @@ from_start image pair start found =
           (tells left image start start 0 (start ∷ []) seen (block_at image (link_at image start)) here longer inside o refl)
     ])
 
+-- the ways from pairs of one block are one way
+pub same_way : (image : List (List ℕ)) (pair other : ℕ × ℕ) (block : ℕ) → block_at image pair ≡ Some block → block_at image other ≡ Some block → way image pair ≡ way image other
+unfolding way
+same_way image pair other block found also_found =
+    let some = some_left image (length image) [] block (begun image) refl (block_in-within image _ _ block found) in
+    let step : (p : ℕ × ℕ) → block_at image p ≡ Some block → way_on (length image) image [] p (block_at image p) ≡ from_block some.0 image [] block =
+    λ p f. ap (way_on (length image) image [] p) f ∙ ap (λ (n : ℕ). way_on n image [] p (Some block)) some.1 ∙ fresh_step some.0 image [] p block refl in
+    step pair found ∙ sym (step other also_found)
+
 -- a way from a pair of which the image has no block
 no_block : (image : List (List ℕ)) (pair : ℕ × ℕ) → block_at image pair ≡ None → way image pair ≡ ([], Off pair.0 pair.1)
 unfolding way

@@ -1,5 +1,5 @@
 -- Dumps: an image and, where they were noted, the read code of each of its blocks.
-use Rattle.std.specs.Prelude.{◌≡◌, ℕ, ◌+◌, ◌==◌, ◌&&◌, nat_le, not, Bool, if◌then◌else◌, [], ◌++◌, length, Option, Some, None, Result, Ok, Err}
+use Rattle.std.specs.Prelude.{◌≡◌, ℕ, ◌+◌, ◌==◌, ◌&&◌, nat_le, not, Bool, if◌then◌else◌, [], ◌∷◌, ◌++◌, length, Option, Some, None, Result, Ok, Err}
 use Rattle.std.specs.Option.{option_map_or}
 use Rattle.d64_image.specs.Disk.{Disk, Bytes}
 use Rattle.d64_image.specs.Image.{IsImage, bytes_of}
@@ -17,6 +17,11 @@ pub record DumpView : Type 0 where
 abbrev pub HasCodes : Disk → Option Bytes → Type 0
 HasCodes image None = Unit {0}
 HasCodes image (Some codes) = length codes ≡ length image
+
+-- the codes that these bytes are; no bytes are none
+abbrev pub codes_in : Bytes → Option Bytes
+codes_in [] = None
+codes_in (code ∷ codes) = Some (code ∷ codes)
 
 -- a dump is an image with a code for each of its blocks, or with none
 abbrev pub IsDump : DumpView → Type 0
@@ -44,7 +49,7 @@ dump_fault (image_faults.WrongLength length) = WrongLength length
 dump_fault (image_faults.Memory fault) = Memory fault
 
 -- the length with which bytes were refused; none where they made a dump, or memory was wanting
-abbrev pub wrong_length : Result DumpView DumpFault → Option ℕ
+abbrev pub wrong_length : {A : Type 0} → Result A DumpFault → Option ℕ
 wrong_length (Ok dump) = None
 wrong_length (Err (WrongLength length)) = Some length
 wrong_length (Err (Memory fault)) = None

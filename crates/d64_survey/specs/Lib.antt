@@ -4,9 +4,12 @@ pub mod Way
 pub mod WayLaws
 pub mod Owners
 pub mod OwnerLists
+pub mod OwnerTables
 pub mod OwnerLaws
 pub mod SlotBlocks
 pub mod Tallies
 pub mod Faults
 pub mod FaultLaws
 pub mod Flaws
+pub mod WayFacts
+pub mod Inspection

@@ -1,9 +1,9 @@
 -- What follows from the definition of a way.
-use Rattle.std.specs.Prelude.{◌≡◌, ◌≢◌, ◌↔◌, ℕ, ◌<◌, ◌≤◌, nat_eq, [], length, All}
+use Rattle.std.specs.Prelude.{◌≡◌, ◌≢◌, ◌↔◌, ℕ, ◌<◌, ◌≤◌, nat_eq, [], length, Some, All}
 use Rattle.std.specs.List.{IsDistinct}
 use Rattle.d64_image.specs.Disk.{Disk}
 use Rattle.d64_files.specs.Ownership.{chain_at}
-use Rattle.d64_survey.specs.Way.{way}
+use Rattle.d64_survey.specs.Way.{way, block_at}
 use Rattle.d64_survey.specs.declared.way_end.WayEnd.TheVariants.{End}
 
 -- a way ends after a last block exactly where there is a chain
@@ -25,3 +25,7 @@ WayLiesInImage = (image : Disk) (pair : ℕ × ℕ) → All (λ block. block < l
 -- a way is at most as long as the image has blocks
 abbrev pub WayFitsImage : Type 0
 WayFitsImage = (image : Disk) (pair : ℕ × ℕ) → length (way image pair).0 ≤ length image
+
+-- the ways from pairs of one block are one way
+abbrev pub WaysFromABlockAreOne : Type 0
+WaysFromABlockAreOne = (image : Disk) (pair other : ℕ × ℕ) (block : ℕ) → block_at image pair ≡ Some block → block_at image other ≡ Some block → way image pair ≡ way image other

@@ -1,5 +1,5 @@
 //! Dumps of disks: images with the read codes of their blocks.
-ghost use Rattle.std.specs.Prelude.{◌≡◌, ◌≤◌, if◌then◌else◌, Some, None, IfOk, IfSome, is_some, true, length, option_map};
+ghost use Rattle.std.specs.Prelude.{◌≡◌, ◌≤◌, if◌then◌else◌, Some, None, IfOk, IfSome, OnOk, OnErr, is_some, true, length, take, option_map};
 ghost use Rattle.d64_image.specs.Image.{is_image_length};
 ghost use Rattle.d64_survey.specs.Dump.{IsDump, dump_bytes, image_bytes as image_bytes_in, wrong_length, is_read_error, drive_status};
 
@@ -33,18 +33,18 @@ pub enum DumpFault {
 #[derive(Debug, Drop)]
 pub struct Dump {
     image: Image,
-    codes: Option<Vec<u8>>,
+    /// One for each block, or none at all.
+    codes: Vec<u8>,
 }
 
 impl Model for Dump {
-    ghost use Rattle.std.specs.Prelude.{option_map};
-    ghost use Rattle.d64_survey.specs.Dump.{DumpView, HasCodes};
+    ghost use Rattle.d64_survey.specs.Dump.{DumpView, HasCodes, codes_in};
 
     ghost Value = { DumpView };
 
-    ghost view = { λ dump. record { image = dump.image; codes = option_map (λ codes. codes.items) dump.codes } };
+    ghost view = { λ dump. record { image = dump.image; codes = codes_in dump.codes.items } };
 
-    ghost invariant = { λ dump. HasCodes dump.image (option_map (λ codes. codes.items) dump.codes) };
+    ghost invariant = { λ dump. HasCodes dump.image (codes_in dump.codes.items) };
 }
 
 impl From<ImageFault> for DumpFault {
@@ -93,6 +93,28 @@ pub fn drive_status(code: u8) -> Option<u8>
     }
 }
 
+/// Makes a list at least as long as another one, by bytes of that. Memory is asked for only where the list was never so long.
+fn lengthen(list: &mut Vec<u8>, other: &[u8]) -> Result<(), AllocError>
+    ensures kept { take (length list.old.items) list.new.items ≡ list.old.items }
+    ensures long { OnOk result (length other.now ≤ length list.new.items) }
+    ensures unchanged { OnErr result (list.new.items ≡ list.old.items) }
+{
+    let count = list.len();
+    if count < other.len() {
+        list.extend_from_slice(&other[count..])?;
+    }
+    Ok(())
+}
+
+/// Puts bytes in the place of those of a list that has as many, or more.
+fn overwrite(list: &mut Vec<u8>, bytes: &[u8])
+    requires { length bytes.now ≤ length list.old.items }
+    ensures { list.new.items ≡ bytes.now }
+{
+    list.truncate(bytes.len());
+    list.as_mut_slice().copy_from_slice(bytes);
+}
+
 impl Dump {
     /// The dump with these bytes. Refused where there are as many as no dump has: it has 174,848 bytes or 196,608, those of an
     /// image, or 175,531 or 197,376, where 683 or 768 codes follow them.
@@ -107,15 +129,46 @@ impl Dump {
         };
         let (blocks, codes) = bytes.split_at(of_image);
         let image = Image::from_bytes(alloc, blocks)?;
-        if codes.is_empty() {
-            return Ok(Dump { image, codes: None });
-        }
         match Vec::from_slice(alloc, codes) {
-            Ok(codes) => Ok(Dump {
-                image,
-                codes: Some(codes),
-            }),
+            Ok(codes) => Ok(Dump { image, codes }),
             Err(error) => Err(DumpFault::Memory(error)),
+        }
+    }
+
+    /// The dump of an image without read codes.
+    pub fn from_image(alloc: Global, image: Image) -> Dump
+        ensures { result ≡ record { image = image; codes = None } }
+    {
+        Dump {
+            image,
+            codes: Vec::new(alloc),
+        }
+    }
+
+    /// Puts the dump with these bytes, as `from_bytes` takes them, in the place of this one. Where that is refused the dump is as
+    /// before. Memory is asked for only where the new dump has more blocks or codes than each one before it.
+    pub fn refill(&mut self, bytes: &[u8]) -> Result<(), DumpFault>
+        ensures refused { wrong_length result ≡ (if is_some (image_bytes_in (length bytes.now)) then None else Some (length bytes.now)) }
+        ensures filled { OnOk result (dump_bytes self.new ≡ bytes.now) }
+        ensures dump { OnOk result (IsDump self.new) }
+        ensures unchanged { OnErr result (self.new ≡ self.old) }
+    {
+        let of_image = match image_bytes(bytes.len()) {
+            Some(count) => count,
+            None => return Err(DumpFault::WrongLength(bytes.len())),
+        };
+        let (blocks, codes) = bytes.split_at(of_image);
+        let count = self.codes.len();
+        lengthen(&mut self.codes, codes).map_err(DumpFault::Memory)?;
+        match self.image.refill(blocks) {
+            Ok(()) => {
+                overwrite(&mut self.codes, codes);
+                Ok(())
+            }
+            Err(error) => {
+                self.codes.truncate(count);
+                Err(DumpFault::from(error))
+            }
         }
     }
 
@@ -134,9 +187,10 @@ impl Dump {
         ensures dump { IsDump self.now }
     {
         let _ = self.image.bytes();
-        match &self.codes {
-            Some(codes) => Some(codes.as_slice()),
-            None => None,
+        if self.codes.is_empty() {
+            None
+        } else {
+            Some(self.codes.as_slice())
         }
     }
 }

@@ -1,28 +1,18 @@
 //! The faults of an image, listed.
-ghost use Rattle.std.specs.Prelude.{◌≡◌, [], ◌++◌, OnOk, IfOk};
-ghost use Rattle.std.specs.Option.{option_map_or};
-ghost use Rattle.d64_survey.specs.Faults.{last_of, count_faults, directory_faults, kind_faults, way_fault, part_fault, file_faults, shared_faults, free_faults, faults};
+ghost use Rattle.std.specs.Prelude.{◌≡◌, ◌++◌, OnOk, option_map};
+ghost use Rattle.d64_survey.specs.Faults.{count_faults, directory_faults, kind_faults, part_fault, file_faults, shared_faults, free_faults, faults as faults_of};
+ghost use Rattle.d64_survey.specs.WayFacts.{TellsWays};
 ghost use Rattle.d64_survey.specs.declared.owner.Part.TheVariants.{Data, Side};
 
-use crate::fault::{Fault, LastBlock};
-use crate::owner::{Part, data_pair, side_pair};
+use crate::fault::Fault;
+use crate::owner::{Part, pair_of};
 use crate::pushing::push_if;
 use crate::survey::Survey;
-use crate::walking::walk;
-use d64_files::{BlockList, Entry, SlotNo};
+use crate::way_table::{WayTable, last_of};
+use d64_files::Entry;
 use d64_image::{BlockNo, Image};
 use d64_map::{free_count, free_on, free_set};
-use std::alloc::{AllocError, Global};
-
-/// The last of the blocks of a way.
-fn last_of(blocks: &[BlockNo]) -> LastBlock
-    ensures { result ≡ last_of blocks.now }
-{
-    match blocks.last() {
-        Some(block) => LastBlock::Block(*block),
-        None => LastBlock::Missing,
-    }
-}
+use std::alloc::AllocError;
 
 /// Lists the tracks whose count byte isn't the number of their sectors that the map marks free.
 fn list_counts(image: &Image, faults: &mut Vec<Fault>) -> Result<(), AllocError>
@@ -59,41 +49,53 @@ fn list_kinds(survey: &Survey, faults: &mut Vec<Fault>) -> Result<(), AllocError
 
 /// Lists the way of a part of a slot's file, where there is one and it isn't a whole chain.
 fn list_way(
-    image: &Image,
-    slot: SlotNo,
+    survey: &Survey,
+    codes: Option<&[u8]>,
+    ways: &WayTable,
+    entry: &Entry,
     part: Part,
-    pair: Option<(u8, u8)>,
     faults: &mut Vec<Fault>,
 ) -> Result<(), AllocError>
-    ensures { OnOk result (faults.new.items ≡ faults.old.items ++ option_map_or (way_fault image.now slot part) pair []) }
+    requires { TellsWays survey.now (option_map (λ codes. codes.now) codes) ways.now.ways }
+    ensures { OnOk result (faults.new.items ≡ faults.old.items ++ part_fault survey.now (entry.now.slot, entry.now.bytes) part) }
 {
-    match pair {
+    match pair_of(part, entry) {
         Some((track, sector)) => {
-            let mut blocks = BlockList::empty();
-            let end = walk(image, track, sector, &mut blocks);
-            let fault = Fault::BrokenFile(slot, part, last_of(blocks.as_slice()), end);
-            push_if(faults, fault, !end.is_whole())
+            let facts = ways.facts(survey, codes, track, sector);
+            let fault = Fault::BrokenFile(entry.slot(), part, facts.last, facts.end);
+            push_if(faults, fault, !facts.end.is_whole())
         }
         None => Ok(()),
     }
 }
 
 /// Lists the parts of a slot's file whose ways aren't whole chains.
-fn list_file(image: &Image, entry: &Entry, faults: &mut Vec<Fault>) -> Result<(), AllocError>
-    ensures { OnOk result (faults.new.items ≡ faults.old.items ++ (part_fault image.now (entry.now.slot, entry.now.bytes) Data ++ part_fault image.now (entry.now.slot, entry.now.bytes) Side)) }
+fn list_file(
+    survey: &Survey,
+    codes: Option<&[u8]>,
+    ways: &WayTable,
+    entry: &Entry,
+    faults: &mut Vec<Fault>,
+) -> Result<(), AllocError>
+    requires { TellsWays survey.now (option_map (λ codes. codes.now) codes) ways.now.ways }
+    ensures { OnOk result (faults.new.items ≡ faults.old.items ++ (part_fault survey.now (entry.now.slot, entry.now.bytes) Data ++ part_fault survey.now (entry.now.slot, entry.now.bytes) Side)) }
 {
-    let slot = entry.slot();
-    list_way(image, slot, Part::Data, data_pair(entry), faults)?;
-    list_way(image, slot, Part::Side, side_pair(entry), faults)
+    list_way(survey, codes, ways, entry, Part::Data, faults)?;
+    list_way(survey, codes, ways, entry, Part::Side, faults)
 }
 
 /// Lists the parts of files whose ways aren't whole chains.
-fn list_files(survey: &Survey, faults: &mut Vec<Fault>) -> Result<(), AllocError>
+fn list_files(
+    survey: &Survey,
+    codes: Option<&[u8]>,
+    ways: &WayTable,
+    faults: &mut Vec<Fault>,
+) -> Result<(), AllocError>
+    requires { TellsWays survey.now (option_map (λ codes. codes.now) codes) ways.now.ways }
     ensures { OnOk result (faults.new.items ≡ faults.old.items ++ file_faults survey.now) }
 {
-    let image = survey.image();
     for entry in survey.slots() {
-        list_file(image, &entry, faults)?;
+        list_file(survey, codes, ways, &entry, faults)?;
     }
     Ok(())
 }
@@ -121,18 +123,32 @@ fn list_free(survey: &Survey, faults: &mut Vec<Fault>) -> Result<(), AllocError>
 }
 
 impl Survey<'_> {
-    /// The faults of the image, by the numbers of their conditions; within a number tracks, slots and blocks rise, and a slot's
-    /// data comes before its side blocks. The list alone takes memory.
-    pub fn faults(&self, alloc: Global) -> Result<Vec<Fault>, AllocError>
-        ensures { IfOk result (λ list. list.items ≡ faults self.now) }
+    /// Lists the faults of the image, by the numbers of their conditions, in the place of what the list had; within a number
+    /// tracks, slots and blocks rise, and a slot's data comes before its side blocks. The list alone takes memory.
+    pub fn list_faults(&self, faults: &mut Vec<Fault>) -> Result<(), AllocError>
+        ensures { OnOk result (faults.new.items ≡ faults_of self.now) }
     {
-        let mut list = Vec::new(alloc);
-        list_counts(self.image(), &mut list)?;
-        list_directory(self, &mut list)?;
-        list_kinds(self, &mut list)?;
-        list_files(self, &mut list)?;
-        list_shared(self, &mut list)?;
-        list_free(self, &mut list)?;
-        Ok(list)
+        let ways = WayTable::of(self, None);
+        self.list_faults_along(None, &ways, faults)
+    }
+
+    /// Lists the faults of the image, by what is noted of its ways.
+    pub(crate) fn list_faults_along(
+        &self,
+        codes: Option<&[u8]>,
+        ways: &WayTable,
+        faults: &mut Vec<Fault>,
+    ) -> Result<(), AllocError>
+        requires { TellsWays self.now (option_map (λ codes. codes.now) codes) ways.now.ways }
+        ensures { OnOk result (faults.new.items ≡ faults_of self.now) }
+    {
+        faults.clear();
+        list_counts(self.image(), faults)?;
+        list_directory(self, faults)?;
+        list_kinds(self, faults)?;
+        list_files(self, codes, ways, faults)?;
+        list_shared(self, faults)?;
+        list_free(self, faults)?;
+        Ok(())
     }
 }

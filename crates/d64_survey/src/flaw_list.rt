@@ -3,16 +3,15 @@ ghost use Rattle.std.specs.Prelude.{◌≡◌, ◌+◌, ◌<◌, ◌≤◌, ◌&
 ghost use Rattle.d64_survey.specs.Owners.{blocks_from};
 ghost use Rattle.d64_survey.specs.SlotBlocks.{slot_blocks};
 ghost use Rattle.d64_survey.specs.Flaws.{is_del_entry, is_geos, is_broken_from, is_broken, any_shared, any_unreadable, is_missized, where_flawed, why, wholeness_by};
+ghost use Rattle.d64_survey.specs.WayFacts.{TellsWays};
 
-use crate::dump::is_read_error;
 use crate::flaw::Flaw;
 use crate::owner::{data_pair, side_pair};
-use crate::read_error::code_of;
 use crate::survey::Survey;
-use crate::walking::walk;
+use crate::way_table::WayTable;
 use arrayvec::ArrayVec;
-use d64_files::{BlockList, Entry, block_in};
-use d64_image::{BlockNo, Image};
+use d64_files::{Entry, block_in};
+use d64_image::Image;
 
 /// How many flaws there are.
 pub const FLAWS: usize = 7;
@@ -52,62 +51,49 @@ fn is_geos(image: &Image, entry: &Entry) -> bool
     }
 }
 
-/// Whether one of the blocks has more than one owner.
-fn any_shared(survey: &Survey, blocks: &[BlockNo]) -> bool
-    ensures { result ≡ any_shared survey.now blocks.now }
-{
-    let mut is_shared = false;
-    for block in blocks {
-        is_shared = is_shared || survey.is_shared(*block);
-    }
-    is_shared
-}
-
-/// Whether one of the blocks couldn't be read well.
-fn any_unreadable(codes: Option<&[u8]>, blocks: &[BlockNo]) -> bool
-    ensures { result ≡ any_unreadable (option_map (λ codes. codes.now) codes.entry) blocks.now }
-{
-    let mut is_unreadable = false;
-    for block in blocks {
-        is_unreadable = is_unreadable || is_read_error(code_of(codes, *block));
-    }
-    is_unreadable
-}
-
 /// What the way from a pair shows, where there is one.
-fn look_along(survey: &Survey, codes: Option<&[u8]>, pair: Option<(u8, u8)>) -> Sight
+fn look_along(
+    survey: &Survey,
+    codes: Option<&[u8]>,
+    ways: &WayTable,
+    pair: Option<(u8, u8)>,
+) -> Sight
+    requires { TellsWays survey.now (option_map (λ codes. codes.now) codes) ways.now.ways }
     ensures blocks { result.blocks ≡ length (blocks_from survey.now pair) }
-    ensures few { result.blocks ≤ 768 }
+    ensures few { result.blocks < 65536 }
     ensures broken { result.is_broken ≡ is_broken_from survey.now pair }
     ensures shared { result.is_shared ≡ any_shared survey.now (blocks_from survey.now pair) }
     ensures unreadable { result.is_unreadable ≡ any_unreadable (option_map (λ codes. codes.now) codes.entry) (blocks_from survey.now pair) }
 {
-    let mut list = BlockList::empty();
-    let mut is_broken = false;
     match pair {
         Some((track, sector)) => {
-            is_broken = !walk(survey.image(), track, sector, &mut list).is_whole();
+            let facts = ways.facts(survey, codes, track, sector);
+            Sight {
+                blocks: usize::from(facts.blocks),
+                is_broken: !facts.end.is_whole(),
+                is_shared: facts.is_shared,
+                is_unreadable: facts.is_unreadable,
+            }
         }
-        None => {}
-    }
-    let blocks = list.as_slice();
-    Sight {
-        blocks: blocks.len(),
-        is_broken,
-        is_shared: any_shared(survey, blocks),
-        is_unreadable: any_unreadable(codes, blocks),
+        None => Sight {
+            blocks: 0,
+            is_broken: false,
+            is_shared: false,
+            is_unreadable: false,
+        },
     }
 }
 
 /// What the ways of a slot's file show.
-fn look_at(survey: &Survey, codes: Option<&[u8]>, entry: &Entry) -> Sight
+fn look_at(survey: &Survey, codes: Option<&[u8]>, ways: &WayTable, entry: &Entry) -> Sight
+    requires { TellsWays survey.now (option_map (λ codes. codes.now) codes) ways.now.ways }
     ensures blocks { result.blocks ≡ length (slot_blocks survey.now entry.now.bytes) }
     ensures broken { result.is_broken ≡ is_broken survey.now entry.now.bytes }
     ensures shared { result.is_shared ≡ any_shared survey.now (slot_blocks survey.now entry.now.bytes) }
     ensures unreadable { result.is_unreadable ≡ any_unreadable (option_map (λ codes. codes.now) codes.entry) (slot_blocks survey.now entry.now.bytes) }
 {
-    let data = look_along(survey, codes, data_pair(entry));
-    let side = look_along(survey, codes, side_pair(entry));
+    let data = look_along(survey, codes, ways, data_pair(entry));
+    let side = look_along(survey, codes, ways, side_pair(entry));
     Sight {
         blocks: data.blocks + side.blocks,
         is_broken: data.is_broken || side.is_broken,
@@ -147,11 +133,24 @@ impl Survey<'_> {
     pub fn why(&self, codes: Option<&[u8]>, entry: &Entry) -> ArrayVec<Flaw, FLAWS>
         ensures { result.items ≡ why self.now (option_map (λ codes. codes.now) codes.entry) entry.now.bytes }
     {
+        self.why_along(codes, &WayTable::empty(), entry)
+    }
+
+    /// Why the file of a slot is not whole, by what is noted of ways.
+    pub(crate) fn why_along(
+        &self,
+        codes: Option<&[u8]>,
+        ways: &WayTable,
+        entry: &Entry,
+    ) -> ArrayVec<Flaw, FLAWS>
+        requires { TellsWays self.now (option_map (λ codes. codes.now) codes) ways.now.ways }
+        ensures { result.items ≡ why self.now (option_map (λ codes. codes.now) codes.entry) entry.now.bytes }
+    {
         let mut list = ArrayVec::new();
         if is_del(entry) {
             return list;
         }
-        let sight = look_at(self, codes, entry);
+        let sight = look_at(self, codes, ways, entry);
         let is_geos = is_geos(self.image(), entry);
         let is_missized = is_missized(self, entry, &sight, is_geos);
         flaw_if(&mut list, Flaw::Unclosed, !entry.closed());

@@ -2,6 +2,7 @@
 ghost use Rattle.std.specs.Prelude.{◌≡◌};
 ghost use Rattle.std.specs.List.{slice_get};
 ghost use Rattle.d64_files.specs.Ownership.{roots};
+ghost use Rattle.d64_survey.specs.Owners.{pair_of};
 
 use d64_files::{Entry, Kind, SlotNo};
 
@@ -51,5 +52,15 @@ pub fn side_pair(entry: &Entry) -> Option<(u8, u8)>
     match entry.kind() {
         Kind::Rel => entry.side_pair(),
         Kind::Del | Kind::Seq | Kind::Prg | Kind::Usr => None,
+    }
+}
+
+/// The track and the sector from which a part of a slot's file leads, or None where the slot has no such part.
+pub fn pair_of(part: Part, entry: &Entry) -> Option<(u8, u8)>
+    ensures { result ≡ pair_of part entry.now.bytes }
+{
+    match part {
+        Part::Data => data_pair(entry),
+        Part::Side => side_pair(entry),
     }
 }

@@ -1,11 +1,11 @@
 //! The read errors of a dump.
-ghost use Rattle.std.specs.Prelude.{◌≡◌, IfOk, option_map};
+ghost use Rattle.std.specs.Prelude.{◌≡◌, OnOk, option_map};
 ghost use Rattle.d64_survey.specs.ReadErrors.{code_of, read_errors};
 
 use crate::dump::{Dump, is_read_error};
 use crate::pushing::push_if;
 use d64_image::BlockNo;
-use std::alloc::{AllocError, Global};
+use std::alloc::AllocError;
 
 /// A block that couldn't be read well.
 #[derive(Clone, Copy, Debug, PartialEq, Eq)]
@@ -30,16 +30,17 @@ pub fn code_of(codes: Option<&[u8]>, block: BlockNo) -> u8
 }
 
 impl Dump {
-    /// The blocks that couldn't be read well, ascending, with their codes. The list alone takes memory.
-    pub fn read_errors(&self, alloc: Global) -> Result<Vec<ReadError>, AllocError>
-        ensures { IfOk result (λ list. list.items ≡ read_errors self.now) }
+    /// Lists the blocks that couldn't be read well, ascending, with their codes, in the place of what the list had. The list alone
+    /// takes memory.
+    pub fn list_read_errors(&self, errors: &mut Vec<ReadError>) -> Result<(), AllocError>
+        ensures { OnOk result (errors.new.items ≡ read_errors self.now) }
     {
         let codes = self.codes();
-        let mut list = Vec::new(alloc);
+        errors.clear();
         for block in self.image().blocks() {
             let code = code_of(codes, block);
-            push_if(&mut list, ReadError { block, code }, is_read_error(code))?;
+            push_if(errors, ReadError { block, code }, is_read_error(code))?;
         }
-        Ok(list)
+        Ok(())
     }
 }

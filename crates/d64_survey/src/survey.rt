@@ -1,19 +1,20 @@
 //! The survey of an image: its slots, who owns its blocks, and its faults.
-ghost use Rattle.std.specs.Prelude.{◌≡◌, ◌*◌, ◌≤◌, length};
+ghost use Rattle.std.specs.Prelude.{◌≡◌, ◌*◌, ◌≤◌, length, option_map};
 ghost use Rattle.d64_image.specs.declared.block.TheConstants.{BLOCKS};
-ghost use Rattle.d64_files.specs.Directory.{entries};
+ghost use Rattle.d64_files.specs.Directory.{entries, entry_of};
 ghost use Rattle.d64_survey.specs.Owners.{directory_way, way_slots, is_owned, is_shared};
+ghost use Rattle.d64_survey.specs.OwnerTables.{TellsOwners};
+ghost use Rattle.d64_survey.specs.Inspection.{slot_cell};
 
-use crate::tally::Tally;
+use crate::owner_table::{Claimant, OwnerTable};
 use crate::walking::walk;
 use crate::way_end::WayEnd;
-use d64_files::{BlockList, DIRECTORY_SECTOR, Slots};
+use d64_files::{BlockList, DIRECTORY_SECTOR, Entry, SLOTS_PER_BLOCK, SlotNo, Slots, entry_in};
 use d64_image::{BlockNo, Image};
 use d64_map::{DIRECTORY_TRACK, map_block};
 use std::marker::Model;
 
-/// The survey of an image: the directory's way, walked once, and which blocks have an owner, and which more than one. It takes no
-/// memory of its own.
+/// The survey of an image: the directory's way, walked once, and the owners of all blocks. It takes no memory of its own.
 ///
 /// In clauses it is the image itself.
 #[derive(Drop)]
@@ -21,21 +22,21 @@ pub struct Survey<'a> {
     image: &'a Image,
     directory: BlockList,
     end: WayEnd,
-    tally: Tally,
+    owners: OwnerTable,
 }
 
 impl<'a> Model for Survey<'a> {
     ghost use Rattle.std.specs.Prelude.{◌≡◌, ℕ, List};
     ghost use Rattle.d64_files.specs.Chain.{LieIn};
-    ghost use Rattle.d64_survey.specs.Owners.{directory_way, blocks_owned};
-    ghost use Rattle.d64_survey.specs.Tallies.{IsTally};
+    ghost use Rattle.d64_survey.specs.Owners.{directory_way};
+    ghost use Rattle.d64_survey.specs.OwnerTables.{TellsOwners};
 
     ghost Value = { List (List ℕ) };
 
     ghost view = { λ survey. survey.image.now };
 
     ghost invariant = { λ survey. (survey.directory ≡ (directory_way survey.image.now).0) × (survey.end ≡ (directory_way survey.image.now).1)
-        × LieIn survey.image.now survey.directory × IsTally (blocks_owned survey.image.now) survey.tally };
+        × LieIn survey.image.now survey.directory × TellsOwners survey.image.now survey.owners };
 }
 
 impl<'a> Survey<'a> {
@@ -45,15 +46,15 @@ impl<'a> Survey<'a> {
     {
         let mut directory = BlockList::empty();
         let end = walk(image, DIRECTORY_TRACK, DIRECTORY_SECTOR, &mut directory);
-        let mut tally = Tally::none();
-        tally.claim(map_block());
-        tally.claim_all(directory.as_slice());
-        tally.claim_files(image, Slots::along(image, directory.copy()));
+        let mut owners = OwnerTable::empty();
+        owners.claim(map_block(), Claimant::Map);
+        owners.claim_all(directory.as_slice(), Claimant::Directory);
+        owners.claim_files(image, Slots::along(image, directory.copy()));
         Survey {
             image,
             directory,
             end,
-            tally,
+            owners,
         }
     }
 
@@ -87,17 +88,38 @@ impl<'a> Survey<'a> {
         Slots::along(self.image, self.directory.copy())
     }
 
+    /// The entry of a slot of the directory's way, or None where that has no such slot.
+    pub fn entry(&self, slot: SlotNo) -> Option<Entry<'a>>
+        ensures { result ≡ option_map (λ cell. entry_of self.now (slot, cell)) (slot_cell self.now slot) }
+    {
+        match self
+            .directory
+            .as_slice()
+            .get(slot.place() / SLOTS_PER_BLOCK)
+        {
+            Some(block) => Some(entry_in(self.image, *block, slot)),
+            None => None,
+        }
+    }
+
     /// Whether a block has an owner.
     pub fn is_owned(&self, block: BlockNo) -> bool
         ensures { result ≡ is_owned self.now block }
     {
-        self.tally.has(block)
+        self.owners.count(block) > 0
     }
 
     /// Whether a block has more than one owner.
     pub fn is_shared(&self, block: BlockNo) -> bool
         ensures { result ≡ is_shared self.now block }
     {
-        self.tally.is_shared(block)
+        self.owners.count(block) > 1
+    }
+
+    /// The table of the owners of all blocks.
+    pub(crate) fn table(&self) -> &OwnerTable
+        ensures { TellsOwners self.now result.now }
+    {
+        &self.owners
     }
 }

@@ -14,7 +14,8 @@ const GEOS: [(u8, u8, u8, &[u8]); 3] = [
 #[test]
 fn a_block_was_read_badly(rt: HostRuntime) -> Result<(), Fail> {
     let dump = dump_of(&rt, &[], &[(17, 2, 1), (17, 3, 5)])?;
-    let errors = dump.read_errors(rt.alloc())?;
+    let mut errors = Vec::new(rt.alloc());
+    dump.list_read_errors(&mut errors)?;
     assert_eq!(rt; errors.len(), 1);
     let error = ReadError {
         block: block(17, 3)?,

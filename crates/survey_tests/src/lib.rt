@@ -8,4 +8,10 @@ mod damage;
 #[cfg(test)]
 mod errors;
 #[cfg(test)]
+mod inspections;
+#[cfg(test)]
+mod longest;
+#[cfg(test)]
 mod surveys;
+#[cfg(test)]
+mod wording;

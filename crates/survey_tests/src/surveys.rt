@@ -1,6 +1,6 @@
 //! What a survey says of sound and of damaged images.
 
-use crate::damage::{block, dump_of};
+use crate::damage::{block, dump_of, faults_of};
 use d64_files::SlotNo;
 use d64_survey::{Fault, LastBlock, Owner, Part, Survey, WayEnd};
 use std::test::Fail;
@@ -17,7 +17,7 @@ const FALSE_MAP: [(u8, u8, u8, &[u8]); 4] = [
 fn an_empty_disk_has_no_fault(rt: HostRuntime) -> Result<(), Fail> {
     let dump = dump_of(&rt, &[], &[])?;
     let survey = Survey::of(dump.image());
-    assert!(rt; survey.faults(rt.alloc())?.is_empty());
+    assert!(rt; faults_of(&rt, &survey)?.is_empty());
     assert_eq!(rt; survey.unowned(), 681);
     assert_eq!(rt; survey.directory_end(), WayEnd::End);
     Ok(())
@@ -27,7 +27,7 @@ fn an_empty_disk_has_no_fault(rt: HostRuntime) -> Result<(), Fail> {
 fn blocks_of_a_file_are_marked_free(rt: HostRuntime) -> Result<(), Fail> {
     let dump = dump_of(&rt, &FALSE_MAP, &[])?;
     let survey = Survey::of(dump.image());
-    let faults = survey.faults(rt.alloc())?;
+    let faults = faults_of(&rt, &survey)?;
     assert_eq!(rt; faults.len(), 2);
     assert_eq!(rt; faults.get(0), Some(&Fault::MarkedFree(block(19, 4)?)));
     assert_eq!(rt; faults.get(1), Some(&Fault::MarkedFree(block(19, 14)?)));
@@ -45,7 +45,7 @@ fn a_directory_loops(rt: HostRuntime) -> Result<(), Fail> {
     let links = [(18, 1, 0, &b"\x12\x04"[..]), (18, 4, 0, &b"\x12\x01"[..])];
     let dump = dump_of(&rt, &links, &[])?;
     let survey = Survey::of(dump.image());
-    let faults = survey.faults(rt.alloc())?;
+    let faults = faults_of(&rt, &survey)?;
     assert_eq!(rt; faults.len(), 1);
     let last = LastBlock::Block(block(18, 4)?);
     let fault = Fault::BrokenDirectory(last, WayEnd::Loop(18, 1));
@@ -63,7 +63,7 @@ fn a_side_way_leaves_the_disk(rt: HostRuntime) -> Result<(), Fail> {
         (17, 10, 0, &b"\x63\x07"[..]),
     ];
     let dump = dump_of(&rt, &parts, &[])?;
-    let faults = Survey::of(dump.image()).faults(rt.alloc())?;
+    let faults = faults_of(&rt, &Survey::of(dump.image()))?;
     assert_eq!(rt; faults.len(), 1);
     let last = LastBlock::Block(block(17, 10)?);
     let fault = Fault::BrokenFile(SlotNo::at(0), Part::Side, last, WayEnd::Off(99, 7));

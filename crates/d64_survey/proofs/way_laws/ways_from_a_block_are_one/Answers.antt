@@ -1,0 +1,5 @@
+use Rattle.d64_survey.proofs.Told.{same_way}
+use Rattle.d64_survey.proofs.way_laws.ways_from_a_block_are_one.Goals as goal
+
+pub returns : goal.returns
+returns c = λ image pair other block found also_found. same_way image pair other block found also_found

@@ -1,0 +1,49 @@
+-- The table of the owners of all blocks.
+use Rattle.std.specs.Prelude.{ℕ, ◌+◌, ◌<◌, ◌≤◌, List, [], ◌++◌, map, take, slice_index_or}
+use Rattle.d64_image.specs.declared.block.TheConstants.{BLOCKS}
+use Rattle.d64_image.specs.Disk.{Disk}
+use Rattle.d64_survey.specs.Owners.{owners_of}
+use Rattle.d64_survey.specs.OwnerLists.{OwnersView, AreTold, owners_among}
+use Rattle.d64_survey.specs.declared.owner.Part.TheVariants as parts
+use Rattle.d64_survey.specs.declared.owner.Owner.{Owner}
+use Rattle.d64_survey.specs.declared.owner.Owner.TheVariants as owners
+use Rattle.d64_survey.specs.declared.owner_table.Claimant.{Claimant}
+use Rattle.d64_survey.specs.declared.owner_table.Claimant.TheVariants.{Map, Directory, Data, Side}
+use Rattle.d64_survey.specs.declared.owner_table.Row.{Row}
+use Rattle.d64_survey.specs.declared.owner_table.OwnerTable.{OwnerTable}
+
+-- the owner that the table keeps in few bytes
+abbrev pub owner_kept : Claimant → Owner
+owner_kept Map = owners.Map
+owner_kept Directory = owners.Directory
+owner_kept (Data slot) = owners.File slot parts.Data
+owner_kept (Side slot) = owners.File slot parts.Side
+
+-- what a row tells of the owners of its block
+abbrev pub told_by : Row → OwnersView
+told_by row = record { shown = map owner_kept (take row.count row.first); count = row.count }
+
+-- the row of a block
+abbrev pub row_of : OwnerTable → ℕ → Row
+row_of table block = slice_index_or table.rows block (record { first = []; count = 0 })
+
+-- the second table tells of each block what the first does and, after that, that it has these owners
+abbrev pub Adds : OwnerTable → List (ℕ × Owner) → OwnerTable → Type 0
+Adds old owned new =
+    (block : ℕ)
+    → block < BLOCKS
+    → (all : List Owner)
+    → AreTold all (told_by (row_of old block))
+    → AreTold (all ++ owners_among block owned) (told_by (row_of new block))
+
+-- the second table counts at most so many owners more of each block than the first
+abbrev pub AddsFew : OwnerTable → ℕ → OwnerTable → Type 0
+AddsFew old count new = (block : ℕ) → (row_of new block).count ≤ (row_of old block).count + count
+
+-- the table counts at most so many owners of each block
+abbrev pub CountsUpTo : ℕ → OwnerTable → Type 0
+CountsUpTo limit table = (block : ℕ) → (row_of table block).count ≤ limit
+
+-- the table tells the owners of each block of an image
+abbrev pub TellsOwners : Disk → OwnerTable → Type 0
+TellsOwners image table = (block : ℕ) → block < BLOCKS → AreTold (owners_of image block) (told_by (row_of table block))

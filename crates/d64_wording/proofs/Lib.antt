@@ -1,0 +1,6 @@
+pub mod ShownNames
+pub mod PrintedNames
+pub mod OwnerTexts
+pub mod Joins
+pub mod FileTexts
+pub mod FaultTexts

@@ -1,0 +1,73 @@
+-- What is told of an image for people: its line, and below it a line each fault, read error and file that isn't whole.
+use Rattle.std.specs.Prelude.{ℕ, ◌==◌, if◌then◌else◌, List, [], ◌++◌, length, codes}
+use Rattle.std.specs.List.{flat_map}
+use Rattle.d64_image.specs.Disk.{Disk}
+use Rattle.d64_map.specs.Map.{blocks_free}
+use Rattle.d64_effects.specs.View.{disk_id}
+use Rattle.d64_survey.specs.Dump.{DumpView}
+use Rattle.d64_survey.specs.Faults.{faults}
+use Rattle.d64_survey.specs.Inspection.{entry_count, unwhole_count, is_amiss}
+use Rattle.d64_survey.specs.Owners.{way_slots, unowned}
+use Rattle.d64_survey.specs.ReadErrors.{read_errors}
+use Rattle.d64_survey.specs.declared.fault.Fault.{Fault}
+use Rattle.d64_survey.specs.declared.read_error.ReadError.{ReadError}
+use Rattle.petscii.specs.Spelling.{spelling}
+use Rattle.d64_wording.specs.Shown.{shown}
+use Rattle.d64_wording.specs.Names.{disk_name, quoted}
+use Rattle.d64_wording.specs.Words.{count_of, line_below}
+use Rattle.d64_wording.specs.FaultText.{fault_text, read_error_text}
+use Rattle.d64_wording.specs.FileText.{file_lines}
+
+-- the disk: its name and its id
+unfoldable pub label_text : Disk → List ℕ
+label_text image = quoted (disk_name image) ++ (codes " " ++ spelling (disk_id image))
+
+-- what is on it
+unfoldable pub contents_text : Disk → List ℕ
+contents_text image = count_of (entry_count image) (codes "file") ++ (codes ", " ++ (count_of (blocks_free image) (codes "block") ++ codes " free"))
+
+-- how many faults there are
+abbrev pub faults_text : ℕ → List ℕ
+faults_text count = if count == 0 then codes "sound" else count_of count (codes "fault")
+
+-- how many more things are amiss, where there are some
+unfoldable pub and_so_many : ℕ → List ℕ → List ℕ → List ℕ
+and_so_many count noun rest = if count == 0 then [] else codes ", " ++ (count_of count noun ++ rest)
+
+-- the state of a dump
+unfoldable pub state_text : DumpView → List ℕ
+state_text dump =
+    faults_text (length (faults dump.image))
+    ++ (and_so_many (length (read_errors dump)) (codes "read error") [] ++ and_so_many (unwhole_count dump) (codes "file") (codes " not whole"))
+
+-- the image's line
+unfoldable pub image_line : List ℕ → DumpView → List ℕ
+image_line name dump =
+    shown name ++ (codes ": " ++ (label_text dump.image ++ (codes ", " ++ (contents_text dump.image ++ (codes ": " ++ (state_text dump ++ codes "\n"))))))
+
+-- a line each fault
+unfoldable pub fault_lines : Disk → List Fault → List ℕ
+fault_lines image list = flat_map (λ fault. line_below (fault_text image fault)) list
+
+-- a line each read error
+unfoldable pub read_error_lines : Disk → List ReadError → List ℕ
+read_error_lines image list = flat_map (λ error. line_below (read_error_text image error)) list
+
+-- what is said of so many blocks that are marked used and that nothing owns
+abbrev pub unowned_words : ℕ → List ℕ
+unowned_words count = if count == 1 then codes " is marked used and belongs to no file" else codes " are marked used and belong to no file"
+
+-- a line of so many, where there are some
+unfoldable pub unowned_by : ℕ → List ℕ
+unowned_by count = if count == 0 then [] else line_below (count_of count (codes "block") ++ unowned_words count)
+
+-- a line of them, where something is amiss
+unfoldable pub unowned_line : DumpView → List ℕ
+unowned_line dump = if is_amiss dump then unowned_by (unowned dump.image) else []
+
+-- the text of an image
+unfoldable pub check_text : List ℕ → DumpView → List ℕ
+check_text name dump =
+    image_line name dump
+    ++ (fault_lines dump.image (faults dump.image)
+    ++ (read_error_lines dump.image (read_errors dump) ++ (file_lines dump (way_slots dump.image) ++ unowned_line dump)))

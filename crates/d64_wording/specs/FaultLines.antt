@@ -1,0 +1,26 @@
+-- The lines on standard error of files that are not answered.
+use Rattle.std.specs.Prelude.{ℕ, List, [], ◌++◌, length, codes, decimal}
+use Rattle.std.specs.Option.{option_map_or}
+use Rattle.d64_wording.specs.Shown.{shown}
+use Rattle.d64_wording.specs.Guesses.{guess_of, guess_text}
+use Rattle.d64_wording.specs.declared.guess.Guess.{Guess}
+
+-- a line of the program about a file
+unfoldable pub line_about : List ℕ → List ℕ → List ℕ
+line_about name text = codes "d64sh: " ++ (shown name ++ (codes ": " ++ (text ++ codes "\n")))
+
+-- a file that cannot be read
+abbrev pub unread_line : List ℕ → List ℕ
+unread_line name = line_about name (codes "cannot be read")
+
+-- a guess in brackets
+abbrev pub in_brackets : Guess → List ℕ
+in_brackets guess = codes " (" ++ (guess_text guess ++ codes ")")
+
+-- a length that no dump has, and what the file seems to be, where that is known
+abbrev pub wrong_length_text : List ℕ → List ℕ
+wrong_length_text bytes = codes "wrong length " ++ (decimal (length bytes) ++ option_map_or in_brackets (guess_of bytes) [])
+
+-- a file with these bytes, whose length no dump has
+abbrev pub wrong_length_line : List ℕ → List ℕ → List ℕ
+wrong_length_line name bytes = line_about name (wrong_length_text bytes)

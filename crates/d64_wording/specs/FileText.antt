@@ -1,0 +1,62 @@
+-- The files that are not whole, in words.
+use Rattle.std.specs.Prelude.{ℕ, suc, ◌==◌, if◌then◌else◌, List, [], ◌∷◌, ◌++◌, length, codes, decimal}
+use Rattle.std.specs.List.{flat_map}
+use Rattle.d64_image.specs.Disk.{Disk, Bytes}
+use Rattle.d64_files.specs.Slot.{has_kind, kind_of, name_of, size_of}
+use Rattle.d64_files.specs.declared.kind.Kind.{Kind}
+use Rattle.d64_files.specs.declared.kind.Kind.TheVariants.{Del, Seq, Prg, Usr, Rel}
+use Rattle.d64_survey.specs.Dump.{DumpView}
+use Rattle.d64_survey.specs.Flaws.{why}
+use Rattle.d64_survey.specs.Inspection.{is_unwhole_file}
+use Rattle.d64_survey.specs.SlotBlocks.{slot_blocks}
+use Rattle.d64_survey.specs.declared.flaw.Flaw.{Flaw}
+use Rattle.d64_survey.specs.declared.flaw.Flaw.TheVariants.{Unclosed, Kindless, Broken, Shared, Unreadable, Missized, Geos}
+use Rattle.d64_wording.specs.Names.{quoted}
+use Rattle.d64_wording.specs.Words.{count_of, line_below}
+
+-- the three letters of a kind
+abbrev pub kind_letters : Kind → List ℕ
+kind_letters Del = codes "del"
+kind_letters Seq = codes "seq"
+kind_letters Prg = codes "prg"
+kind_letters Usr = codes "usr"
+kind_letters Rel = codes "rel"
+
+-- those of a slot's file
+abbrev pub letters_of : Bytes → List ℕ
+letters_of cell = if has_kind cell then kind_letters (kind_of cell) else codes "???"
+
+-- the size that the directory shows, and how many blocks there are
+unfoldable pub size_text : ℕ → ℕ → List ℕ
+size_text shown there = codes "the directory says " ++ (count_of shown (codes "block") ++ (codes ", " ++ (decimal there ++ (if there == 1 then codes " is there" else codes " are there"))))
+
+-- a reason why a file isn't whole
+unfoldable pub flaw_text : Disk → Bytes → Flaw → List ℕ
+flaw_text image cell Unclosed = codes "never closed"
+flaw_text image cell Kindless = codes "of no kind"
+flaw_text image cell Broken = codes "its chain is broken"
+flaw_text image cell Shared = codes "has a block that is not its own"
+flaw_text image cell Unreadable = codes "has a read error"
+flaw_text image cell Missized = size_text (size_of cell) (length (slot_blocks image cell))
+flaw_text image cell Geos = codes "a GEOS file, whose records are not looked at"
+
+-- what stands before the reason at a place
+abbrev pub comma : ℕ → List ℕ
+comma place = if place == 0 then [] else codes ", "
+
+-- the reasons from a place on
+unfoldable pub flaws_from : Disk → Bytes → ℕ → List Flaw → List ℕ
+flaws_from image cell place [] = []
+flaws_from image cell place (flaw ∷ flaws) = comma place ++ (flaw_text image cell flaw ++ flaws_from image cell (suc place) flaws)
+
+-- a file that isn't whole, for these reasons
+unfoldable pub file_text : Disk → Bytes → List Flaw → List ℕ
+file_text image cell flaws = quoted (name_of cell) ++ (codes " " ++ (letters_of cell ++ (codes ": " ++ flaws_from image cell 0 flaws)))
+
+-- the line of a slot, where its file isn't whole
+unfoldable pub file_line : DumpView → Bytes → List ℕ
+file_line dump cell = if is_unwhole_file dump cell then line_below (file_text dump.image cell (why dump.image dump.codes cell)) else []
+
+-- a line each file that isn't whole
+unfoldable pub file_lines : DumpView → List Bytes → List ℕ
+file_lines dump cells = flat_map (file_line dump) cells

@@ -1,0 +1,9 @@
+pub mod Shown
+pub mod Guesses
+pub mod FaultLines
+pub mod Names
+pub mod Words
+pub mod OwnerText
+pub mod FaultText
+pub mod FileText
+pub mod CheckText

@@ -1,0 +1,63 @@
+//! The lines on standard error of files that are not answered.
+ghost use Rattle.std.specs.Prelude.{◌≡◌, ◌++◌, [], codes, OnOk};
+ghost use Rattle.std.specs.Option.{option_map_or};
+ghost use Rattle.d64_wording.specs.Shown.{shown};
+ghost use Rattle.d64_wording.specs.Guesses.{guess_of as guess_by_all};
+ghost use Rattle.d64_wording.specs.FaultLines.{line_about, unread_line, in_brackets, wrong_length_text, wrong_length_line};
+
+use crate::guess::{guess_of, guess_text};
+use crate::number::push_number;
+use crate::shown::push_shown;
+use std::alloc::AllocError;
+
+/// Adds what a line of the program about a file begins with.
+fn push_start(out: &mut Vec<u8>, name: &[u8]) -> Result<(), AllocError>
+    ensures { OnOk result (out.new.items ≡ out.old.items ++ (codes "d64sh: " ++ (shown name.now ++ codes ": "))) }
+{
+    out.extend_from_slice(b"d64sh: ")?;
+    push_shown(out, name)?;
+    out.extend_from_slice(b": ")
+}
+
+/// Adds a line of the program about a file.
+#[tactic(auto, unfolding(crate::specs::FaultLines::line_about))]
+fn push_line(out: &mut Vec<u8>, name: &[u8], text: &[u8]) -> Result<(), AllocError>
+    ensures { OnOk result (out.new.items ≡ out.old.items ++ line_about name.now text.now) }
+{
+    push_start(out, name)?;
+    out.extend_from_slice(text)?;
+    out.extend_from_slice(b"\n")
+}
+
+/// Adds the line of a file that cannot be read.
+pub fn unread_line(out: &mut Vec<u8>, name: &[u8]) -> Result<(), AllocError>
+    ensures { OnOk result (out.new.items ≡ out.old.items ++ unread_line name.now) }
+{
+    push_line(out, name, b"cannot be read")
+}
+
+/// Adds what a file seems to be, in brackets, where that is known.
+fn push_brackets(out: &mut Vec<u8>, bytes: &[u8]) -> Result<(), AllocError>
+    ensures { OnOk result (out.new.items ≡ out.old.items ++ option_map_or in_brackets (guess_by_all bytes.now) []) }
+{
+    match guess_of(bytes) {
+        Some(guess) => {
+            out.extend_from_slice(b" (")?;
+            out.extend_from_slice(guess_text(guess))?;
+            out.extend_from_slice(b")")
+        }
+        None => Ok(()),
+    }
+}
+
+/// Adds the line of a file with these bytes, of which there are as many as no dump has.
+#[tactic(auto, unfolding(crate::specs::FaultLines::line_about))]
+pub fn wrong_length_line(out: &mut Vec<u8>, name: &[u8], bytes: &[u8]) -> Result<(), AllocError>
+    ensures { OnOk result (out.new.items ≡ out.old.items ++ wrong_length_line name.now bytes.now) }
+{
+    push_start(out, name)?;
+    out.extend_from_slice(b"wrong length ")?;
+    push_number(out, bytes.len())?;
+    push_brackets(out, bytes)?;
+    out.extend_from_slice(b"\n")
+}

@@ -1,0 +1,189 @@
+//! What is told of an image for people.
+ghost use Rattle.std.specs.Prelude.{◌≡◌, ◌++◌, OnOk};
+ghost use Rattle.d64_wording.specs.CheckText.{label_text, contents_text, faults_text, and_so_many, state_text, image_line, fault_lines, read_error_lines, unowned_words as unowned_words_of, unowned_by, unowned_line, check_text as check_text_of};
+ghost use Rattle.d64_wording.specs.FaultText.{fault_text, read_error_text};
+ghost use Rattle.d64_wording.specs.Words.{line_below};
+
+use crate::fault_text::{push_fault, push_read_error};
+use crate::file_text::push_file_lines;
+use crate::label::{disk_id, disk_name};
+use crate::shown::push_shown;
+use crate::words::{LINE_END, LINE_START, push_count, push_quoted, push_spelling};
+use d64_image::Image;
+use d64_map::blocks_free;
+use d64_survey::{Fault, Inspection, ReadError, Survey};
+use std::alloc::AllocError;
+
+/// Adds the disk's name and its id.
+#[tactic(auto, unfolding(crate::specs::CheckText::label_text))]
+fn push_label(out: &mut Vec<u8>, image: &Image) -> Result<(), AllocError>
+    ensures { OnOk result (out.new.items ≡ out.old.items ++ label_text image.now) }
+{
+    push_quoted(out, disk_name(image))?;
+    out.extend_from_slice(b" ")?;
+    push_spelling(out, disk_id(image))
+}
+
+/// Adds how many files and free blocks there are.
+#[tactic(auto, unfolding(crate::specs::CheckText::contents_text))]
+fn push_contents(out: &mut Vec<u8>, inspection: &Inspection) -> Result<(), AllocError>
+    ensures { OnOk result (out.new.items ≡ out.old.items ++ contents_text inspection.now.image) }
+{
+    push_count(out, inspection.entries(), b"file")?;
+    out.extend_from_slice(b", ")?;
+    push_count(out, blocks_free(inspection.image()) as usize, b"block")?;
+    out.extend_from_slice(b" free")?;
+    Ok(())
+}
+
+/// Adds how many faults there are.
+fn push_faults(out: &mut Vec<u8>, count: usize) -> Result<(), AllocError>
+    ensures { OnOk result (out.new.items ≡ out.old.items ++ faults_text count) }
+{
+    if count == 0 {
+        return out.extend_from_slice(b"sound");
+    }
+    push_count(out, count, b"fault")
+}
+
+/// Adds how many more things are amiss, where there are some.
+#[tactic(auto, unfolding(crate::specs::CheckText::and_so_many))]
+fn push_and(out: &mut Vec<u8>, count: usize, noun: &[u8], rest: &[u8]) -> Result<(), AllocError>
+    ensures { OnOk result (out.new.items ≡ out.old.items ++ and_so_many count noun.now rest.now) }
+{
+    if count == 0 {
+        return Ok(());
+    }
+    out.extend_from_slice(b", ")?;
+    push_count(out, count, noun)?;
+    out.extend_from_slice(rest)
+}
+
+/// Adds the state of a dump.
+#[tactic(auto, unfolding(crate::specs::CheckText::state_text))]
+fn push_state(out: &mut Vec<u8>, inspection: &Inspection) -> Result<(), AllocError>
+    ensures { OnOk result (out.new.items ≡ out.old.items ++ state_text inspection.now) }
+{
+    push_faults(out, inspection.faults().len())?;
+    push_and(out, inspection.read_errors().len(), b"read error", b"")?;
+    push_and(out, inspection.unwhole(), b"file", b" not whole")?;
+    Ok(())
+}
+
+/// Adds the image's line.
+#[tactic(auto, unfolding(crate::specs::CheckText::image_line))]
+fn push_image_line(
+    name: &[u8],
+    inspection: &Inspection,
+    out: &mut Vec<u8>,
+) -> Result<(), AllocError>
+    ensures { OnOk result (out.new.items ≡ out.old.items ++ image_line name.now inspection.now) }
+{
+    push_shown(out, name)?;
+    out.extend_from_slice(b": ")?;
+    push_label(out, inspection.image())?;
+    out.extend_from_slice(b", ")?;
+    push_contents(out, inspection)?;
+    out.extend_from_slice(b": ")?;
+    push_state(out, inspection)?;
+    out.extend_from_slice(b"\n")?;
+    Ok(())
+}
+
+/// Adds the line of a fault.
+#[tactic(auto, unfolding(crate::specs::Words::line_below))]
+fn push_fault_line(out: &mut Vec<u8>, survey: &Survey, fault: &Fault) -> Result<(), AllocError>
+    ensures { OnOk result (out.new.items ≡ out.old.items ++ line_below (fault_text survey.now fault.now)) }
+{
+    out.extend_from_slice(LINE_START)?;
+    push_fault(out, survey, *fault)?;
+    out.extend_from_slice(LINE_END)
+}
+
+/// Adds a line each fault.
+#[tactic(auto, unfolding(crate::specs::CheckText::fault_lines))]
+fn push_fault_lines(out: &mut Vec<u8>, survey: &Survey, list: &[Fault]) -> Result<(), AllocError>
+    ensures { OnOk result (out.new.items ≡ out.old.items ++ fault_lines survey.now list.now) }
+{
+    for fault in list {
+        push_fault_line(out, survey, fault)?;
+    }
+    Ok(())
+}
+
+/// Adds the line of a read error.
+#[tactic(auto, unfolding(crate::specs::Words::line_below))]
+fn push_error_line(out: &mut Vec<u8>, survey: &Survey, error: &ReadError) -> Result<(), AllocError>
+    ensures { OnOk result (out.new.items ≡ out.old.items ++ line_below (read_error_text survey.now error.now)) }
+{
+    out.extend_from_slice(LINE_START)?;
+    push_read_error(out, survey, *error)?;
+    out.extend_from_slice(LINE_END)
+}
+
+/// Adds a line each read error.
+#[tactic(auto, unfolding(crate::specs::CheckText::read_error_lines))]
+fn push_error_lines(
+    out: &mut Vec<u8>,
+    survey: &Survey,
+    list: &[ReadError],
+) -> Result<(), AllocError>
+    ensures { OnOk result (out.new.items ≡ out.old.items ++ read_error_lines survey.now list.now) }
+{
+    for error in list {
+        push_error_line(out, survey, error)?;
+    }
+    Ok(())
+}
+
+/// What is said of so many blocks that nothing owns.
+fn unowned_words(count: usize) -> &'static [u8]
+    ensures { result.now ≡ unowned_words_of count }
+{
+    if count == 1 {
+        b" is marked used and belongs to no file"
+    } else {
+        b" are marked used and belong to no file"
+    }
+}
+
+/// Adds the line of so many blocks that nothing owns, where there are some.
+#[tactic(auto, unfolding(crate::specs::CheckText::unowned_by, crate::specs::Words::line_below))]
+fn push_unowned(out: &mut Vec<u8>, count: usize) -> Result<(), AllocError>
+    ensures { OnOk result (out.new.items ≡ out.old.items ++ unowned_by count) }
+{
+    if count == 0 {
+        return Ok(());
+    }
+    out.extend_from_slice(LINE_START)?;
+    push_count(out, count, b"block")?;
+    out.extend_from_slice(unowned_words(count))?;
+    out.extend_from_slice(LINE_END)?;
+    Ok(())
+}
+
+/// Adds the line of the blocks that nothing owns, where there are some and something is amiss.
+#[tactic(auto, unfolding(crate::specs::CheckText::unowned_line))]
+fn push_unowned_line(out: &mut Vec<u8>, inspection: &Inspection) -> Result<(), AllocError>
+    ensures { OnOk result (out.new.items ≡ out.old.items ++ unowned_line inspection.now) }
+{
+    if !inspection.is_amiss() {
+        return Ok(());
+    }
+    push_unowned(out, inspection.unowned())
+}
+
+/// Adds the text of an image for people: its line, a line each fault, read error and file that isn't whole, and one of the blocks
+/// that are marked used and belong to no file, where something is amiss.
+#[tactic(auto, unfolding(crate::specs::CheckText::check_text))]
+pub fn check_text(name: &[u8], inspection: &Inspection, out: &mut Vec<u8>) -> Result<(), AllocError>
+    ensures { OnOk result (out.new.items ≡ out.old.items ++ check_text_of name.now inspection.now) }
+{
+    let survey = inspection.survey();
+    push_image_line(name, inspection, out)?;
+    push_fault_lines(out, survey, inspection.faults())?;
+    push_error_lines(out, survey, inspection.read_errors())?;
+    push_file_lines(out, inspection)?;
+    push_unowned_line(out, inspection)?;
+    Ok(())
+}

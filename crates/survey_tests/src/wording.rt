@@ -1,0 +1,73 @@
+//! Names of the host and files of wrong lengths, in words.
+
+use d64_wording::{push_shown, unread_line, wrong_length_line};
+use std::test::Fail;
+
+/// The line of a file of so many bytes that are 0.
+fn line_of<R: AllocGlobal>(rt: &R, length: usize) -> Result<Vec<u8>, Fail> {
+    let bytes = vec![in rt.alloc(); 0; length]?;
+    let mut out = Vec::new(rt.alloc());
+    wrong_length_line(&mut out, b"x.d64", bytes.as_slice())?;
+    Ok(out)
+}
+
+#[test]
+fn names_are_shown_without_controls(rt: HostRuntime) -> Result<(), Fail> {
+    let mut out = Vec::new(rt.alloc());
+    push_shown(
+        &mut out,
+        b"a\\b\n\x7f\xc2\x9b\xe2\x80\xae\xff\xc3\xa9\xe2\x82",
+    )?;
+    assert_eq!(rt;
+        out.as_slice(),
+        b"a\\\\b\\u{a}\\u{7f}\\u{9b}\\u{202e}\\xff\xc3\xa9\\xe2\\x82".as_slice()
+    );
+    Ok(())
+}
+
+#[test]
+fn lengths_are_told_with_a_guess(rt: HostRuntime) -> Result<(), Fail> {
+    assert_eq!(rt;
+        line_of(&rt, 174_000)?.as_slice(),
+        b"d64sh: x.d64: wrong length 174000 (a 35-track image cut short)\n".as_slice()
+    );
+    assert_eq!(rt;
+        line_of(&rt, 190_000)?.as_slice(),
+        b"d64sh: x.d64: wrong length 190000 (a 40-track image cut short)\n".as_slice()
+    );
+    assert_eq!(rt;
+        line_of(&rt, 206_114)?.as_slice(),
+        b"d64sh: x.d64: wrong length 206114 (42 tracks)\n".as_slice()
+    );
+    assert_eq!(rt;
+        line_of(&rt, 349_696)?.as_slice(),
+        b"d64sh: x.d64: wrong length 349696 (a 1571 image)\n".as_slice()
+    );
+    assert_eq!(rt;
+        line_of(&rt, 822_400)?.as_slice(),
+        b"d64sh: x.d64: wrong length 822400 (a 1581 image)\n".as_slice()
+    );
+    assert_eq!(rt;
+        line_of(&rt, 0)?.as_slice(),
+        b"d64sh: x.d64: wrong length 0 (an empty file)\n".as_slice()
+    );
+    assert_eq!(rt;
+        line_of(&rt, 5)?.as_slice(),
+        b"d64sh: x.d64: wrong length 5\n".as_slice()
+    );
+    Ok(())
+}
+
+#[test]
+fn first_bytes_are_told(rt: HostRuntime) -> Result<(), Fail> {
+    let mut out = Vec::new(rt.alloc());
+    unread_line(&mut out, b"a\nb")?;
+    wrong_length_line(&mut out, b"x", b"GCR-1541\0")?;
+    wrong_length_line(&mut out, b"x", b"PK\x03\x04")?;
+    wrong_length_line(&mut out, b"x", b"\x1f\x8b")?;
+    assert_eq!(rt;
+        out.as_slice(),
+        b"d64sh: a\\u{a}b: cannot be read\nd64sh: x: wrong length 9 (a G64 image)\nd64sh: x: wrong length 4 (a zip archive)\nd64sh: x: wrong length 2 (a gzip file)\n".as_slice()
+    );
+    Ok(())
+}
