@@ -1,0 +1,18 @@
+-- What is printed of a file that isn't answered.
+use Rattle.std.specs.Prelude.{ℕ, List, [], ◌∷◌, codes}
+use Rattle.std.specs.Str.Lossy.{utf8_lossy}
+use Rattle.json.specs.Json.{Json, string}
+use Rattle.d64_report.specs.Values.{Field, object_of, numeral}
+
+-- the member with the name of a file on the host; what isn't UTF-8 becomes U+FFFD
+abbrev pub image_member : List ℕ → Field
+image_member name = (codes "image", string (utf8_lossy name))
+
+-- a file that cannot be read
+abbrev pub unread_object : List ℕ → Json
+unread_object name = object_of (image_member name ∷ (codes "error", string (codes "cannot be read")) ∷ [])
+
+-- a file whose length no dump has
+abbrev pub wrong_length_object : List ℕ → ℕ → Json
+wrong_length_object name length =
+    object_of (image_member name ∷ (codes "error", string (codes "wrong length")) ∷ (codes "length", numeral length) ∷ [])
