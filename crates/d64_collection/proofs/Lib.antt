@@ -1,0 +1,4 @@
+pub mod RunSteps
+pub mod ListNames
+pub mod ListSteps
+pub mod ListStreams

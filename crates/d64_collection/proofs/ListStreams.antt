@@ -1,0 +1,92 @@
+-- How a run over a list that is read as it comes ends.
+use Rattle.std.proofs.Common.{◌≡◌, ℕ, ◌+◌, ◌<◌, List, [], ◌++◌, map, take, length, ◌≤◌, Option, Some, None, Result, Ok, Err, refl, sym, ap, ◌∙◌, subst, append-nil, arith, inl, inr}
+use Rattle.std.specs.Io.KnownBytes.{Consumes, IsAtEnd}
+use Rattle.std.proofs.KnownBytes.{Consumes-trans, Consumes-all}
+use Rattle.std.proofs.lemmas.List.{length-append, length-take-le}
+use Rattle.d64_collection.specs.Names.{names_in, listed}
+use Rattle.d64_collection.specs.Answers.{Rule}
+use Rattle.d64_collection.specs.Runs.{Stand, Runs}
+use Rattle.d64_collection.specs.Lists.{HasCome, RunsStream, StopsInList, StopsInStream, LosesStream, list_limit}
+use Rattle.d64_collection.specs.declared.desk.RunFault.{RunFault}
+use Rattle.d64_collection.specs.declared.desk.RunFault.TheVariants as faults
+
+-- a read of no bytes consumes none
+pub Consumes-none : (a b c : Option (List ℕ)) (bytes more : List ℕ) (count : ℕ) → Consumes a b bytes → Consumes b c (take count more) → count ≡ 0 → Consumes a c bytes
+Consumes-none a b c bytes more count before read none =
+    subst (Consumes a c) (ap (λ n. bytes ++ take n more) none ∙ append-nil bytes) (Consumes-trans a b c bytes (take count more) before read)
+
+-- a run that stops stops at a name
+stopped_stream : (rule : Rule) (separator : ℕ) (reader left : Option (List ℕ)) (fault : RunFault) (a c : Stand) (bytes : List ℕ)
+    → Consumes reader left bytes → ((more : List ℕ) → StopsInList rule separator (bytes ++ more) fault a c) → StopsInStream rule separator reader fault a c
+stopped_stream rule separator None left fault a c bytes lost stops = record { list = bytes ++ []; all = tt; stopped = stops [] }
+stopped_stream rule separator (Some all) None fault a c bytes lost stops = absurd lost
+stopped_stream rule separator (Some all) (Some rest) fault a c bytes lost stops = record { list = bytes ++ rest; all = sym lost; stopped = stops rest }
+
+stopped_by : (A : Type 0) (rule : Rule) (separator : ℕ) (reader left : Option (List ℕ)) (fault : RunFault) (a c : Stand) (bytes : List ℕ)
+    → Consumes reader left bytes → ((more : List ℕ) → StopsInList rule separator (bytes ++ more) fault a c) → RunsStream {A = A} rule separator reader left a c (Err fault)
+stopped_by A rule separator reader left faults.List a c bytes lost stops = absurd (stops []).stopped
+stopped_by A rule separator reader left faults.Write a c bytes lost stops = stopped_stream rule separator reader left faults.Write a c bytes lost stops
+stopped_by A rule separator reader left faults.Memory a c bytes lost stops = stopped_stream rule separator reader left faults.Memory a c bytes lost stops
+
+pub RunsStream-stopped : {A : Type 0} (rule : Rule) (separator : ℕ) (reader left : Option (List ℕ)) (fault : RunFault) (a c : Stand) (bytes : List ℕ) (result : Result A RunFault)
+    → Consumes reader left bytes → ((more : List ℕ) → StopsInList rule separator (bytes ++ more) fault a c) → result ≡ Err fault → RunsStream rule separator reader left a c result
+RunsStream-stopped {A} rule separator reader left fault a c bytes result lost stops is =
+    subst (λ (r : Result A RunFault). RunsStream rule separator reader left a c r) (sym is) (stopped_by A rule separator reader left fault a c bytes lost stops)
+
+-- at the list's end, the run over its names is the run over it
+pub RunsStream-ended : {A : Type 0} (rule : Rule) (separator : ℕ) (reader left : Option (List ℕ)) (a c : Stand) (bytes : List ℕ) (result : Result A RunFault)
+    → Consumes reader left bytes → IsAtEnd left → Runs rule (map listed (names_in separator bytes)) a c result → RunsStream rule separator reader left a c result
+RunsStream-ended rule separator reader left a c bytes (Ok done) lost end ran =
+    record { list = bytes; all = Consumes-all reader left bytes [] bytes lost end refl; answered = ran }
+RunsStream-ended rule separator reader left a c bytes (Err faults.List) lost end ran = absurd ran.stopped
+RunsStream-ended rule separator reader left a c bytes (Err faults.Write) lost end ran =
+    record { list = bytes; all = Consumes-all reader left bytes [] bytes lost end refl; stopped = ran }
+RunsStream-ended rule separator reader left a c bytes (Err faults.Memory) lost end ran =
+    record { list = bytes; all = Consumes-all reader left bytes [] bytes lost end refl; stopped = ran }
+
+-- the list cannot be read on
+pub LosesStream-by : (rule : Rule) (separator : ℕ) (reader left : Option (List ℕ)) (a c : Stand) (held bytes : List ℕ)
+    → Consumes reader left bytes → HasCome rule separator a c held bytes → LosesStream rule separator reader left a c
+LosesStream-by rule separator reader left a c held bytes lost come = record {
+  consumed = bytes;
+  lost = lost;
+  came = bytes;
+  beyond = [];
+  parts = append-nil bytes;
+  limit = inl refl;
+  held = held;
+  has_come = come;
+}
+
+-- more has come than a list may have
+pub LosesStream-past : (rule : Rule) (separator : ℕ) (reader middle left : Option (List ℕ)) (a c : Stand) (held bytes buffer : List ℕ) (count room : ℕ)
+    → Consumes reader middle bytes → Consumes middle left (take count buffer) → length bytes + room ≡ list_limit → count ≤ length buffer → room < count
+    → HasCome rule separator a c held bytes → LosesStream rule separator reader left a c
+LosesStream-past rule separator reader middle left a c held bytes buffer count room lost read full fits over come = record {
+  consumed = bytes ++ take count buffer;
+  lost = Consumes-trans reader middle left bytes (take count buffer) lost read;
+  came = bytes;
+  beyond = take count buffer;
+  parts = refl;
+  limit = inr (omega (arith, full, over, length-append bytes (take count buffer), length-take-le count buffer fits));
+  held = held;
+  has_come = come;
+}
+
+-- what has come, by the same rule and separator
+pub HasCome-same : (rule same : Rule) (separator other : ℕ) (a b : Stand) (held came : List ℕ) → same ≡ rule → other ≡ separator
+    → HasCome rule separator a b held came → HasCome same other a b held came
+HasCome-same rule same separator other a b held came is_same is_other come =
+    subst (λ (s : ℕ). HasCome same s a b held came) (sym is_other) (subst (λ (r : Rule). HasCome r separator a b held came) (sym is_same) come)
+
+-- one piece more has come
+pub HasCome-piece : (rule same : Rule) (separator other : ℕ) (a b : Stand) (held came : List ℕ) → same ≡ rule → other ≡ separator
+    → HasCome same other a b held came → HasCome rule separator a b held came
+HasCome-piece rule same separator other a b held came is_same is_other come =
+    subst (λ (s : ℕ). HasCome rule s a b held came) is_other (subst (λ (r : Rule). HasCome r other a b held came) is_same come)
+
+-- a run stops in a piece
+pub Stops-same : (rule same : Rule) (separator other : ℕ) (fault : RunFault) (a b : Stand) (came : List ℕ) → same ≡ rule → other ≡ separator
+    → ((more : List ℕ) → StopsInList same other (came ++ more) fault a b) → (more : List ℕ) → StopsInList rule separator (came ++ more) fault a b
+Stops-same rule same separator other fault a b came is_same is_other stops more =
+    subst (λ (s : ℕ). StopsInList rule s (came ++ more) fault a b) is_other (subst (λ (r : Rule). StopsInList r other (came ++ more) fault a b) is_same (stops more))

@@ -1,0 +1,30 @@
+use Rattle.std.proofs.Common.{◌≡◌, ℕ, ◌+◌, true, false, List, [], length}
+use Rattle.std.specs.Io.KnownBytes.{Consumes}
+use Rattle.d64_script.specs.Output.{account_of}
+use Rattle.d64_collection.specs.Lists.{HasCome, list_limit}
+use Rattle.d64_collection.specs.Runs.{host_of, stand_of, told_of}
+use Rattle.d64_collection.proofs.list_desk.ListDesk.answer_stream.Given as goal
+
+-- the bytes so far are all that the reader lost, and the list has come through them
+abbrev pub invariant-loop : goal.invariant-loop
+invariant-loop g l = record {
+  bytes : List ℕ;
+  lost : Consumes (g.R.Read.remaining l.initial.input.reader.now) (g.R.Read.remaining l.input.reader.now) bytes;
+  within : length bytes + l.left ≡ list_limit;
+  came : l.initial.self.name ≡ [] → HasCome (g.P.Report.rule l.initial.report) l.initial.self.separator
+      (stand_of (host_of (g.H.Host.files l.initial.host) (g.H.Host.failure_count l.initial.host))
+      (told_of (account_of (g.W.Write.contents l.initial.output.writer.now) l.initial.output.has_failed) (account_of (g.F.Write.contents l.initial.faults.writer.now) l.initial.faults.has_failed) l.initial.self.desk.worst))
+      (stand_of (host_of (g.H.Host.files l.host) (g.H.Host.failure_count l.host))
+      (told_of (account_of (g.W.Write.contents l.output.writer.now) l.output.has_failed) (account_of (g.F.Write.contents l.faults.writer.now) l.faults.has_failed) l.self.desk.worst))
+      l.self.name bytes;
+  separator : l.self.separator ≡ l.initial.self.separator;
+  rule : g.P.Report.rule l.report ≡ g.P.Report.rule l.initial.report;
+  same_input : l.input.reader.ghost_name ≡ l.initial.input.reader.ghost_name;
+  same_output : l.output.writer.ghost_name ≡ l.initial.output.writer.ghost_name;
+  same_faults : l.faults.writer.ghost_name ≡ l.initial.faults.writer.ghost_name;
+  counted : l.input.reads ≡ l.counter;
+  came_bytes : l.input.came ≡ length bytes;
+  read : l.input.has_failed ≡ false;
+  delivered : l.output.is_delivered ≡ true;
+  unfailed : l.output.has_failed ≡ l.initial.output.has_failed;
+}

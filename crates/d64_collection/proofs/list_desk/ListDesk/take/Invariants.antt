@@ -1,0 +1,25 @@
+use Rattle.std.proofs.Common.{◌≡◌, true, ℕ, List, ◌++◌, take}
+use Rattle.d64_script.specs.Output.{account_of}
+use Rattle.d64_collection.specs.Lists.{HasCome}
+use Rattle.d64_collection.specs.Runs.{Stand, host_of, stand_of, told_of}
+use Rattle.d64_collection.proofs.list_desk.ListDesk.take.Given as goal
+
+-- the list has come as far as this byte
+abbrev pub invariant-loop-byte : goal.invariant-loop-byte
+invariant-loop-byte g l = record {
+  separator : l.self.separator ≡ l.initial.self.separator;
+  output : l.output.writer.ghost_name ≡ l.initial.output.writer.ghost_name;
+  faults : l.faults.writer.ghost_name ≡ l.initial.faults.writer.ghost_name;
+  rule : g.P.Report.rule l.report ≡ g.P.Report.rule l.initial.report;
+  delivered : l.initial.output.is_delivered ≡ true → l.output.is_delivered ≡ true;
+  unfailed : l.output.has_failed ≡ l.initial.output.has_failed;
+  came : (first : Stand) (before : List ℕ)
+      → HasCome (g.P.Report.rule l.initial.report) l.initial.self.separator first
+      (stand_of (host_of (g.H.Host.files l.initial.host) (g.H.Host.failure_count l.initial.host))
+      (told_of (account_of (g.W.Write.contents l.initial.output.writer.now) l.initial.output.has_failed) (account_of (g.F.Write.contents l.initial.faults.writer.now) l.initial.faults.has_failed) l.initial.self.desk.worst))
+      l.initial.self.name before
+      → HasCome (g.P.Report.rule l.initial.report) l.initial.self.separator first
+      (stand_of (host_of (g.H.Host.files l.host) (g.H.Host.failure_count l.host))
+      (told_of (account_of (g.W.Write.contents l.output.writer.now) l.output.has_failed) (account_of (g.F.Write.contents l.faults.writer.now) l.faults.has_failed) l.self.desk.worst))
+      l.self.name (before ++ take l.byte-index l.bytes);
+}

@@ -1,0 +1,4 @@
+pub mod Names
+pub mod Answers
+pub mod Runs
+pub mod Lists

@@ -1,0 +1,140 @@
+-- Runs over files: what is answered of each, and where a run stops.
+use Rattle.std.specs.Prelude.{◌≡◌, ℕ, List, [], ◌∷◌, ◌++◌, Option, Some, None, Result, Ok, Err, ◌⊎◌, true}
+use Rattle.std.specs.Io.KnownBytes.{Appends}
+use Rattle.d64_host.specs.Files.{Files}
+use Rattle.d64_host.specs.Host.{Fetches, CountsDevice}
+use Rattle.d64_host.specs.declared.host.HostFault.{HostFault}
+use Rattle.d64_host.specs.declared.host.HostFault.TheVariants.{Missing, Device, TooLong, Memory}
+use Rattle.d64_script.specs.Output.{Account, AppendsPart, Writes}
+use Rattle.d64_collection.specs.Names.{Asked, File, NoFile}
+use Rattle.d64_collection.specs.Answers.{Answer, Rule, worse}
+use Rattle.d64_collection.specs.declared.report.Verdict.{Verdict}
+use Rattle.d64_script.specs.declared.output.WriteFault.{WriteFault}
+use Rattle.d64_collection.specs.declared.desk.RunFault.{RunFault}
+use Rattle.d64_collection.specs.declared.desk.RunFault.TheVariants as faults
+
+-- the most bytes of a file
+abbrev pub file_limit : ℕ
+file_limit = 16777216
+
+-- what a host shows: its files, where it tells them, and how many of its calls failed
+pub record HostView : Type 0 where
+  pub files : Option Files
+  pub failures : ℕ
+
+-- what was told so far: what the output and the standard error have, and the worst verdict
+pub record Told : Type 0 where
+  pub output : Account
+  pub error : Account
+  pub worst : Verdict
+
+-- how it stands with a run
+pub record Stand : Type 0 where
+  pub host : HostView
+  pub told : Told
+
+abbrev pub host_of : Option Files → ℕ → HostView
+host_of files failures = record { files = files; failures = failures }
+
+abbrev pub told_of : Account → Account → Verdict → Told
+told_of output error worst = record { output = output; error = error; worst = worst }
+
+abbrev pub stand_of : HostView → Told → Stand
+stand_of host told = record { host = host; told = told }
+
+-- what a fetch gives a report: the bytes, or none where the file cannot be read; and nothing at all where memory was wanting
+abbrev pub given_by : Result (List ℕ) HostFault → Option (Option (List ℕ))
+given_by (Ok bytes) = Some (Some bytes)
+given_by (Err Missing) = Some None
+given_by (Err Device) = Some None
+given_by (Err TooLong) = Some None
+given_by (Err (Memory error)) = None
+
+-- a file was fetched of the host, which keeps its files
+abbrev pub IsFetched : List ℕ → HostView → Result (List ℕ) HostFault → HostView → Type 0
+IsFetched name old answer new =
+    Fetches old.files name file_limit answer × (new.files ≡ old.files) × CountsDevice old.failures new.failures answer
+
+-- what was read for a report: the bytes of a file, or none where it cannot be read; of what is no file the host is asked nothing
+abbrev pub IsRead : Asked → HostView → Option (List ℕ) → HostView → Type 0
+IsRead (File name) old bytes new = (answer : Result (List ℕ) HostFault) × IsFetched name old answer new × (given_by answer ≡ Some bytes)
+IsRead (NoFile name) old bytes new = (bytes ≡ None) × (new ≡ old)
+
+-- how the name is shown to a report
+abbrev pub shown : Asked → List ℕ
+shown (File name) = name
+shown (NoFile name) = name
+
+-- an answer was told: all of it went to the output, which was flushed, and to the standard error, unless that failed; and its verdict counts
+pub record IsTold (answer : Answer) (old new : Told) : Type 0 where
+  pub printed : Appends old.output.contents new.output.contents answer.printed
+  pub unfailed : new.output.has_failed ≡ old.output.has_failed
+  pub complained : Writes old.error new.error answer.complaint
+  pub worst : new.worst ≡ worse old.worst answer.verdict
+
+-- the output failed, and has a first part of an answer
+pub record IsCut (answer : Answer) (old new : Told) : Type 0 where
+  pub part : AppendsPart old.output.contents new.output.contents answer.printed
+  pub failed : new.output.has_failed ≡ true
+  pub silent : new.error ≡ old.error
+  pub worst : new.worst ≡ old.worst
+
+-- how telling an answer ends
+abbrev pub Tells : {A : Type 0} → Answer → Told → Told → Result A WriteFault → Type 0
+Tells answer old new (Ok done) = IsTold answer old new
+Tells answer old new (Err fault) = IsCut answer old new
+
+-- how printing what stands before all answers ends: it is printed; or the output failed, and has a first part of it; or there was no memory
+abbrev pub Begins : {A : Type 0} → List ℕ → Account → Account → Result A RunFault → Type 0
+Begins heading old new (Ok done) = Appends old.contents new.contents heading × (new.has_failed ≡ old.has_failed)
+Begins heading old new (Err faults.Write) = AppendsPart old.contents new.contents heading × (new.has_failed ≡ true)
+Begins heading old new (Err faults.Memory) = new ≡ old
+Begins heading old new (Err faults.List) = ⊥
+
+-- a file is answered: it is read, and what the rule says of it is told
+pub record Answers (rule : Rule) (asked : Asked) (old new : Stand) : Type 0 where
+  pub bytes : Option (List ℕ)
+  pub read : IsRead asked old.host bytes new.host
+  pub told : IsTold (rule (shown asked) bytes) old.told new.told
+
+-- files are answered, one after another
+unfoldable pub Steps : Rule → List Asked → Stand → Stand → Type 0
+Steps rule [] old new = new ≡ old
+Steps rule (asked ∷ more) old new = (middle : Stand) × Answers rule asked old middle × Steps rule more middle new
+
+-- the output failed while a file was told of
+pub record FailsToTell (rule : Rule) (asked : Asked) (old new : Stand) : Type 0 where
+  pub bytes : Option (List ℕ)
+  pub read : IsRead asked old.host bytes new.host
+  pub told : IsCut (rule (shown asked) bytes) old.told new.told
+
+-- there was no memory to read a file, or to tell of it: nothing of it was told
+pub record WantsMemory (asked : Asked) (old new : Stand) : Type 0 where
+  pub read : ((bytes : Option (List ℕ)) × IsRead asked old.host bytes new.host) ⊎ (new.host ≡ old.host)
+  pub told : new.told ≡ old.told
+
+-- a run stops at a file, by a fault
+abbrev pub StopsAt : Rule → Asked → RunFault → Stand → Stand → Type 0
+StopsAt rule asked faults.Write old new = FailsToTell rule asked old new
+StopsAt rule asked faults.Memory old new = WantsMemory asked old new
+StopsAt rule asked faults.List old new = ⊥
+
+-- how answering a file ends
+abbrev pub EndsAt : {A : Type 0} → Rule → Asked → Stand → Stand → Result A RunFault → Type 0
+EndsAt rule asked old new (Ok done) = Answers rule asked old new
+EndsAt rule asked old new (Err fault) = StopsAt rule asked fault old new
+
+-- a run stops at one of these files, after those before it were answered
+pub record StopsIn (rule : Rule) (all : List Asked) (fault : RunFault) (old new : Stand) : Type 0 where
+  pub before : List Asked
+  pub asked : Asked
+  pub rest : List Asked
+  pub split : before ++ asked ∷ rest ≡ all
+  pub middle : Stand
+  pub answered : Steps rule before old middle
+  pub stopped : StopsAt rule asked fault middle new
+
+-- how a run over these files ends: all are answered, or it stops at one
+abbrev pub Runs : {A : Type 0} → Rule → List Asked → Stand → Stand → Result A RunFault → Type 0
+Runs rule all old new (Ok done) = Steps rule all old new
+Runs rule all old new (Err fault) = StopsIn rule all fault old new

@@ -1,0 +1,197 @@
+//! Where files are answered, one after another.
+ghost use Rattle.std.specs.Prelude.{◌≡◌, true, map, string_bytes, OnOk};
+ghost use Rattle.d64_script.specs.Output.{account_of};
+ghost use Rattle.d64_collection.specs.Names.{File, NoFile};
+ghost use Rattle.d64_collection.specs.Runs.{Begins, EndsAt, HostView, Runs, Tells, host_of, stand_of, told_of};
+
+use crate::report::{AnswerRoom, Report, Verdict};
+use d64_host::{Host, HostFault};
+use d64_script::output::{OutputStream, WriteFault};
+use std::alloc::{AllocError, Global};
+use std::io::Write;
+use thiserror::Error;
+
+/// The most bytes of a file.
+const FILE_BYTES: usize = 16_777_216;
+
+/// Why a run stopped before its last file.
+#[derive(Clone, Copy, Debug, PartialEq, Eq, Error)]
+pub enum RunFault {
+    /// The list of names cannot be read to its end. All names that were ended before are answered.
+    #[error("the list of names cannot be read")]
+    List,
+    /// The output takes no more bytes.
+    #[error("write fault")]
+    Write,
+    #[error("out of memory")]
+    Memory,
+}
+
+impl From<AllocError> for RunFault {
+    ghost use Rattle.std.specs.Prelude.{◌≡◌};
+    ghost use Rattle.d64_collection.specs.declared.desk.RunFault.TheVariants.{Memory};
+
+    ghost from_gives = { λ _ fault. fault ≡ Memory };
+
+    fn from(_error: AllocError) -> RunFault {
+        RunFault::Memory
+    }
+}
+
+impl From<WriteFault> for RunFault {
+    ghost use Rattle.std.specs.Prelude.{◌≡◌};
+    ghost use Rattle.d64_collection.specs.declared.desk.RunFault.TheVariants.{Write};
+
+    ghost from_gives = { λ _ fault. fault ≡ Write };
+
+    fn from(_fault: WriteFault) -> RunFault {
+        RunFault::Write
+    }
+}
+
+/// The memory of a run, which is kept from file to file, and its worst verdict so far.
+#[derive(Drop)]
+pub struct Desk {
+    bytes: Vec<u8>,
+    room: AnswerRoom,
+    worst: Verdict,
+}
+
+impl Desk {
+    /// A desk at which nothing was answered, which has no memory yet.
+    pub fn new(alloc: Global) -> Desk
+        ensures { result.worst ≡ Verdict.Clean }
+    {
+        Desk {
+            bytes: Vec::new(alloc),
+            room: AnswerRoom::new(alloc),
+            worst: Verdict::Clean,
+        }
+    }
+
+    /// The worst verdict on the files that were answered.
+    pub fn worst(&self) -> Verdict
+        ensures { result ≡ self.now.worst }
+    {
+        self.worst
+    }
+
+    /// Prints what stands before all answers.
+    pub fn begin<P: Report, W: Write>(
+        &mut self,
+        report: &mut P,
+        output: &mut OutputStream<'_, W>,
+    ) -> Result<(), RunFault>
+        ensures output { output.new.writer.ghost_name ≡ output.old.writer.ghost_name }
+        ensures rule { P.rule report.new ≡ P.rule report.old }
+        ensures delivered { OnOk result (output.new.is_delivered ≡ true) }
+        ensures unfailed { OnOk result (output.new.has_failed ≡ output.old.has_failed) }
+        ensures worst { self.new.worst ≡ self.old.worst }
+        ensures begun { Begins (P.heading report.old) (account_of (W.contents output.old.writer.now) output.old.has_failed) (account_of (W.contents output.new.writer.now) output.new.has_failed) result }
+    {
+        report.head(&mut self.room)?;
+        output.write(self.room.printed.as_slice())?;
+        output.flush()?;
+        Ok(())
+    }
+
+    /// Answers a file of the host.
+    pub(crate) fn answer_file<H: Host, P: Report, W: Write, F: Write>(
+        &mut self,
+        name: &str,
+        host: &mut H,
+        report: &mut P,
+        output: &mut OutputStream<'_, W>,
+        faults: &mut OutputStream<'_, F>,
+    ) -> Result<(), RunFault>
+        ensures output { output.new.writer.ghost_name ≡ output.old.writer.ghost_name }
+        ensures faults { faults.new.writer.ghost_name ≡ faults.old.writer.ghost_name }
+        ensures rule { P.rule report.new ≡ P.rule report.old }
+        ensures delivered { OnOk result (output.new.is_delivered ≡ true) }
+        ensures unfailed { OnOk result (output.new.has_failed ≡ output.old.has_failed) }
+        ensures answered { EndsAt (P.rule report.old) (File name.now)
+            (stand_of (host_of (H.files host.old) (H.failure_count host.old)) (told_of (account_of (W.contents output.old.writer.now) output.old.has_failed) (account_of (F.contents faults.old.writer.now) faults.old.has_failed) self.old.worst))
+            (stand_of (host_of (H.files host.new) (H.failure_count host.new)) (told_of (account_of (W.contents output.new.writer.now) output.new.has_failed) (account_of (F.contents faults.new.writer.now) faults.new.has_failed) self.new.worst)) result }
+    {
+        let verdict = match host.fill(name, FILE_BYTES, &mut self.bytes) {
+            Ok(()) => report.answer(name.as_bytes(), Some(self.bytes.as_slice()), &mut self.room)?,
+            Err(HostFault::Missing | HostFault::Device | HostFault::TooLong) => {
+                report.answer(name.as_bytes(), None, &mut self.room)?
+            }
+            Err(HostFault::Memory(_)) => return Err(RunFault::Memory),
+        };
+        self.tell(verdict, output, faults)?;
+        Ok(())
+    }
+
+    /// Answers a name that is shown so and that can be no file's.
+    pub(crate) fn answer_no_file<P: Report, W: Write, F: Write>(
+        &mut self,
+        name: &[u8],
+        report: &mut P,
+        output: &mut OutputStream<'_, W>,
+        faults: &mut OutputStream<'_, F>,
+    ) -> Result<(), RunFault>
+        ensures output { output.new.writer.ghost_name ≡ output.old.writer.ghost_name }
+        ensures faults { faults.new.writer.ghost_name ≡ faults.old.writer.ghost_name }
+        ensures rule { P.rule report.new ≡ P.rule report.old }
+        ensures delivered { OnOk result (output.new.is_delivered ≡ true) }
+        ensures unfailed { OnOk result (output.new.has_failed ≡ output.old.has_failed) }
+        ensures answered { (seen : HostView) → EndsAt (P.rule report.old) (NoFile name.now)
+            (stand_of seen (told_of (account_of (W.contents output.old.writer.now) output.old.has_failed) (account_of (F.contents faults.old.writer.now) faults.old.has_failed) self.old.worst))
+            (stand_of seen (told_of (account_of (W.contents output.new.writer.now) output.new.has_failed) (account_of (F.contents faults.new.writer.now) faults.new.has_failed) self.new.worst)) result }
+    {
+        let verdict = report.answer(name, None, &mut self.room)?;
+        self.tell(verdict, output, faults)?;
+        Ok(())
+    }
+
+    /// Answers files of the host, one after another, and returns the worst verdict. `Write` comes where the output fails, and nothing is
+    /// answered after that; a file that cannot be read stops nothing.
+    pub fn answer_files<H: Host, P: Report, W: Write, F: Write>(
+        &mut self,
+        names: &[String],
+        host: &mut H,
+        report: &mut P,
+        output: &mut OutputStream<'_, W>,
+        faults: &mut OutputStream<'_, F>,
+    ) -> Result<(), RunFault>
+        ensures output { output.new.writer.ghost_name ≡ output.old.writer.ghost_name }
+        ensures faults { faults.new.writer.ghost_name ≡ faults.old.writer.ghost_name }
+        ensures rule { P.rule report.new ≡ P.rule report.old }
+        ensures delivered { output.old.is_delivered ≡ true → OnOk result (output.new.is_delivered ≡ true) }
+        ensures unfailed { OnOk result (output.new.has_failed ≡ output.old.has_failed) }
+        ensures answered { Runs (P.rule report.old) (map (λ name. File (string_bytes name)) names.now)
+            (stand_of (host_of (H.files host.old) (H.failure_count host.old))
+            (told_of (account_of (W.contents output.old.writer.now) output.old.has_failed) (account_of (F.contents faults.old.writer.now) faults.old.has_failed) self.old.worst))
+            (stand_of (host_of (H.files host.new) (H.failure_count host.new))
+            (told_of (account_of (W.contents output.new.writer.now) output.new.has_failed) (account_of (F.contents faults.new.writer.now) faults.new.has_failed) self.new.worst)) result }
+    {
+        for name in names {
+            self.answer_file(name.as_str(), host, report, output, faults)?;
+        }
+        Ok(())
+    }
+
+    /// Writes and delivers what is in the room, and counts the verdict. Where the standard error fails, the rest of a complaint is dropped.
+    fn tell<W: Write, F: Write>(
+        &mut self,
+        verdict: Verdict,
+        output: &mut OutputStream<'_, W>,
+        faults: &mut OutputStream<'_, F>,
+    ) -> Result<(), WriteFault>
+        ensures output { output.new.writer.ghost_name ≡ output.old.writer.ghost_name }
+        ensures faults { faults.new.writer.ghost_name ≡ faults.old.writer.ghost_name }
+        ensures delivered { OnOk result (output.new.is_delivered ≡ true) }
+        ensures unfailed { OnOk result (output.new.has_failed ≡ output.old.has_failed) }
+        ensures told { Tells (record { printed = self.old.room.printed.items; complaint = self.old.room.complaint.items; verdict = verdict })
+            (told_of (account_of (W.contents output.old.writer.now) output.old.has_failed) (account_of (F.contents faults.old.writer.now) faults.old.has_failed) self.old.worst)
+            (told_of (account_of (W.contents output.new.writer.now) output.new.has_failed) (account_of (F.contents faults.new.writer.now) faults.new.has_failed) self.new.worst) result }
+    {
+        output.write(self.room.printed.as_slice())?;
+        output.flush()?;
+        let _ = faults.write(self.room.complaint.as_slice());
+        self.worst = self.worst.worse(verdict);
+        Ok(())
+    }
+}

@@ -1,0 +1,13 @@
+//! A run over many files: each is read, told of and flushed before the next one, in memory that is kept from file to file.
+//!
+//! Nothing here knows what the files hold: a `Report` tells of one.
+#![tactic(auto)]
+
+mod desk;
+mod list_desk;
+mod open_name;
+mod report;
+
+pub use desk::{Desk, RunFault};
+pub use list_desk::ListDesk;
+pub use report::{AnswerRoom, Report, Verdict};

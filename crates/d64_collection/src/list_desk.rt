@@ -1,0 +1,231 @@
+//! Where the files that a list names are answered, as the list's bytes come.
+ghost use Rattle.std.specs.Prelude.{◌≡◌, ◌≢◌, Err, [], ◌∷◌, ◌++◌, List, ℕ, true, map, OnOk, IfErr};
+ghost use Rattle.d64_script.specs.Input.{IsUnread, IsUnreadable, reading_of};
+ghost use Rattle.d64_script.specs.Output.{account_of};
+ghost use Rattle.d64_collection.specs.Names.{asked_by, listed, names_in};
+ghost use Rattle.d64_collection.specs.Runs.{Runs, Stand, host_of, stand_of, told_of};
+ghost use Rattle.d64_collection.specs.Lists.{HasCome, RunsStream, StopsInList};
+
+use crate::desk::{Desk, RunFault};
+use crate::open_name::OpenName;
+use crate::report::{Report, Verdict};
+use d64_host::Host;
+use d64_script::input::InputStream;
+use d64_script::output::OutputStream;
+use d64_script::script::{READ_BYTES, SCRIPT_BYTES, SCRIPT_READS};
+use std::io::{Read, Write};
+
+/// A desk, and the name of a list that has not come to its end. Names stand between separators; an empty one is none.
+#[derive(Drop)]
+pub struct ListDesk {
+    separator: u8,
+    name: OpenName,
+    desk: Desk,
+}
+
+impl ListDesk {
+    /// A desk for a list with this byte between its names, of which nothing has come.
+    pub fn new(desk: Desk, separator: u8) -> ListDesk
+        ensures separator { result.separator ≡ separator }
+        ensures fresh { result.name ≡ [] }
+        ensures worst { result.desk.worst ≡ desk.worst }
+    {
+        ListDesk {
+            separator,
+            name: OpenName::new(),
+            desk,
+        }
+    }
+
+    /// The worst verdict on the files that were answered.
+    pub fn worst(&self) -> Verdict
+        ensures { result ≡ self.now.desk.worst }
+    {
+        self.desk.worst()
+    }
+
+    /// Answers the files that the bytes of a list name.
+    pub fn answer_list<H: Host, P: Report, W: Write, F: Write>(
+        &mut self,
+        list: &[u8],
+        host: &mut H,
+        report: &mut P,
+        output: &mut OutputStream<'_, W>,
+        faults: &mut OutputStream<'_, F>,
+    ) -> Result<(), RunFault>
+        ensures separator { self.new.separator ≡ self.old.separator }
+        ensures output { output.new.writer.ghost_name ≡ output.old.writer.ghost_name }
+        ensures faults { faults.new.writer.ghost_name ≡ faults.old.writer.ghost_name }
+        ensures rule { P.rule report.new ≡ P.rule report.old }
+        ensures delivered { output.old.is_delivered ≡ true → OnOk result (output.new.is_delivered ≡ true) }
+        ensures unfailed { OnOk result (output.new.has_failed ≡ output.old.has_failed) }
+        ensures answered { self.old.name ≡ [] → Runs (P.rule report.old) (map listed (names_in self.old.separator list.now))
+            (stand_of (host_of (H.files host.old) (H.failure_count host.old))
+            (told_of (account_of (W.contents output.old.writer.now) output.old.has_failed) (account_of (F.contents faults.old.writer.now) faults.old.has_failed) self.old.desk.worst))
+            (stand_of (host_of (H.files host.new) (H.failure_count host.new))
+            (told_of (account_of (W.contents output.new.writer.now) output.new.has_failed) (account_of (F.contents faults.new.writer.now) faults.new.has_failed) self.new.desk.worst)) result }
+    {
+        self.take(list, host, report, output, faults)?;
+        self.end(host, report, output, faults)
+    }
+
+    /// Answers the files that an input names, each once its name is ended. `List` comes where the input cannot be read to its end: a read failed,
+    /// or it has more than 16,777,216 bytes, or takes more than 1,000,000 reads.
+    pub fn answer_stream<R: Read, H: Host, P: Report, W: Write, F: Write>(
+        &mut self,
+        input: &mut InputStream<'_, R>,
+        host: &mut H,
+        report: &mut P,
+        output: &mut OutputStream<'_, W>,
+        faults: &mut OutputStream<'_, F>,
+    ) -> Result<(), RunFault>
+        requires unread { IsUnread (reading_of input.old.reads input.old.came input.old.has_failed) }
+        requires delivered { output.old.is_delivered ≡ true }
+        ensures separator { self.new.separator ≡ self.old.separator }
+        ensures unreadable { result ≡ Err RunFault.List → IsUnreadable (reading_of input.new.reads input.new.came input.new.has_failed) }
+        ensures input { input.new.reader.ghost_name ≡ input.old.reader.ghost_name }
+        ensures output { output.new.writer.ghost_name ≡ output.old.writer.ghost_name }
+        ensures faults { faults.new.writer.ghost_name ≡ faults.old.writer.ghost_name }
+        ensures rule { P.rule report.new ≡ P.rule report.old }
+        ensures delivered { OnOk result (output.new.is_delivered ≡ true) }
+        ensures unfailed { OnOk result (output.new.has_failed ≡ output.old.has_failed) }
+        ensures answered { self.old.name ≡ [] → RunsStream (P.rule report.old) self.old.separator (R.remaining input.old.reader.now) (R.remaining input.new.reader.now)
+            (stand_of (host_of (H.files host.old) (H.failure_count host.old))
+            (told_of (account_of (W.contents output.old.writer.now) output.old.has_failed) (account_of (F.contents faults.old.writer.now) faults.old.has_failed) self.old.desk.worst))
+            (stand_of (host_of (H.files host.new) (H.failure_count host.new))
+            (told_of (account_of (W.contents output.new.writer.now) output.new.has_failed) (account_of (F.contents faults.new.writer.now) faults.new.has_failed) self.new.desk.worst)) result }
+    {
+        let mut left = SCRIPT_BYTES;
+        let mut buffer = [0; READ_BYTES];
+        for _ in 0..SCRIPT_READS {
+            let count = match input.read_after(output, &mut buffer) {
+                Ok(0) => return self.end(host, report, output, faults),
+                Ok(count) => count,
+                Err(_) => return Err(RunFault::List),
+            };
+            if count > left {
+                return Err(RunFault::List);
+            }
+            left -= count;
+            self.take(&buffer[..count], host, report, output, faults)?;
+        }
+        Err(RunFault::List)
+    }
+
+    /// Takes the next bytes of the list, and answers the files whose names end in them.
+    fn take<H: Host, P: Report, W: Write, F: Write>(
+        &mut self,
+        bytes: &[u8],
+        host: &mut H,
+        report: &mut P,
+        output: &mut OutputStream<'_, W>,
+        faults: &mut OutputStream<'_, F>,
+    ) -> Result<(), RunFault>
+        ensures separator { self.new.separator ≡ self.old.separator }
+        ensures never { result ≢ Err RunFault.List }
+        ensures output { output.new.writer.ghost_name ≡ output.old.writer.ghost_name }
+        ensures faults { faults.new.writer.ghost_name ≡ faults.old.writer.ghost_name }
+        ensures rule { P.rule report.new ≡ P.rule report.old }
+        ensures delivered { output.old.is_delivered ≡ true → OnOk result (output.new.is_delivered ≡ true) }
+        ensures unfailed { OnOk result (output.new.has_failed ≡ output.old.has_failed) }
+        ensures came { (first : Stand) (before : List ℕ)
+            → HasCome (P.rule report.old) self.old.separator first
+            (stand_of (host_of (H.files host.old) (H.failure_count host.old))
+            (told_of (account_of (W.contents output.old.writer.now) output.old.has_failed) (account_of (F.contents faults.old.writer.now) faults.old.has_failed) self.old.desk.worst))
+            self.old.name before
+            → OnOk result (HasCome (P.rule report.old) self.old.separator first
+            (stand_of (host_of (H.files host.new) (H.failure_count host.new))
+            (told_of (account_of (W.contents output.new.writer.now) output.new.has_failed) (account_of (F.contents faults.new.writer.now) faults.new.has_failed) self.new.desk.worst))
+            self.new.name (before ++ bytes.now)) }
+        ensures stopped { (first : Stand) (before : List ℕ)
+            → HasCome (P.rule report.old) self.old.separator first
+            (stand_of (host_of (H.files host.old) (H.failure_count host.old))
+            (told_of (account_of (W.contents output.old.writer.now) output.old.has_failed) (account_of (F.contents faults.old.writer.now) faults.old.has_failed) self.old.desk.worst))
+            self.old.name before
+            → IfErr result (λ fault. (more : List ℕ) → StopsInList (P.rule report.old) self.old.separator ((before ++ bytes.now) ++ more) fault first
+            (stand_of (host_of (H.files host.new) (H.failure_count host.new))
+            (told_of (account_of (W.contents output.new.writer.now) output.new.has_failed) (account_of (F.contents faults.new.writer.now) faults.new.has_failed) self.new.desk.worst))) }
+    {
+        for byte in bytes {
+            self.take_byte(*byte, host, report, output, faults)?;
+        }
+        Ok(())
+    }
+
+    /// Takes the next byte of the list, and answers the file whose name it ends.
+    fn take_byte<H: Host, P: Report, W: Write, F: Write>(
+        &mut self,
+        byte: u8,
+        host: &mut H,
+        report: &mut P,
+        output: &mut OutputStream<'_, W>,
+        faults: &mut OutputStream<'_, F>,
+    ) -> Result<(), RunFault>
+        ensures separator { self.new.separator ≡ self.old.separator }
+        ensures never { result ≢ Err RunFault.List }
+        ensures output { output.new.writer.ghost_name ≡ output.old.writer.ghost_name }
+        ensures faults { faults.new.writer.ghost_name ≡ faults.old.writer.ghost_name }
+        ensures rule { P.rule report.new ≡ P.rule report.old }
+        ensures delivered { output.old.is_delivered ≡ true → OnOk result (output.new.is_delivered ≡ true) }
+        ensures unfailed { OnOk result (output.new.has_failed ≡ output.old.has_failed) }
+        ensures came { (first : Stand) (before : List ℕ)
+            → HasCome (P.rule report.old) self.old.separator first
+            (stand_of (host_of (H.files host.old) (H.failure_count host.old))
+            (told_of (account_of (W.contents output.old.writer.now) output.old.has_failed) (account_of (F.contents faults.old.writer.now) faults.old.has_failed) self.old.desk.worst))
+            self.old.name before
+            → OnOk result (HasCome (P.rule report.old) self.old.separator first
+            (stand_of (host_of (H.files host.new) (H.failure_count host.new))
+            (told_of (account_of (W.contents output.new.writer.now) output.new.has_failed) (account_of (F.contents faults.new.writer.now) faults.new.has_failed) self.new.desk.worst))
+            self.new.name (before ++ byte ∷ [])) }
+        ensures stopped { (first : Stand) (before : List ℕ)
+            → HasCome (P.rule report.old) self.old.separator first
+            (stand_of (host_of (H.files host.old) (H.failure_count host.old))
+            (told_of (account_of (W.contents output.old.writer.now) output.old.has_failed) (account_of (F.contents faults.old.writer.now) faults.old.has_failed) self.old.desk.worst))
+            self.old.name before
+            → IfErr result (λ fault. (more : List ℕ) → StopsInList (P.rule report.old) self.old.separator ((before ++ byte ∷ []) ++ more) fault first
+            (stand_of (host_of (H.files host.new) (H.failure_count host.new))
+            (told_of (account_of (W.contents output.new.writer.now) output.new.has_failed) (account_of (F.contents faults.new.writer.now) faults.new.has_failed) self.new.desk.worst))) }
+    {
+        if byte != self.separator {
+            self.name.push(byte);
+            return Ok(());
+        }
+        self.end(host, report, output, faults)?;
+        self.name.clear();
+        Ok(())
+    }
+
+    /// Answers the file whose name is ended, if it has a byte.
+    fn end<H: Host, P: Report, W: Write, F: Write>(
+        &mut self,
+        host: &mut H,
+        report: &mut P,
+        output: &mut OutputStream<'_, W>,
+        faults: &mut OutputStream<'_, F>,
+    ) -> Result<(), RunFault>
+        ensures separator { self.new.separator ≡ self.old.separator }
+        ensures never { result ≢ Err RunFault.List }
+        ensures output { output.new.writer.ghost_name ≡ output.old.writer.ghost_name }
+        ensures faults { faults.new.writer.ghost_name ≡ faults.old.writer.ghost_name }
+        ensures rule { P.rule report.new ≡ P.rule report.old }
+        ensures delivered { output.old.is_delivered ≡ true → OnOk result (output.new.is_delivered ≡ true) }
+        ensures unfailed { OnOk result (output.new.has_failed ≡ output.old.has_failed) }
+        ensures answered { Runs (P.rule report.old) (asked_by self.old.name)
+            (stand_of (host_of (H.files host.old) (H.failure_count host.old))
+            (told_of (account_of (W.contents output.old.writer.now) output.old.has_failed) (account_of (F.contents faults.old.writer.now) faults.old.has_failed) self.old.desk.worst))
+            (stand_of (host_of (H.files host.new) (H.failure_count host.new))
+            (told_of (account_of (W.contents output.new.writer.now) output.new.has_failed) (account_of (F.contents faults.new.writer.now) faults.new.has_failed) self.new.desk.worst)) result }
+    {
+        if !self.name.is_name() {
+            return Ok(());
+        }
+        match self.name.file_name() {
+            Some(name) => self.desk.answer_file(name, host, report, output, faults),
+            None => {
+                self.name.shorten();
+                self.desk
+                    .answer_no_file(self.name.as_bytes(), report, output, faults)
+            }
+        }
+    }
+}
