@@ -1,1 +1,2 @@
 pub mod ProgramRuns
+pub mod SurveyRuns

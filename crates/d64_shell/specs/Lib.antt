@@ -3,5 +3,6 @@ pub use Rattle.d64_dos.specs.Command
 pub use Rattle.d64_undo.specs.History
 pub use Rattle.d64_host.specs.Host
 pub use Rattle.d64_host.specs.MemoryHost
+pub mod Surveys
 pub mod Program
 pub mod Tools

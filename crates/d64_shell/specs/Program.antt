@@ -1,8 +1,8 @@
 -- What the program does with its words, its streams and a host.
-use Rattle.std.specs.Prelude.{◌≡◌, ℕ, ◌==◌, false, if◌then◌else◌, List, [], ◌∷◌, ◌++◌, length, replicate, codes, string_bytes, Option, Some, None, option_map, Result, Ok, Err, ◌⊎◌, ⊤}
+use Rattle.std.specs.Prelude.{◌≡◌, ℕ, ◌==◌, Bool, false, if◌then◌else◌, List, [], ◌∷◌, ◌++◌, length, replicate, codes, string_bytes, Option, Some, None, option_map, Result, Ok, Err, ◌⊎◌, ⊤}
 use Rattle.std.specs.Fmt.{decimal}
 use Rattle.std.specs.Io.KnownBytes.{Appends, Keeps}
-use Rattle.d64_script.specs.Output.{Account, AppendsPart, Writes}
+use Rattle.d64_script.specs.Output.{Account, AppendsPart, Writes, account_of}
 use Rattle.d64_script.specs.Status.{status_line}
 use Rattle.d64_host.specs.Files.{Files}
 use Rattle.d64_host.specs.declared.host.HostFault.{HostFault}
@@ -13,11 +13,21 @@ use Rattle.d64_image.specs.Image.{IsImage, bytes_of, count_of_tracks, is_image_l
 use Rattle.d64_image.specs.declared.image.TheConstants.{BLOCK_BYTES}
 use Rattle.d64_words.specs.Asked.{IsFault, IsJob, WasAskedFor}
 use Rattle.d64_words.specs.declared.asked.Job.{Job}
-use Rattle.d64_words.specs.declared.asked.Job.TheVariants.{Shell, Petcat, Crunch}
+use Rattle.d64_words.specs.declared.asked.Job.TheVariants.{Shell, Petcat, Crunch, Check}
 use Rattle.d64_words.specs.declared.asked.JobFault.{JobFault}
 use Rattle.d64_words.specs.declared.asked.JobFault.TheVariants as words
 use Rattle.d64_line.specs.Act.{HostState, FetchesFile}
 use Rattle.d64_line.specs.BasicFiles.{status_of_basic, status_of_listing}
+use Rattle.d64_words.specs.declared.asked.Format.{Format as OutputFormat}
+use Rattle.d64_words.specs.declared.asked.Names.{Names as FileNames}
+use Rattle.d64_wording.specs.FaultLines.{unread_line}
+use Rattle.d64_check.specs.Check.{check_rule, heading_of}
+use Rattle.d64_collection.specs.Answers.{Rule, status_of as verdict_status}
+use Rattle.d64_collection.specs.Runs.{Stand, Told, host_of, stand_of, told_of}
+use Rattle.d64_collection.specs.declared.desk.RunFault.{RunFault}
+use Rattle.d64_collection.specs.declared.desk.RunFault.TheVariants as run_faults
+use Rattle.d64_collection.specs.declared.report.Verdict.TheVariants.{Clean}
+use Rattle.d64_shell.specs.Surveys.{Surveys, list_name}
 use Rattle.d64_undo.specs.History.{History, begun}
 use Rattle.d64_undo.specs.ResumeFault.{fault_number, first_fault}
 use Rattle.d64_undo.specs.SessionFile.{IsSession, file_of}
@@ -33,7 +43,7 @@ use Rattle.d64_shell.specs.declared.tools.Tool.TheVariants as tools
 use Rattle.d64_shell.specs.declared.tools.ToolFault.{ToolFault}
 use Rattle.d64_shell.specs.declared.tools.ToolFault.TheVariants as tool_faults
 use Rattle.d64_shell.specs.declared.program_fault.ProgramFault.{ProgramFault}
-use Rattle.d64_shell.specs.declared.program_fault.ProgramFault.TheVariants.{UnreadableWords, Start, Tracks, Both, WrongLength, UnreadableImage, UnreadableSession, NoSession, Read, Write, Memory}
+use Rattle.d64_shell.specs.declared.program_fault.ProgramFault.TheVariants.{UnreadableWords, Start, Tracks, Both, Format, Names, Null, WrongLength, UnreadableImage, UnreadableSession, NoSession, Read, Write, Memory}
 
 -- where `save` stores by default: in the image file, where there is one
 abbrev pub home_of : Option (List ℕ) → List ℕ
@@ -125,6 +135,9 @@ fault_text UnreadableWords = codes "usage: a word is no text in UTF-8"
 fault_text Start = codes "usage: --start takes one to four hexadecimal digits"
 fault_text Tracks = codes "usage: --tracks takes 35 or 40 and no IMAGE"
 fault_text Both = codes "usage: --resume and --tracks exclude each other"
+fault_text Format = codes "usage: --format takes text, json or csv"
+fault_text Names = codes "usage: check takes FILE.. or --files-from LIST"
+fault_text Null = codes "usage: --null goes with --files-from"
 fault_text (WrongLength length) = codes "image: wrong length " ++ decimal length
 fault_text UnreadableImage = codes "image: cannot be read"
 fault_text UnreadableSession = codes "session: cannot be read"
@@ -210,6 +223,36 @@ abbrev pub EndedTool : Tool → Option (List ℕ) → Outside → Outside → Ac
 EndedTool tool name old new faults told status =
     (answer : Result (Unit {0}) ToolFault) × RanToolOn tool name old new answer × TellsAnswer answer faults told status
 
+-- how the fault of a survey is told: by its line, with status 2
+abbrev pub TellsFault : List ℕ → RunFault → Account → Account → ℕ → Type 0
+TellsFault list run_faults.List error told status = ((status ≡ 2) × Writes error told (unread_line list)) ⊎ Reports Memory error told status
+TellsFault list run_faults.Write error told status = Reports Write error told status
+TellsFault list run_faults.Memory error told status = Reports Memory error told status
+
+-- how the end of a survey is told, of which this was told: by the status of the worst verdict, or as a fault
+abbrev pub TellsEnd : List ℕ → Result (Unit {0}) RunFault → Told → Account → ℕ → Type 0
+TellsEnd list (Ok done) old told status = (told ≡ old.error) × (status ≡ verdict_status old.worst)
+TellsEnd list (Err fault) old told status = TellsFault list fault old.error told status
+
+-- where a survey begins: at what the program begins with, with nothing amiss
+abbrev pub first_stand : Outside → Account → Stand
+first_stand old faults = stand_of (host_of old.host.files old.host.failures) (told_of (account_of old.writer false) faults Clean)
+
+-- a survey has ended
+pub record EndedSurvey (rule : Rule) (heading : List ℕ) (names : FileNames) (old new : Outside) (faults told : Account) (status : ℕ) : Type 0 where
+  pub ended : Result (Unit {0}) RunFault
+  pub last : Stand
+  pub surveyed : Surveys rule heading names old.reader new.reader (first_stand old faults) last ended
+  pub host : host_of new.host.files new.host.failures ≡ last.host
+  pub writer : new.writer ≡ last.told.output.contents
+  pub tells : TellsEnd (list_name names) ended last.told told status
+
+-- a check has ended; or there was no memory to begin one
+abbrev pub EndedCheck : Bool → OutputFormat → FileNames → Outside → Outside → Account → Account → ℕ → Type 0
+EndedCheck digest format names old new faults told status =
+    EndedSurvey (check_rule format digest) (heading_of format digest) names old new faults told status
+    ⊎ ((new ≡ old) × Reports Memory faults told status)
+
 -- how a job ended
 abbrev pub EndedJob : Job → Outside → Outside → Account → Account → ℕ → Type 0
 EndedJob (Shell image tracks resume) old new faults told status =
@@ -217,6 +260,7 @@ EndedJob (Shell image tracks resume) old new faults told status =
     old new faults told status
 EndedJob (Petcat file) old new faults told status = EndedTool tools.Petcat (option_map string_bytes file) old new faults told status
 EndedJob (Crunch start file) old new faults told status = EndedTool (tools.Crunch start) (option_map string_bytes file) old new faults told status
+EndedJob (Check digest format names) old new faults told status = EndedCheck digest format names old new faults told status
 
 -- help or the version was written, whole; or there was a fault: a first part of it was written, or there was no memory
 abbrev pub HasShown : Option (List ℕ) → Option (List ℕ) → Account → Account → ℕ → Type 0
@@ -237,6 +281,9 @@ AnswersWords words.Start old new faults told status = (new ≡ old) × Reports S
 AnswersWords words.Memory old new faults told status = (new ≡ old) × Reports Memory faults told status
 AnswersWords words.Tracks old new faults told status = (new ≡ old) × Reports Tracks faults told status
 AnswersWords words.Both old new faults told status = (new ≡ old) × Reports Both faults told status
+AnswersWords words.Format old new faults told status = (new ≡ old) × Reports Format faults told status
+AnswersWords words.Names old new faults told status = (new ≡ old) × Reports Names faults told status
+AnswersWords words.Null old new faults told status = (new ≡ old) × Reports Null faults told status
 
 -- the words with the program's name before them
 abbrev pub named : List (List ℕ) → List (List ℕ)
@@ -247,10 +294,22 @@ abbrev pub IsShell : Job → Type 0
 IsShell (Shell image tracks resume) = ⊤
 IsShell (Petcat file) = ⊥
 IsShell (Crunch start file) = ⊥
+IsShell (Check digest format names) = ⊥
+
+-- the job surveys files, and may tell of some on the standard error whatever its status is
+abbrev pub IsSurvey : Job → Type 0
+IsSurvey (Shell image tracks resume) = ⊥
+IsSurvey (Petcat file) = ⊥
+IsSurvey (Crunch start file) = ⊥
+IsSurvey (Check digest format names) = ⊤
 
 -- the words ask for the shell
 abbrev pub AsksForShell : List (List ℕ) → Type 0
 AsksForShell after = (job : Job) × IsJob (named after) job × IsShell job
+
+-- the words ask for a survey
+abbrev pub AsksForSurvey : List (List ℕ) → Type 0
+AsksForSurvey after = (job : Job) × IsJob (named after) job × IsSurvey job
 
 -- what the program has done, and its status: the job that the words ask for has ended; or they ask for none, and were
 -- answered so, with nothing read and no file touched

@@ -4,6 +4,7 @@
 mod entry;
 mod program_fault;
 mod shell_job;
+mod survey_job;
 mod tool_job;
 mod tools;
 mod word_faults;

@@ -35,6 +35,15 @@ pub enum ProgramFault {
     /// There is `--resume` beside `--tracks`.
     #[error("usage: --resume and --tracks exclude each other")]
     Both,
+    /// What follows `--format` is neither `text`, `json` nor `csv`.
+    #[error("usage: --format takes text, json or csv")]
+    Format,
+    /// There are both FILE and `--files-from`, or neither.
+    #[error("usage: check takes FILE.. or --files-from LIST")]
+    Names,
+    /// There is `--null` without `--files-from`.
+    #[error("usage: --null goes with --files-from")]
+    Null,
     /// The image file has this many bytes, and an image 174,848 or 196,608.
     #[error("image: wrong length {0}")]
     WrongLength(usize),
@@ -90,6 +99,9 @@ impl ProgramFault {
             ),
             ProgramFault::Tracks => { line_of(b"usage: --tracks takes 35 or 40 and no IMAGE", b"") }
             ProgramFault::Both => line_of(b"usage: --resume and --tracks exclude each other", b""),
+            ProgramFault::Format => line_of(b"usage: --format takes text, json or csv", b""),
+            ProgramFault::Names => line_of(b"usage: check takes FILE.. or --files-from LIST", b""),
+            ProgramFault::Null => line_of(b"usage: --null goes with --files-from", b""),
             ProgramFault::WrongLength(length) => line_of(
                 b"image: wrong length ",
                 Buffer::new().format(length).as_bytes(),

@@ -49,6 +49,9 @@ pub(crate) fn answer_words<W: Write, F: Write>(
         JobFault::Memory => ProgramFault::Memory.report_on(faults),
         JobFault::Tracks => ProgramFault::Tracks.report_on(faults),
         JobFault::Both => ProgramFault::Both.report_on(faults),
+        JobFault::Format => ProgramFault::Format.report_on(faults),
+        JobFault::Names => ProgramFault::Names.report_on(faults),
+        JobFault::Null => ProgramFault::Null.report_on(faults),
         JobFault::Words(_) => {
             if fault.was_asked_for() {
                 show(alloc, &fault, output, faults)

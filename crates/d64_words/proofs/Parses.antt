@@ -1,5 +1,5 @@
 -- What a parse of the program's words says of them.
-use Rattle.std.proofs.Common.{◌≡◌, ◌≢◌, ◌∙◌, ◌⊎◌, inl, inr, Bool, true, false, cond, refl, sym, ap, subst, List, [], ◌∷◌, Option, Some, None, Result, Ok, Err, IfErr, true≢false}
+use Rattle.std.proofs.Common.{◌≡◌, ◌≢◌, ◌∙◌, inl, inr, Bool, true, false, cond, map, refl, sym, ap, subst, List, [], ◌∷◌, Option, Some, None, Result, Ok, Err, IfErr, true≢false}
 use Rattle.std.specs.Option.{IsSomeAnd, is_some, option_map, unwrap_or}
 use Rattle.std.specs.Prelude.{IsErrAnd, find, option_and_then}
 use Rattle.clap.specs.Words.{App, HasKind, HasMatchesOf, IsAmong, Shape, Text, app_of, built, fault_of, is_simple, is_simple_and_free, kind_of, subcommand_of, subcommand_rows_of}
@@ -13,10 +13,10 @@ use Rattle.clap.specs.declared.error.kind.ErrorKind.TheVariants.{OutOfMemory}
 use Rattle.clap.specs.declared.parser.matches.ArgMatches.{ArgMatches}
 use Rattle.clap.proofs.OnLiterals.{clap_on_literals}
 use Rattle.d64_words.specs.Commands.{d64sh}
-use Rattle.d64_words.specs.Asked.{IsFault, IsFaultOf, IsJob, IsJobOf, IsSubcommand, IsToldAs, Met}
+use Rattle.d64_words.specs.Asked.{IsFault, IsFaultOf, IsJob, IsJobOf, IsOneOf, IsToldAs, Met, subcommands}
 use Rattle.d64_words.specs.declared.asked.Job.{Job}
 use Rattle.d64_words.specs.declared.asked.JobFault.{JobFault}
-use Rattle.d64_words.specs.declared.asked.JobFault.TheVariants.{Words, Start, Memory, Tracks, Both}
+use Rattle.d64_words.specs.declared.asked.JobFault.TheVariants.{Words, Start, Memory, Tracks, Both, Format, Names, Null}
 
 pub simple_and_free : is_simple_and_free d64sh ≡ true
 unfolding clap_on_literals d64sh
@@ -42,44 +42,35 @@ pub both_parts : {B X Y : Type 0} (f : B → X) (g : B → Y) (o : Option B) (x 
 both_parts f g None x y name rows = absurd (none≢some x (sym name))
 both_parts f g (Some b) x y name rows = rw (same_Some x (f b) name, same_Some y (g b) rows) refl
 
--- ---- a command of three subcommands meets one of them
+-- ---- a command of subcommands meets one of them
 
-module _ (s t u : Shape) (named : Shape → Bool) (make : Shape → Met) (met : Met) where
-  abbrev OneOf : Type 0
-  OneOf = (met ≡ make s) ⊎ ((met ≡ make t) ⊎ (met ≡ make u))
-
-  one_of : option_map make (find named (s ∷ t ∷ u ∷ [])) ≡ Some met → OneOf
-  one_of e = go (named s) (named t) (named u) e
-    where
-      go : (a b c : Bool) → option_map make (cond a (Some s) (cond b (Some t) (cond c (Some u) None))) ≡ Some met → OneOf
-      go true b c e = inl (sym (same_Some (make s) met e))
-      go false true c e = inr (inl (sym (same_Some (make t) met e)))
-      go false false true e = inr (inr (sym (same_Some (make u) met e)))
-      go false false false e = absurd (none≢some met e)
+one_of : (named : Shape → Bool) (make : Shape → Met) (met : Met) (subs : List Shape) → ((s : Shape) → (make s).0 ≡ s.name)
+    → option_map make (find named subs) ≡ Some met → IsOneOf (map (λ (s : Shape). s.name) subs) met.0
+one_of named make met [] names e = absurd (none≢some met e)
+one_of named make met (s ∷ rest) names e = go (one_of named make met rest names) (named s) e
+  where
+    go : (option_map make (find named rest) ≡ Some met → IsOneOf (map (λ (t : Shape). t.name) rest) met.0) → (is : Bool)
+        → option_map make (cond is (Some s) (find named rest)) ≡ Some met → IsOneOf (map (λ (t : Shape). t.name) (s ∷ rest)) met.0
+    go later true e = inl (sym (ap (λ (m : Met). m.0) (same_Some (make s) met e)) ∙ names s)
+    go later false e = inr (later e)
 
 abbrev entered_by : List Shape → Option (Text × List Text) → Option Met
 entered_by subs = option_and_then (λ p. option_map (λ s. rows_at s p.1) (find (λ s. answers_to p.0 (label_of s)) subs))
 
-named_by : (s t u : Shape) (stop : Option (Text × List Text)) (met : Met) → entered_by (s ∷ t ∷ u ∷ []) stop ≡ Some met
-    → (met.0 ≡ s.name) ⊎ ((met.0 ≡ t.name) ⊎ (met.0 ≡ u.name))
-named_by s t u None met e = absurd (none≢some met e)
-named_by s t u (Some p) met e = elim (one_of s t u (λ v. answers_to p.0 (label_of v)) (λ v. rows_at v p.1) met e) [
-  | inl is ↦ inl (ap (λ (m : Met). m.0) is)
-  | inr rest ↦ elim rest [
-    | inl is ↦ inr (inl (ap (λ (m : Met). m.0) is))
-    | inr is ↦ inr (inr (ap (λ (m : Met). m.0) is))
-  ]
-]
+named_by : (subs : List Shape) (stop : Option (Text × List Text)) (met : Met) → entered_by subs stop ≡ Some met
+    → IsOneOf (map (λ (s : Shape). s.name) subs) met.0
+named_by subs None met e = absurd (none≢some met e)
+named_by subs (Some p) met e = one_of (λ v. answers_to p.0 (label_of v)) (λ v. rows_at v p.1) met subs (λ s. refl) e
 
-met_among : (a : App) (s t u : Shape) → (built a).subs ≡ s ∷ t ∷ u ∷ [] → (words : List Text) (met : Met) → subcommand_of a words ≡ Some met
-    → (met.0 ≡ s.name) ⊎ ((met.0 ≡ t.name) ⊎ (met.0 ≡ u.name))
-met_among a s t u is words met e =
+met_among : (a : App) (names : List Text) → map (λ (s : Shape). s.name) (built a).subs ≡ names → (words : List Text) (met : Met)
+    → subcommand_of a words ≡ Some met → IsOneOf names met.0
+met_among a names are words met e =
     let stop = stop_after (built a).top.rules (names_of (built a)) (argument_words a words) in
-    named_by s t u stop met (subst (λ (subs : List Shape). entered_by subs stop ≡ Some met) is e)
+    subst (λ all. IsOneOf all met.0) are (named_by (built a).subs stop met e)
 
-pub met_is_subcommand : (words : List Text) (met : Met) → subcommand_of d64sh words ≡ Some met → IsSubcommand met.0
+pub met_is_subcommand : (words : List Text) (met : Met) → subcommand_of d64sh words ≡ Some met → IsOneOf subcommands met.0
 unfolding d64sh
-met_is_subcommand words met e = met_among d64sh _ _ _ refl words met e
+met_is_subcommand words met e = met_among d64sh _ refl words met e
 
 -- ---- what the clauses of the parse say of the program's words
 
@@ -104,6 +95,9 @@ told words error Start kind is = absurd is
 told words error Memory kind is = tt
 told words error Tracks kind is = absurd is
 told words error Both kind is = absurd is
+told words error Format kind is = absurd is
+told words error Names kind is = absurd is
+told words error Null kind is = absurd is
 
 -- what the subcommand asks for is what the words ask for
 module _ (words : List Text) (met : Met) (none : fault_of d64sh words ≡ []) (is : subcommand_of d64sh words ≡ Some met) where
@@ -116,6 +110,9 @@ module _ (words : List Text) (met : Met) (none : fault_of d64sh words ≡ []) (i
   refused Memory asks = tt
   refused Tracks asks = (none, subst (λ o. IsSomeAnd o (λ m. IsFaultOf m Tracks)) (sym is) asks)
   refused Both asks = (none, subst (λ o. IsSomeAnd o (λ m. IsFaultOf m Both)) (sym is) asks)
+  refused Format asks = (none, subst (λ o. IsSomeAnd o (λ m. IsFaultOf m Format)) (sym is) asks)
+  refused Names asks = (none, subst (λ o. IsSomeAnd o (λ m. IsFaultOf m Names)) (sym is) asks)
+  refused Null asks = (none, subst (λ o. IsSomeAnd o (λ m. IsFaultOf m Null)) (sym is) asks)
 
 pub error_told : {T : Type 0} (r : Result T JobFault) (P Q : JobFault → Type 0) → ((fault : JobFault) → P fault → Q fault) → IsErrAnd r P → IfErr r Q
 error_told (Ok job) P Q f is = tt

@@ -1,23 +1,36 @@
 -- What the words of the program ask for.
-use Rattle.std.specs.Prelude.{◌≡◌, ◌≢◌, ◌⊎◌, ℕ, List, [], codes, Option, option_map, IsSome, IsSomeAnd, String, string_bytes, ⊤}
+use Rattle.std.specs.Prelude.{◌≡◌, ◌≢◌, ◌⊎◌, ◌∷◌, ℕ, List, [], codes, None, Option, Some, option_map, IsSome, IsSomeAnd, String, string_bytes, ⊤}
 use Rattle.clap.specs.Words.{Row, Text, IsAmong, fault_of, first_of, kind_of, subcommand_of}
 use Rattle.clap.specs.declared.error.Error.{Error}
 use Rattle.clap.specs.declared.error.kind.ErrorKind.TheVariants.{DisplayHelp, DisplayVersion, OutOfMemory}
 use Rattle.d64_words.specs.Commands.{d64sh}
 use Rattle.d64_words.specs.Start.{IsStartBy, HasNoAddress}
 use Rattle.d64_words.specs.Tracks.{IsTracksBy, HasNoTracks}
+use Rattle.d64_words.specs.Format.{format_by}
+use Rattle.d64_words.specs.Names.{HasNoNames, HasNullAlone, IsNamesBy}
+use Rattle.d64_words.specs.Values.{has_flag}
+use Rattle.d64_words.specs.declared.asked.Format.{Format as OutputFormat}
 use Rattle.d64_words.specs.declared.asked.Job.{Job}
-use Rattle.d64_words.specs.declared.asked.Job.TheVariants.{Shell, Petcat, Crunch}
+use Rattle.d64_words.specs.declared.asked.Job.TheVariants.{Shell, Petcat, Crunch, Check}
 use Rattle.d64_words.specs.declared.asked.JobFault.{JobFault}
-use Rattle.d64_words.specs.declared.asked.JobFault.TheVariants.{Words, Start, Memory, Tracks, Both}
+use Rattle.d64_words.specs.declared.asked.JobFault.TheVariants.{Words, Start, Memory, Tracks, Both, Format, Names, Null}
 
 -- a subcommand that the words name, and the values that they give to its arguments
 abbrev pub Met : Type 0
 Met = Text × List Row
 
--- one of the three
-abbrev pub IsSubcommand : Text → Type 0
-IsSubcommand name = (name ≡ codes "shell") ⊎ ((name ≡ codes "petcat") ⊎ (name ≡ codes "crunch"))
+-- the name is one of these
+abbrev pub IsOneOf : List Text → Text → Type 0
+IsOneOf [] name = ⊥
+IsOneOf (first ∷ rest) name = (name ≡ first) ⊎ IsOneOf rest name
+
+-- the subcommands that survey files, by their names and in a form of output
+abbrev pub surveys : List Text
+surveys = codes "check" ∷ []
+
+-- the subcommands
+abbrev pub subcommands : List Text
+subcommands = codes "shell" ∷ codes "petcat" ∷ codes "crunch" ∷ surveys
 
 -- a name in a job is the value that the words give to an argument, where they give one
 abbrev pub IsGiven : {A : Type 0} → Met → Text → Option (String A) → Type 0
@@ -27,6 +40,10 @@ IsGiven met id name = option_map string_bytes name ≡ first_of id met.1
 abbrev pub HasBoth : Met → Type 0
 HasBoth met = IsSomeAnd (first_of (codes "resume") met.1) (λ file. IsSome (first_of (codes "tracks") met.1))
 
+-- the form of output that `--format` gives
+abbrev pub format_given : Met → Option OutputFormat
+format_given met = format_by (first_of (codes "format") met.1)
+
 -- the subcommand asks for this job
 abbrev pub IsJobOf : Met → Job → Type 0
 IsJobOf met (Shell image tracks resume) =
@@ -35,9 +52,12 @@ IsJobOf met (Shell image tracks resume) =
 IsJobOf met (Petcat file) = (met.0 ≡ codes "petcat") × IsGiven met (codes "file") file
 IsJobOf met (Crunch start file) =
     (met.0 ≡ codes "crunch") × IsGiven met (codes "file") file × IsStartBy (first_of (codes "start") met.1) start
+IsJobOf met (Check digest format names) =
+    (met.0 ≡ codes "check") × (digest ≡ has_flag (codes "digest") met.1) × (format_given met ≡ Some format) × IsNamesBy met.1 names
 
 -- it asks for no job, since its start is no address, or no disk has its number of tracks; or, where a disk has so many, since
--- a session of a file has tracks of its own; or there is no memory
+-- a session of a file has tracks of its own; or since its word for a form of output stands for none; or, where it has a form, since
+-- there are no names; or there is no memory
 abbrev pub IsFaultOf : Met → JobFault → Type 0
 IsFaultOf met (Words error) = ⊥
 IsFaultOf met Start = (met.0 ≡ codes "crunch") × HasNoAddress (first_of (codes "start") met.1)
@@ -45,6 +65,9 @@ IsFaultOf met Memory = ⊤
 IsFaultOf met Tracks = (met.0 ≡ codes "shell") × HasNoTracks (first_of (codes "tracks") met.1) (first_of (codes "image") met.1)
 IsFaultOf met Both = (met.0 ≡ codes "shell") × HasBoth met
     × (tracks : ℕ) × IsTracksBy (first_of (codes "tracks") met.1) (first_of (codes "image") met.1) tracks
+IsFaultOf met Format = IsOneOf surveys met.0 × (format_given met ≡ None)
+IsFaultOf met Names = IsOneOf surveys met.0 × IsSome (format_given met) × HasNoNames met.1
+IsFaultOf met Null = IsOneOf surveys met.0 × IsSome (format_given met) × HasNullAlone met.1
 
 -- the words are the program's, and ask neither for help nor for the version; and of the subcommand that they name this holds
 abbrev pub IsUse : List Text → (Met → Type 0) → Type 0
@@ -62,6 +85,9 @@ IsFault words Start = IsUse words (λ met. IsFaultOf met Start)
 IsFault words Memory = ⊤
 IsFault words Tracks = IsUse words (λ met. IsFaultOf met Tracks)
 IsFault words Both = IsUse words (λ met. IsFaultOf met Both)
+IsFault words Format = IsUse words (λ met. IsFaultOf met Format)
+IsFault words Names = IsUse words (λ met. IsFaultOf met Names)
+IsFault words Null = IsUse words (λ met. IsFaultOf met Null)
 
 -- how clap's error is told: want of memory as that, and every other as it is
 abbrev pub IsToldAs : Error → JobFault → Type 0
@@ -70,6 +96,9 @@ IsToldAs error Start = ⊥
 IsToldAs error Memory = kind_of error ≡ OutOfMemory
 IsToldAs error Tracks = ⊥
 IsToldAs error Both = ⊥
+IsToldAs error Format = ⊥
+IsToldAs error Names = ⊥
+IsToldAs error Null = ⊥
 
 -- the fault is the help or the version that the words asked for
 abbrev pub WasAskedFor : JobFault → Type 0
@@ -78,3 +107,6 @@ WasAskedFor Start = ⊥
 WasAskedFor Memory = ⊥
 WasAskedFor Tracks = ⊥
 WasAskedFor Both = ⊥
+WasAskedFor Format = ⊥
+WasAskedFor Names = ⊥
+WasAskedFor Null = ⊥

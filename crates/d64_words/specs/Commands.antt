@@ -1,6 +1,8 @@
 -- The program's subcommands and their arguments, as `clap` reads them.
 use Rattle.std.specs.Prelude.{ℕ, List, codes, Some, true}
 use Rattle.clap.specs.Words.{App, Rule, new_app, new_rule, with_rule, with_subcommand}
+use Rattle.clap.specs.Lexer.{usize_max}
+use Rattle.clap.specs.declared.builder.action.ArgAction.TheVariants.{SetTrue}
 
 -- `image` and `file`: two places
 abbrev pub image_argument : Rule
@@ -12,6 +14,14 @@ file_argument = record (new_rule (codes "file")) { value_names = 1 }
 -- an option with a value, by its long name
 abbrev pub valued_option : List ℕ → Rule
 valued_option name = record (new_rule name) { long = Some name; value_names = 1 }
+
+-- an option without one
+abbrev pub flag : List ℕ → Rule
+flag name = record (new_rule name) { long = Some name; action = Some SetTrue }
+
+-- `file` as all the places that are left, one or more
+abbrev pub files_argument : Rule
+files_argument = record file_argument { range = Some (record { start_inclusive = 1; end_inclusive = usize_max }) }
 
 -- `shell [--tracks N] [--resume FILE] [IMAGE]`
 abbrev pub shell : App
@@ -26,6 +36,14 @@ petcat = with_rule (new_app (codes "petcat")) file_argument
 abbrev pub crunch : App
 crunch = with_rule (with_rule (new_app (codes "crunch")) (valued_option (codes "start"))) file_argument
 
+-- a subcommand with `--files-from LIST`, `--null` and `FILE..`
+abbrev pub with_names : App → App
+with_names app = with_rule (with_rule (with_rule app (valued_option (codes "files-from"))) (flag (codes "null"))) files_argument
+
+-- `check [--digest] [--format FORMAT]` with names
+abbrev pub check : App
+check = with_names (with_rule (with_rule (new_app (codes "check")) (flag (codes "digest"))) (valued_option (codes "format")))
+
 -- `d64sh` alone: it has a version, wants a subcommand, has none of the name `help`, and tells its help where it is given nothing
 abbrev pub bare : App
 bare = let named = new_app (codes "d64sh") in record named {
@@ -39,4 +57,4 @@ bare = let named = new_app (codes "d64sh") in record named {
 
 -- `d64sh` with its subcommands
 unfoldable pub d64sh : App
-d64sh = with_subcommand (with_subcommand (with_subcommand bare shell.top) petcat.top) crunch.top
+d64sh = with_subcommand (with_subcommand (with_subcommand (with_subcommand bare shell.top) petcat.top) crunch.top) check.top

@@ -28,6 +28,39 @@ pub enum Job {
         start: u16,
         file: Option<String>,
     },
+    /// Survey dumps and say what is amiss, with the digest of each where `digest` is set.
+    Check {
+        digest: bool,
+        format: Format,
+        names: Names,
+    },
+}
+
+/// The form of a survey's output.
+#[derive(Clone, Copy, Debug, PartialEq, Eq)]
+pub enum Format {
+    /// Lines for people.
+    Text,
+    /// One JSON object a line.
+    Json,
+    /// CSV with one header row.
+    Csv,
+}
+
+/// The names of the files to survey.
+#[derive(Debug, Drop)]
+pub enum Names {
+    /// One name or more, as the words have them.
+    Given(Vec<String>),
+    /// The names that a list holds, each up to the next separator. The list is a host file; `-` is the standard input.
+    Listed { list: String, separator: Separator },
+}
+
+/// The byte that ends a name in a list.
+#[derive(Clone, Copy, Debug, PartialEq, Eq)]
+pub enum Separator {
+    LineFeed,
+    Nul,
 }
 
 /// Why the words ask for no job.
@@ -47,6 +80,15 @@ pub enum JobFault {
     /// There is `--resume` beside `--tracks`.
     #[error("usage: --resume and --tracks exclude each other")]
     Both,
+    /// What follows `--format` is neither `text`, `json` nor `csv`.
+    #[error("usage: --format takes text, json or csv")]
+    Format,
+    /// There are both FILE and `--files-from`, or neither.
+    #[error("usage: check takes FILE.. or --files-from LIST")]
+    Names,
+    /// There is `--null` without `--files-from`.
+    #[error("usage: --null goes with --files-from")]
+    Null,
 }
 
 impl JobFault {
@@ -56,7 +98,13 @@ impl JobFault {
     {
         match self {
             JobFault::Words(error) => !error.use_stderr(),
-            JobFault::Start | JobFault::Memory | JobFault::Tracks | JobFault::Both => false,
+            JobFault::Start
+            | JobFault::Memory
+            | JobFault::Tracks
+            | JobFault::Both
+            | JobFault::Format
+            | JobFault::Names
+            | JobFault::Null => false,
         }
     }
 }

@@ -3,9 +3,9 @@
 ghost use Rattle.std.specs.Prelude.{◌≡◌, IfOk, false};
 ghost use Rattle.clap.specs.Words.{app_of, rule_of};
 ghost use Rattle.clap.specs.declared.builder.command.Command.TheViews.{out-Command as fields_of};
-ghost use Rattle.d64_words.specs.Commands.{bare, d64sh, shell, petcat, crunch, file_argument, valued_option};
+ghost use Rattle.d64_words.specs.Commands.{bare, d64sh, shell, petcat, crunch, check, with_names, file_argument, files_argument, valued_option, flag};
 
-use clap::{Arg, Command};
+use clap::{Arg, ArgAction, Command};
 use std::alloc::{AllocError, Global};
 
 /// The program's version.
@@ -47,7 +47,23 @@ Example: d64sh crunch hello.bas >hello.prg
 
 The manual says more: `man d64sh`, or docs/MANUAL.md beside the source.";
 
-/// The command `d64sh`, with its three subcommands.
+const CHECK_USAGE: &str = "d64sh check [--digest] [--format FORMAT] FILE..
+       d64sh check [--digest] [--format FORMAT] --files-from LIST [--null]";
+
+const CHECK_AFTER_HELP: &str =
+    "In:      images of 35 or 40 tracks, each with or without the read codes of its
+         blocks: files of 174,848, 175,531, 196,608 or 197,376 bytes
+Out:     a line an image, then a line for each fault, each block with a read
+         error and each file that isn't whole; with --format json an object a
+         line, with --format csv a row an image
+Exit:    0 nothing is amiss; 1 an image has a fault, a read error or a file that
+         isn't whole; 2 a word, a file, reading or writing failed
+Example: d64sh check *.d64
+
+No image is ever written. The manual says more: `man d64sh`, or docs/MANUAL.md
+beside the source.";
+
+/// The command `d64sh`, with its four subcommands.
 pub(crate) fn d64sh<'a>(alloc: Global) -> Result<Command<'a>, AllocError>
     ensures app { IfOk result (λ command. app_of command ≡ d64sh) }
     ensures local { IfOk result (λ command. (fields_of command).has_globals ≡ false) }
@@ -55,7 +71,8 @@ pub(crate) fn d64sh<'a>(alloc: Global) -> Result<Command<'a>, AllocError>
     bare(alloc)
         .subcommand(shell(alloc)?)?
         .subcommand(petcat(alloc)?)?
-        .subcommand(crunch(alloc)?)
+        .subcommand(crunch(alloc)?)?
+        .subcommand(check(alloc)?)
 }
 
 /// The command `d64sh` without its subcommands.
@@ -133,6 +150,61 @@ fn crunch<'a>(alloc: Global) -> Result<Command<'a>, AllocError>
         .arg(file)
 }
 
+/// `check [--digest] [--format FORMAT] FILE..`, and the same with `--files-from LIST [--null]` in the place of FILE..
+fn check<'a>(alloc: Global) -> Result<Command<'a>, AllocError>
+    ensures app { IfOk result (λ command. app_of command ≡ check) }
+    ensures local { IfOk result (λ command. (fields_of command).has_globals ≡ false) }
+{
+    let digest = flag(
+        alloc,
+        "digest",
+        "Add the SHA-256 digest of each file's bytes",
+    );
+    let format = valued_option(
+        alloc,
+        "format",
+        "FORMAT",
+        "Form of the output: text, json or csv; without it, text",
+    );
+    let command = Command::new(alloc, "check")
+        .about("Says what is wrong on disk images, and where")
+        .override_usage(CHECK_USAGE)
+        .after_help(CHECK_AFTER_HELP)
+        .arg(digest)?
+        .arg(format)?;
+    with_names(alloc, command)
+}
+
+/// The subcommand with `FILE..`, `--files-from LIST` and `--null`.
+fn with_names<'a>(alloc: Global, command: Command<'a>) -> Result<Command<'a>, AllocError>
+    ensures app { IfOk result (λ with. app_of with ≡ with_names (app_of command.entry)) }
+    ensures local { IfOk result (λ with. (fields_of with).has_globals ≡ (fields_of command.entry).has_globals) }
+{
+    let list = valued_option(
+        alloc,
+        "files-from",
+        "LIST",
+        "Take the names from the lines of a file; `-` is the standard input",
+    );
+    let null = flag(
+        alloc,
+        "null",
+        "Names in LIST end with NUL bytes, and not with line feeds",
+    );
+    command.arg(list)?.arg(null)?.arg(files_argument(alloc))
+}
+
+/// `[FILE]..`.
+fn files_argument<'a>(alloc: Global) -> Arg<'a>
+    ensures rule { rule_of result ≡ files_argument }
+    ensures local { result.global ≡ false }
+{
+    Arg::new(alloc, "file")
+        .value_name("FILE")
+        .num_args(1..)
+        .help("The images to survey, in this order")
+}
+
 /// `[FILE]`.
 fn file_argument<'a>(alloc: Global, help: &'a str) -> Arg<'a>
     ensures rule { rule_of result ≡ file_argument }
@@ -149,5 +221,16 @@ fn valued_option<'a>(alloc: Global, name: &'a str, value: &'a str, help: &'a str
     Arg::new(alloc, name)
         .long(name)
         .value_name(value)
+        .help(help)
+}
+
+/// `--NAME`.
+fn flag<'a>(alloc: Global, name: &'a str, help: &'a str) -> Arg<'a>
+    ensures rule { rule_of result ≡ flag name.now }
+    ensures local { result.global ≡ false }
+{
+    Arg::new(alloc, name)
+        .long(name)
+        .action(ArgAction::SetTrue)
         .help(help)
 }

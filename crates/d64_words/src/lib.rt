@@ -1,9 +1,11 @@
-//! The words of the program `d64sh`, read by `clap`: which of its three jobs they ask for, and with what.
+//! The words of the program `d64sh`, read by `clap`: which of its four jobs they ask for, and with what.
 #![tactic(auto)]
 
 mod asked;
 mod command;
 mod reading;
+mod surveys;
+mod values;
 
-pub use asked::{Job, JobFault};
+pub use asked::{Format, Job, JobFault, Names, Separator};
 pub use reading::job;

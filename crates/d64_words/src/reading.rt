@@ -1,18 +1,20 @@
 //! From words to the job that they ask for.
 
-ghost use Rattle.std.specs.Prelude.{◌≡◌, IfOk, IfErr, IsTrue, MatchOption, codes, map, string_bytes, option_map, ◌↔◌, ◌≢◌, None};
+ghost use Rattle.std.specs.Prelude.{◌≡◌, IfOk, IfErr, MatchOption, codes, map};
 ghost use Rattle.std.specs.Char.{is_ascii_hexdigit};
 ghost use Rattle.std.specs.List.{list_all};
 ghost use Rattle.clap.specs.Words.{found_of, first_of, rows_of};
-ghost use Rattle.d64_words.specs.Asked.{IsSubcommand, IsJob, IsJobOf, IsFault, IsFaultOf};
+ghost use Rattle.d64_words.specs.Asked.{IsOneOf, subcommands, IsJob, IsJobOf, IsFault, IsFaultOf};
 ghost use Rattle.d64_words.specs.Start.{IsAddress, address_of, IsStartBy, HasNoAddress};
 ghost use Rattle.d64_words.specs.Tracks.{track_count, IsTracksBy, HasNoTracks};
 ghost use Rattle.d64_words.specs.declared.asked.JobFault.TheVariants.{Start, Tracks};
 
 use crate::asked::{Job, JobFault};
 use crate::command;
+use crate::surveys::check_job;
+use crate::values::{given, value};
 use clap::ArgMatches;
-use std::alloc::{AllocError, Global};
+use std::alloc::Global;
 
 /// The address at which programs are loaded, where the words say no other.
 const DEFAULT_START: u16 = 0x0801;
@@ -27,8 +29,9 @@ const ADDRESS_DIGITS: usize = 4;
 ///
 /// `Words` comes exactly where the words are none of the program's, or ask for help or the version; else `Start` exactly where
 /// what follows `--start` is other than one to four hexadecimal digits; else `Tracks` exactly where what follows `--tracks` is
-/// neither 35 nor 40, or there is an image beside it; else `Both` exactly where there is `--resume` beside `--tracks`; and `Memory`
-/// in place of any answer.
+/// neither 35 nor 40, or there is an image beside it; else `Both` exactly where there is `--resume` beside `--tracks`; else `Format`
+/// exactly where what follows `--format` is neither `text`, `json` nor `csv`; else `Names` exactly where there are both FILE and
+/// `--files-from`, or neither; else `Null` exactly where there is `--null` without `--files-from`; and `Memory` in place of any answer.
 pub fn job(alloc: Global, words: &[&str]) -> Result<Job, JobFault>
     ensures job { IfOk result (IsJob (map (λ word. word.now) words.now)) }
     ensures fault { IfErr result (IsFault (map (λ word. word.now) words.now)) }
@@ -42,7 +45,7 @@ pub fn job(alloc: Global, words: &[&str]) -> Result<Job, JobFault>
 
 /// The job that a subcommand with these matches asks for.
 fn job_of(alloc: Global, name: &str, arguments: &ArgMatches) -> Result<Job, JobFault>
-    requires { IsSubcommand name.now }
+    requires { IsOneOf subcommands name.now }
     ensures job { IfOk result (IsJobOf (name.now, rows_of (found_of arguments.now))) }
     ensures fault { IfErr result (IsFaultOf (name.now, rows_of (found_of arguments.now))) }
 {
@@ -51,10 +54,11 @@ fn job_of(alloc: Global, name: &str, arguments: &ArgMatches) -> Result<Job, JobF
         "petcat" => Ok(Job::Petcat {
             file: value(alloc, arguments, "file")?,
         }),
-        _ => Ok(Job::Crunch {
+        "crunch" => Ok(Job::Crunch {
             start: start(arguments)?,
             file: value(alloc, arguments, "file")?,
         }),
+        _ => check_job(alloc, arguments),
     }
 }
 
@@ -102,16 +106,6 @@ fn track_count(text: &str) -> Option<u8>
     }
 }
 
-/// The value that the words give to an argument, copied.
-fn value(alloc: Global, arguments: &ArgMatches, id: &str) -> Result<Option<String>, AllocError>
-    ensures { IfOk result (λ value. option_map string_bytes value ≡ first_of id.now (rows_of (found_of arguments.now))) }
-{
-    match given(arguments, id) {
-        Some(text) => Ok(Some(String::from_str(alloc, text)?)),
-        None => Ok(None),
-    }
-}
-
 /// The start that the words give, or the default one.
 fn start(arguments: &ArgMatches) -> Result<u16, JobFault>
     ensures start { IfOk result (IsStartBy (first_of (codes "start") (rows_of (found_of arguments.now)))) }
@@ -121,13 +115,6 @@ fn start(arguments: &ArgMatches) -> Result<u16, JobFault>
         Some(hex) => address(hex).ok_or(JobFault::Start),
         None => Ok(DEFAULT_START),
     }
-}
-
-/// The value that the words give to an argument.
-fn given<'a>(arguments: &ArgMatches<'a>, id: &str) -> Option<&'a str>
-    ensures { option_map (λ text. text.now) result ≡ first_of id.now (rows_of (found_of arguments.now)) }
-{
-    arguments.get_str(id)
 }
 
 /// The address that one to four hexadecimal digits write; None where the text is anything else.

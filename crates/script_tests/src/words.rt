@@ -92,6 +92,94 @@ fn refuses_other_tracks(rt: HostRuntime) {
 }
 
 #[test]
+fn takes_the_names_to_check(rt: HostRuntime) -> Result<(), Fail> {
+    let rt = &rt;
+    let given = "Check { digest: false, format: Text, names: Given([\"a\", \"my disk\", \"-\"]) }";
+    assert!(rt; asks_for(rt, &["d64sh", "check", "a", "my disk", "-"], given)?);
+    let dashed = "Check { digest: false, format: Text, names: Given([\"-a\", \"--null\"]) }";
+    assert!(rt; asks_for(rt, &["d64sh", "check", "--", "-a", "--null"], dashed)?);
+    let lines =
+        "Check { digest: false, format: Text, names: Listed { list: \"-\", separator: LineFeed } }";
+    assert!(rt; asks_for(rt, &["d64sh", "check", "--files-from", "-"], lines)?);
+    assert!(rt; asks_for(rt, &["d64sh", "check", "--files-from=-"], lines)?);
+    let pieces =
+        "Check { digest: false, format: Text, names: Listed { list: \"l\", separator: Nul } }";
+    assert!(rt;
+        asks_for(
+            rt,
+            &["d64sh", "check", "--null", "--files-from", "l"],
+            pieces
+        )?
+    );
+    Ok(())
+}
+
+#[test]
+fn takes_the_options_of_check(rt: HostRuntime) -> Result<(), Fail> {
+    let rt = &rt;
+    let text = "Check { digest: false, format: Text, names: Given([\"a\"]) }";
+    assert!(rt; asks_for(rt, &["d64sh", "check", "a", "--format", "text"], text)?);
+    let json = "Check { digest: true, format: Json, names: Given([\"a\", \"b\"]) }";
+    assert!(rt;
+        asks_for(
+            rt,
+            &["d64sh", "check", "a", "--digest", "--format=json", "b"],
+            json
+        )?
+    );
+    let csv =
+        "Check { digest: true, format: Csv, names: Listed { list: \"l\", separator: LineFeed } }";
+    assert!(rt;
+        asks_for(
+            rt,
+            &[
+                "d64sh",
+                "check",
+                "--format",
+                "csv",
+                "--files-from",
+                "l",
+                "--digest"
+            ],
+            csv
+        )?
+    );
+    Ok(())
+}
+
+#[test]
+fn refuses_other_formats(rt: HostRuntime) {
+    for format in ["svg", "JSON", "", "json "] {
+        let fault = job(rt.alloc(), &["d64sh", "check", "a", "--format", format]);
+        assert!(rt; matches!(&fault, Err(JobFault::Format)));
+        let fault = job(
+            rt.alloc(),
+            &["d64sh", "check", "--null", "--format", format],
+        );
+        assert!(rt; matches!(&fault, Err(JobFault::Format)));
+    }
+}
+
+#[test]
+fn refuses_names_in_both_ways_and_in_neither(rt: HostRuntime) {
+    let fault = job(rt.alloc(), &["d64sh", "check"]);
+    assert!(rt; matches!(&fault, Err(JobFault::Names)));
+    let fault = job(rt.alloc(), &["d64sh", "check", "--digest", "--"]);
+    assert!(rt; matches!(&fault, Err(JobFault::Names)));
+    let fault = job(rt.alloc(), &["d64sh", "check", "--null"]);
+    assert!(rt; matches!(&fault, Err(JobFault::Names)));
+    let fault = job(rt.alloc(), &["d64sh", "check", "a", "--files-from", "l"]);
+    assert!(rt; matches!(&fault, Err(JobFault::Names)));
+    let fault = job(
+        rt.alloc(),
+        &["d64sh", "check", "--null", "--files-from", "l", "a"],
+    );
+    assert!(rt; matches!(&fault, Err(JobFault::Names)));
+    let fault = job(rt.alloc(), &["d64sh", "check", "a", "--null"]);
+    assert!(rt; matches!(&fault, Err(JobFault::Null)));
+}
+
+#[test]
 fn refuses_other_starts(rt: HostRuntime) {
     for start in ["10000", "00801", "", "+801", "0x8", "8 1"] {
         let fault = job(rt.alloc(), &["d64sh", "crunch", "--start", start]);
@@ -155,6 +243,16 @@ fn tells_what_is_wrong(rt: HostRuntime) -> Result<(), Fail> {
             false
         )?
     );
+    let usage = "Usage: d64sh check [--digest] [--format FORMAT] FILE..";
+    assert!(rt; is_told(rt, &["d64sh", "check", "-a"], usage, false)?);
+    assert!(rt;
+        is_told(
+            rt,
+            &["d64sh", "check", "a", "--format=csv", "--format=csv"],
+            usage,
+            false
+        )?
+    );
     Ok(())
 }
 
@@ -171,6 +269,11 @@ fn shows_help_and_version(rt: HostRuntime) -> Result<(), Fail> {
         )?
     );
     assert!(rt; is_told(rt, &["d64sh", "petcat", "--help"], petcat, true)?);
+    let check = "Example: d64sh check *.d64";
+    assert!(rt; is_told(rt, &["d64sh", "check", "--help"], check, true)?);
+    let list =
+        "      --files-from <LIST>  Take the names from the lines of a file; `-` is the standard input";
+    assert!(rt; is_told(rt, &["d64sh", "check", "-h"], list, true)?);
     assert!(rt; is_told(rt, &["d64sh", "-V"], "d64sh 0.1.0", true)?);
     Ok(())
 }
@@ -191,6 +294,12 @@ fn shows_each_fault(rt: HostRuntime) -> Result<(), Fail> {
     assert!(rt; is_shown_as(rt, &JobFault::Tracks, tracks)?);
     let both = "usage: --resume and --tracks exclude each other";
     assert!(rt; is_shown_as(rt, &JobFault::Both, both)?);
+    let format = "usage: --format takes text, json or csv";
+    assert!(rt; is_shown_as(rt, &JobFault::Format, format)?);
+    let names = "usage: check takes FILE.. or --files-from LIST";
+    assert!(rt; is_shown_as(rt, &JobFault::Names, names)?);
+    let null = "usage: --null goes with --files-from";
+    assert!(rt; is_shown_as(rt, &JobFault::Null, null)?);
     let fault = WriteFault;
     let shown = format!(in rt.alloc(); "{fault}")?;
     assert_eq!(rt; shown.as_str(), "the output took no more bytes");

@@ -11,9 +11,11 @@ returns-clause-app c =
     ∙ ap₂ with_subcommand c.bare.ensures.app (ap (λ (a : App). a.top) c.in_ok-shell.ensures.app) in
     let second = c.in_ok-subcommand-2.ensures.shape c.in_ok-petcat.ensures.local
     ∙ ap₂ with_subcommand first (ap (λ (a : App). a.top) c.in_ok-petcat.ensures.app) in
-    IfOk-weaker c.subcommand-3.result _ _ (λ command added. added.shape c.in_ok-crunch.ensures.local
-    ∙ ap₂ with_subcommand second (ap (λ (a : App). a.top) c.in_ok-crunch.ensures.app)) c.subcommand-3.ensures
+    let third = c.in_ok-subcommand-3.ensures.shape c.in_ok-crunch.ensures.local
+    ∙ ap₂ with_subcommand second (ap (λ (a : App). a.top) c.in_ok-crunch.ensures.app) in
+    IfOk-weaker c.subcommand-4.result _ _ (λ command added. added.shape c.in_ok-check.ensures.local
+    ∙ ap₂ with_subcommand third (ap (λ (a : App). a.top) c.in_ok-check.ensures.app)) c.subcommand-4.ensures
 
 pub returns-clause-local : goal.returns-clause-local
 returns-clause-local c =
-    IfOk-weaker c.subcommand-3.result _ _ (λ command added. rw (added.globals, c.in_ok-subcommand-2.ensures.globals, c.in_ok-subcommand.ensures.globals, c.bare.ensures.local, c.in_ok-shell.ensures.local, c.in_ok-petcat.ensures.local, c.in_ok-crunch.ensures.local) (search rules)) c.subcommand-3.ensures
+    IfOk-weaker c.subcommand-4.result _ _ (λ command added. rw (added.globals, c.in_ok-subcommand-3.ensures.globals, c.in_ok-subcommand-2.ensures.globals, c.in_ok-subcommand.ensures.globals, c.bare.ensures.local, c.in_ok-shell.ensures.local, c.in_ok-petcat.ensures.local, c.in_ok-crunch.ensures.local, c.in_ok-check.ensures.local) (search rules)) c.subcommand-4.ensures

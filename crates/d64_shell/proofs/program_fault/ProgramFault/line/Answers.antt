@@ -19,6 +19,18 @@ pub returns-in-Both : goal.returns-in-Both
 unfolding fault_line
 returns-in-Both c = search (rules, append_assoc)
 
+pub returns-in-Format : goal.returns-in-Format
+unfolding fault_line
+returns-in-Format c = search (rules, append_assoc)
+
+pub returns-in-Names : goal.returns-in-Names
+unfolding fault_line
+returns-in-Names c = search (rules, append_assoc)
+
+pub returns-in-Null : goal.returns-in-Null
+unfolding fault_line
+returns-in-Null c = search (rules, append_assoc)
+
 pub returns-in-WrongLength : goal.returns-in-WrongLength
 unfolding fault_line
 returns-in-WrongLength c = search (rules, append_assoc)

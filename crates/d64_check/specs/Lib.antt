@@ -1,0 +1,2 @@
+pub mod DumpOf
+pub mod Check

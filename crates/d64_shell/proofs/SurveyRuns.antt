@@ -1,0 +1,77 @@
+-- What a survey leaves, by what its run leaves.
+use Rattle.std.proofs.Common.{◌≡◌, ℕ, List, map, true, false, Bool, Option, Result, Ok, Err, refl, sym, ap, ◌∙◌, subst, String, Vec, Global, string_bytes}
+use Rattle.std.specs.Prelude.{MatchBool}
+use Rattle.d64_host.specs.declared.host.HostFault.{HostFault}
+use Rattle.d64_script.specs.Output.{Account}
+use Rattle.d64_words.specs.declared.asked.Names.{Names}
+use Rattle.d64_words.specs.declared.asked.Names.TheVariants.{Given, Listed}
+use Rattle.d64_words.specs.declared.asked.Separator.{Separator}
+use Rattle.d64_collection.specs.Names.{File, listed, names_in}
+use Rattle.d64_collection.specs.Answers.{Rule}
+use Rattle.d64_collection.specs.Runs.{Begins, HostView, IsFetched, Runs, Stand, stand_of, told_of}
+use Rattle.d64_collection.specs.Lists.{RunsStream}
+use Rattle.d64_collection.specs.declared.desk.RunFault.{RunFault}
+use Rattle.d64_collection.specs.declared.report.Verdict.{Verdict}
+use Rattle.d64_collection.specs.declared.report.Verdict.TheVariants.{Clean}
+use Rattle.d64_shell.specs.Surveys.{RunsListFile, RunsOver, Surveys, fault_of_list, is_input, separator_byte}
+
+-- one of the two cases that a test decides
+first_case : (test : Bool) (P Q : Type 0) → test ≡ true → P → MatchBool test P Q
+first_case true P Q is p = p
+first_case false P Q is p = cc
+
+second_case : (test : Bool) (P Q : Type 0) → test ≡ false → Q → MatchBool test P Q
+second_case true P Q is q = cc
+second_case false P Q is q = q
+
+-- a run over given names
+pub over_given : (rule : Rule) (names : Names) (given : Vec (String Global) Global) (slice : List (String Global)) (reader : Option (List ℕ)) (a b : Stand) (ended : Result (Unit {0}) RunFault)
+    → names ≡ Given given → slice ≡ given.items → Runs rule (map (λ name. File (string_bytes name)) slice) a b ended → RunsOver rule names reader reader a b ended
+over_given rule names given slice reader a b ended is same ran =
+    let whole : RunsOver rule (Given given) reader reader a b ended =
+    (refl, subst (λ (l : List (String Global)). Runs rule (map (λ name. File (string_bytes name)) l) a b ended) same ran) in
+    subst (λ (n : Names). RunsOver rule n reader reader a b ended) (sym is) whole
+
+-- a run over the names of the input
+pub over_input : (rule : Rule) (names : Names) (list : String Global) (separator : Separator) (byte : ℕ) (text : List ℕ) (reader left : Option (List ℕ)) (a b : Stand) (ended : Result (Unit {0}) RunFault)
+    → names ≡ Listed list separator → text ≡ string_bytes list → is_input text ≡ true → byte ≡ separator_byte separator → RunsStream rule byte reader left a b ended
+    → RunsOver rule names reader left a b ended
+over_input rule names list separator byte text reader left a b ended is same input bytes ran =
+    let whole : RunsOver rule (Listed list separator) reader left a b ended =
+    first_case (is_input (string_bytes list)) _ _ (ap is_input (sym same) ∙ input) (subst (λ (s : ℕ). RunsStream rule s reader left a b ended) bytes ran) in
+    subst (λ (n : Names). RunsOver rule n reader left a b ended) (sym is) whole
+
+-- a run over the names of a list of the host
+pub over_file : (rule : Rule) (names : Names) (list : String Global) (separator : Separator) (byte : ℕ) (text : List ℕ) (reader : Option (List ℕ)) (a b : Stand) (ended : Result (Unit {0}) RunFault)
+    → names ≡ Listed list separator → text ≡ string_bytes list → is_input text ≡ false → byte ≡ separator_byte separator → RunsListFile rule byte text a b ended
+    → RunsOver rule names reader reader a b ended
+over_file rule names list separator byte text reader a b ended is same file bytes ran =
+    let whole : RunsOver rule (Listed list separator) reader reader a b ended =
+    second_case (is_input (string_bytes list)) _ _ (ap is_input (sym same) ∙ file)
+    (refl, subst (λ (l : List ℕ). RunsListFile rule (separator_byte separator) l a b ended) same (subst (λ (s : ℕ). RunsListFile rule s text a b ended) bytes ran)) in
+    subst (λ (n : Names). RunsOver rule n reader reader a b ended) (sym is) whole
+
+-- a survey that was begun goes on as its run
+pub surveyed : (rule same : Rule) (heading : List ℕ) (names : Names) (reader left : Option (List ℕ)) (host : HostView) (before after error : Account) (worst : Verdict) (last : Stand)
+    (done : Unit {0}) (ended : Result (Unit {0}) RunFault)
+    → Begins {A = Unit {0}} heading before after (Ok done) → worst ≡ Clean → same ≡ rule → RunsOver same names reader left (stand_of host (told_of after error worst)) last ended
+    → Surveys rule heading names reader left (stand_of host (told_of before error Clean)) last ended
+surveyed rule same heading names reader left host before after error worst last done ended begins clean is_same ran = record {
+  begun = Ok done;
+  output = after;
+  begins = begins;
+  goes_on = subst (λ (r : Rule). RunsOver r names reader left (stand_of host (told_of after error Clean)) last ended) is_same
+      (subst (λ (w : Verdict). RunsOver same names reader left (stand_of host (told_of after error w)) last ended) clean ran);
+}
+
+-- a run over the names of a list that was fetched
+pub file_fetched : (rule : Rule) (separator : ℕ) (list : List ℕ) (first : Stand) (host : HostView) (bytes slice : List ℕ) (last : Stand) (ended : Result (Unit {0}) RunFault)
+    → slice ≡ bytes → IsFetched list first.host (Ok bytes) host → Runs rule (map listed (names_in separator slice)) (stand_of host first.told) last ended
+    → RunsListFile rule separator list first last ended
+file_fetched rule separator list first host bytes slice last ended same fetched ran =
+    (Ok bytes, host, fetched, subst (λ (l : List ℕ). Runs rule (map listed (names_in separator l)) (stand_of host first.told) last ended) same ran)
+
+-- and of one that was not
+pub file_unfetched : (rule : Rule) (separator : ℕ) (list : List ℕ) (first : Stand) (host : HostView) (fault : HostFault) (told : RunFault)
+    → told ≡ fault_of_list fault → IsFetched list first.host (Err fault) host → RunsListFile {A = Unit {0}} rule separator list first (stand_of host first.told) (Err told)
+file_unfetched rule separator list first host fault told is fetched = (Err fault, host, fetched, (ap Err is, refl))
