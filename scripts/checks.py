@@ -39,6 +39,8 @@ SWEEPS = [
     "scripts/sweep-memory",
     "scripts/sweep-damage",
     "scripts/sweep-sessions",
+    "scripts/sweep-surveys",
+    "scripts/sweep-survey-names",
 ]
 
 # Of the crates whose programs are run, the commands that wait for it.

@@ -1,4 +1,5 @@
-/* Makes calls of the system fail, or kills the process at one. Preloaded by scripts/sweep-stores, scripts/sweep-memory and scripts/sweep-faults.
+/* Makes calls of the system fail, or kills the process at one. Preloaded by scripts/sweep-stores, scripts/sweep-memory, scripts/sweep-faults
+ * and scripts/sweep-survey-names.
  *
  * A call is counted where its path is relative or its descriptor is none of the standard streams and of no file below /proc,
  * in which the system tells of the process; with SWEEP_STREAMS the standard streams count too. SWEEP_LOG names the file that gets a line for each: its name and the path, or the number of a standard stream.

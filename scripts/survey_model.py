@@ -1,0 +1,318 @@
+"""A plain model of surveys of dumps, written from the specification and not from the code: what is on a dump, what is wrong with it, which of its files
+are whole, and what `d64sh check` prints of it. It is slow and simple: it lists each block's owners, all of them.
+"""
+import functools
+import hashlib
+import json
+import re
+from collections import Counter, namedtuple
+
+from disk_model import BLANK, DEL, DIRECTORY, MAP, REL, USR, Disk, Slot, up_to_filler
+from text_form import to_text
+
+# How many tracks a dump of each length has, and whether codes follow its image.
+KINDS_OF_DUMPS = {174_848: (35, False), 175_531: (35, True), 196_608: (40, False), 197_376: (40, True)}
+
+# The status of the drive for each code that has one. Codes 0 and 1 are good.
+STATUSES = {**{code: code + 18 for code in range(2, 12)}, 15: 74}
+WORDS = ("open", "kind", "chain", "shared", "error", "size", "geos")
+MOST_OWNERS, MOST_NAME, SHOWN_OF_LONGER, LIMIT = 8, 4_096, 64, 16_777_216
+
+COLUMNS = ("image", "tracks", "codes", "name", "id", "dos", "entries", "whole", "free", "unowned", "sound", "amiss", "faults", "read_errors")
+MARKS_OF_DIRECTION = {0x61C, 0x200E, 0x200F, *range(0x202A, 0x202F), *range(0x2066, 0x206A)}
+
+# The blocks along the links from a pair, how that ends (`end`, `loop` or `off`), and the pair at which it does.
+Way = namedtuple("Way", "blocks end to")
+
+# Who a block belongs to: the map, the directory, or the data or the side blocks of a slot.
+Owner = namedtuple("Owner", "what slot name", defaults=(None, None))
+
+
+def pair_text(pair):
+    return f"{pair[0]}/{pair[1]}"
+
+
+def told_owners(owners):
+    """The members of an object that tell of some owners."""
+    told = [{key: value for key, value in owner._asdict().items() if value is not None} for owner in owners[:MOST_OWNERS]]
+    return {"owners": told, **({"more": len(owners) - MOST_OWNERS} if len(owners) > MOST_OWNERS else {})}
+
+
+class Survey:
+    """What there is to tell of a dump."""
+
+    def __init__(self, data):
+        self.tracks, self.has_codes = KINDS_OF_DUMPS[len(data)]
+        size = len(BLANK[self.tracks])
+        self.disk, self.codes, self.known_ways = Disk(data[:size]), data[size:], {}
+        self.directory = self.way(DIRECTORY)
+        blocks = [(pair, self.disk.block(pair)) for pair in self.directory.blocks]
+        slots = [Slot(pair, place, block[32 * place:32 * place + 32]) for pair, block in blocks for place in range(8)]
+        self.entries = [(number, slot) for number, slot in enumerate(slots) if slot.used]
+        self.names = {number: to_text(slot.name) for number, slot in self.entries}
+
+    def way(self, pair):
+        if pair not in self.known_ways:
+            self.known_ways[pair] = self.walked(pair)
+        return self.known_ways[pair]
+
+    def walked(self, pair):
+        blocks = {}
+        while self.disk.holds(pair) and pair not in blocks:
+            link = self.disk.block(pair)
+            blocks[pair] = link
+            pair = tuple(link[:2])
+            if link[0] == 0:
+                return Way(list(blocks), "end", pair)
+        return Way(list(blocks), "loop" if pair in blocks else "off", pair)
+
+    def ways_of(self, slot):
+        """The ways of a slot, each with what its blocks are."""
+        if not slot.closed or not DEL < slot.kind <= REL:
+            return {}
+        has_side = slot.kind == REL and slot.side[0] != 0
+        return {"data": self.way(slot.first), **({"side": self.way(slot.side)} if has_side else {})}
+
+    @functools.cached_property
+    def owners(self):
+        """The owners of each block that has any."""
+        owners = {MAP: [Owner("map")]}
+        for pair in self.directory.blocks:
+            owners.setdefault(pair, []).append(Owner("directory"))
+        for number, slot in self.entries:
+            for what, way in self.ways_of(slot).items():
+                owner = Owner(what, number, self.names[number])
+                for pair in way.blocks:
+                    owners.setdefault(pair, []).append(owner)
+        return owners
+
+    @functools.cached_property
+    def free(self):
+        return self.disk.free()
+
+    # Faults
+
+    @functools.cached_property
+    def faults(self):
+        return [fault for faults in (self.counts(), self.of_directory(), self.kinds(), self.broken(), self.shared(), self.marked_free()) for fault in faults]
+
+    def counts(self):
+        marked = Counter(track for track, _ in self.free)
+        for track, count in self.disk.counts().items():
+            if count != marked[track]:
+                yield {"condition": 1, "track": track, "count": count, "marked": marked[track]}
+
+    def of_directory(self):
+        if self.directory.end != "end":
+            yield {"condition": 2, **self.broken_end(self.directory)}
+
+    @staticmethod
+    def broken_end(way):
+        return {"at": pair_text(way.blocks[-1]) if way.blocks else None, "end": way.end, "to": pair_text(way.to)}
+
+    def kinds(self):
+        for number, slot in self.entries:
+            if slot.kind > REL:
+                yield {"condition": 3, "slot": number, "name": self.names[number], "type": slot.data[2]}
+
+    def broken(self):
+        for number, slot in self.entries:
+            for what, way in self.ways_of(slot).items():
+                if way.end != "end":
+                    yield {"condition": 4, "slot": number, "name": self.names[number], "what": what, **self.broken_end(way)}
+
+    def shared(self):
+        for pair in self.disk.pairs:
+            if len(self.owners.get(pair, ())) > 1:
+                yield {"condition": 5, "block": pair_text(pair), **told_owners(self.owners[pair])}
+
+    def marked_free(self):
+        for pair in self.disk.pairs:
+            if pair in self.free and pair in self.owners:
+                yield {"condition": 6, "block": pair_text(pair), **told_owners(self.owners[pair])}
+
+    # Read errors
+
+    @functools.cached_property
+    def errors(self):
+        """The code of each block that has a read error."""
+        return {pair: code for pair, code in zip(self.disk.pairs, self.codes) if code > 1}
+
+    @property
+    def read_errors(self):
+        return [{"block": pair_text(pair), "code": code, "status": STATUSES.get(code), **told_owners(self.owners.get(pair, []))}
+                for pair, code in self.errors.items()]
+
+    # Files
+
+    def is_geos(self, slot):
+        return slot.kind == USR and slot.data[0x18] != 0 and self.disk.holds(slot.side)
+
+    def why(self, slot):
+        """The words that say why a slot's file isn't whole, or that this isn't known; None where it isn't looked at."""
+        if slot.kind == DEL:
+            return None
+        ways = self.ways_of(slot).values()
+        blocks, ends = [pair for way in ways for pair in way.blocks], all(way.end == "end" for way in ways)
+        is_geos = self.is_geos(slot)
+        holds = {"open": not slot.closed, "kind": slot.kind > REL, "chain": not ends, "shared": any(len(self.owners[pair]) > 1 for pair in blocks),
+                 "error": any(pair in self.errors for pair in blocks), "size": bool(ways) and ends and slot.size != len(blocks) and not is_geos,
+                 "geos": is_geos}
+        return [word for word in WORDS if holds[word]]
+
+    @functools.cached_property
+    def all_why(self):
+        """The words of each used slot, in order."""
+        return [self.why(slot) for _, slot in self.entries]
+
+    @property
+    def not_whole(self):
+        return sum(why not in (None, [], ["geos"]) for why in self.all_why)
+
+    @property
+    def is_amiss(self):
+        return bool(self.faults or self.errors or self.not_whole)
+
+    def told(self):
+        """The members of the object that `check` prints, but for the image's name."""
+        head = self.disk.block(MAP)
+        counts = self.disk.counts()
+        return {"tracks": self.tracks, "codes": self.has_codes, "name": to_text(up_to_filler(head[0x90:0xA0])), "id": to_text(head[0xA2:0xA4]),
+                "dos": to_text(head[0xA5:0xA7]), "entries": len(self.entries), "whole": self.all_why.count([]),
+                "free": sum(count for track, count in counts.items() if track != 18),
+                "unowned": sum(pair not in self.free and pair not in self.owners for pair in self.disk.pairs),
+                "sound": not self.faults, "amiss": self.is_amiss, "faults": self.faults, "read_errors": self.read_errors}
+
+
+# Names
+
+def kept_of(name):
+    """A name of a list as it is shown: of a longer one than names may be, its beginning."""
+    return name if len(name) <= MOST_NAME else name[:SHOWN_OF_LONGER] + b".."
+
+
+def is_name(name):
+    """Whether a name of a list is one that may be read."""
+    try:
+        return len(name) <= MOST_NAME and name.decode() is not None
+    except UnicodeDecodeError:
+        return False
+
+
+def shown(name):
+    """A host name as text for people: it holds no control of a terminal, and makes no line."""
+    return "".join(map(shown_character, name.decode(errors="surrogateescape")))
+
+
+def shown_character(character):
+    code = ord(character)
+    if 0xDC80 <= code <= 0xDCFF:
+        return f"\\x{code - 0xDC00:02x}"
+    if code < 0x20 or 0x7F <= code < 0xA0 or code in MARKS_OF_DIRECTION:
+        return f"\\u{{{code:x}}}"
+    return "\\\\" if character == "\\" else character
+
+
+# Lines
+
+def json_line(members):
+    return json.dumps(members, ensure_ascii=False, separators=(",", ":")) + "\n"
+
+
+def csv_line(fields):
+    return ",".join(map(csv_field, fields)) + "\n"
+
+
+def csv_field(value):
+    text = "" if value is None else str(value).lower() if isinstance(value, bool) else str(value)
+    return '"' + text.replace('"', '""') + '"' if any(character in text for character in ',"\r\n') else text
+
+
+def csv_header(digest=False):
+    return csv_line([*COLUMNS, *["sha256"] * digest, "error"])
+
+
+def error_of(data):
+    """Why a file isn't answered, if so: it is None where it cannot be read."""
+    if data is None or len(data) > LIMIT:
+        return "cannot be read"
+    return None if len(data) in KINDS_OF_DUMPS else "wrong length"
+
+
+@functools.lru_cache(64)
+def survey_of(data):
+    return Survey(data)
+
+
+def check_json(name, data, digest=False):
+    """The line of a file in JSON."""
+    head, error = {"image": name.decode(errors="replace")}, error_of(data)
+    if error:
+        return json_line({**head, "error": error, **({"length": len(data)} if error == "wrong length" else {})})
+    return json_line({**head, **survey_of(data).told(), **({"sha256": hashlib.sha256(data).hexdigest()} if digest else {})})
+
+
+def check_csv(name, data, digest=False):
+    """The row of a file."""
+    name, error = name.decode(errors="replace"), error_of(data)
+    if error:
+        return csv_line([name, *[None] * (len(COLUMNS) - 1 + digest), error])
+    told = survey_of(data).told()
+    told.update(image=name, faults=len(told["faults"]), read_errors=len(told["read_errors"]))
+    return csv_line([*(told[column] for column in COLUMNS), *[hashlib.sha256(data).hexdigest()] * digest, None])
+
+
+def error_line(name, data):
+    """The line on the standard error of a file that isn't answered, but for what it seems to be, or nothing."""
+    error = error_of(data)
+    return f"d64sh: {shown(name)}: {error}{f' {len(data)}' if error == 'wrong length' else ''}\n" if error else ""
+
+
+def status_of(all_data):
+    """The exit status of a run over these files."""
+    if any(error_of(data) for data in all_data):
+        return 2
+    return 1 if any(survey_of(data).is_amiss for data in all_data) else 0
+
+
+# Texts, which are free but for these
+
+def text_lines(data):
+    """How many lines tell of a dump, beside one of the blocks that are marked used and belong to nobody."""
+    survey = survey_of(data)
+    return 1 + len(survey.faults) + len(survey.errors) + survey.not_whole
+
+
+def is_of_unowned(line, data):
+    """Whether a line may tell of the blocks that are marked used and belong to nobody: it may be left out."""
+    told = survey_of(data).told()
+    return told["amiss"] and told["unowned"] > 0 and numbers_in(line)[:1] == [told["unowned"]]
+
+
+def is_first_line(line, name, data):
+    """Whether a line may be the first that tells of a dump."""
+    survey, told = survey_of(data), survey_of(data).told()
+    begin, _, end = line.rpartition(": ")
+    head = f'{shown(name)}: "{told["name"]}" {told["id"]}'
+    counts = [count for count in (len(survey.faults), len(survey.errors), survey.not_whole) if count]
+    is_told = begin.startswith(head) and numbers_in(begin[len(head):]) == [told["entries"], told["free"]]
+    return is_told and end.startswith("sound") == told["sound"] and numbers_in(end) == counts
+
+
+def numbers_in(text):
+    return [int(number) for number in re.findall("[0-9]+", text)]
+
+
+# What came of a run
+
+def without_guesses(faults):
+    """The lines of standard error without what a file of a wrong length seems to be, which is free."""
+    return re.sub(r"(?m)(: wrong length \d+) \([^()\n]+\)$", r"\1", faults)
+
+
+def first_difference(came, wanted):
+    """Where two texts differ first, or None."""
+    if came == wanted:
+        return None
+    at = next((place for place, (one, other) in enumerate(zip(came, wanted)) if one != other), min(len(came), len(wanted)))
+    return f"{came[max(at - 60, 0):at + 60]!r}, not {wanted[max(at - 60, 0):at + 60]!r}"
