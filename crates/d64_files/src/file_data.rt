@@ -8,7 +8,7 @@ use std::alloc::{AllocError, Global};
 
 /// The data of a block of a file: bytes 2 to 255. In the last block of a chain, whose link's track is 0, they end with
 /// the last byte used, whose index is byte 1; an index below 2 means no data.
-pub(crate) fn data_of(sector: &[u8; BLOCK_BYTES]) -> &[u8]
+pub fn data_of(sector: &[u8; BLOCK_BYTES]) -> &[u8]
     ensures value { result.now ≡ data_in sector.now }
     ensures len { length result.now ≤ 254 }
 {

@@ -31,6 +31,7 @@ pub use clearing::{clear_slot, set_name};
 pub use dir_fault::DirFault;
 pub use directory_blocks::{DIRECTORY_SECTOR, Directory};
 pub use entry::{Entry, SlotNo};
+pub use file_data::data_of;
 pub use kind::Kind;
 pub use label::BadName;
 pub use lookup::find;
