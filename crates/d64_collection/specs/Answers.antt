@@ -1,5 +1,5 @@
 -- What is answered of a file, and what a report promises.
-use Rattle.std.specs.Prelude.{ℕ, List, Option}
+use Rattle.std.specs.Prelude.{◌≡◌, ℕ, List, [], Option}
 use Rattle.d64_collection.specs.declared.report.Verdict.{Verdict}
 use Rattle.d64_collection.specs.declared.report.Verdict.TheVariants.{Clean, Amiss, Failed}
 
@@ -12,6 +12,10 @@ pub record Answer : Type 0 where
 -- what is answered of a file of this name, with these bytes, or with none where it cannot be read
 abbrev pub Rule : Type 0
 Rule = List ℕ → Option (List ℕ) → Answer
+
+-- a rule is quiet: of a file on which its verdict is clean, nothing goes to the standard error
+abbrev pub IsQuiet : Rule → Type 0
+IsQuiet rule = (name : List ℕ) (bytes : Option (List ℕ)) → (rule name bytes).verdict ≡ Clean → (rule name bytes).complaint ≡ []
 
 -- the worse of two verdicts
 abbrev pub worse : Verdict → Verdict → Verdict

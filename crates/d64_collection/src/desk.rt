@@ -1,5 +1,5 @@
 //! Where files are answered, one after another.
-ghost use Rattle.std.specs.Prelude.{◌≡◌, true, map, string_bytes, OnOk};
+ghost use Rattle.std.specs.Prelude.{◌≡◌, [], true, map, string_bytes, OnErr, OnOk};
 ghost use Rattle.d64_script.specs.Output.{account_of};
 ghost use Rattle.d64_collection.specs.Names.{File, NoFile};
 ghost use Rattle.d64_collection.specs.Runs.{Begins, EndsAt, HostView, Runs, Tells, host_of, stand_of, told_of};
@@ -109,6 +109,7 @@ impl Desk {
         ensures rule { P.rule report.new ≡ P.rule report.old }
         ensures delivered { OnOk result (output.new.is_delivered ≡ true) }
         ensures unfailed { OnOk result (output.new.has_failed ≡ output.old.has_failed) }
+        ensures silent { self.new.worst ≡ Verdict.Clean → (self.old.worst ≡ Verdict.Clean) × (faults.new ≡ faults.old) }
         ensures answered { EndsAt (P.rule report.old) (File name.now)
             (stand_of (host_of (H.files host.old) (H.failure_count host.old)) (told_of (account_of (W.contents output.old.writer.now) output.old.has_failed) (account_of (F.contents faults.old.writer.now) faults.old.has_failed) self.old.worst))
             (stand_of (host_of (H.files host.new) (H.failure_count host.new)) (told_of (account_of (W.contents output.new.writer.now) output.new.has_failed) (account_of (F.contents faults.new.writer.now) faults.new.has_failed) self.new.worst)) result }
@@ -137,6 +138,7 @@ impl Desk {
         ensures rule { P.rule report.new ≡ P.rule report.old }
         ensures delivered { OnOk result (output.new.is_delivered ≡ true) }
         ensures unfailed { OnOk result (output.new.has_failed ≡ output.old.has_failed) }
+        ensures silent { self.new.worst ≡ Verdict.Clean → (self.old.worst ≡ Verdict.Clean) × (faults.new ≡ faults.old) }
         ensures answered { (seen : HostView) → EndsAt (P.rule report.old) (NoFile name.now)
             (stand_of seen (told_of (account_of (W.contents output.old.writer.now) output.old.has_failed) (account_of (F.contents faults.old.writer.now) faults.old.has_failed) self.old.worst))
             (stand_of seen (told_of (account_of (W.contents output.new.writer.now) output.new.has_failed) (account_of (F.contents faults.new.writer.now) faults.new.has_failed) self.new.worst)) result }
@@ -161,6 +163,7 @@ impl Desk {
         ensures rule { P.rule report.new ≡ P.rule report.old }
         ensures delivered { output.old.is_delivered ≡ true → OnOk result (output.new.is_delivered ≡ true) }
         ensures unfailed { OnOk result (output.new.has_failed ≡ output.old.has_failed) }
+        ensures silent { self.new.worst ≡ Verdict.Clean → (self.old.worst ≡ Verdict.Clean) × (faults.new ≡ faults.old) }
         ensures answered { Runs (P.rule report.old) (map (λ name. File (string_bytes name)) names.now)
             (stand_of (host_of (H.files host.old) (H.failure_count host.old))
             (told_of (account_of (W.contents output.old.writer.now) output.old.has_failed) (account_of (F.contents faults.old.writer.now) faults.old.has_failed) self.old.worst))
@@ -173,7 +176,8 @@ impl Desk {
         Ok(())
     }
 
-    /// Writes and delivers what is in the room, and counts the verdict. Where the standard error fails, the rest of a complaint is dropped.
+    /// Writes and delivers what is in the room, and counts the verdict. Where there is no complaint, the standard error is left alone; where that
+    /// fails, the rest of a complaint is dropped.
     fn tell<W: Write, F: Write>(
         &mut self,
         verdict: Verdict,
@@ -184,13 +188,17 @@ impl Desk {
         ensures faults { faults.new.writer.ghost_name ≡ faults.old.writer.ghost_name }
         ensures delivered { OnOk result (output.new.is_delivered ≡ true) }
         ensures unfailed { OnOk result (output.new.has_failed ≡ output.old.has_failed) }
+        ensures silent { self.old.room.complaint.items ≡ [] → faults.new ≡ faults.old }
+        ensures stopped { OnErr result (faults.new ≡ faults.old) }
         ensures told { Tells (record { printed = self.old.room.printed.items; complaint = self.old.room.complaint.items; verdict = verdict })
             (told_of (account_of (W.contents output.old.writer.now) output.old.has_failed) (account_of (F.contents faults.old.writer.now) faults.old.has_failed) self.old.worst)
             (told_of (account_of (W.contents output.new.writer.now) output.new.has_failed) (account_of (F.contents faults.new.writer.now) faults.new.has_failed) self.new.worst) result }
     {
         output.write(self.room.printed.as_slice())?;
         output.flush()?;
-        let _ = faults.write(self.room.complaint.as_slice());
+        if !self.room.complaint.is_empty() {
+            let _ = faults.write(self.room.complaint.as_slice());
+        }
         self.worst = self.worst.worse(verdict);
         Ok(())
     }

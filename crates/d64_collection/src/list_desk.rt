@@ -59,6 +59,7 @@ impl ListDesk {
         ensures rule { P.rule report.new ≡ P.rule report.old }
         ensures delivered { output.old.is_delivered ≡ true → OnOk result (output.new.is_delivered ≡ true) }
         ensures unfailed { OnOk result (output.new.has_failed ≡ output.old.has_failed) }
+        ensures silent { self.new.desk.worst ≡ Verdict.Clean → (self.old.desk.worst ≡ Verdict.Clean) × (faults.new ≡ faults.old) }
         ensures answered { self.old.name ≡ [] → Runs (P.rule report.old) (map listed (names_in self.old.separator list.now))
             (stand_of (host_of (H.files host.old) (H.failure_count host.old))
             (told_of (account_of (W.contents output.old.writer.now) output.old.has_failed) (account_of (F.contents faults.old.writer.now) faults.old.has_failed) self.old.desk.worst))
@@ -89,6 +90,7 @@ impl ListDesk {
         ensures rule { P.rule report.new ≡ P.rule report.old }
         ensures delivered { OnOk result (output.new.is_delivered ≡ true) }
         ensures unfailed { OnOk result (output.new.has_failed ≡ output.old.has_failed) }
+        ensures silent { self.new.desk.worst ≡ Verdict.Clean → (self.old.desk.worst ≡ Verdict.Clean) × (faults.new ≡ faults.old) }
         ensures answered { self.old.name ≡ [] → RunsStream (P.rule report.old) self.old.separator (R.remaining input.old.reader.now) (R.remaining input.new.reader.now)
             (stand_of (host_of (H.files host.old) (H.failure_count host.old))
             (told_of (account_of (W.contents output.old.writer.now) output.old.has_failed) (account_of (F.contents faults.old.writer.now) faults.old.has_failed) self.old.desk.worst))
@@ -128,6 +130,7 @@ impl ListDesk {
         ensures rule { P.rule report.new ≡ P.rule report.old }
         ensures delivered { output.old.is_delivered ≡ true → OnOk result (output.new.is_delivered ≡ true) }
         ensures unfailed { OnOk result (output.new.has_failed ≡ output.old.has_failed) }
+        ensures silent { self.new.desk.worst ≡ Verdict.Clean → (self.old.desk.worst ≡ Verdict.Clean) × (faults.new ≡ faults.old) }
         ensures came { (first : Stand) (before : List ℕ)
             → HasCome (P.rule report.old) self.old.separator first
             (stand_of (host_of (H.files host.old) (H.failure_count host.old))
@@ -168,6 +171,7 @@ impl ListDesk {
         ensures rule { P.rule report.new ≡ P.rule report.old }
         ensures delivered { output.old.is_delivered ≡ true → OnOk result (output.new.is_delivered ≡ true) }
         ensures unfailed { OnOk result (output.new.has_failed ≡ output.old.has_failed) }
+        ensures silent { self.new.desk.worst ≡ Verdict.Clean → (self.old.desk.worst ≡ Verdict.Clean) × (faults.new ≡ faults.old) }
         ensures came { (first : Stand) (before : List ℕ)
             → HasCome (P.rule report.old) self.old.separator first
             (stand_of (host_of (H.files host.old) (H.failure_count host.old))
@@ -210,6 +214,7 @@ impl ListDesk {
         ensures rule { P.rule report.new ≡ P.rule report.old }
         ensures delivered { output.old.is_delivered ≡ true → OnOk result (output.new.is_delivered ≡ true) }
         ensures unfailed { OnOk result (output.new.has_failed ≡ output.old.has_failed) }
+        ensures silent { self.new.desk.worst ≡ Verdict.Clean → (self.old.desk.worst ≡ Verdict.Clean) × (faults.new ≡ faults.old) }
         ensures answered { Runs (P.rule report.old) (asked_by self.old.name)
             (stand_of (host_of (H.files host.old) (H.failure_count host.old))
             (told_of (account_of (W.contents output.old.writer.now) output.old.has_failed) (account_of (F.contents faults.old.writer.now) faults.old.has_failed) self.old.desk.worst))

@@ -1,6 +1,6 @@
 //! What is told of one file.
 ghost use Rattle.std.specs.Prelude.{◌≡◌, [], IfOk, OnOk, List, ℕ, Option, option_map};
-ghost use Rattle.d64_collection.specs.Answers.{Answer, worse, status_of};
+ghost use Rattle.d64_collection.specs.Answers.{Answer, IsQuiet, worse, status_of};
 
 use std::alloc::{AllocError, Global};
 
@@ -94,4 +94,7 @@ pub trait Report {
         ensures same { rule self.new ≡ rule self.old }
         ensures answered { IfOk result (λ verdict. record { printed = room.new.printed.items; complaint = room.new.complaint.items; verdict = verdict }
             ≡ rule self.old name.now (option_map (λ bytes. bytes.now) bytes.entry)) };
+
+    // A clean answer has no complaint.
+    ghost quiet: { (report : Self) → IsQuiet (rule report) };
 }

@@ -10,6 +10,7 @@ loop-name-init g c = record {
   rule = search rules;
   delivered = search rules;
   unfailed = search rules;
+  silent = search rules;
   answered = Steps-none _ _;
 }
 
@@ -22,6 +23,7 @@ loop-name-preserved g c =
       rule = search rules;
       delivered = search rules;
       unfailed = search rules;
+      silent = search rules;
       answered = Steps-next _ _ (λ name. File (string_bytes name)) c.args.names.now c.loop-name.name-index c.name-item.result _ _ _ _ c.loop-name-test.true c.name-item.is
           i.answered i.rule (ap File c.as_str.ensures.value) c.in_ok-answer_file.ensures.answered;
     }

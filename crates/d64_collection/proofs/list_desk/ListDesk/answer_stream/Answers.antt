@@ -11,6 +11,7 @@ loop-init g c = record {
   lost = Consumes-nil (g.R.Read.remaining c.args.input.now.reader.now);
   within = omega arith;
   came = λ fresh. HasCome-none _ _ _ c.args.self.now.name fresh;
+  silent = search rules;
   separator = search rules;
   rule = search rules;
   same_input = search rules;
@@ -66,6 +67,7 @@ loop-preserved g c =
       within = omega (arith, i.within, counts, count, c.if-count-left.false);
       came = λ fresh. HasCome-piece _ _ _ _ _ _ c.take.new.self.name (i.bytes ++ piece) i.rule i.separator
           (c.in_ok-take.ensures.came _ i.bytes (HasCome-same _ _ _ _ _ _ c.loop.self.name i.bytes i.rule i.separator (i.came fresh)));
+      silent = search rules;
       separator = search rules;
       rule = search rules;
       same_input = search rules;

@@ -2,6 +2,7 @@ use Rattle.std.proofs.Common.{◌≡◌, ℕ, ◌+◌, true, false, List, [], le
 use Rattle.std.specs.Io.KnownBytes.{Consumes}
 use Rattle.d64_script.specs.Output.{account_of}
 use Rattle.d64_collection.specs.Lists.{HasCome, list_limit}
+use Rattle.d64_collection.specs.declared.report.Verdict.TheVariants.{Clean}
 use Rattle.d64_collection.specs.Runs.{host_of, stand_of, told_of}
 use Rattle.d64_collection.proofs.list_desk.ListDesk.answer_stream.Given as goal
 
@@ -17,6 +18,7 @@ invariant-loop g l = record {
       (stand_of (host_of (g.H.Host.files l.host) (g.H.Host.failure_count l.host))
       (told_of (account_of (g.W.Write.contents l.output.writer.now) l.output.has_failed) (account_of (g.F.Write.contents l.faults.writer.now) l.faults.has_failed) l.self.desk.worst))
       l.self.name bytes;
+  silent : l.self.desk.worst ≡ Clean → (l.initial.self.desk.worst ≡ Clean) × (l.faults ≡ l.initial.faults);
   separator : l.self.separator ≡ l.initial.self.separator;
   rule : g.P.Report.rule l.report ≡ g.P.Report.rule l.initial.report;
   same_input : l.input.reader.ghost_name ≡ l.initial.input.reader.ghost_name;

@@ -1,6 +1,7 @@
 use Rattle.std.proofs.Common.{◌≡◌, true, ℕ, List, ◌++◌, take}
 use Rattle.d64_script.specs.Output.{account_of}
 use Rattle.d64_collection.specs.Lists.{HasCome}
+use Rattle.d64_collection.specs.declared.report.Verdict.TheVariants.{Clean}
 use Rattle.d64_collection.specs.Runs.{Stand, host_of, stand_of, told_of}
 use Rattle.d64_collection.proofs.list_desk.ListDesk.take.Given as goal
 
@@ -13,6 +14,7 @@ invariant-loop-byte g l = record {
   rule : g.P.Report.rule l.report ≡ g.P.Report.rule l.initial.report;
   delivered : l.initial.output.is_delivered ≡ true → l.output.is_delivered ≡ true;
   unfailed : l.output.has_failed ≡ l.initial.output.has_failed;
+  silent : l.self.desk.worst ≡ Clean → (l.initial.self.desk.worst ≡ Clean) × (l.faults ≡ l.initial.faults);
   came : (first : Stand) (before : List ℕ)
       → HasCome (g.P.Report.rule l.initial.report) l.initial.self.separator first
       (stand_of (host_of (g.H.Host.files l.initial.host) (g.H.Host.failure_count l.initial.host))
