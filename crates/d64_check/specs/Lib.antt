@@ -1,2 +1,3 @@
 pub mod DumpOf
 pub mod Check
+pub mod Quiet

@@ -3,6 +3,7 @@ ghost use Rattle.std.specs.Prelude.{◌≡◌, List, ℕ, Option, Some, IfOk, On
 ghost use Rattle.d64_collection.specs.Answers.{Answer};
 ghost use Rattle.d64_check.specs.Check.{answer_of, check_rule, heading_of};
 ghost use Rattle.d64_check.specs.DumpOf.{dump_of};
+ghost use Rattle.d64_check.specs.Quiet.{check_rule-is_quiet};
 
 use crate::printing::{print_dump, print_heading, print_unread, print_wrong_length};
 use d64_collection::{AnswerRoom, Report, Verdict};
@@ -110,6 +111,8 @@ impl Report for CheckReport {
     ghost rule = { λ report. check_rule report.form report.has_digest };
 
     ghost heading = { λ report. heading_of report.form report.has_digest };
+
+    ghost quiet = { λ report. check_rule-is_quiet report.form report.has_digest };
 
     fn head(&mut self, room: &mut AnswerRoom) -> Result<(), AllocError> {
         room.clear();
