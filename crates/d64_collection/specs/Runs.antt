@@ -5,7 +5,8 @@ use Rattle.d64_host.specs.Files.{Files}
 use Rattle.d64_host.specs.Host.{Fetches, CountsDevice}
 use Rattle.d64_host.specs.declared.host.HostFault.{HostFault}
 use Rattle.d64_host.specs.declared.host.HostFault.TheVariants.{Missing, Device, TooLong, Memory}
-use Rattle.d64_script.specs.Output.{Account, AppendsPart, Writes}
+use Rattle.d64_script.specs.Output.{Account, AppendsPart, Writes, account_of}
+use Rattle.d64_script.specs.declared.output.OutputStream.{OutputStream}
 use Rattle.d64_collection.specs.Names.{Asked, File, NoFile}
 use Rattle.d64_collection.specs.Answers.{Answer, Rule, worse}
 use Rattle.d64_collection.specs.declared.report.Verdict.{Verdict}
@@ -41,6 +42,19 @@ told_of output error worst = record { output = output; error = error; worst = wo
 
 abbrev pub stand_of : HostView → Told → Stand
 stand_of host told = record { host = host; told = told }
+
+-- what is known of an output stream, of whose writer this tells the bytes
+abbrev pub account_at : {W : Type 0} → (W → Option (List ℕ)) → OutputStream W → Account
+account_at contents stream = account_of (contents stream.writer.now) stream.has_failed
+
+-- what was told so far on two output streams, of whose writers these tell the bytes
+abbrev pub told_at : {W F : Type 0} → (W → Option (List ℕ)) → OutputStream W → (F → Option (List ℕ)) → OutputStream F → Verdict → Told
+told_at written output complained faults worst = told_of (account_at written output) (account_at complained faults) worst
+
+-- how it stands with a run over a host, of which two functions tell the files and the failures, and on two output streams
+abbrev pub stand_at : {H W F : Type 0} → (H → Option Files) → (H → ℕ) → H → (W → Option (List ℕ)) → OutputStream W → (F → Option (List ℕ)) → OutputStream F → Verdict → Stand
+stand_at files failures host written output complained faults worst =
+    stand_of (host_of (files host) (failures host)) (told_at written output complained faults worst)
 
 -- what a fetch gives a report: the bytes, or none where the file cannot be read; and nothing at all where memory was wanting
 abbrev pub given_by : Result (List ℕ) HostFault → Option (Option (List ℕ))

@@ -1,8 +1,7 @@
 //! Where files are answered, one after another.
 ghost use Rattle.std.specs.Prelude.{◌≡◌, [], true, map, string_bytes, OnErr, OnOk};
-ghost use Rattle.d64_script.specs.Output.{account_of};
 ghost use Rattle.d64_collection.specs.Names.{File, NoFile};
-ghost use Rattle.d64_collection.specs.Runs.{Begins, EndsAt, HostView, Runs, Tells, host_of, stand_of, told_of};
+ghost use Rattle.d64_collection.specs.Runs.{Begins, EndsAt, HostView, Runs, Tells, account_at, stand_at, stand_of, told_at};
 
 use crate::report::{AnswerRoom, Report, Verdict};
 use d64_host::{Host, HostFault};
@@ -87,7 +86,7 @@ impl Desk {
         ensures delivered { OnOk result (output.new.is_delivered ≡ true) }
         ensures unfailed { OnOk result (output.new.has_failed ≡ output.old.has_failed) }
         ensures worst { self.new.worst ≡ self.old.worst }
-        ensures begun { Begins (P.heading report.old) (account_of (W.contents output.old.writer.now) output.old.has_failed) (account_of (W.contents output.new.writer.now) output.new.has_failed) result }
+        ensures begun { Begins (P.heading report.old) (account_at W.contents output.old) (account_at W.contents output.new) result }
     {
         report.head(&mut self.room)?;
         output.write(self.room.printed.as_slice())?;
@@ -111,8 +110,8 @@ impl Desk {
         ensures unfailed { OnOk result (output.new.has_failed ≡ output.old.has_failed) }
         ensures silent { self.new.worst ≡ Verdict.Clean → (self.old.worst ≡ Verdict.Clean) × (faults.new ≡ faults.old) }
         ensures answered { EndsAt (P.rule report.old) (File name.now)
-            (stand_of (host_of (H.files host.old) (H.failure_count host.old)) (told_of (account_of (W.contents output.old.writer.now) output.old.has_failed) (account_of (F.contents faults.old.writer.now) faults.old.has_failed) self.old.worst))
-            (stand_of (host_of (H.files host.new) (H.failure_count host.new)) (told_of (account_of (W.contents output.new.writer.now) output.new.has_failed) (account_of (F.contents faults.new.writer.now) faults.new.has_failed) self.new.worst)) result }
+            (stand_at H.files H.failure_count host.old W.contents output.old F.contents faults.old self.old.worst)
+            (stand_at H.files H.failure_count host.new W.contents output.new F.contents faults.new self.new.worst) result }
     {
         let verdict = match host.fill(name, FILE_BYTES, &mut self.bytes) {
             Ok(()) => report.answer(name.as_bytes(), Some(self.bytes.as_slice()), &mut self.room)?,
@@ -140,8 +139,8 @@ impl Desk {
         ensures unfailed { OnOk result (output.new.has_failed ≡ output.old.has_failed) }
         ensures silent { self.new.worst ≡ Verdict.Clean → (self.old.worst ≡ Verdict.Clean) × (faults.new ≡ faults.old) }
         ensures answered { (seen : HostView) → EndsAt (P.rule report.old) (NoFile name.now)
-            (stand_of seen (told_of (account_of (W.contents output.old.writer.now) output.old.has_failed) (account_of (F.contents faults.old.writer.now) faults.old.has_failed) self.old.worst))
-            (stand_of seen (told_of (account_of (W.contents output.new.writer.now) output.new.has_failed) (account_of (F.contents faults.new.writer.now) faults.new.has_failed) self.new.worst)) result }
+            (stand_of seen (told_at W.contents output.old F.contents faults.old self.old.worst))
+            (stand_of seen (told_at W.contents output.new F.contents faults.new self.new.worst)) result }
     {
         let verdict = report.answer(name, None, &mut self.room)?;
         self.tell(verdict, output, faults)?;
@@ -165,10 +164,8 @@ impl Desk {
         ensures unfailed { OnOk result (output.new.has_failed ≡ output.old.has_failed) }
         ensures silent { self.new.worst ≡ Verdict.Clean → (self.old.worst ≡ Verdict.Clean) × (faults.new ≡ faults.old) }
         ensures answered { Runs (P.rule report.old) (map (λ name. File (string_bytes name)) names.now)
-            (stand_of (host_of (H.files host.old) (H.failure_count host.old))
-            (told_of (account_of (W.contents output.old.writer.now) output.old.has_failed) (account_of (F.contents faults.old.writer.now) faults.old.has_failed) self.old.worst))
-            (stand_of (host_of (H.files host.new) (H.failure_count host.new))
-            (told_of (account_of (W.contents output.new.writer.now) output.new.has_failed) (account_of (F.contents faults.new.writer.now) faults.new.has_failed) self.new.worst)) result }
+            (stand_at H.files H.failure_count host.old W.contents output.old F.contents faults.old self.old.worst)
+            (stand_at H.files H.failure_count host.new W.contents output.new F.contents faults.new self.new.worst) result }
     {
         for name in names {
             self.answer_file(name.as_str(), host, report, output, faults)?;
@@ -191,8 +188,8 @@ impl Desk {
         ensures silent { self.old.room.complaint.items ≡ [] → faults.new ≡ faults.old }
         ensures stopped { OnErr result (faults.new ≡ faults.old) }
         ensures told { Tells (record { printed = self.old.room.printed.items; complaint = self.old.room.complaint.items; verdict = verdict })
-            (told_of (account_of (W.contents output.old.writer.now) output.old.has_failed) (account_of (F.contents faults.old.writer.now) faults.old.has_failed) self.old.worst)
-            (told_of (account_of (W.contents output.new.writer.now) output.new.has_failed) (account_of (F.contents faults.new.writer.now) faults.new.has_failed) self.new.worst) result }
+            (told_at W.contents output.old F.contents faults.old self.old.worst)
+            (told_at W.contents output.new F.contents faults.new self.new.worst) result }
     {
         output.write(self.room.printed.as_slice())?;
         output.flush()?;

@@ -1,9 +1,8 @@
 //! Where the files that a list names are answered, as the list's bytes come.
 ghost use Rattle.std.specs.Prelude.{◌≡◌, ◌≢◌, Err, [], ◌∷◌, ◌++◌, List, ℕ, true, map, OnOk, IfErr};
 ghost use Rattle.d64_script.specs.Input.{IsUnread, IsUnreadable, reading_of};
-ghost use Rattle.d64_script.specs.Output.{account_of};
 ghost use Rattle.d64_collection.specs.Names.{asked_by, listed, names_in};
-ghost use Rattle.d64_collection.specs.Runs.{Runs, Stand, host_of, stand_of, told_of};
+ghost use Rattle.d64_collection.specs.Runs.{Runs, Stand, stand_at};
 ghost use Rattle.d64_collection.specs.Lists.{HasCome, RunsStream, StopsInList};
 
 use crate::desk::{Desk, RunFault};
@@ -61,10 +60,8 @@ impl ListDesk {
         ensures unfailed { OnOk result (output.new.has_failed ≡ output.old.has_failed) }
         ensures silent { self.new.desk.worst ≡ Verdict.Clean → (self.old.desk.worst ≡ Verdict.Clean) × (faults.new ≡ faults.old) }
         ensures answered { self.old.name ≡ [] → Runs (P.rule report.old) (map listed (names_in self.old.separator list.now))
-            (stand_of (host_of (H.files host.old) (H.failure_count host.old))
-            (told_of (account_of (W.contents output.old.writer.now) output.old.has_failed) (account_of (F.contents faults.old.writer.now) faults.old.has_failed) self.old.desk.worst))
-            (stand_of (host_of (H.files host.new) (H.failure_count host.new))
-            (told_of (account_of (W.contents output.new.writer.now) output.new.has_failed) (account_of (F.contents faults.new.writer.now) faults.new.has_failed) self.new.desk.worst)) result }
+            (stand_at H.files H.failure_count host.old W.contents output.old F.contents faults.old self.old.desk.worst)
+            (stand_at H.files H.failure_count host.new W.contents output.new F.contents faults.new self.new.desk.worst) result }
     {
         self.take(list, host, report, output, faults)?;
         self.end(host, report, output, faults)
@@ -92,10 +89,8 @@ impl ListDesk {
         ensures unfailed { OnOk result (output.new.has_failed ≡ output.old.has_failed) }
         ensures silent { self.new.desk.worst ≡ Verdict.Clean → (self.old.desk.worst ≡ Verdict.Clean) × (faults.new ≡ faults.old) }
         ensures answered { self.old.name ≡ [] → RunsStream (P.rule report.old) self.old.separator (R.remaining input.old.reader.now) (R.remaining input.new.reader.now)
-            (stand_of (host_of (H.files host.old) (H.failure_count host.old))
-            (told_of (account_of (W.contents output.old.writer.now) output.old.has_failed) (account_of (F.contents faults.old.writer.now) faults.old.has_failed) self.old.desk.worst))
-            (stand_of (host_of (H.files host.new) (H.failure_count host.new))
-            (told_of (account_of (W.contents output.new.writer.now) output.new.has_failed) (account_of (F.contents faults.new.writer.now) faults.new.has_failed) self.new.desk.worst)) result }
+            (stand_at H.files H.failure_count host.old W.contents output.old F.contents faults.old self.old.desk.worst)
+            (stand_at H.files H.failure_count host.new W.contents output.new F.contents faults.new self.new.desk.worst) result }
     {
         let mut left = SCRIPT_BYTES;
         let mut buffer = [0; READ_BYTES];
@@ -133,21 +128,17 @@ impl ListDesk {
         ensures silent { self.new.desk.worst ≡ Verdict.Clean → (self.old.desk.worst ≡ Verdict.Clean) × (faults.new ≡ faults.old) }
         ensures came { (first : Stand) (before : List ℕ)
             → HasCome (P.rule report.old) self.old.separator first
-            (stand_of (host_of (H.files host.old) (H.failure_count host.old))
-            (told_of (account_of (W.contents output.old.writer.now) output.old.has_failed) (account_of (F.contents faults.old.writer.now) faults.old.has_failed) self.old.desk.worst))
+            (stand_at H.files H.failure_count host.old W.contents output.old F.contents faults.old self.old.desk.worst)
             self.old.name before
             → OnOk result (HasCome (P.rule report.old) self.old.separator first
-            (stand_of (host_of (H.files host.new) (H.failure_count host.new))
-            (told_of (account_of (W.contents output.new.writer.now) output.new.has_failed) (account_of (F.contents faults.new.writer.now) faults.new.has_failed) self.new.desk.worst))
+            (stand_at H.files H.failure_count host.new W.contents output.new F.contents faults.new self.new.desk.worst)
             self.new.name (before ++ bytes.now)) }
         ensures stopped { (first : Stand) (before : List ℕ)
             → HasCome (P.rule report.old) self.old.separator first
-            (stand_of (host_of (H.files host.old) (H.failure_count host.old))
-            (told_of (account_of (W.contents output.old.writer.now) output.old.has_failed) (account_of (F.contents faults.old.writer.now) faults.old.has_failed) self.old.desk.worst))
+            (stand_at H.files H.failure_count host.old W.contents output.old F.contents faults.old self.old.desk.worst)
             self.old.name before
             → IfErr result (λ fault. (more : List ℕ) → StopsInList (P.rule report.old) self.old.separator ((before ++ bytes.now) ++ more) fault first
-            (stand_of (host_of (H.files host.new) (H.failure_count host.new))
-            (told_of (account_of (W.contents output.new.writer.now) output.new.has_failed) (account_of (F.contents faults.new.writer.now) faults.new.has_failed) self.new.desk.worst))) }
+            (stand_at H.files H.failure_count host.new W.contents output.new F.contents faults.new self.new.desk.worst)) }
     {
         for byte in bytes {
             self.take_byte(*byte, host, report, output, faults)?;
@@ -174,21 +165,17 @@ impl ListDesk {
         ensures silent { self.new.desk.worst ≡ Verdict.Clean → (self.old.desk.worst ≡ Verdict.Clean) × (faults.new ≡ faults.old) }
         ensures came { (first : Stand) (before : List ℕ)
             → HasCome (P.rule report.old) self.old.separator first
-            (stand_of (host_of (H.files host.old) (H.failure_count host.old))
-            (told_of (account_of (W.contents output.old.writer.now) output.old.has_failed) (account_of (F.contents faults.old.writer.now) faults.old.has_failed) self.old.desk.worst))
+            (stand_at H.files H.failure_count host.old W.contents output.old F.contents faults.old self.old.desk.worst)
             self.old.name before
             → OnOk result (HasCome (P.rule report.old) self.old.separator first
-            (stand_of (host_of (H.files host.new) (H.failure_count host.new))
-            (told_of (account_of (W.contents output.new.writer.now) output.new.has_failed) (account_of (F.contents faults.new.writer.now) faults.new.has_failed) self.new.desk.worst))
+            (stand_at H.files H.failure_count host.new W.contents output.new F.contents faults.new self.new.desk.worst)
             self.new.name (before ++ byte ∷ [])) }
         ensures stopped { (first : Stand) (before : List ℕ)
             → HasCome (P.rule report.old) self.old.separator first
-            (stand_of (host_of (H.files host.old) (H.failure_count host.old))
-            (told_of (account_of (W.contents output.old.writer.now) output.old.has_failed) (account_of (F.contents faults.old.writer.now) faults.old.has_failed) self.old.desk.worst))
+            (stand_at H.files H.failure_count host.old W.contents output.old F.contents faults.old self.old.desk.worst)
             self.old.name before
             → IfErr result (λ fault. (more : List ℕ) → StopsInList (P.rule report.old) self.old.separator ((before ++ byte ∷ []) ++ more) fault first
-            (stand_of (host_of (H.files host.new) (H.failure_count host.new))
-            (told_of (account_of (W.contents output.new.writer.now) output.new.has_failed) (account_of (F.contents faults.new.writer.now) faults.new.has_failed) self.new.desk.worst))) }
+            (stand_at H.files H.failure_count host.new W.contents output.new F.contents faults.new self.new.desk.worst)) }
     {
         if byte != self.separator {
             self.name.push(byte);
@@ -216,10 +203,8 @@ impl ListDesk {
         ensures unfailed { OnOk result (output.new.has_failed ≡ output.old.has_failed) }
         ensures silent { self.new.desk.worst ≡ Verdict.Clean → (self.old.desk.worst ≡ Verdict.Clean) × (faults.new ≡ faults.old) }
         ensures answered { Runs (P.rule report.old) (asked_by self.old.name)
-            (stand_of (host_of (H.files host.old) (H.failure_count host.old))
-            (told_of (account_of (W.contents output.old.writer.now) output.old.has_failed) (account_of (F.contents faults.old.writer.now) faults.old.has_failed) self.old.desk.worst))
-            (stand_of (host_of (H.files host.new) (H.failure_count host.new))
-            (told_of (account_of (W.contents output.new.writer.now) output.new.has_failed) (account_of (F.contents faults.new.writer.now) faults.new.has_failed) self.new.desk.worst)) result }
+            (stand_at H.files H.failure_count host.old W.contents output.old F.contents faults.old self.old.desk.worst)
+            (stand_at H.files H.failure_count host.new W.contents output.new F.contents faults.new self.new.desk.worst) result }
     {
         if !self.name.is_name() {
             return Ok(());

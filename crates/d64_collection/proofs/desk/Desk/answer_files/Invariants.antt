@@ -1,8 +1,7 @@
 use Rattle.std.proofs.Common.{◌≡◌, true, map, take, string_bytes}
-use Rattle.d64_script.specs.Output.{account_of}
 use Rattle.d64_collection.specs.Names.{File}
 use Rattle.d64_collection.specs.declared.report.Verdict.TheVariants.{Clean}
-use Rattle.d64_collection.specs.Runs.{Steps, host_of, stand_of, told_of}
+use Rattle.d64_collection.specs.Runs.{Steps, stand_at}
 use Rattle.d64_collection.proofs.desk.Desk.answer_files.Given as goal
 
 -- the files before this one are answered
@@ -15,8 +14,6 @@ invariant-loop-name g l = record {
   unfailed : l.output.has_failed ≡ l.initial.output.has_failed;
   silent : l.self.worst ≡ Clean → (l.initial.self.worst ≡ Clean) × (l.faults ≡ l.initial.faults);
   answered : Steps (g.P.Report.rule l.initial.report) (map (λ name. File (string_bytes name)) (take l.name-index l.names))
-      (stand_of (host_of (g.H.Host.files l.initial.host) (g.H.Host.failure_count l.initial.host))
-      (told_of (account_of (g.W.Write.contents l.initial.output.writer.now) l.initial.output.has_failed) (account_of (g.F.Write.contents l.initial.faults.writer.now) l.initial.faults.has_failed) l.initial.self.worst))
-      (stand_of (host_of (g.H.Host.files l.host) (g.H.Host.failure_count l.host))
-      (told_of (account_of (g.W.Write.contents l.output.writer.now) l.output.has_failed) (account_of (g.F.Write.contents l.faults.writer.now) l.faults.has_failed) l.self.worst));
+      (stand_at g.H.Host.files g.H.Host.failure_count l.initial.host g.W.Write.contents l.initial.output g.F.Write.contents l.initial.faults l.initial.self.worst)
+      (stand_at g.H.Host.files g.H.Host.failure_count l.host g.W.Write.contents l.output g.F.Write.contents l.faults l.self.worst);
 }

@@ -1,9 +1,8 @@
 use Rattle.std.proofs.Common.{◌≡◌, ℕ, ◌+◌, true, false, List, [], length}
 use Rattle.std.specs.Io.KnownBytes.{Consumes}
-use Rattle.d64_script.specs.Output.{account_of}
 use Rattle.d64_collection.specs.Lists.{HasCome, list_limit}
 use Rattle.d64_collection.specs.declared.report.Verdict.TheVariants.{Clean}
-use Rattle.d64_collection.specs.Runs.{host_of, stand_of, told_of}
+use Rattle.d64_collection.specs.Runs.{stand_at}
 use Rattle.d64_collection.proofs.list_desk.ListDesk.answer_stream.Given as goal
 
 -- the bytes so far are all that the reader lost, and the list has come through them
@@ -13,10 +12,8 @@ invariant-loop g l = record {
   lost : Consumes (g.R.Read.remaining l.initial.input.reader.now) (g.R.Read.remaining l.input.reader.now) bytes;
   within : length bytes + l.left ≡ list_limit;
   came : l.initial.self.name ≡ [] → HasCome (g.P.Report.rule l.initial.report) l.initial.self.separator
-      (stand_of (host_of (g.H.Host.files l.initial.host) (g.H.Host.failure_count l.initial.host))
-      (told_of (account_of (g.W.Write.contents l.initial.output.writer.now) l.initial.output.has_failed) (account_of (g.F.Write.contents l.initial.faults.writer.now) l.initial.faults.has_failed) l.initial.self.desk.worst))
-      (stand_of (host_of (g.H.Host.files l.host) (g.H.Host.failure_count l.host))
-      (told_of (account_of (g.W.Write.contents l.output.writer.now) l.output.has_failed) (account_of (g.F.Write.contents l.faults.writer.now) l.faults.has_failed) l.self.desk.worst))
+      (stand_at g.H.Host.files g.H.Host.failure_count l.initial.host g.W.Write.contents l.initial.output g.F.Write.contents l.initial.faults l.initial.self.desk.worst)
+      (stand_at g.H.Host.files g.H.Host.failure_count l.host g.W.Write.contents l.output g.F.Write.contents l.faults l.self.desk.worst)
       l.self.name bytes;
   silent : l.self.desk.worst ≡ Clean → (l.initial.self.desk.worst ≡ Clean) × (l.faults ≡ l.initial.faults);
   separator : l.self.separator ≡ l.initial.self.separator;

@@ -1,8 +1,7 @@
 use Rattle.std.proofs.Common.{◌≡◌, true, ℕ, List, ◌++◌, take}
-use Rattle.d64_script.specs.Output.{account_of}
 use Rattle.d64_collection.specs.Lists.{HasCome}
 use Rattle.d64_collection.specs.declared.report.Verdict.TheVariants.{Clean}
-use Rattle.d64_collection.specs.Runs.{Stand, host_of, stand_of, told_of}
+use Rattle.d64_collection.specs.Runs.{Stand, stand_at}
 use Rattle.d64_collection.proofs.list_desk.ListDesk.take.Given as goal
 
 -- the list has come as far as this byte
@@ -17,11 +16,9 @@ invariant-loop-byte g l = record {
   silent : l.self.desk.worst ≡ Clean → (l.initial.self.desk.worst ≡ Clean) × (l.faults ≡ l.initial.faults);
   came : (first : Stand) (before : List ℕ)
       → HasCome (g.P.Report.rule l.initial.report) l.initial.self.separator first
-      (stand_of (host_of (g.H.Host.files l.initial.host) (g.H.Host.failure_count l.initial.host))
-      (told_of (account_of (g.W.Write.contents l.initial.output.writer.now) l.initial.output.has_failed) (account_of (g.F.Write.contents l.initial.faults.writer.now) l.initial.faults.has_failed) l.initial.self.desk.worst))
+      (stand_at g.H.Host.files g.H.Host.failure_count l.initial.host g.W.Write.contents l.initial.output g.F.Write.contents l.initial.faults l.initial.self.desk.worst)
       l.initial.self.name before
       → HasCome (g.P.Report.rule l.initial.report) l.initial.self.separator first
-      (stand_of (host_of (g.H.Host.files l.host) (g.H.Host.failure_count l.host))
-      (told_of (account_of (g.W.Write.contents l.output.writer.now) l.output.has_failed) (account_of (g.F.Write.contents l.faults.writer.now) l.faults.has_failed) l.self.desk.worst))
+      (stand_at g.H.Host.files g.H.Host.failure_count l.host g.W.Write.contents l.output g.F.Write.contents l.faults l.self.desk.worst)
       l.self.name (before ++ take l.byte-index l.bytes);
 }
