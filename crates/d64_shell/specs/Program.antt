@@ -296,20 +296,9 @@ IsShell (Petcat file) = ⊥
 IsShell (Crunch start file) = ⊥
 IsShell (Check digest format names) = ⊥
 
--- the job surveys files, and may tell of some on the standard error whatever its status is
-abbrev pub IsSurvey : Job → Type 0
-IsSurvey (Shell image tracks resume) = ⊥
-IsSurvey (Petcat file) = ⊥
-IsSurvey (Crunch start file) = ⊥
-IsSurvey (Check digest format names) = ⊤
-
 -- the words ask for the shell
 abbrev pub AsksForShell : List (List ℕ) → Type 0
 AsksForShell after = (job : Job) × IsJob (named after) job × IsShell job
-
--- the words ask for a survey
-abbrev pub AsksForSurvey : List (List ℕ) → Type 0
-AsksForSurvey after = (job : Job) × IsJob (named after) job × IsSurvey job
 
 -- what the program has done, and its status: the job that the words ask for has ended; or they ask for none, and were
 -- answered so, with nothing read and no file touched

@@ -2,7 +2,7 @@
 ghost use Rattle.std.specs.Prelude.{◌≡◌, ◌≢◌, ◌≤◌, Bool, false, map, true};
 ghost use Rattle.d64_script.specs.Input.{IsUnread, reading_of};
 ghost use Rattle.d64_script.specs.Output.{account_of};
-ghost use Rattle.d64_shell.specs.Program.{AsksForShell, AsksForSurvey, Ended, EndedJob, IsShell, IsSurvey, outside_of};
+ghost use Rattle.d64_shell.specs.Program.{AsksForShell, Ended, EndedJob, IsShell, outside_of};
 
 use crate::program_fault::ProgramFault;
 use crate::shell_job::{exit_status, shell};
@@ -56,7 +56,7 @@ pub fn program<R: Read, W: Write, F: Write, H: Host>(
         (outside_of (R.remaining reader.old) (W.contents writer.old) (H.files host.old) (H.failure_count host.old))
         (outside_of (R.remaining reader.new) (W.contents writer.new) (H.files host.new) (H.failure_count host.new))
         (account_of (F.contents faults.old) false) (account_of (F.contents faults.new) failed) result }
-    ensures silent { ¬ AsksForSurvey (map (λ word. word.now) words.now) → result ≡ 0 → faults.new ≡ faults.old }
+    ensures silent { result ≡ 0 → faults.new ≡ faults.old }
     ensures script { AsksForShell (map (λ word. word.now) words.now) → result ≢ 2 → faults.new ≡ faults.old }
 {
     let mut input = InputStream::new(reader);
@@ -88,7 +88,7 @@ pub fn program_on<R: Read, W: Write, F: Write, H: Host>(
         (outside_of (R.remaining input.old.reader.now) (W.contents output.old.writer.now) (H.files host.old) (H.failure_count host.old))
         (outside_of (R.remaining input.new.reader.now) (W.contents output.new.writer.now) (H.files host.new) (H.failure_count host.new))
         (account_of (F.contents faults.old.writer.now) faults.old.has_failed) (account_of (F.contents faults.new.writer.now) faults.new.has_failed) result }
-    ensures silent { ¬ AsksForSurvey (map (λ word. word.now) words.now) → result ≡ 0 → faults.new ≡ faults.old }
+    ensures silent { result ≡ 0 → faults.new ≡ faults.old }
     ensures script { AsksForShell (map (λ word. word.now) words.now) → result ≢ 2 → faults.new ≡ faults.old }
 {
     match asked(alloc, words) {
@@ -118,7 +118,7 @@ fn do_job<R: Read, W: Write, F: Write, H: Host>(
         (account_of (F.contents faults.old.writer.now) faults.old.has_failed) (account_of (F.contents faults.new.writer.now) faults.new.has_failed) result }
     ensures status { result ≤ 2 }
     ensures delivered { result ≡ 0 → (output.new.is_delivered ≡ true) × (output.new.has_failed ≡ false) }
-    ensures silent { ¬ IsSurvey job → result ≡ 0 → faults.new ≡ faults.old }
+    ensures silent { result ≡ 0 → faults.new ≡ faults.old }
     ensures script { IsShell job → result ≢ 2 → faults.new ≡ faults.old }
 {
     match job {

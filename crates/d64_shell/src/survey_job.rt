@@ -1,5 +1,5 @@
 //! The jobs that survey files: a report on each, by the names that the words give.
-ghost use Rattle.std.specs.Prelude.{◌≡◌, ◌≤◌, [], OnOk, Result, true, false, string_bytes};
+ghost use Rattle.std.specs.Prelude.{◌≡◌, ◌≤◌, [], Ok, OnOk, Result, true, false, string_bytes};
 ghost use Rattle.d64_script.specs.Input.{IsUnread, reading_of};
 ghost use Rattle.d64_script.specs.Output.{account_of};
 ghost use Rattle.d64_collection.specs.Runs.{host_of, stand_of, told_of};
@@ -85,6 +85,7 @@ impl<P: Report> SurveyJob<P> {
         ensures faults { faults.new.writer.ghost_name ≡ faults.old.writer.ghost_name }
         ensures status { result ≤ 2 }
         ensures delivered { result ≡ 0 → (output.new.is_delivered ≡ true) × (output.new.has_failed ≡ false) }
+        ensures silent { result ≡ 0 → faults.new ≡ faults.old }
         ensures ended { EndedSurvey (P.rule self.old.report) (P.heading self.old.report) names.now
             (outside_of (R.remaining input.old.reader.now) (W.contents output.old.writer.now) (H.files host.old) (H.failure_count host.old))
             (outside_of (R.remaining input.new.reader.now) (W.contents output.new.writer.now) (H.files host.new) (H.failure_count host.new))
@@ -112,6 +113,7 @@ impl<P: Report> SurveyJob<P> {
         ensures output { output.new.writer.ghost_name ≡ output.old.writer.ghost_name }
         ensures faults { faults.new.writer.ghost_name ≡ faults.old.writer.ghost_name }
         ensures delivered { OnOk result ((output.new.is_delivered ≡ true) × (output.new.has_failed ≡ false)) }
+        ensures silent { result ≡ Ok Verdict.Clean → faults.new ≡ faults.old }
         ensures surveyed { (worst : Verdict) × (ended : Result (Unit {0}) RunFault) × Surveys (P.rule self.old.report) (P.heading self.old.report) names.now (R.remaining input.old.reader.now) (R.remaining input.new.reader.now)
             (stand_of (host_of (H.files host.old) (H.failure_count host.old))
             (told_of (account_of (W.contents output.old.writer.now) output.old.has_failed) (account_of (F.contents faults.old.writer.now) faults.old.has_failed) Verdict.Clean))
@@ -154,6 +156,7 @@ impl<P: Report> SurveyJob<P> {
         ensures faults { faults.new.writer.ghost_name ≡ faults.old.writer.ghost_name }
         ensures delivered { output.old.is_delivered ≡ true → OnOk result (output.new.is_delivered ≡ true) }
         ensures unfailed { OnOk result (output.new.has_failed ≡ output.old.has_failed) }
+        ensures silent { desk.new.desk.worst ≡ Verdict.Clean → (desk.old.desk.worst ≡ Verdict.Clean) × (faults.new ≡ faults.old) }
         ensures answered { desk.old.name ≡ [] → RunsListFile (P.rule self.old.report) desk.old.separator list.now
             (stand_of (host_of (H.files host.old) (H.failure_count host.old))
             (told_of (account_of (W.contents output.old.writer.now) output.old.has_failed) (account_of (F.contents faults.old.writer.now) faults.old.has_failed) desk.old.desk.worst))
