@@ -9,7 +9,8 @@ use Rattle.d64_script.specs.Script.{script_limit}
 use Rattle.d64_host.specs.Files.{Files}
 use Rattle.d64_line.specs.Act.{HostState}
 use Rattle.d64_undo.specs.History.{History}
-use Rattle.d64_shell.specs.Program.{Beginning, Ended, home_of, IsFirstHistory, Outside, outside_of, RanShell, IsToldOf}
+use Rattle.d64_shell.specs.Jobs.{Beginning, home_of}
+use Rattle.d64_shell.specs.Program.{Ended, IsFirstHistory, Outside, outside_of, RanShell, IsToldOf}
 use Rattle.d64_shell.specs.declared.program_fault.ProgramFault.TheVariants as faults
 use Rattle.d64_runner.specs.Runner.{Stand, RanLines, StoppedAt, Ran}
 use Rattle.d64_runner.specs.Transcript.{Progress}

@@ -1,19 +1,23 @@
 -- What a survey leaves, by what its run leaves.
-use Rattle.std.proofs.Common.{◌≡◌, ℕ, List, map, true, false, Bool, Option, Result, Ok, Err, refl, sym, ap, ◌∙◌, subst, String, Vec, Global, string_bytes}
+use Rattle.std.proofs.Common.{◌≡◌, ℕ, List, map, true, false, Bool, Option, Result, Ok, Err, refl, sym, ap, subst, Bor, String, Global, string_bytes}
+use Rattle.std.proofs.lemmas.Simd.{map-map}
 use Rattle.std.specs.Prelude.{MatchBool}
 use Rattle.d64_host.specs.declared.host.HostFault.{HostFault}
-use Rattle.d64_script.specs.Output.{Account}
-use Rattle.d64_words.specs.declared.asked.Names.{Names}
-use Rattle.d64_words.specs.declared.asked.Names.TheVariants.{Given, Listed}
-use Rattle.d64_words.specs.declared.asked.Separator.{Separator}
-use Rattle.d64_collection.specs.Names.{File, listed, names_in}
+use Rattle.d64_script.specs.Output.{Account, account_of}
+use Rattle.d64_collection.specs.Names.{Asked, File, listed, names_in}
 use Rattle.d64_collection.specs.Answers.{Rule}
 use Rattle.d64_collection.specs.Runs.{Begins, HostView, IsFetched, Runs, Stand, stand_of, told_of}
 use Rattle.d64_collection.specs.Lists.{RunsStream}
 use Rattle.d64_collection.specs.declared.desk.RunFault.{RunFault}
+use Rattle.d64_collection.specs.declared.desk.RunFault.TheVariants as stops
 use Rattle.d64_collection.specs.declared.report.Verdict.{Verdict}
 use Rattle.d64_collection.specs.declared.report.Verdict.TheVariants.{Clean}
-use Rattle.d64_shell.specs.Surveys.{RunsListFile, RunsOver, Surveys, fault_of_list, is_input, separator_byte}
+use Rattle.d64_shell.specs.Program.{EndedSurvey, Outside, Reports, first_stand}
+use Rattle.d64_shell.specs.declared.program_fault.ProgramFault.TheVariants.{Memory}
+use Rattle.d64_shell.specs.SurveyFiles.{SurveyFiles, files_in}
+use Rattle.d64_shell.specs.Surveys.{RunsListFile, RunsOver, Surveys, fault_of_list, is_input}
+use Rattle.d64_shell.specs.declared.file_names.FileNames.{FileNames}
+use Rattle.d64_shell.specs.declared.file_names.FileNames.TheVariants.{Given, Listed}
 
 -- one of the two cases that a test decides
 first_case : (test : Bool) (P Q : Type 0) → test ≡ true → P → MatchBool test P Q
@@ -25,43 +29,42 @@ second_case true P Q is q = cc
 second_case false P Q is q = q
 
 -- a run over given names
-pub over_given : (rule : Rule) (names : Names) (given : Vec (String Global) Global) (slice : List (String Global)) (reader : Option (List ℕ)) (a b : Stand) (ended : Result (Unit {0}) RunFault)
-    → names ≡ Given given → slice ≡ given.items → Runs rule (map (λ name. File (string_bytes name)) slice) a b ended → RunsOver rule names reader reader a b ended
-over_given rule names given slice reader a b ended is same ran =
-    let whole : RunsOver rule (Given given) reader reader a b ended =
-    (refl, subst (λ (l : List (String Global)). Runs rule (map (λ name. File (string_bytes name)) l) a b ended) same ran) in
-    subst (λ (n : Names). RunsOver rule n reader reader a b ended) (sym is) whole
+pub over_given : (rule : Rule) (names : FileNames) (given : Bor (List (String Global))) (reader : Option (List ℕ)) (a b : Stand) (ended : Result (Unit {0}) RunFault)
+    → names ≡ Given given → Runs rule (map (λ name. File (string_bytes name)) given.now) a b ended → RunsOver rule (files_in names) reader reader a b ended
+over_given rule names given reader a b ended is ran =
+    let whole : RunsOver rule (files_in (Given given)) reader reader a b ended =
+    (refl, subst (λ (l : List Asked). Runs rule l a b ended) (sym (map-map File string_bytes given.now)) ran) in
+    subst (λ (n : FileNames). RunsOver rule (files_in n) reader reader a b ended) (sym is) whole
 
 -- a run over the names of the input
-pub over_input : (rule : Rule) (names : Names) (list : String Global) (separator : Separator) (byte : ℕ) (text : List ℕ) (reader left : Option (List ℕ)) (a b : Stand) (ended : Result (Unit {0}) RunFault)
-    → names ≡ Listed list separator → text ≡ string_bytes list → is_input text ≡ true → byte ≡ separator_byte separator → RunsStream rule byte reader left a b ended
-    → RunsOver rule names reader left a b ended
-over_input rule names list separator byte text reader left a b ended is same input bytes ran =
-    let whole : RunsOver rule (Listed list separator) reader left a b ended =
-    first_case (is_input (string_bytes list)) _ _ (ap is_input (sym same) ∙ input) (subst (λ (s : ℕ). RunsStream rule s reader left a b ended) bytes ran) in
-    subst (λ (n : Names). RunsOver rule n reader left a b ended) (sym is) whole
+pub over_input : (rule : Rule) (names : FileNames) (list : Bor (List ℕ)) (separator byte : ℕ) (reader left : Option (List ℕ)) (a b : Stand) (ended : Result (Unit {0}) RunFault)
+    → names ≡ Listed list separator → is_input list.now ≡ true → byte ≡ separator → RunsStream rule byte reader left a b ended
+    → RunsOver rule (files_in names) reader left a b ended
+over_input rule names list separator byte reader left a b ended is input bytes ran =
+    let whole : RunsOver rule (files_in (Listed list separator)) reader left a b ended =
+    first_case (is_input list.now) _ _ input (subst (λ (s : ℕ). RunsStream rule s reader left a b ended) bytes ran) in
+    subst (λ (n : FileNames). RunsOver rule (files_in n) reader left a b ended) (sym is) whole
 
 -- a run over the names of a list of the host
-pub over_file : (rule : Rule) (names : Names) (list : String Global) (separator : Separator) (byte : ℕ) (text : List ℕ) (reader : Option (List ℕ)) (a b : Stand) (ended : Result (Unit {0}) RunFault)
-    → names ≡ Listed list separator → text ≡ string_bytes list → is_input text ≡ false → byte ≡ separator_byte separator → RunsListFile rule byte text a b ended
-    → RunsOver rule names reader reader a b ended
-over_file rule names list separator byte text reader a b ended is same file bytes ran =
-    let whole : RunsOver rule (Listed list separator) reader reader a b ended =
-    second_case (is_input (string_bytes list)) _ _ (ap is_input (sym same) ∙ file)
-    (refl, subst (λ (l : List ℕ). RunsListFile rule (separator_byte separator) l a b ended) same (subst (λ (s : ℕ). RunsListFile rule s text a b ended) bytes ran)) in
-    subst (λ (n : Names). RunsOver rule n reader reader a b ended) (sym is) whole
+pub over_file : (rule : Rule) (names : FileNames) (list : Bor (List ℕ)) (separator byte : ℕ) (reader : Option (List ℕ)) (a b : Stand) (ended : Result (Unit {0}) RunFault)
+    → names ≡ Listed list separator → is_input list.now ≡ false → byte ≡ separator → RunsListFile rule byte list.now a b ended
+    → RunsOver rule (files_in names) reader reader a b ended
+over_file rule names list separator byte reader a b ended is file bytes ran =
+    let whole : RunsOver rule (files_in (Listed list separator)) reader reader a b ended =
+    second_case (is_input list.now) _ _ file (refl, subst (λ (s : ℕ). RunsListFile rule s list.now a b ended) bytes ran) in
+    subst (λ (n : FileNames). RunsOver rule (files_in n) reader reader a b ended) (sym is) whole
 
 -- a survey that was begun goes on as its run
-pub surveyed : (rule same : Rule) (heading : List ℕ) (names : Names) (reader left : Option (List ℕ)) (host : HostView) (before after error : Account) (worst : Verdict) (last : Stand)
+pub surveyed : (rule same : Rule) (heading : List ℕ) (files : SurveyFiles) (reader left : Option (List ℕ)) (host : HostView) (before after error : Account) (worst : Verdict) (last : Stand)
     (done : Unit {0}) (ended : Result (Unit {0}) RunFault)
-    → Begins {A = Unit {0}} heading before after (Ok done) → worst ≡ Clean → same ≡ rule → RunsOver same names reader left (stand_of host (told_of after error worst)) last ended
-    → Surveys rule heading names reader left (stand_of host (told_of before error Clean)) last ended
-surveyed rule same heading names reader left host before after error worst last done ended begins clean is_same ran = record {
+    → Begins {A = Unit {0}} heading before after (Ok done) → worst ≡ Clean → same ≡ rule → RunsOver same files reader left (stand_of host (told_of after error worst)) last ended
+    → Surveys rule heading files reader left (stand_of host (told_of before error Clean)) last ended
+surveyed rule same heading files reader left host before after error worst last done ended begins clean is_same ran = record {
   begun = Ok done;
   output = after;
   begins = begins;
-  goes_on = subst (λ (r : Rule). RunsOver r names reader left (stand_of host (told_of after error Clean)) last ended) is_same
-      (subst (λ (w : Verdict). RunsOver same names reader left (stand_of host (told_of after error w)) last ended) clean ran);
+  goes_on = subst (λ (r : Rule). RunsOver r files reader left (stand_of host (told_of after error Clean)) last ended) is_same
+      (subst (λ (w : Verdict). RunsOver same files reader left (stand_of host (told_of after error w)) last ended) clean ran);
 }
 
 -- a run over the names of a list that was fetched
@@ -75,3 +78,20 @@ file_fetched rule separator list first host bytes slice last ended same fetched 
 pub file_unfetched : (rule : Rule) (separator : ℕ) (list : List ℕ) (first : Stand) (host : HostView) (fault : HostFault) (told : RunFault)
     → told ≡ fault_of_list fault → IsFetched list first.host (Err fault) host → RunsListFile {A = Unit {0}} rule separator list first (stand_of host first.told) (Err told)
 file_unfetched rule separator list first host fault told is fetched = (Err fault, host, fetched, (ap Err is, refl))
+
+-- where there is no memory to begin a survey, it has ended with nothing printed
+pub not_begun : (rule : Rule) (heading : List ℕ) (files : SurveyFiles) (old : Outside) (faults told : Account) (status : ℕ)
+    → Reports Memory faults told status → EndedSurvey rule heading files old old faults told status
+not_begun rule heading files old faults told status reports = record {
+  ended = Err stops.Memory;
+  last = first_stand old faults;
+  surveyed = record {
+    begun = Err stops.Memory;
+    output = account_of old.writer false;
+    begins = refl;
+    goes_on = (refl, refl, refl);
+  };
+  host = refl;
+  writer = refl;
+  tells = reports;
+}

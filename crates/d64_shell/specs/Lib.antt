@@ -3,6 +3,8 @@ pub use Rattle.d64_dos.specs.Command
 pub use Rattle.d64_undo.specs.History
 pub use Rattle.d64_host.specs.Host
 pub use Rattle.d64_host.specs.MemoryHost
+pub mod SurveyFiles
 pub mod Surveys
+pub mod Jobs
 pub mod Program
 pub mod Tools

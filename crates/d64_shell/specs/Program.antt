@@ -1,9 +1,11 @@
 -- What the program does with its words, its streams and a host.
-use Rattle.std.specs.Prelude.{◌≡◌, ℕ, ◌==◌, Bool, false, if◌then◌else◌, List, [], ◌∷◌, ◌++◌, length, replicate, codes, string_bytes, Option, Some, None, option_map, Result, Ok, Err, ◌⊎◌, ⊤}
+use Rattle.std.specs.Prelude.{◌≡◌, ℕ, ◌==◌, false, if◌then◌else◌, List, ◌∷◌, ◌++◌, length, replicate, codes, Option, Some, None, Result, Ok, Err, ◌⊎◌}
 use Rattle.std.specs.Fmt.{decimal}
 use Rattle.std.specs.Io.KnownBytes.{Appends, Keeps}
 use Rattle.d64_script.specs.Output.{Account, AppendsPart, Writes, account_of}
 use Rattle.d64_script.specs.Status.{status_line}
+use Rattle.d64_script.specs.declared.input.InputStream.{InputStream}
+use Rattle.d64_script.specs.declared.output.OutputStream.{OutputStream}
 use Rattle.d64_host.specs.Files.{Files}
 use Rattle.d64_host.specs.declared.host.HostFault.{HostFault}
 use Rattle.d64_host.specs.declared.host.HostFault.TheVariants as files
@@ -13,21 +15,19 @@ use Rattle.d64_image.specs.Image.{IsImage, bytes_of, count_of_tracks, is_image_l
 use Rattle.d64_image.specs.declared.image.TheConstants.{BLOCK_BYTES}
 use Rattle.d64_words.specs.Asked.{IsFault, IsJob, WasAskedFor}
 use Rattle.d64_words.specs.declared.asked.Job.{Job}
-use Rattle.d64_words.specs.declared.asked.Job.TheVariants.{Shell, Petcat, Crunch, Check}
 use Rattle.d64_words.specs.declared.asked.JobFault.{JobFault}
 use Rattle.d64_words.specs.declared.asked.JobFault.TheVariants as words
 use Rattle.d64_line.specs.Act.{HostState, FetchesFile}
 use Rattle.d64_line.specs.BasicFiles.{status_of_basic, status_of_listing}
-use Rattle.d64_words.specs.declared.asked.Format.{Format as OutputFormat}
-use Rattle.d64_words.specs.declared.asked.Names.{Names as FileNames}
 use Rattle.d64_wording.specs.FaultLines.{unread_line}
-use Rattle.d64_check.specs.Check.{check_rule, heading_of}
 use Rattle.d64_collection.specs.Answers.{Rule, status_of as verdict_status}
 use Rattle.d64_collection.specs.Runs.{Stand, Told, host_of, stand_of, told_of}
 use Rattle.d64_collection.specs.declared.desk.RunFault.{RunFault}
 use Rattle.d64_collection.specs.declared.desk.RunFault.TheVariants as run_faults
 use Rattle.d64_collection.specs.declared.report.Verdict.TheVariants.{Clean}
-use Rattle.d64_shell.specs.Surveys.{Surveys, list_name}
+use Rattle.d64_shell.specs.Jobs.{Beginning, Blank, ImageFile, SessionFile, Work, Script, Conversion, Survey, IsScript, work_of}
+use Rattle.d64_shell.specs.SurveyFiles.{SurveyFiles, list_name}
+use Rattle.d64_shell.specs.Surveys.{Surveys}
 use Rattle.d64_undo.specs.History.{History, begun}
 use Rattle.d64_undo.specs.ResumeFault.{fault_number, first_fault}
 use Rattle.d64_undo.specs.SessionFile.{IsSession, file_of}
@@ -39,16 +39,10 @@ use Rattle.d64_runner.specs.declared.runner.Outcome.{Outcome}
 use Rattle.d64_runner.specs.declared.runner.ShellFault.{ShellFault}
 use Rattle.d64_runner.specs.declared.runner.ShellFault.TheVariants as runs
 use Rattle.d64_shell.specs.declared.tools.Tool.{Tool}
-use Rattle.d64_shell.specs.declared.tools.Tool.TheVariants as tools
 use Rattle.d64_shell.specs.declared.tools.ToolFault.{ToolFault}
 use Rattle.d64_shell.specs.declared.tools.ToolFault.TheVariants as tool_faults
 use Rattle.d64_shell.specs.declared.program_fault.ProgramFault.{ProgramFault}
 use Rattle.d64_shell.specs.declared.program_fault.ProgramFault.TheVariants.{UnreadableWords, Start, Tracks, Both, Format, Names, Null, WrongLength, UnreadableImage, UnreadableSession, NoSession, Read, Write, Memory}
-
--- where `save` stores by default: in the image file, where there is one
-abbrev pub home_of : Option (List ℕ) → List ℕ
-home_of None = []
-home_of (Some name) = name
 
 -- the most bytes of an image, a program or a text that are read from a file
 abbrev pub file_limit : ℕ
@@ -63,21 +57,15 @@ pub record Outside : Type 0 where
 abbrev pub outside_of : Option (List ℕ) → Option (List ℕ) → Option Files → ℕ → Outside
 outside_of reader writer known failures = record { reader = reader; writer = writer; host = record { files = known; failures = failures } }
 
+-- what the program works on: two streams, of whose reader and writer these tell the bytes, and a host, of which two functions tell the
+-- files and the failures
+abbrev pub outside_at : {R W H : Type 0} → (R → Option (List ℕ)) → InputStream R → (W → Option (List ℕ)) → OutputStream W → (H → Option Files) → (H → ℕ) → H → Outside
+outside_at remaining input written output known failures host =
+    outside_of (remaining input.reader.now) (written output.writer.now) (known host) (failures host)
+
 -- the most bytes of a session file that are read
 abbrev pub session_limit : ℕ
 session_limit = 67108864
-
--- what a script begins with: a blank image of so many tracks, the image of a host file, or the session of one
-pub data Beginning : Type 0 where
-  Blank : ℕ → Beginning
-  ImageFile : List ℕ → Beginning
-  SessionFile : List ℕ → Beginning
-
--- what the words ask the shell to begin with: of an image and a session file, the session file
-abbrev pub beginning_of : Option (List ℕ) → ℕ → Option (List ℕ) → Beginning
-beginning_of image tracks (Some file) = SessionFile file
-beginning_of (Some name) tracks None = ImageFile name
-beginning_of None tracks None = Blank tracks
 
 -- a blank image
 unfoldable pub blank : ℕ → List (List ℕ)
@@ -239,28 +227,19 @@ abbrev pub first_stand : Outside → Account → Stand
 first_stand old faults = stand_of (host_of old.host.files old.host.failures) (told_of (account_of old.writer false) faults Clean)
 
 -- a survey has ended
-pub record EndedSurvey (rule : Rule) (heading : List ℕ) (names : FileNames) (old new : Outside) (faults told : Account) (status : ℕ) : Type 0 where
+pub record EndedSurvey (rule : Rule) (heading : List ℕ) (files : SurveyFiles) (old new : Outside) (faults told : Account) (status : ℕ) : Type 0 where
   pub ended : Result (Unit {0}) RunFault
   pub last : Stand
-  pub surveyed : Surveys rule heading names old.reader new.reader (first_stand old faults) last ended
+  pub surveyed : Surveys rule heading files old.reader new.reader (first_stand old faults) last ended
   pub host : host_of new.host.files new.host.failures ≡ last.host
   pub writer : new.writer ≡ last.told.output.contents
-  pub tells : TellsEnd (list_name names) ended last.told told status
+  pub tells : TellsEnd (list_name files) ended last.told told status
 
--- a check has ended; or there was no memory to begin one
-abbrev pub EndedCheck : Bool → OutputFormat → FileNames → Outside → Outside → Account → Account → ℕ → Type 0
-EndedCheck digest format names old new faults told status =
-    EndedSurvey (check_rule format digest) (heading_of format digest) names old new faults told status
-    ⊎ ((new ≡ old) × Reports Memory faults told status)
-
--- how a job ended
-abbrev pub EndedJob : Job → Outside → Outside → Account → Account → ℕ → Type 0
-EndedJob (Shell image tracks resume) old new faults told status =
-    EndedShell (beginning_of (option_map string_bytes image) tracks (option_map string_bytes resume)) (home_of (option_map string_bytes image))
-    old new faults told status
-EndedJob (Petcat file) old new faults told status = EndedTool tools.Petcat (option_map string_bytes file) old new faults told status
-EndedJob (Crunch start file) old new faults told status = EndedTool (tools.Crunch start) (option_map string_bytes file) old new faults told status
-EndedJob (Check digest format names) old new faults told status = EndedCheck digest format names old new faults told status
+-- how a job ended that does this work
+abbrev pub EndedWork : Work → Outside → Outside → Account → Account → ℕ → Type 0
+EndedWork (Script beginning home) old new faults told status = EndedShell beginning home old new faults told status
+EndedWork (Conversion tool name) old new faults told status = EndedTool tool name old new faults told status
+EndedWork (Survey rule heading files) old new faults told status = EndedSurvey rule heading files old new faults told status
 
 -- help or the version was written, whole; or there was a fault: a first part of it was written, or there was no memory
 abbrev pub HasShown : Option (List ℕ) → Option (List ℕ) → Account → Account → ℕ → Type 0
@@ -289,20 +268,13 @@ AnswersWords words.Null old new faults told status = (new ≡ old) × Reports Nu
 abbrev pub named : List (List ℕ) → List (List ℕ)
 named after = codes "d64sh" ∷ after
 
--- the job is the shell's, which tells nothing where its script runs to its end
-abbrev pub IsShell : Job → Type 0
-IsShell (Shell image tracks resume) = ⊤
-IsShell (Petcat file) = ⊥
-IsShell (Crunch start file) = ⊥
-IsShell (Check digest format names) = ⊥
-
 -- the words ask for the shell
 abbrev pub AsksForShell : List (List ℕ) → Type 0
-AsksForShell after = (job : Job) × IsJob (named after) job × IsShell job
+AsksForShell after = (job : Job) × IsJob (named after) job × IsScript (work_of job)
 
 -- what the program has done, and its status: the job that the words ask for has ended; or they ask for none, and were
 -- answered so, with nothing read and no file touched
 abbrev pub Ended : List (List ℕ) → Outside → Outside → Account → Account → ℕ → Type 0
 Ended after old new faults told status =
-    ((job : Job) × IsJob (named after) job × EndedJob job old new faults told status)
+    ((job : Job) × IsJob (named after) job × EndedWork (work_of job) old new faults told status)
     ⊎ ((fault : JobFault) × IsFault (named after) fault × (new.reader ≡ old.reader) × (new.host ≡ old.host) × AnswersWords fault old.writer new.writer faults told status)

@@ -1,12 +1,8 @@
 -- How a survey of files ends.
-use Rattle.std.specs.Prelude.{◌≡◌, ℕ, List, [], Bool, MatchBool, bytes_eq, map, codes, Option, Result, Ok, Err, string_bytes}
+use Rattle.std.specs.Prelude.{◌≡◌, ℕ, List, Bool, MatchBool, bytes_eq, map, codes, Option, Result, Ok, Err}
 use Rattle.d64_host.specs.declared.host.HostFault.{HostFault}
-use Rattle.d64_host.specs.declared.host.HostFault.TheVariants as files
+use Rattle.d64_host.specs.declared.host.HostFault.TheVariants as refusals
 use Rattle.d64_script.specs.Output.{Account}
-use Rattle.d64_words.specs.declared.asked.Names.{Names}
-use Rattle.d64_words.specs.declared.asked.Names.TheVariants.{Given, Listed}
-use Rattle.d64_words.specs.declared.asked.Separator.{Separator}
-use Rattle.d64_words.specs.declared.asked.Separator.TheVariants.{LineFeed, Nul}
 use Rattle.d64_collection.specs.Names.{File, listed, names_in}
 use Rattle.d64_collection.specs.Answers.{Rule}
 use Rattle.d64_collection.specs.Runs.{Begins, HostView, IsFetched, Runs, Stand, stand_of, told_of}
@@ -14,11 +10,7 @@ use Rattle.d64_collection.specs.Lists.{RunsStream}
 use Rattle.d64_collection.specs.declared.desk.RunFault.{RunFault}
 use Rattle.d64_collection.specs.declared.desk.RunFault.TheVariants as faults
 use Rattle.d64_collection.specs.declared.report.Verdict.{Verdict}
-
--- the byte that ends a name in a list
-abbrev pub separator_byte : Separator → ℕ
-separator_byte LineFeed = 10
-separator_byte Nul = 0
+use Rattle.d64_shell.specs.SurveyFiles.{SurveyFiles, Named, ListedIn}
 
 -- the list is the standard input
 abbrev pub is_input : List ℕ → Bool
@@ -26,7 +18,7 @@ is_input list = bytes_eq list (codes "-")
 
 -- how the fault of a list that cannot be fetched is told: there is no memory, or the list cannot be read
 abbrev pub fault_of_list : HostFault → RunFault
-fault_of_list (files.Memory error) = faults.Memory
+fault_of_list (refusals.Memory error) = faults.Memory
 fault_of_list fault = faults.List
 
 -- how a run over the names of a list of the host ends, which was fetched so
@@ -39,33 +31,27 @@ abbrev pub RunsListFile : {A : Type 0} → Rule → ℕ → List ℕ → Stand �
 RunsListFile rule separator list first last result =
     (fetched : Result (List ℕ) HostFault) × (host : HostView) × IsFetched list first.host fetched host × RunsFetched rule separator fetched (stand_of host first.told) last result
 
--- how a run over the names that the words give ends, and what it leaves of the input
-abbrev pub RunsOver : {A : Type 0} → Rule → Names → Option (List ℕ) → Option (List ℕ) → Stand → Stand → Result A RunFault → Type 0
-RunsOver rule (Given names) reader left first last result =
-    (left ≡ reader) × Runs rule (map (λ name. File (string_bytes name)) names.items) first last result
-RunsOver rule (Listed list separator) reader left first last result =
-    MatchBool (is_input (string_bytes list))
-    (RunsStream rule (separator_byte separator) reader left first last result)
-    ((left ≡ reader) × RunsListFile rule (separator_byte separator) (string_bytes list) first last result)
+-- how a run over the files of a survey ends, and what it leaves of the input
+abbrev pub RunsOver : {A : Type 0} → Rule → SurveyFiles → Option (List ℕ) → Option (List ℕ) → Stand → Stand → Result A RunFault → Type 0
+RunsOver rule (Named names) reader left first last result = (left ≡ reader) × Runs rule (map File names) first last result
+RunsOver rule (ListedIn list separator) reader left first last result =
+    MatchBool (is_input list)
+    (RunsStream rule separator reader left first last result)
+    ((left ≡ reader) × RunsListFile rule separator list first last result)
 
--- how a survey goes on after what stands before all answers: over the names, or not at all where that was not printed
-abbrev pub GoesOn : {A B : Type 0} → Rule → Names → Option (List ℕ) → Option (List ℕ) → Result B RunFault → Stand → Stand → Result A RunFault → Type 0
-GoesOn rule names reader left (Ok done) first last result = RunsOver rule names reader left first last result
-GoesOn rule names reader left (Err fault) first last result = (left ≡ reader) × (last ≡ first) × (result ≡ Err fault)
+-- how a survey goes on after what stands before all answers: over the files, or not at all where that was not printed
+abbrev pub GoesOn : {A B : Type 0} → Rule → SurveyFiles → Option (List ℕ) → Option (List ℕ) → Result B RunFault → Stand → Stand → Result A RunFault → Type 0
+GoesOn rule files reader left (Ok done) first last result = RunsOver rule files reader left first last result
+GoesOn rule files reader left (Err fault) first last result = (left ≡ reader) × (last ≡ first) × (result ≡ Err fault)
 
 -- how a survey ends: what stands before all answers is printed, and then the files are answered
-pub record Surveys (rule : Rule) (heading : List ℕ) (names : Names) (reader left : Option (List ℕ)) (first last : Stand) (ended : Result (Unit {0}) RunFault) : Type 0 where
+pub record Surveys (rule : Rule) (heading : List ℕ) (files : SurveyFiles) (reader left : Option (List ℕ)) (first last : Stand) (ended : Result (Unit {0}) RunFault) : Type 0 where
   pub begun : Result (Unit {0}) RunFault
   pub output : Account
   pub begins : Begins heading first.told.output output begun
-  pub goes_on : GoesOn rule names reader left begun (stand_of first.host (told_of output first.told.error first.told.worst)) last ended
+  pub goes_on : GoesOn rule files reader left begun (stand_of first.host (told_of output first.told.error first.told.worst)) last ended
 
 -- a survey that ended so says this: the worst verdict, or the fault
 abbrev pub Says : Verdict → Result (Unit {0}) RunFault → Result Verdict RunFault → Type 0
 Says worst (Ok done) said = said ≡ Ok worst
 Says worst (Err fault) said = said ≡ Err fault
-
--- the name of the list, where there is one
-abbrev pub list_name : Names → List ℕ
-list_name (Given names) = []
-list_name (Listed list separator) = string_bytes list

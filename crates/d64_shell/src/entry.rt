@@ -2,9 +2,11 @@
 ghost use Rattle.std.specs.Prelude.{◌≡◌, ◌≢◌, ◌≤◌, Bool, false, map, true};
 ghost use Rattle.d64_script.specs.Input.{IsUnread, reading_of};
 ghost use Rattle.d64_script.specs.Output.{account_of};
-ghost use Rattle.d64_shell.specs.Program.{AsksForShell, Ended, EndedJob, IsShell, outside_of};
+ghost use Rattle.d64_collection.specs.Runs.{account_at};
+ghost use Rattle.d64_shell.specs.Jobs.{IsScript, work_of};
+ghost use Rattle.d64_shell.specs.Program.{AsksForShell, Ended, EndedWork, outside_at, outside_of};
 
-use crate::program_fault::ProgramFault;
+use crate::file_names::FileNames;
 use crate::shell_job::{exit_status, shell};
 use crate::survey_job::SurveyJob;
 use crate::tool_job::{run_tool, tell_answer};
@@ -85,9 +87,9 @@ pub fn program_on<R: Read, W: Write, F: Write, H: Host>(
     ensures status { result ≤ 2 }
     ensures delivered { result ≡ 0 → (output.new.is_delivered ≡ true) × (output.new.has_failed ≡ false) }
     ensures ended { Ended (map (λ word. word.now) words.now)
-        (outside_of (R.remaining input.old.reader.now) (W.contents output.old.writer.now) (H.files host.old) (H.failure_count host.old))
-        (outside_of (R.remaining input.new.reader.now) (W.contents output.new.writer.now) (H.files host.new) (H.failure_count host.new))
-        (account_of (F.contents faults.old.writer.now) faults.old.has_failed) (account_of (F.contents faults.new.writer.now) faults.new.has_failed) result }
+        (outside_at R.remaining input.old W.contents output.old H.files H.failure_count host.old)
+        (outside_at R.remaining input.new W.contents output.new H.files H.failure_count host.new)
+        (account_at F.contents faults.old) (account_at F.contents faults.new) result }
     ensures silent { result ≡ 0 → faults.new ≡ faults.old }
     ensures script { AsksForShell (map (λ word. word.now) words.now) → result ≢ 2 → faults.new ≡ faults.old }
 {
@@ -112,14 +114,14 @@ fn do_job<R: Read, W: Write, F: Write, H: Host>(
     ensures input { input.new.reader.ghost_name ≡ input.old.reader.ghost_name }
     ensures output { output.new.writer.ghost_name ≡ output.old.writer.ghost_name }
     ensures faults { faults.new.writer.ghost_name ≡ faults.old.writer.ghost_name }
-    ensures ended { EndedJob job
-        (outside_of (R.remaining input.old.reader.now) (W.contents output.old.writer.now) (H.files host.old) (H.failure_count host.old))
-        (outside_of (R.remaining input.new.reader.now) (W.contents output.new.writer.now) (H.files host.new) (H.failure_count host.new))
-        (account_of (F.contents faults.old.writer.now) faults.old.has_failed) (account_of (F.contents faults.new.writer.now) faults.new.has_failed) result }
+    ensures ended { EndedWork (work_of job)
+        (outside_at R.remaining input.old W.contents output.old H.files H.failure_count host.old)
+        (outside_at R.remaining input.new W.contents output.new H.files H.failure_count host.new)
+        (account_at F.contents faults.old) (account_at F.contents faults.new) result }
     ensures status { result ≤ 2 }
     ensures delivered { result ≡ 0 → (output.new.is_delivered ≡ true) × (output.new.has_failed ≡ false) }
     ensures silent { result ≡ 0 → faults.new ≡ faults.old }
-    ensures script { IsShell job → result ≢ 2 → faults.new ≡ faults.old }
+    ensures script { IsScript (work_of job) → result ≢ 2 → faults.new ≡ faults.old }
 {
     match job {
         Job::Shell {
@@ -151,9 +153,9 @@ fn do_job<R: Read, W: Write, F: Write, H: Host>(
             digest,
             format,
             names,
-        } => match CheckReport::new(alloc, format, digest) {
-            Ok(report) => SurveyJob::new(alloc, report).run(&names, input, output, faults, host),
-            Err(_) => ProgramFault::Memory.report_on(faults),
-        },
+        } => {
+            let report = CheckReport::new(alloc, format, digest);
+            SurveyJob::new(alloc, FileNames::of(&names)).run(report, input, output, faults, host)
+        }
     }
 }

@@ -2,6 +2,7 @@
 #![tactic(auto)]
 
 mod entry;
+mod file_names;
 mod program_fault;
 mod shell_job;
 mod survey_job;

@@ -1,6 +1,7 @@
 //! What stops the program, and how it is told.
 ghost use Rattle.std.specs.Prelude.{◌≡◌, ◌≤◌, ◌+◌, ◌++◌, Bool, false, length, codes};
 ghost use Rattle.arrayvec.specs.ArrayVec.{array_vec_len};
+ghost use Rattle.d64_collection.specs.Runs.{account_at};
 ghost use Rattle.d64_script.specs.Output.{account_of};
 ghost use Rattle.d64_shell.specs.Program.{Reports, fault_line, fault_of_file, fault_of_image, fault_of_resume, fault_of_run};
 ghost use Rattle.d64_shell.specs.declared.program_fault.ProgramFault.TheVariants.{Memory};
@@ -80,8 +81,8 @@ impl ProgramFault {
     /// Writes the line that tells the fault, whole unless writing it fails, and returns the exit status.
     pub fn report_on<F: Write>(self, faults: &mut OutputStream<'_, F>) -> u8
         ensures faults { faults.new.writer.ghost_name ≡ faults.old.writer.ghost_name }
-        ensures reported { Reports self (account_of (F.contents faults.old.writer.now) faults.old.has_failed)
-            (account_of (F.contents faults.new.writer.now) faults.new.has_failed) result }
+        ensures reported { Reports self (account_at F.contents faults.old)
+            (account_at F.contents faults.new) result }
     {
         let _ = faults.write(self.line().as_slice());
         NOT_RUN

@@ -5,7 +5,8 @@ ghost use Rattle.d64_image.specs.Image.{IsImage, bytes_of};
 ghost use Rattle.d64_undo.specs.SessionFile.{IsSession, file_of};
 ghost use Rattle.d64_script.specs.Input.{IsUnread, reading_of};
 ghost use Rattle.d64_line.specs.Act.{FetchesFile};
-ghost use Rattle.d64_shell.specs.Program.{IsFirstHistory, HasNoHistory, GivesNoImage, GivesNoSession, RanShell, StoppedBy, beginning_of, blank, file_limit, home_of, outside_of, session_limit, status_of};
+ghost use Rattle.d64_shell.specs.Jobs.{beginning_of, home_of};
+ghost use Rattle.d64_shell.specs.Program.{IsFirstHistory, HasNoHistory, GivesNoImage, GivesNoSession, RanShell, StoppedBy, blank, file_limit, outside_at, session_limit, status_of};
 
 use crate::entry::{ALL_ACCEPTED, FILE_BYTES, SESSION_BYTES, SOME_REFUSED};
 use crate::program_fault::ProgramFault;
@@ -37,11 +38,11 @@ pub(crate) fn shell<R: Read, W: Write, H: Host>(
     ensures output { output.new.writer.ghost_name ≡ output.old.writer.ghost_name }
     ensures delivered { OnOk result ((output.new.is_delivered ≡ true) × (output.new.has_failed ≡ false)) }
     ensures ran { IfOk result (λ outcome. RanShell (beginning_of (option_copied image.entry) tracks (option_copied resume.entry)) (home_of (option_copied image.entry))
-        (outside_of (R.remaining input.old.reader.now) (W.contents output.old.writer.now) (H.files host.old) (H.failure_count host.old))
-        (outside_of (R.remaining input.new.reader.now) (W.contents output.new.writer.now) (H.files host.new) (H.failure_count host.new)) (Ok outcome)) }
+        (outside_at R.remaining input.old W.contents output.old H.files H.failure_count host.old)
+        (outside_at R.remaining input.new W.contents output.new H.files H.failure_count host.new) (Ok outcome)) }
     ensures stopped { IfErr result (λ fault. StoppedBy fault (beginning_of (option_copied image.entry) tracks (option_copied resume.entry)) (home_of (option_copied image.entry))
-        (outside_of (R.remaining input.old.reader.now) (W.contents output.old.writer.now) (H.files host.old) (H.failure_count host.old))
-        (outside_of (R.remaining input.new.reader.now) (W.contents output.new.writer.now) (H.files host.new) (H.failure_count host.new))) }
+        (outside_at R.remaining input.old W.contents output.old H.files H.failure_count host.old)
+        (outside_at R.remaining input.new W.contents output.new H.files H.failure_count host.new)) }
 {
     let mut session = first_session(alloc, host, image, tracks, resume)?;
     let home = image.unwrap_or("");

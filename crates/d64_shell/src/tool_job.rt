@@ -1,9 +1,10 @@
 //! The tools' job: a tool on the input or on a file, and how its answer is told.
 ghost use Rattle.std.specs.Prelude.{◌≡◌, IfErr, IsOk, None, OnOk, option_copied, true};
 ghost use Rattle.d64_script.specs.Input.{IsUnread, reading_of};
-ghost use Rattle.d64_script.specs.Output.{Writes, account_of};
+ghost use Rattle.d64_script.specs.Output.{Writes};
+ghost use Rattle.d64_collection.specs.Runs.{account_at};
 ghost use Rattle.d64_script.specs.Status.{status_line};
-ghost use Rattle.d64_shell.specs.Program.{RanToolOn, TellsAnswer, outside_of};
+ghost use Rattle.d64_shell.specs.Program.{RanToolOn, TellsAnswer, outside_at};
 ghost use Rattle.d64_shell.specs.Tools.{ReadsWith, TellsSmallLine, WritesWith};
 
 use crate::entry::{ALL_ACCEPTED, FILE_BYTES, SOME_REFUSED};
@@ -31,8 +32,8 @@ pub(crate) fn run_tool<R: Read, W: Write, H: Host>(
     ensures input { input.new.reader.ghost_name ≡ input.old.reader.ghost_name }
     ensures output { output.new.writer.ghost_name ≡ output.old.writer.ghost_name }
     ensures ran { RanToolOn tool (option_copied name.entry)
-        (outside_of (R.remaining input.old.reader.now) (W.contents output.old.writer.now) (H.files host.old) (H.failure_count host.old))
-        (outside_of (R.remaining input.new.reader.now) (W.contents output.new.writer.now) (H.files host.new) (H.failure_count host.new)) result }
+        (outside_at R.remaining input.old W.contents output.old H.files H.failure_count host.old)
+        (outside_at R.remaining input.new W.contents output.new H.files H.failure_count host.new) result }
     ensures line { IfErr result TellsSmallLine }
     ensures reads { option_copied name.entry ≡ None → ReadsWith result (reading_of input.new.reads input.new.came input.new.has_failed) }
     ensures writes { WritesWith result output.old.has_failed output.new.has_failed }
@@ -58,8 +59,8 @@ fn write_result<R: Read, W: Write, H: Host>(
     ensures input { input.new.reader.ghost_name ≡ input.old.reader.ghost_name }
     ensures output { output.new.writer.ghost_name ≡ output.old.writer.ghost_name }
     ensures ran { RanToolOn tool (option_copied name.entry)
-        (outside_of (R.remaining input.old.reader.now) (W.contents output.old.writer.now) (H.files host.old) (H.failure_count host.old))
-        (outside_of (R.remaining input.new.reader.now) (W.contents output.new.writer.now) (H.files host.new) (H.failure_count host.new)) result }
+        (outside_at R.remaining input.old W.contents output.old H.files H.failure_count host.old)
+        (outside_at R.remaining input.new W.contents output.new H.files H.failure_count host.new) result }
     ensures line { IfErr result TellsSmallLine }
     ensures reads { option_copied name.entry ≡ None → ReadsWith result (reading_of input.new.reads input.new.came input.new.has_failed) }
     ensures writes { WritesWith result output.old.has_failed output.new.has_failed }
@@ -82,7 +83,7 @@ pub(crate) fn tell_answer<F: Write>(
     requires { IfErr answer TellsSmallLine }
     ensures faults { faults.new.writer.ghost_name ≡ faults.old.writer.ghost_name }
     ensures wrote { result ≡ 0 → IsOk answer }
-    ensures told { TellsAnswer answer (account_of (F.contents faults.old.writer.now) faults.old.has_failed) (account_of (F.contents faults.new.writer.now) faults.new.has_failed) result }
+    ensures told { TellsAnswer answer (account_at F.contents faults.old) (account_at F.contents faults.new) result }
     ensures silent { result ≡ 0 → faults.new ≡ faults.old }
 {
     match answer {
@@ -99,7 +100,7 @@ pub(crate) fn tell_answer<F: Write>(
 fn tell_refusal<F: Write>(status: Status, faults: &mut OutputStream<'_, F>) -> u8
     ensures faults { faults.new.writer.ghost_name ≡ faults.old.writer.ghost_name }
     ensures status { result ≡ 1 }
-    ensures told { Writes (account_of (F.contents faults.old.writer.now) faults.old.has_failed) (account_of (F.contents faults.new.writer.now) faults.new.has_failed) (status_line status) }
+    ensures told { Writes (account_at F.contents faults.old) (account_at F.contents faults.new) (status_line status) }
 {
     let _ = faults.write(status.line().as_slice());
     SOME_REFUSED

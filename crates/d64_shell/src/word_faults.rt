@@ -1,7 +1,8 @@
 //! How words are answered that ask for no job.
 ghost use Rattle.std.specs.Prelude.{◌≡◌, OnOk, OnErr, IfOk, IfErr, false, map, true};
 ghost use Rattle.std.specs.Io.KnownBytes.{Appends};
-ghost use Rattle.d64_script.specs.Output.{AppendsPart, FailsWith, account_of};
+ghost use Rattle.d64_script.specs.Output.{AppendsPart, FailsWith};
+ghost use Rattle.d64_collection.specs.Runs.{account_at};
 ghost use Rattle.d64_words.specs.Asked.{IsJob, IsFault};
 ghost use Rattle.d64_shell.specs.Program.{AnswersWords, HasShown, HasTold, named};
 
@@ -40,7 +41,7 @@ pub(crate) fn answer_words<W: Write, F: Write>(
     requires unfailed { output.old.has_failed ≡ false }
     ensures output { output.new.writer.ghost_name ≡ output.old.writer.ghost_name }
     ensures faults { faults.new.writer.ghost_name ≡ faults.old.writer.ghost_name }
-    ensures answered { AnswersWords fault (W.contents output.old.writer.now) (W.contents output.new.writer.now) (account_of (F.contents faults.old.writer.now) faults.old.has_failed) (account_of (F.contents faults.new.writer.now) faults.new.has_failed) result }
+    ensures answered { AnswersWords fault (W.contents output.old.writer.now) (W.contents output.new.writer.now) (account_at F.contents faults.old) (account_at F.contents faults.new) result }
     ensures silent { result ≡ 0 → faults.new ≡ faults.old }
     ensures delivered { result ≡ 0 → (output.new.is_delivered ≡ true) × (output.new.has_failed ≡ false) }
 {
@@ -72,7 +73,7 @@ fn show<W: Write, F: Write>(
     requires unfailed { output.old.has_failed ≡ false }
     ensures output { output.new.writer.ghost_name ≡ output.old.writer.ghost_name }
     ensures faults { faults.new.writer.ghost_name ≡ faults.old.writer.ghost_name }
-    ensures shown { HasShown (W.contents output.old.writer.now) (W.contents output.new.writer.now) (account_of (F.contents faults.old.writer.now) faults.old.has_failed) (account_of (F.contents faults.new.writer.now) faults.new.has_failed) result }
+    ensures shown { HasShown (W.contents output.old.writer.now) (W.contents output.new.writer.now) (account_at F.contents faults.old) (account_at F.contents faults.new) result }
     ensures silent { result ≡ 0 → faults.new ≡ faults.old }
     ensures delivered { result ≡ 0 → (output.new.is_delivered ≡ true) × (output.new.has_failed ≡ false) }
 {
@@ -100,7 +101,7 @@ fn write_whole<W: Write>(output: &mut OutputStream<'_, W>, text: &[u8]) -> Resul
 /// Tells what is wrong with the words. Where a write fails, the rest of the text is dropped.
 fn tell<F: Write>(alloc: Global, fault: &JobFault, faults: &mut OutputStream<'_, F>) -> u8
     ensures faults { faults.new.writer.ghost_name ≡ faults.old.writer.ghost_name }
-    ensures told { HasTold (account_of (F.contents faults.old.writer.now) faults.old.has_failed) (account_of (F.contents faults.new.writer.now) faults.new.has_failed) result }
+    ensures told { HasTold (account_at F.contents faults.old) (account_at F.contents faults.new) result }
     ensures status { result ≡ 2 }
 {
     let Ok(text) = format!(in alloc; "{fault}") else {

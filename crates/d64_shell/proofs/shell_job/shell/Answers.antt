@@ -1,6 +1,7 @@
 -- The script has run from its beginning, and a flush of the output changes none of its bytes.
 use Rattle.std.proofs.Common.{◌≡◌, ◌∙◌, Ok, Err, inl, inr, refl, ap, option_copied, rules}
-use Rattle.d64_shell.specs.Program.{beginning_of, home_of, Outside, StoppedBy, fault_of_run, outside_of}
+use Rattle.d64_shell.specs.Jobs.{beginning_of, home_of}
+use Rattle.d64_shell.specs.Program.{Outside, StoppedBy, fault_of_run, outside_of}
 use Rattle.d64_shell.proofs.ProgramRuns.{home_is, IfErr-of_error, RanShell-flushed, told_of-write}
 use Rattle.d64_shell.proofs.shell_job.shell.Goals as goal
 

@@ -1,0 +1,47 @@
+-- What each job does.
+use Rattle.std.specs.Prelude.{ℕ, List, [], Option, Some, None, option_map, string_bytes, ⊤}
+use Rattle.d64_words.specs.declared.asked.Job.{Job}
+use Rattle.d64_words.specs.declared.asked.Job.TheVariants.{Shell, Petcat, Crunch, Check}
+use Rattle.d64_collection.specs.Answers.{Rule}
+use Rattle.d64_check.specs.Check.{check_rule, heading_of as check_heading}
+use Rattle.d64_shell.specs.SurveyFiles.{SurveyFiles, files_of}
+use Rattle.d64_shell.specs.declared.tools.Tool.{Tool}
+use Rattle.d64_shell.specs.declared.tools.Tool.TheVariants as tools
+
+-- what a script begins with: a blank image of so many tracks, the image of a host file, or the session of one
+pub data Beginning : Type 0 where
+  Blank : ℕ → Beginning
+  ImageFile : List ℕ → Beginning
+  SessionFile : List ℕ → Beginning
+
+-- what the words ask the shell to begin with: of an image and a session file, the session file
+abbrev pub beginning_of : Option (List ℕ) → ℕ → Option (List ℕ) → Beginning
+beginning_of image tracks (Some file) = SessionFile file
+beginning_of (Some name) tracks None = ImageFile name
+beginning_of None tracks None = Blank tracks
+
+-- where `save` stores by default: in the image file, where there is one
+abbrev pub home_of : Option (List ℕ) → List ℕ
+home_of None = []
+home_of (Some name) = name
+
+-- what a job does: it runs a script from a beginning, with the name where `save` stores by default; runs a tool on the input, or on the host
+-- file of a name; or surveys files, by a rule, with what stands before all answers
+pub data Work : Type 0 where
+  Script : Beginning → List ℕ → Work
+  Conversion : Tool → Option (List ℕ) → Work
+  Survey : Rule → List ℕ → SurveyFiles → Work
+
+-- what each job does
+abbrev pub work_of : Job → Work
+work_of (Shell image tracks resume) =
+    Script (beginning_of (option_map string_bytes image) tracks (option_map string_bytes resume)) (home_of (option_map string_bytes image))
+work_of (Petcat file) = Conversion tools.Petcat (option_map string_bytes file)
+work_of (Crunch start file) = Conversion (tools.Crunch start) (option_map string_bytes file)
+work_of (Check digest format names) = Survey (check_rule format digest) (check_heading format digest) (files_of names)
+
+-- the work is a script, which tells nothing where it runs to its end
+abbrev pub IsScript : Work → Type 0
+IsScript (Script beginning home) = ⊤
+IsScript (Conversion tool name) = ⊥
+IsScript (Survey rule heading files) = ⊥
