@@ -1,1 +1,1 @@
-pub mod Dumps
+pub mod Answering

@@ -14,7 +14,7 @@ use Rattle.d64_wording.specs.CheckText.{check_text}
 use Rattle.d64_wording.specs.FaultLines.{unread_line, wrong_length_line}
 use Rattle.d64_collection.specs.Answers.{Answer, Rule}
 use Rattle.d64_collection.specs.declared.report.Verdict.TheVariants.{Clean, Amiss, Failed}
-use Rattle.d64_check.specs.DumpOf.{dump_of}
+use Rattle.d64_report.specs.DumpOf.{dump_of}
 
 -- the digest of bytes, where it is asked for
 abbrev pub digest_of : Bool → Bytes → Option Bytes

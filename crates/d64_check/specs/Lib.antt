@@ -1,3 +1,2 @@
-pub mod DumpOf
 pub mod Check
 pub mod Quiet

@@ -6,7 +6,7 @@ use Rattle.d64_words.specs.declared.asked.Format.{Format}
 use Rattle.d64_collection.specs.Answers.{IsQuiet}
 use Rattle.d64_collection.specs.declared.report.Verdict.TheVariants.{Clean}
 use Rattle.d64_check.specs.Check.{answer_of, check_rule}
-use Rattle.d64_check.specs.DumpOf.{dump_of}
+use Rattle.d64_report.specs.DumpOf.{dump_of}
 
 -- the answer to a dump has no complaint, and one that has a complaint is a failure
 answer_of-is_quiet : (form : Format) (digest : Bool) (name : List ℕ) (bytes : Bytes) (dump : Option DumpView)

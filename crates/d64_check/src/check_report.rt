@@ -2,12 +2,13 @@
 ghost use Rattle.std.specs.Prelude.{◌≡◌, List, ℕ, Option, Some, IfOk, OnOk, option_map, [], ◌++◌};
 ghost use Rattle.d64_collection.specs.Answers.{Answer};
 ghost use Rattle.d64_check.specs.Check.{answer_of, check_rule, heading_of};
-ghost use Rattle.d64_check.specs.DumpOf.{dump_of};
+ghost use Rattle.d64_report.specs.DumpOf.{dump_of};
 ghost use Rattle.d64_check.specs.Quiet.{check_rule-is_quiet};
 
 use crate::printing::{print_dump, print_heading, print_unread, print_wrong_length};
 use d64_collection::{AnswerRoom, Report, Verdict};
 use d64_image::Image;
+use d64_report::Scratch;
 use d64_survey::{Dump, DumpFault, Fault, Inspection, ReadError};
 use d64_wording::{unread_line, wrong_length_line};
 use d64_words::Format;
@@ -24,6 +25,7 @@ pub struct CheckReport {
     dump: Dump,
     faults: Vec<Fault>,
     errors: Vec<ReadError>,
+    scratch: Scratch,
 }
 
 impl CheckReport {
@@ -39,6 +41,7 @@ impl CheckReport {
             dump: Dump::from_image(alloc, Image::zeroed(alloc)?),
             faults: Vec::new(alloc),
             errors: Vec::new(alloc),
+            scratch: Scratch::new(alloc),
         })
     }
 
@@ -62,7 +65,14 @@ impl CheckReport {
         };
         let all = Inspection::of(&self.dump, &mut self.faults, &mut self.errors)?;
         let out = mem::replace(&mut room.printed, Vec::new(self.alloc));
-        room.printed = print_dump(self.alloc, self.form, name, &all, digest.as_ref(), out)?;
+        room.printed = print_dump(
+            &mut self.scratch,
+            self.form,
+            name,
+            &all,
+            digest.as_ref(),
+            out,
+        )?;
         if all.is_amiss() {
             Ok(Verdict::Amiss)
         } else {
@@ -71,31 +81,35 @@ impl CheckReport {
     }
 
     /// What is told of a file that cannot be read.
-    fn tell_unread(&self, name: &[u8], room: &mut AnswerRoom) -> Result<Verdict, AllocError>
+    fn tell_unread(&mut self, name: &[u8], room: &mut AnswerRoom) -> Result<Verdict, AllocError>
+        ensures form { self.new.form ≡ self.old.form }
+        ensures digest { self.new.has_digest ≡ self.old.has_digest }
         ensures answered { room.old.printed.items ≡ [] → room.old.complaint.items ≡ [] → IfOk result (λ verdict.
             record { printed = room.new.printed.items; complaint = room.new.complaint.items; verdict = verdict }
-            ≡ check_rule self.now.form self.now.has_digest name.now None) }
+            ≡ check_rule self.old.form self.old.has_digest name.now None) }
     {
         let out = mem::replace(&mut room.printed, Vec::new(self.alloc));
-        room.printed = print_unread(self.alloc, self.form, self.has_digest, name, out)?;
+        room.printed = print_unread(&mut self.scratch, self.form, self.has_digest, name, out)?;
         unread_line(&mut room.complaint, name)?;
         Ok(Verdict::Failed)
     }
 
     /// What is told of a file with these bytes, where no dump has so many.
     fn tell_wrong_length(
-        &self,
+        &mut self,
         name: &[u8],
         bytes: &[u8],
         room: &mut AnswerRoom,
     ) -> Result<Verdict, AllocError>
+        ensures form { self.new.form ≡ self.old.form }
+        ensures digest { self.new.has_digest ≡ self.old.has_digest }
         ensures answered { room.old.printed.items ≡ [] → room.old.complaint.items ≡ [] → IfOk result (λ verdict.
             record { printed = room.new.printed.items; complaint = room.new.complaint.items; verdict = verdict }
-            ≡ answer_of self.now.form self.now.has_digest name.now bytes.now None) }
+            ≡ answer_of self.old.form self.old.has_digest name.now bytes.now None) }
     {
         let out = mem::replace(&mut room.printed, Vec::new(self.alloc));
         room.printed = print_wrong_length(
-            self.alloc,
+            &mut self.scratch,
             self.form,
             self.has_digest,
             name,
@@ -117,7 +131,7 @@ impl Report for CheckReport {
     fn head(&mut self, room: &mut AnswerRoom) -> Result<(), AllocError> {
         room.clear();
         let out = mem::replace(&mut room.printed, Vec::new(self.alloc));
-        room.printed = print_heading(self.alloc, self.form, self.has_digest, out)?;
+        room.printed = print_heading(&mut self.scratch, self.form, self.has_digest, out)?;
         Ok(())
     }
 

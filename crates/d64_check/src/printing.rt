@@ -3,16 +3,17 @@ ghost use Rattle.std.specs.Prelude.{◌≡◌, ◌++◌, IfOk, length, option_ma
 ghost use Rattle.d64_check.specs.Check.{heading_of, printed_of, printed_unread, printed_wrong_length};
 
 use d64_report::{
-    check_csv, check_json, csv_header, unread_csv, unread_json, wrong_length_csv, wrong_length_json,
+    Scratch, check_csv, check_json, csv_header, unread_csv, unread_json, wrong_length_csv,
+    wrong_length_json,
 };
 use d64_survey::Inspection;
 use d64_wording::check_text;
 use d64_words::Format;
-use std::alloc::{AllocError, Global};
+use std::alloc::AllocError;
 
 /// Appends what stands before all answers.
 pub(crate) fn print_heading(
-    alloc: Global,
+    scratch: &mut Scratch,
     form: Format,
     has_digest: bool,
     out: Vec<u8>,
@@ -21,13 +22,13 @@ pub(crate) fn print_heading(
 {
     match form {
         Format::Text | Format::Json => Ok(out),
-        Format::Csv => csv_header(alloc, has_digest, out),
+        Format::Csv => csv_header(scratch, has_digest, out),
     }
 }
 
 /// Appends what is printed of a dump.
 pub(crate) fn print_dump(
-    alloc: Global,
+    scratch: &mut Scratch,
     form: Format,
     name: &[u8],
     all: &Inspection,
@@ -42,14 +43,14 @@ pub(crate) fn print_dump(
             check_text(name, all, &mut text)?;
             Ok(text)
         }
-        Format::Json => check_json(alloc, name, all, digest, out),
-        Format::Csv => check_csv(alloc, name, all, digest, out),
+        Format::Json => check_json(scratch, name, all, digest, out),
+        Format::Csv => check_csv(scratch, name, all, digest, out),
     }
 }
 
 /// Appends what is printed of a file that cannot be read.
 pub(crate) fn print_unread(
-    alloc: Global,
+    scratch: &mut Scratch,
     form: Format,
     has_digest: bool,
     name: &[u8],
@@ -59,14 +60,14 @@ pub(crate) fn print_unread(
 {
     match form {
         Format::Text => Ok(out),
-        Format::Json => unread_json(alloc, name, out),
-        Format::Csv => unread_csv(alloc, name, has_digest, out),
+        Format::Json => unread_json(scratch, name, out),
+        Format::Csv => unread_csv(scratch, name, has_digest, out),
     }
 }
 
 /// Appends what is printed of a file of so many bytes, which no dump has.
 pub(crate) fn print_wrong_length(
-    alloc: Global,
+    scratch: &mut Scratch,
     form: Format,
     has_digest: bool,
     name: &[u8],
@@ -77,7 +78,7 @@ pub(crate) fn print_wrong_length(
 {
     match form {
         Format::Text => Ok(out),
-        Format::Json => wrong_length_json(alloc, name, length, out),
-        Format::Csv => wrong_length_csv(alloc, name, has_digest, out),
+        Format::Json => wrong_length_json(scratch, name, length, out),
+        Format::Csv => wrong_length_csv(scratch, name, has_digest, out),
     }
 }

@@ -1,10 +1,14 @@
--- The text form of bytes is ASCII.
+-- The text form of bytes is ASCII, and so are hexadecimal digits.
 use Rattle.std.proofs.Common.{◌≡◌, ℕ, ◌<◌, Bool, true, List, [], ◌∷◌, All, refl, arith}
 use Rattle.std.specs.Prelude.{nat_lt}
 use Rattle.std.specs.List.{list_all}
 use Rattle.std.proofs.lemmas.Bool.{agree_below_at, ltb-true}
 use Rattle.std.proofs.lemmas.List.Elements.{All-head, All-tail, All-append}
 use Rattle.std.proofs.lemmas.List.Sums.{AllPass-from_list_all}
+use Rattle.std.proofs.lemmas.Str.Ascii.{IsAscii-from_all}
+use Rattle.std.specs.Str.{IsAscii}
+use Rattle.hex.specs.Hex.{encode_lower, lower_digits}
+use Rattle.hex.proofs.HexLemmas.{IsAscii-encode_with}
 use Rattle.petscii.specs.ControlNames.{control_names, control_name}
 use Rattle.petscii.specs.Spelling.{character, character_ranges, hex_digit, spell, spelling}
 
@@ -28,3 +32,7 @@ spelling-ascii [] small = λ k d within. absurd (omega arith)
 spelling-ascii (byte ∷ bytes) small =
     All-append (λ b. b < 128) (spell byte) (spelling bytes) (from_test (spell byte) (spell-ascii byte (All-head (λ b. b < 256) byte bytes small)))
     (spelling-ascii bytes (All-tail (λ b. b < 256) byte bytes small))
+
+-- bytes in hexadecimal digits
+pub hexadecimal-ascii : (bytes : List ℕ) → IsAscii (encode_lower bytes)
+hexadecimal-ascii bytes = IsAscii-encode_with lower_digits bytes (IsAscii-from_all lower_digits (from_test lower_digits refl))

@@ -1,3 +1,5 @@
 pub mod AsciiTexts
 pub mod Arrays
 pub mod Objects
+pub mod EndedRows
+pub mod Dumps

@@ -1,5 +1,5 @@
 -- What is printed of one dump: an object of JSON, and a row of CSV.
-use Rattle.std.specs.Prelude.{ℕ, Bool, if◌then◌else◌, List, [], ◌∷◌, ◌++◌, length, map, Option, option_map, is_some, decimal, codes}
+use Rattle.std.specs.Prelude.{ℕ, List, [], ◌∷◌, ◌++◌, length, map, Option, option_map, is_some, decimal, codes}
 use Rattle.std.specs.Option.{option_map_or}
 use Rattle.json.specs.Json.{Json, boolean, string}
 use Rattle.hex.specs.Hex.{encode_lower}
@@ -14,10 +14,11 @@ use Rattle.d64_survey.specs.Faults.{faults}
 use Rattle.d64_survey.specs.ReadErrors.{read_errors}
 use Rattle.d64_survey.specs.Inspection.{entry_count, whole_count, is_sound, is_amiss}
 use Rattle.d64_report.specs.Values.{Field, object_of, array_of, numeral}
-use Rattle.d64_report.specs.Names.{disk_name, disk_dos, name_value}
+use Rattle.d64_names.specs.Names.{disk_name, disk_dos}
+use Rattle.d64_report.specs.Names.{name_value}
 use Rattle.d64_report.specs.Findings.{fault_object, read_error_object}
 use Rattle.d64_report.specs.Unanswered.{image_member}
-use Rattle.d64_report.specs.Rows.{row_of}
+use Rattle.d64_report.specs.Rows.{truth_text, row_of}
 
 -- the file, the number of tracks, and whether there are read codes
 abbrev pub dump_members : DumpView → Bytes → List Field
@@ -58,10 +59,6 @@ unfoldable pub check_object : DumpView → Bytes → Option Bytes → Json
 check_object dump name digest =
     object_of
     (dump_members dump name ++ (label_members dump.image ++ (count_members dump ++ (state_members dump ++ (finding_members dump ++ digest_members digest)))))
-
--- `true` or `false`
-abbrev pub truth_text : Bool → List ℕ
-truth_text value = if value then codes "true" else codes "false"
 
 -- the file, the number of tracks, and whether there are read codes
 abbrev pub dump_fields : DumpView → Bytes → List (List ℕ)

@@ -6,3 +6,4 @@ pub mod Findings
 pub mod Unanswered
 pub mod Rows
 pub mod Checks
+pub mod DumpOf

@@ -7,7 +7,8 @@ use Rattle.d64_survey.specs.declared.owner.Part.TheVariants.{Data, Side}
 use Rattle.d64_survey.specs.declared.owner.Owner.{Owner}
 use Rattle.d64_survey.specs.declared.owner.Owner.TheVariants.{Map, Directory, File}
 use Rattle.d64_report.specs.Values.{Field, object_of, array_of, numeral}
-use Rattle.d64_report.specs.Names.{slot_name, name_value}
+use Rattle.d64_names.specs.Names.{slot_name}
+use Rattle.d64_report.specs.Names.{name_value}
 
 -- the word for a part of a file
 abbrev pub part_word : Part → List ℕ

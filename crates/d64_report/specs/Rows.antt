@@ -9,6 +9,10 @@ columns =
     codes "image" ∷ codes "tracks" ∷ codes "codes" ∷ codes "name" ∷ codes "id" ∷ codes "dos" ∷ codes "entries" ∷ codes "whole" ∷ codes "free" ∷ codes "unowned" ∷ codes "sound"
     ∷ codes "amiss" ∷ codes "faults" ∷ codes "read_errors" ∷ []
 
+-- `true` or `false`
+abbrev pub truth_text : Bool → List ℕ
+truth_text value = if value then codes "true" else codes "false"
+
 -- a field, where there is one
 abbrev pub field_where : Option (List ℕ) → List (List ℕ)
 field_where field = option_map_or (λ text. text ∷ []) field []

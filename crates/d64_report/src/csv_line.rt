@@ -1,45 +1,19 @@
 //! What is printed of a dump as CSV.
-ghost use Rattle.std.specs.Prelude.{◌≡◌, [], ◌∷◌, ◌++◌, decimal, option_map, OnOk, IfOk};
+ghost use Rattle.std.specs.Prelude.{◌≡◌, [], ◌++◌, option_map, OnOk, IfOk};
 ghost use Rattle.csv.specs.Records.{fields_of, partial_of};
-ghost use Rattle.petscii.specs.Spelling.{spelling};
-ghost use Rattle.d64_report.specs.Checks.{truth_text as truth_text_of, dump_fields, label_fields, count_fields, state_fields, check_fields, check_row};
+ghost use Rattle.hex.specs.Hex.{encode_lower};
+ghost use Rattle.d64_report.specs.Rows.{field_where};
+ghost use Rattle.d64_report.specs.Checks.{dump_fields, label_fields, count_fields, state_fields, check_fields, check_row};
 
-use crate::label::{disk_dos, disk_id, disk_name};
-use crate::row::{end_row, push_field};
+use crate::field::{push_boolean, push_field, push_hexadecimal, push_name, push_number};
+use crate::row::end_row;
+use crate::scratch::Scratch;
 use csv::ByteRecord;
 use d64_image::Image;
 use d64_map::blocks_free;
+use d64_names::{disk_dos, disk_id, disk_name};
 use d64_survey::Inspection;
-use itoa::Buffer;
-use petscii::to_text;
-use std::alloc::{AllocError, Global};
-
-/// `true` or `false`.
-fn truth_text(value: bool) -> &'static [u8]
-    ensures { result.now ≡ truth_text_of value }
-{
-    if value { b"true" } else { b"false" }
-}
-
-/// Adds a number in decimal to a row.
-fn push_number(row: &mut ByteRecord, number: u64) -> Result<(), AllocError>
-    requires { partial_of row.old ≡ [] }
-    ensures fields { OnOk result (fields_of row.new ≡ fields_of row.old ++ decimal number ∷ []) }
-    ensures whole { OnOk result (partial_of row.new ≡ []) }
-{
-    let mut digits = Buffer::new();
-    push_field(row, digits.format(number).as_bytes())
-}
-
-/// Adds a name in text form to a row.
-fn push_name(alloc: Global, row: &mut ByteRecord, name: &[u8]) -> Result<(), AllocError>
-    requires { partial_of row.old ≡ [] }
-    ensures fields { OnOk result (fields_of row.new ≡ fields_of row.old ++ spelling name.now ∷ []) }
-    ensures whole { OnOk result (partial_of row.new ≡ []) }
-{
-    let text = to_text(alloc, name)?;
-    push_field(row, text.as_slice())
-}
+use std::alloc::AllocError;
 
 /// Adds the file, the number of tracks, and whether there are read codes, to a row.
 fn push_dump(row: &mut ByteRecord, inspection: &Inspection, name: &[u8]) -> Result<(), AllocError>
@@ -49,18 +23,18 @@ fn push_dump(row: &mut ByteRecord, inspection: &Inspection, name: &[u8]) -> Resu
 {
     push_field(row, name)?;
     push_number(row, u64::from(inspection.image().tracks()))?;
-    push_field(row, truth_text(inspection.codes().is_some()))
+    push_boolean(row, inspection.codes().is_some())
 }
 
 /// Adds the disk's name, its id and its DOS version to a row.
-fn push_label(alloc: Global, row: &mut ByteRecord, image: &Image) -> Result<(), AllocError>
+fn push_label(scratch: &mut Vec<u8>, row: &mut ByteRecord, image: &Image) -> Result<(), AllocError>
     requires { partial_of row.old ≡ [] }
     ensures fields { OnOk result (fields_of row.new ≡ fields_of row.old ++ label_fields image.now) }
     ensures whole { OnOk result (partial_of row.new ≡ []) }
 {
-    push_name(alloc, row, disk_name(image))?;
-    push_name(alloc, row, disk_id(image))?;
-    push_name(alloc, row, disk_dos(image))
+    push_name(scratch, row, disk_name(image))?;
+    push_name(scratch, row, disk_id(image))?;
+    push_name(scratch, row, disk_dos(image))
 }
 
 /// Adds how many slots are used, how many files are whole, and how many blocks are free, and are neither free nor owned, to a row.
@@ -81,33 +55,48 @@ fn push_state(row: &mut ByteRecord, inspection: &Inspection) -> Result<(), Alloc
     ensures fields { OnOk result (fields_of row.new ≡ fields_of row.old ++ state_fields inspection.now) }
     ensures whole { OnOk result (partial_of row.new ≡ []) }
 {
-    push_field(row, truth_text(inspection.is_sound()))?;
-    push_field(row, truth_text(inspection.is_amiss()))?;
+    push_boolean(row, inspection.is_sound())?;
+    push_boolean(row, inspection.is_amiss())?;
     push_number(row, inspection.faults().len() as u64)?;
     push_number(row, inspection.read_errors().len() as u64)
 }
 
-/// The row of a dump, but for the digest and the error.
-fn row_of_dump(
-    alloc: Global,
+/// Makes the row of a dump, but for the digest and the error.
+fn put_dump_row(
+    scratch: &mut Scratch,
     name: &[u8],
     inspection: &Inspection,
-) -> Result<ByteRecord, AllocError>
-    ensures fields { IfOk result (λ row. fields_of row ≡ check_fields inspection.now name.now) }
-    ensures whole { IfOk result (λ row. partial_of row ≡ []) }
+) -> Result<(), AllocError>
+    ensures fields { OnOk result (fields_of scratch.new.row ≡ check_fields inspection.now name.now) }
+    ensures whole { OnOk result (partial_of scratch.new.row ≡ []) }
 {
-    let mut row = ByteRecord::new(alloc);
-    push_dump(&mut row, inspection, name)?;
-    push_label(alloc, &mut row, inspection.image())?;
-    push_counts(&mut row, inspection)?;
-    push_state(&mut row, inspection)?;
-    Ok(row)
+    scratch.row.clear();
+    push_dump(&mut scratch.row, inspection, name)?;
+    push_label(&mut scratch.text, &mut scratch.row, inspection.image())?;
+    push_counts(&mut scratch.row, inspection)?;
+    push_state(&mut scratch.row, inspection)
+}
+
+/// Adds a digest in hexadecimal digits to a row, where there is one.
+fn push_digest(
+    scratch: &mut Vec<u8>,
+    row: &mut ByteRecord,
+    digest: Option<&[u8; 32]>,
+) -> Result<(), AllocError>
+    requires { partial_of row.old ≡ [] }
+    ensures fields { OnOk result (fields_of row.new ≡ fields_of row.old ++ field_where (option_map encode_lower (option_map (λ d. d.now) digest.entry))) }
+    ensures whole { OnOk result (partial_of row.new ≡ []) }
+{
+    match digest {
+        Some(digest) => push_hexadecimal(scratch, row, digest),
+        None => Ok(()),
+    }
 }
 
 /// Adds the row of a dump to a text: the name of its file, what is on the disk, how much is wrong with it, and the SHA-256 digest of the
 /// file's bytes where there is one.
 pub fn check_csv(
-    alloc: Global,
+    scratch: &mut Scratch,
     name: &[u8],
     inspection: &Inspection,
     digest: Option<&[u8; 32]>,
@@ -115,15 +104,7 @@ pub fn check_csv(
 ) -> Result<Vec<u8>, AllocError>
     ensures { IfOk result (λ text. text.items ≡ out.items ++ check_row inspection.now name.now (option_map (λ d. d.now) digest.entry)) }
 {
-    let row = row_of_dump(alloc, name, inspection)?;
-    let bytes: &[u8] = match digest {
-        Some(bytes) => bytes,
-        None => {
-            let text = end_row(row, None, b"", out)?;
-            return Ok(text);
-        }
-    };
-    let digits = hex::encode(alloc, bytes)?;
-    let text = end_row(row, Some(digits.as_str().as_bytes()), b"", out)?;
-    Ok(text)
+    put_dump_row(scratch, name, inspection)?;
+    push_digest(&mut scratch.text, &mut scratch.row, digest)?;
+    end_row(&mut scratch.row, b"", out)
 }

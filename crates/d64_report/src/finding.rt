@@ -11,7 +11,7 @@ use crate::owner::{part_word, put_owners, put_slot};
 use d64_image::BlockNo;
 use d64_survey::{Fault, LastBlock, ReadError, Survey, WayEnd, drive_status};
 use json::Writer;
-use std::alloc::{AllocError, Global};
+use std::alloc::AllocError;
 
 /// Prints a member whose value is the pair of a block.
 fn put_block(writer: &mut Writer, key: &str, block: BlockNo) -> Result<(), AllocError>
@@ -74,7 +74,7 @@ fn put_way(writer: &mut Writer, at: LastBlock, end: WayEnd) -> Result<(), AllocE
 
 /// Prints the members of a block and its owners.
 fn put_owned(
-    alloc: Global,
+    scratch: &mut Vec<u8>,
     writer: &mut Writer,
     survey: &Survey,
     block: BlockNo,
@@ -83,12 +83,12 @@ fn put_owned(
     ensures tokens { OnOk result (writer.new.tokens ≡ writer.old.tokens ++ member_tokens (block_members survey.now block)) }
 {
     put_block(writer, "block", block)?;
-    put_owners(alloc, writer, survey, block)
+    put_owners(scratch, writer, survey, block)
 }
 
 /// Prints what a fault says beside its number.
 fn put_fault_members(
-    alloc: Global,
+    scratch: &mut Vec<u8>,
     writer: &mut Writer,
     survey: &Survey,
     fault: &Fault,
@@ -104,21 +104,23 @@ fn put_fault_members(
         }
         Fault::BrokenDirectory(at, end) => put_way(writer, *at, *end),
         Fault::UnknownKind(slot, type_byte) => {
-            put_slot(alloc, writer, survey, *slot)?;
+            put_slot(scratch, writer, survey, *slot)?;
             put_number(writer, "type", u64::from(*type_byte))
         }
         Fault::BrokenFile(slot, part, at, end) => {
-            put_slot(alloc, writer, survey, *slot)?;
+            put_slot(scratch, writer, survey, *slot)?;
             put_text(writer, "what", part_word(*part))?;
             put_way(writer, *at, *end)
         }
-        Fault::Shared(block) | Fault::MarkedFree(block) => put_owned(alloc, writer, survey, *block),
+        Fault::Shared(block) | Fault::MarkedFree(block) => put_owned(
+            scratch, writer, survey, *block,
+        ),
     }
 }
 
 /// Prints a fault.
 fn put_fault(
-    alloc: Global,
+    scratch: &mut Vec<u8>,
     writer: &mut Writer,
     survey: &Survey,
     fault: &Fault,
@@ -128,13 +130,13 @@ fn put_fault(
 {
     writer.begin_object()?;
     put_number(writer, "condition", u64::from(fault.number()))?;
-    put_fault_members(alloc, writer, survey, fault)?;
+    put_fault_members(scratch, writer, survey, fault)?;
     writer.end_object()
 }
 
 /// Prints an array of faults.
 pub(crate) fn put_faults(
-    alloc: Global,
+    scratch: &mut Vec<u8>,
     writer: &mut Writer,
     survey: &Survey,
     faults: &[Fault],
@@ -144,7 +146,7 @@ pub(crate) fn put_faults(
 {
     writer.begin_array()?;
     for fault in faults {
-        put_fault(alloc, writer, survey, fault)?;
+        put_fault(scratch, writer, survey, fault)?;
     }
     writer.end_array()
 }
@@ -165,7 +167,7 @@ fn put_status(writer: &mut Writer, key: &str, status: Option<u8>) -> Result<(), 
 
 /// Prints a read error.
 fn put_read_error(
-    alloc: Global,
+    scratch: &mut Vec<u8>,
     writer: &mut Writer,
     survey: &Survey,
     error: &ReadError,
@@ -177,13 +179,13 @@ fn put_read_error(
     put_block(writer, "block", error.block)?;
     put_number(writer, "code", u64::from(error.code))?;
     put_status(writer, "status", drive_status(error.code))?;
-    put_owners(alloc, writer, survey, error.block)?;
+    put_owners(scratch, writer, survey, error.block)?;
     writer.end_object()
 }
 
 /// Prints an array of read errors.
 pub(crate) fn put_read_errors(
-    alloc: Global,
+    scratch: &mut Vec<u8>,
     writer: &mut Writer,
     survey: &Survey,
     errors: &[ReadError],
@@ -193,7 +195,7 @@ pub(crate) fn put_read_errors(
 {
     writer.begin_array()?;
     for error in errors {
-        put_read_error(alloc, writer, survey, error)?;
+        put_read_error(scratch, writer, survey, error)?;
     }
     writer.end_array()
 }

@@ -1,24 +1,23 @@
 //! What is printed of a dump as JSON.
 ghost use Rattle.std.specs.Prelude.{◌≡◌, [], ◌∷◌, ◌++◌, option_map, OnOk, IfOk};
-ghost use Rattle.json.specs.Json.{string};
-ghost use Rattle.hex.specs.Hex.{encode_lower};
 ghost use Rattle.d64_report.specs.Values.{line_of, member_tokens};
 ghost use Rattle.d64_report.specs.Checks.{dump_members, label_members, count_members, state_members, fault_list, error_list, finding_members, digest_members, check_object};
 
 use crate::finding::{put_faults, put_read_errors};
-use crate::label::{disk_dos, disk_id, disk_name};
-use crate::member::{put_boolean, put_number, put_text};
+use crate::member::{put_boolean, put_hexadecimal, put_number};
 use crate::name::put_name;
+use crate::scratch::Scratch;
 use crate::unanswered::{into_line, put_image};
 use d64_image::Image;
 use d64_map::blocks_free;
+use d64_names::{disk_dos, disk_id, disk_name};
 use d64_survey::Inspection;
 use json::Writer;
-use std::alloc::{AllocError, Global};
+use std::alloc::AllocError;
 
 /// Prints the file, the number of tracks, and whether there are read codes.
 fn put_dump(
-    alloc: Global,
+    scratch: &mut Vec<u8>,
     writer: &mut Writer,
     inspection: &Inspection,
     name: &[u8],
@@ -26,19 +25,19 @@ fn put_dump(
     ensures before { writer.new.before ≡ writer.old.before }
     ensures tokens { OnOk result (writer.new.tokens ≡ writer.old.tokens ++ member_tokens (dump_members inspection.now name.now)) }
 {
-    put_image(alloc, writer, name)?;
+    put_image(scratch, writer, name)?;
     put_number(writer, "tracks", u64::from(inspection.image().tracks()))?;
     put_boolean(writer, "codes", inspection.codes().is_some())
 }
 
 /// Prints the disk's name, its id and its DOS version.
-fn put_label(alloc: Global, writer: &mut Writer, image: &Image) -> Result<(), AllocError>
+fn put_label(scratch: &mut Vec<u8>, writer: &mut Writer, image: &Image) -> Result<(), AllocError>
     ensures before { writer.new.before ≡ writer.old.before }
     ensures tokens { OnOk result (writer.new.tokens ≡ writer.old.tokens ++ member_tokens (label_members image.now)) }
 {
-    put_name(alloc, writer, "name", disk_name(image))?;
-    put_name(alloc, writer, "id", disk_id(image))?;
-    put_name(alloc, writer, "dos", disk_dos(image))
+    put_name(scratch, writer, "name", disk_name(image))?;
+    put_name(scratch, writer, "id", disk_id(image))?;
+    put_name(scratch, writer, "dos", disk_dos(image))
 }
 
 /// Prints how many slots are used, how many files are whole, and how many blocks are free, and are neither free nor owned.
@@ -63,7 +62,7 @@ fn put_state(writer: &mut Writer, inspection: &Inspection) -> Result<(), AllocEr
 
 /// Prints all faults.
 fn put_fault_list(
-    alloc: Global,
+    scratch: &mut Vec<u8>,
     writer: &mut Writer,
     inspection: &Inspection,
 ) -> Result<(), AllocError>
@@ -71,12 +70,12 @@ fn put_fault_list(
     ensures tokens { OnOk result (writer.new.tokens ≡ writer.old.tokens ++ member_tokens (fault_list inspection.now ∷ [])) }
 {
     writer.key("faults")?;
-    put_faults(alloc, writer, inspection.survey(), inspection.faults())
+    put_faults(scratch, writer, inspection.survey(), inspection.faults())
 }
 
 /// Prints all read errors.
 fn put_error_list(
-    alloc: Global,
+    scratch: &mut Vec<u8>,
     writer: &mut Writer,
     inspection: &Inspection,
 ) -> Result<(), AllocError>
@@ -84,34 +83,30 @@ fn put_error_list(
     ensures tokens { OnOk result (writer.new.tokens ≡ writer.old.tokens ++ member_tokens (error_list inspection.now ∷ [])) }
 {
     writer.key("read_errors")?;
-    put_read_errors(alloc, writer, inspection.survey(), inspection.read_errors())
+    put_read_errors(
+        scratch,
+        writer,
+        inspection.survey(),
+        inspection.read_errors(),
+    )
 }
 
 /// Prints all faults and all read errors.
 fn put_findings(
-    alloc: Global,
+    scratch: &mut Vec<u8>,
     writer: &mut Writer,
     inspection: &Inspection,
 ) -> Result<(), AllocError>
     ensures before { writer.new.before ≡ writer.old.before }
     ensures tokens { OnOk result (writer.new.tokens ≡ writer.old.tokens ++ member_tokens (finding_members inspection.now)) }
 {
-    put_fault_list(alloc, writer, inspection)?;
-    put_error_list(alloc, writer, inspection)
-}
-
-/// Prints bytes in hexadecimal digits.
-fn put_hex(alloc: Global, writer: &mut Writer, key: &str, bytes: &[u8]) -> Result<(), AllocError>
-    ensures before { writer.new.before ≡ writer.old.before }
-    ensures tokens { OnOk result (writer.new.tokens ≡ writer.old.tokens ++ member_tokens ((key.now, string (encode_lower bytes.now)) ∷ [])) }
-{
-    let digits = hex::encode(alloc, bytes)?;
-    put_text(writer, key, digits.as_str())
+    put_fault_list(scratch, writer, inspection)?;
+    put_error_list(scratch, writer, inspection)
 }
 
 /// Prints a digest, where there is one.
 fn put_digest(
-    alloc: Global,
+    scratch: &mut Vec<u8>,
     writer: &mut Writer,
     digest: Option<&[u8; 32]>,
 ) -> Result<(), AllocError>
@@ -119,7 +114,7 @@ fn put_digest(
     ensures tokens { OnOk result (writer.new.tokens ≡ writer.old.tokens ++ member_tokens (digest_members (option_map (λ d. d.now) digest.entry))) }
 {
     match digest {
-        Some(digest) => put_hex(alloc, writer, "sha256", digest),
+        Some(digest) => put_hexadecimal(scratch, writer, "sha256", digest),
         None => Ok(()),
     }
 }
@@ -127,7 +122,7 @@ fn put_digest(
 /// Adds the line of a dump to a text: an object of JSON with the name of its file, what is on the disk, what is wrong with it, and the
 /// SHA-256 digest of the file's bytes where there is one.
 pub fn check_json(
-    alloc: Global,
+    scratch: &mut Scratch,
     name: &[u8],
     inspection: &Inspection,
     digest: Option<&[u8; 32]>,
@@ -137,12 +132,12 @@ pub fn check_json(
 {
     let mut writer = Writer::new(out);
     writer.begin_object()?;
-    put_dump(alloc, &mut writer, inspection, name)?;
-    put_label(alloc, &mut writer, inspection.image())?;
+    put_dump(&mut scratch.text, &mut writer, inspection, name)?;
+    put_label(&mut scratch.text, &mut writer, inspection.image())?;
     put_counts(&mut writer, inspection)?;
     put_state(&mut writer, inspection)?;
-    put_findings(alloc, &mut writer, inspection)?;
-    put_digest(alloc, &mut writer, digest)?;
+    put_findings(&mut scratch.text, &mut writer, inspection)?;
+    put_digest(&mut scratch.text, &mut writer, digest)?;
     writer.end_object()?;
     let text = into_line(writer)?;
     Ok(text)

@@ -2,17 +2,25 @@
 #![tactic(auto)]
 
 mod csv_line;
+mod field;
 mod finding;
+mod hexadecimal;
 mod json_line;
-mod label;
 mod member;
 mod name;
 mod owner;
 mod pair_text;
 mod row;
+mod scratch;
 mod unanswered;
 
 pub use csv_line::check_csv;
+pub use field::{
+    push_boolean, push_field, push_fields, push_hexadecimal, push_name, push_number, push_pair,
+};
 pub use json_line::check_json;
-pub use row::{csv_header, unread_csv, wrong_length_csv};
-pub use unanswered::{unread_json, wrong_length_json};
+pub use member::{put_boolean, put_hexadecimal, put_null, put_number, put_pair, put_text};
+pub use name::put_name;
+pub use row::{csv_header, end_row, unread_csv, wrong_length_csv};
+pub use scratch::Scratch;
+pub use unanswered::{UNREAD, WRONG_LENGTH, into_line, put_image, unread_json, wrong_length_json};

@@ -1,15 +1,18 @@
 //! Members of a JSON object, one at a time.
 ghost use Rattle.std.specs.Prelude.{◌≡◌, [], ◌∷◌, ◌++◌, OnOk};
-ghost use Rattle.json.specs.Json.{boolean, string};
+ghost use Rattle.json.specs.Json.{boolean, null, string};
+ghost use Rattle.hex.specs.Hex.{encode_lower};
 ghost use Rattle.d64_report.specs.Values.{numeral, member_tokens};
 ghost use Rattle.d64_report.specs.Pairs.{pair_text};
 
+use crate::hexadecimal::{digits_are_ascii, spell_hexadecimal};
 use crate::pair_text::pair_text;
 use json::Writer;
 use std::alloc::AllocError;
+use std::str;
 
 /// Prints a member whose value is a number.
-pub(crate) fn put_number(writer: &mut Writer, key: &str, number: u64) -> Result<(), AllocError>
+pub fn put_number(writer: &mut Writer, key: &str, number: u64) -> Result<(), AllocError>
     ensures before { writer.new.before ≡ writer.old.before }
     ensures tokens { OnOk result (writer.new.tokens ≡ writer.old.tokens ++ member_tokens ((key.now, numeral number) ∷ [])) }
 {
@@ -18,7 +21,7 @@ pub(crate) fn put_number(writer: &mut Writer, key: &str, number: u64) -> Result<
 }
 
 /// Prints a member whose value is true or false.
-pub(crate) fn put_boolean(writer: &mut Writer, key: &str, value: bool) -> Result<(), AllocError>
+pub fn put_boolean(writer: &mut Writer, key: &str, value: bool) -> Result<(), AllocError>
     ensures before { writer.new.before ≡ writer.old.before }
     ensures tokens { OnOk result (writer.new.tokens ≡ writer.old.tokens ++ member_tokens ((key.now, boolean value) ∷ [])) }
 {
@@ -27,7 +30,7 @@ pub(crate) fn put_boolean(writer: &mut Writer, key: &str, value: bool) -> Result
 }
 
 /// Prints a member whose value is a text.
-pub(crate) fn put_text(writer: &mut Writer, key: &str, text: &str) -> Result<(), AllocError>
+pub fn put_text(writer: &mut Writer, key: &str, text: &str) -> Result<(), AllocError>
     ensures before { writer.new.before ≡ writer.old.before }
     ensures tokens { OnOk result (writer.new.tokens ≡ writer.old.tokens ++ member_tokens ((key.now, string text.now) ∷ [])) }
 {
@@ -35,13 +38,32 @@ pub(crate) fn put_text(writer: &mut Writer, key: &str, text: &str) -> Result<(),
     writer.string(text)
 }
 
-/// Prints a member whose value is a pair of track and sector.
-pub(crate) fn put_pair(
+/// Prints a member whose value is null.
+pub fn put_null(writer: &mut Writer, key: &str) -> Result<(), AllocError>
+    ensures before { writer.new.before ≡ writer.old.before }
+    ensures tokens { OnOk result (writer.new.tokens ≡ writer.old.tokens ++ member_tokens ((key.now, null) ∷ [])) }
+{
+    writer.key(key)?;
+    writer.null()
+}
+
+/// Prints a member whose value is bytes in hexadecimal digits.
+pub fn put_hexadecimal(
+    scratch: &mut Vec<u8>,
     writer: &mut Writer,
     key: &str,
-    track: u8,
-    sector: u8,
+    bytes: &[u8],
 ) -> Result<(), AllocError>
+    ensures before { writer.new.before ≡ writer.old.before }
+    ensures tokens { OnOk result (writer.new.tokens ≡ writer.old.tokens ++ member_tokens ((key.now, string (encode_lower bytes.now)) ∷ [])) }
+{
+    spell_hexadecimal(scratch, bytes)?;
+    digits_are_ascii(bytes);
+    put_text(writer, key, str::from_utf8(scratch.as_slice()).unwrap())
+}
+
+/// Prints a member whose value is a pair of track and sector.
+pub fn put_pair(writer: &mut Writer, key: &str, track: u8, sector: u8) -> Result<(), AllocError>
     ensures before { writer.new.before ≡ writer.old.before }
     ensures tokens { OnOk result (writer.new.tokens ≡ writer.old.tokens ++ member_tokens ((key.now, string (pair_text (track, sector))) ∷ [])) }
 {

@@ -6,12 +6,13 @@ ghost use Rattle.d64_report.specs.Values.{array_of, member_tokens};
 ghost use Rattle.d64_report.specs.Owners.{part_word as part_word_of, owner_word as owner_word_of, slot_members, owner_object, more_than_eight, owner_members};
 
 use crate::member::{put_number, put_text};
-use crate::name::{put_name, slot_name};
+use crate::name::put_name;
 use d64_files::SlotNo;
 use d64_image::BlockNo;
+use d64_names::slot_name;
 use d64_survey::{Owner, Part, SHOWN_OWNERS, Survey};
 use json::Writer;
-use std::alloc::{AllocError, Global};
+use std::alloc::AllocError;
 
 /// The word for a part of a file.
 pub(crate) fn part_word(part: Part) -> &'static str
@@ -36,7 +37,7 @@ fn owner_word(owner: Owner) -> &'static str
 
 /// Prints the members of a slot: its number, and its name in text form.
 pub(crate) fn put_slot(
-    alloc: Global,
+    scratch: &mut Vec<u8>,
     writer: &mut Writer,
     survey: &Survey,
     slot: SlotNo,
@@ -45,12 +46,12 @@ pub(crate) fn put_slot(
     ensures tokens { OnOk result (writer.new.tokens ≡ writer.old.tokens ++ member_tokens (slot_members survey.now slot)) }
 {
     put_number(writer, "slot", slot.place() as u64)?;
-    put_name(alloc, writer, "name", slot_name(survey, slot))
+    put_name(scratch, writer, "name", slot_name(survey, slot))
 }
 
 /// Prints an owner.
 fn put_owner(
-    alloc: Global,
+    scratch: &mut Vec<u8>,
     writer: &mut Writer,
     survey: &Survey,
     owner: &Owner,
@@ -62,14 +63,14 @@ fn put_owner(
     put_text(writer, "what", owner_word(*owner))?;
     match owner {
         Owner::Map | Owner::Directory => {}
-        Owner::File(slot, _) => put_slot(alloc, writer, survey, *slot)?,
+        Owner::File(slot, _) => put_slot(scratch, writer, survey, *slot)?,
     }
     writer.end_object()
 }
 
 /// Prints an array of owners.
 fn put_owner_list(
-    alloc: Global,
+    scratch: &mut Vec<u8>,
     writer: &mut Writer,
     survey: &Survey,
     owners: &[Owner],
@@ -79,7 +80,7 @@ fn put_owner_list(
 {
     writer.begin_array()?;
     for owner in owners {
-        put_owner(alloc, writer, survey, owner)?;
+        put_owner(scratch, writer, survey, owner)?;
     }
     writer.end_array()
 }
@@ -97,7 +98,7 @@ fn put_more(writer: &mut Writer, count: usize) -> Result<(), AllocError>
 
 /// Prints the members of the owners of a block: the first eight, and how many more there are.
 pub(crate) fn put_owners(
-    alloc: Global,
+    scratch: &mut Vec<u8>,
     writer: &mut Writer,
     survey: &Survey,
     block: BlockNo,
@@ -107,6 +108,6 @@ pub(crate) fn put_owners(
 {
     let owners = survey.owners(block);
     writer.key("owners")?;
-    put_owner_list(alloc, writer, survey, owners.shown())?;
+    put_owner_list(scratch, writer, survey, owners.shown())?;
     put_more(writer, owners.count())
 }

@@ -5,25 +5,31 @@ ghost use Rattle.d64_report.specs.Values.{line_of, member_tokens};
 ghost use Rattle.d64_report.specs.Unanswered.{image_member, unread_object, wrong_length_object};
 
 use crate::member::{put_number, put_text};
+use crate::scratch::Scratch;
 use json::Writer;
-use std::alloc::{AllocError, Global};
+use std::alloc::AllocError;
+use std::str;
 
-/// Why a file isn't answered.
-pub(crate) const UNREAD: &str = "cannot be read";
+/// The error of a file that cannot be read.
+pub const UNREAD: &str = "cannot be read";
 
-pub(crate) const WRONG_LENGTH: &str = "wrong length";
+/// The error of a file whose length no dump has.
+pub const WRONG_LENGTH: &str = "wrong length";
 
 /// Prints the member with the name of a file on the host.
-pub(crate) fn put_image(alloc: Global, writer: &mut Writer, name: &[u8]) -> Result<(), AllocError>
+pub fn put_image(scratch: &mut Vec<u8>, writer: &mut Writer, name: &[u8]) -> Result<(), AllocError>
     ensures before { writer.new.before ≡ writer.old.before }
     ensures tokens { OnOk result (writer.new.tokens ≡ writer.old.tokens ++ member_tokens (image_member name.now ∷ [])) }
 {
-    let name = String::from_utf8_lossy(alloc, name)?;
-    put_text(writer, "image", name.as_str())
+    if let Ok(text) = str::from_utf8(name) {
+        return put_text(writer, "image", text);
+    }
+    let text = String::from_utf8_lossy(*scratch.allocator(), name)?;
+    put_text(writer, "image", text.as_str())
 }
 
 /// What a writer holds, with a line feed after it.
-pub(crate) fn into_line(writer: Writer) -> Result<Vec<u8>, AllocError>
+pub fn into_line(writer: Writer) -> Result<Vec<u8>, AllocError>
     ensures { IfOk result (λ text. text.items ≡ writer.before ++ (print writer.tokens ++ 10 ∷ [])) }
 {
     let mut text = writer.into_inner();
@@ -32,12 +38,12 @@ pub(crate) fn into_line(writer: Writer) -> Result<Vec<u8>, AllocError>
 }
 
 /// Adds the line of a file that cannot be read to a text.
-pub fn unread_json(alloc: Global, name: &[u8], out: Vec<u8>) -> Result<Vec<u8>, AllocError>
+pub fn unread_json(scratch: &mut Scratch, name: &[u8], out: Vec<u8>) -> Result<Vec<u8>, AllocError>
     ensures { IfOk result (λ text. text.items ≡ out.items ++ line_of (unread_object name.now)) }
 {
     let mut writer = Writer::new(out);
     writer.begin_object()?;
-    put_image(alloc, &mut writer, name)?;
+    put_image(&mut scratch.text, &mut writer, name)?;
     put_text(&mut writer, "error", UNREAD)?;
     writer.end_object()?;
     let text = into_line(writer)?;
@@ -46,7 +52,7 @@ pub fn unread_json(alloc: Global, name: &[u8], out: Vec<u8>) -> Result<Vec<u8>, 
 
 /// Adds the line of a file of this length, which no dump has, to a text.
 pub fn wrong_length_json(
-    alloc: Global,
+    scratch: &mut Scratch,
     name: &[u8],
     length: usize,
     out: Vec<u8>,
@@ -55,7 +61,7 @@ pub fn wrong_length_json(
 {
     let mut writer = Writer::new(out);
     writer.begin_object()?;
-    put_image(alloc, &mut writer, name)?;
+    put_image(&mut scratch.text, &mut writer, name)?;
     put_text(&mut writer, "error", WRONG_LENGTH)?;
     put_number(&mut writer, "length", length as u64)?;
     writer.end_object()?;

@@ -12,30 +12,30 @@ use Rattle.d64_survey.specs.declared.flaw.Flaw.{Flaw}
 use Rattle.d64_wording.specs.FileText.{comma, flaw_text, flaws_from, file_line, file_lines}
 
 -- one reason more is told
-pub flaw_more : (image : List (List ℕ)) (cell : List ℕ) (place : ℕ) (before between after whole : List ℕ) (flaws : List Flaw) (i : ℕ) (d : Flaw)
-    → place ≡ i → i < length flaws → between ≡ before ++ comma place → after ≡ between ++ flaw_text image cell (get_or flaws i d)
-    → before ++ flaws_from image cell i (drop i flaws) ≡ whole → after ++ flaws_from image cell (i + 1) (drop (i + 1) flaws) ≡ whole
+pub flaw_more : (shown there place : ℕ) (before between after whole : List ℕ) (flaws : List Flaw) (i : ℕ) (d : Flaw)
+    → place ≡ i → i < length flaws → between ≡ before ++ comma place → after ≡ between ++ flaw_text shown there (get_or flaws i d)
+    → before ++ flaws_from shown there i (drop i flaws) ≡ whole → after ++ flaws_from shown there (i + 1) (drop (i + 1) flaws) ≡ whole
 unfolding flaws_from
-flaw_more image cell place before between after whole flaws i d here within apart told so =
+flaw_more shown there place before between after whole flaws i d here within apart told so =
     let flaw = get_or flaws i d in
-    let left = flaws_from image cell (i + 1) (drop (i + 1) flaws) in
-    let step : flaws_from image cell i (drop i flaws) ≡ comma i ++ (flaw_text image cell flaw ++ left) =
-    ap (flaws_from image cell i) (drop-cons flaws i d within)
-    ∙ ap (λ (n : ℕ). comma i ++ (flaw_text image cell flaw ++ flaws_from image cell n (drop n flaws))) (sym (add-one i)) in
+    let left = flaws_from shown there (i + 1) (drop (i + 1) flaws) in
+    let step : flaws_from shown there i (drop i flaws) ≡ comma i ++ (flaw_text shown there flaw ++ left) =
+    ap (flaws_from shown there i) (drop-cons flaws i d within)
+    ∙ ap (λ (n : ℕ). comma i ++ (flaw_text shown there flaw ++ flaws_from shown there n (drop n flaws))) (sym (add-one i)) in
     ap (λ (text : List ℕ). text ++ left) told
-    ∙ append_assoc between (flaw_text image cell flaw) left
-    ∙ ap (λ (text : List ℕ). text ++ (flaw_text image cell flaw ++ left)) apart
-    ∙ append_assoc before (comma place) (flaw_text image cell flaw ++ left)
-    ∙ ap (λ (n : ℕ). before ++ (comma n ++ (flaw_text image cell flaw ++ left))) here
+    ∙ append_assoc between (flaw_text shown there flaw) left
+    ∙ ap (λ (text : List ℕ). text ++ (flaw_text shown there flaw ++ left)) apart
+    ∙ append_assoc before (comma place) (flaw_text shown there flaw ++ left)
+    ∙ ap (λ (n : ℕ). before ++ (comma n ++ (flaw_text shown there flaw ++ left))) here
     ∙ ap (λ (text : List ℕ). before ++ text) (sym step)
     ∙ so
 
 -- all reasons are told
-pub flaws_end : (image : List (List ℕ)) (cell : List ℕ) (before whole : List ℕ) (flaws : List Flaw) (i : ℕ) → length flaws ≤ i
-    → before ++ flaws_from image cell i (drop i flaws) ≡ whole → before ≡ whole
+pub flaws_end : (shown there : ℕ) (before whole : List ℕ) (flaws : List Flaw) (i : ℕ) → length flaws ≤ i
+    → before ++ flaws_from shown there i (drop i flaws) ≡ whole → before ≡ whole
 unfolding flaws_from
-flaws_end image cell before whole flaws i end so =
-    sym (append-nil before) ∙ ap (λ (left : List Flaw). before ++ flaws_from image cell i left) (sym (drop_all i flaws end)) ∙ so
+flaws_end shown there before whole flaws i end so =
+    sym (append-nil before) ∙ ap (λ (left : List Flaw). before ++ flaws_from shown there i left) (sym (drop_all i flaws end)) ∙ so
 
 -- the lines of entries are those of their slots
 lines_from : (dump : DumpView) (image : List (List ℕ)) (n : ℕ) (cells : List (List ℕ))

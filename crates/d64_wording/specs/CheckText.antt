@@ -13,7 +13,8 @@ use Rattle.d64_survey.specs.declared.fault.Fault.{Fault}
 use Rattle.d64_survey.specs.declared.read_error.ReadError.{ReadError}
 use Rattle.petscii.specs.Spelling.{spelling}
 use Rattle.d64_wording.specs.Shown.{shown}
-use Rattle.d64_wording.specs.Names.{disk_name, quoted}
+use Rattle.d64_names.specs.Names.{disk_name}
+use Rattle.d64_wording.specs.Names.{quoted}
 use Rattle.d64_wording.specs.Words.{count_of, line_below}
 use Rattle.d64_wording.specs.FaultText.{fault_text, read_error_text}
 use Rattle.d64_wording.specs.FileText.{file_lines}

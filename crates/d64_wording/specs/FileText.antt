@@ -30,28 +30,32 @@ letters_of cell = if has_kind cell then kind_letters (kind_of cell) else codes "
 unfoldable pub size_text : ℕ → ℕ → List ℕ
 size_text shown there = codes "the directory says " ++ (count_of shown (codes "block") ++ (codes ", " ++ (decimal there ++ (if there == 1 then codes " is there" else codes " are there"))))
 
--- a reason why a file isn't whole
-unfoldable pub flaw_text : Disk → Bytes → Flaw → List ℕ
-flaw_text image cell Unclosed = codes "never closed"
-flaw_text image cell Kindless = codes "of no kind"
-flaw_text image cell Broken = codes "its chain is broken"
-flaw_text image cell Shared = codes "has a block that is not its own"
-flaw_text image cell Unreadable = codes "has a read error"
-flaw_text image cell Missized = size_text (size_of cell) (length (slot_blocks image cell))
-flaw_text image cell Geos = codes "a GEOS file, whose records are not looked at"
+-- a reason why a file isn't whole, of which the directory shows a size, and so many blocks are there
+unfoldable pub flaw_text : ℕ → ℕ → Flaw → List ℕ
+flaw_text shown there Unclosed = codes "never closed"
+flaw_text shown there Kindless = codes "of no kind"
+flaw_text shown there Broken = codes "its chain is broken"
+flaw_text shown there Shared = codes "has a block that is not its own"
+flaw_text shown there Unreadable = codes "has a read error"
+flaw_text shown there Missized = size_text shown there
+flaw_text shown there Geos = codes "a GEOS file, whose records are not looked at"
 
 -- what stands before the reason at a place
 abbrev pub comma : ℕ → List ℕ
 comma place = if place == 0 then [] else codes ", "
 
 -- the reasons from a place on
-unfoldable pub flaws_from : Disk → Bytes → ℕ → List Flaw → List ℕ
-flaws_from image cell place [] = []
-flaws_from image cell place (flaw ∷ flaws) = comma place ++ (flaw_text image cell flaw ++ flaws_from image cell (suc place) flaws)
+unfoldable pub flaws_from : ℕ → ℕ → ℕ → List Flaw → List ℕ
+flaws_from shown there place [] = []
+flaws_from shown there place (flaw ∷ flaws) = comma place ++ (flaw_text shown there flaw ++ flaws_from shown there (suc place) flaws)
+
+-- all reasons
+abbrev pub flaws_text : ℕ → ℕ → List Flaw → List ℕ
+flaws_text shown there flaws = flaws_from shown there 0 flaws
 
 -- a file that isn't whole, for these reasons
 unfoldable pub file_text : Disk → Bytes → List Flaw → List ℕ
-file_text image cell flaws = quoted (name_of cell) ++ (codes " " ++ (letters_of cell ++ (codes ": " ++ flaws_from image cell 0 flaws)))
+file_text image cell flaws = quoted (name_of cell) ++ (codes " " ++ (letters_of cell ++ (codes ": " ++ flaws_text (size_of cell) (length (slot_blocks image cell)) flaws)))
 
 -- the line of a slot, where its file isn't whole
 unfoldable pub file_line : DumpView → Bytes → List ℕ

@@ -6,7 +6,8 @@ use Rattle.d64_survey.specs.declared.owner.Part.{Part}
 use Rattle.d64_survey.specs.declared.owner.Part.TheVariants.{Data, Side}
 use Rattle.d64_survey.specs.declared.owner.Owner.{Owner}
 use Rattle.d64_survey.specs.declared.owner.Owner.TheVariants.{Map, Directory, File}
-use Rattle.d64_wording.specs.Names.{slot_name, quoted}
+use Rattle.d64_names.specs.Names.{slot_name}
+use Rattle.d64_wording.specs.Names.{quoted}
 
 -- what stands before the name of a file, of which this part is meant
 abbrev pub part_text : Part → List ℕ

@@ -1,7 +1,7 @@
 //! The faults of an image and its read errors, in words.
-ghost use Rattle.std.specs.Prelude.{◌≡◌, ◌++◌, codes, OnOk};
+ghost use Rattle.std.specs.Prelude.{◌≡◌, ◌++◌, false, codes, OnOk};
 ghost use Rattle.d64_wording.specs.OwnerText.{file_part};
-ghost use Rattle.d64_wording.specs.FaultText.{last_text, off_text, loop_text, end_text, count_text, kind_text, owned_text, fault_text, status_text, belonging, read_error_text};
+ghost use Rattle.d64_wording.specs.FaultText.{last_text, are_many, breaks_text, loops_text, ends_text, off_text, loop_text, end_text, count_text, kind_text, owned_text, fault_text, status_text, belonging, read_error_text};
 
 use crate::number::push_number;
 use crate::owner_text::{push_owners, push_part};
@@ -22,12 +22,53 @@ fn push_last(out: &mut Vec<u8>, at: LastBlock) -> Result<(), AllocError>
     }
 }
 
-/// Adds that a chain leads off the disk.
-#[tactic(auto, unfolding(crate::specs::FaultText::off_text))]
-fn push_off(out: &mut Vec<u8>, at: LastBlock, track: u8, sector: u8) -> Result<(), AllocError>
-    ensures { OnOk result (out.new.items ≡ out.old.items ++ off_text at (track, sector)) }
+/// Whether the words for a part of a file are a plural.
+fn are_many(part: Part) -> bool
+    ensures { result ≡ are_many part }
 {
-    out.extend_from_slice(b" breaks off: ")?;
+    match part {
+        Part::Data => false,
+        Part::Side => true,
+    }
+}
+
+/// The verb of chains that lead off the disk, or of one.
+fn breaks_text(many: bool) -> &'static [u8]
+    ensures { result.now ≡ breaks_text many }
+{
+    if many {
+        b" break off: "
+    } else {
+        b" breaks off: "
+    }
+}
+
+/// The verb of chains that lead back, or of one.
+fn loops_text(many: bool) -> &'static [u8]
+    ensures { result.now ≡ loops_text many }
+{
+    if many { b" loop: " } else { b" loops: " }
+}
+
+/// The verb of chains that are whole, or of one.
+fn ends_text(many: bool) -> &'static [u8]
+    ensures { result.now ≡ ends_text many }
+{
+    if many { b" are whole" } else { b" is whole" }
+}
+
+/// Adds that a chain leads off the disk, or that chains do.
+#[tactic(auto, unfolding(crate::specs::FaultText::off_text))]
+fn push_off(
+    out: &mut Vec<u8>,
+    many: bool,
+    at: LastBlock,
+    track: u8,
+    sector: u8,
+) -> Result<(), AllocError>
+    ensures { OnOk result (out.new.items ≡ out.old.items ++ off_text many at (track, sector)) }
+{
+    out.extend_from_slice(breaks_text(many))?;
     push_last(out, at)?;
     out.extend_from_slice(b" leads to ")?;
     push_pair(out, track, sector)?;
@@ -35,26 +76,32 @@ fn push_off(out: &mut Vec<u8>, at: LastBlock, track: u8, sector: u8) -> Result<(
     Ok(())
 }
 
-/// Adds that a chain leads back to a block of its own.
+/// Adds that a chain leads back to a block of its own, or that chains do.
 #[tactic(auto, unfolding(crate::specs::FaultText::loop_text))]
-fn push_loop(out: &mut Vec<u8>, at: LastBlock, track: u8, sector: u8) -> Result<(), AllocError>
-    ensures { OnOk result (out.new.items ≡ out.old.items ++ loop_text at (track, sector)) }
+fn push_loop(
+    out: &mut Vec<u8>,
+    many: bool,
+    at: LastBlock,
+    track: u8,
+    sector: u8,
+) -> Result<(), AllocError>
+    ensures { OnOk result (out.new.items ≡ out.old.items ++ loop_text many at (track, sector)) }
 {
-    out.extend_from_slice(b" loops: ")?;
+    out.extend_from_slice(loops_text(many))?;
     push_last(out, at)?;
     out.extend_from_slice(b" leads back to ")?;
     push_pair(out, track, sector)?;
     Ok(())
 }
 
-/// Adds how a chain ends that isn't whole.
-fn push_end(out: &mut Vec<u8>, at: LastBlock, end: WayEnd) -> Result<(), AllocError>
-    ensures { OnOk result (out.new.items ≡ out.old.items ++ end_text at end) }
+/// Adds how a chain ends that isn't whole, or how chains do.
+fn push_end(out: &mut Vec<u8>, many: bool, at: LastBlock, end: WayEnd) -> Result<(), AllocError>
+    ensures { OnOk result (out.new.items ≡ out.old.items ++ end_text many at end) }
 {
     match end {
-        WayEnd::End => out.extend_from_slice(b" is whole"),
-        WayEnd::Off(track, sector) => push_off(out, at, track, sector),
-        WayEnd::Loop(track, sector) => push_loop(out, at, track, sector),
+        WayEnd::End => out.extend_from_slice(ends_text(many)),
+        WayEnd::Off(track, sector) => push_off(out, many, at, track, sector),
+        WayEnd::Loop(track, sector) => push_loop(out, many, at, track, sector),
     }
 }
 
@@ -105,10 +152,10 @@ fn push_owned(
 
 /// Adds how the directory ends.
 fn push_directory(out: &mut Vec<u8>, at: LastBlock, end: WayEnd) -> Result<(), AllocError>
-    ensures { OnOk result (out.new.items ≡ out.old.items ++ (codes "the directory" ++ end_text at end)) }
+    ensures { OnOk result (out.new.items ≡ out.old.items ++ (codes "the directory" ++ end_text false at end)) }
 {
     out.extend_from_slice(b"the directory")?;
-    push_end(out, at, end)
+    push_end(out, false, at, end)
 }
 
 /// Adds how a part of a file ends.
@@ -119,15 +166,15 @@ fn push_file(
     at: LastBlock,
     end: WayEnd,
 ) -> Result<(), AllocError>
-    ensures { OnOk result (out.new.items ≡ out.old.items ++ (file_part survey.now file.0 file.1 ++ end_text at end)) }
+    ensures { OnOk result (out.new.items ≡ out.old.items ++ (file_part survey.now file.0 file.1 ++ end_text (are_many file.1) at end)) }
 {
     push_part(out, survey, file.0, file.1)?;
-    push_end(out, at, end)
+    push_end(out, are_many(file.1), at, end)
 }
 
 /// Adds a fault in words.
 #[tactic(auto, unfolding(crate::specs::FaultText::fault_text))]
-pub(crate) fn push_fault(out: &mut Vec<u8>, survey: &Survey, fault: Fault) -> Result<(), AllocError>
+pub fn push_fault(out: &mut Vec<u8>, survey: &Survey, fault: Fault) -> Result<(), AllocError>
     ensures { OnOk result (out.new.items ≡ out.old.items ++ fault_text survey.now fault) }
 {
     match fault {
@@ -147,7 +194,7 @@ pub(crate) fn push_fault(out: &mut Vec<u8>, survey: &Survey, fault: Fault) -> Re
 
 /// Adds the drive's status of a read code, where it has one.
 #[tactic(auto, unfolding(crate::specs::FaultText::status_text))]
-fn push_status(out: &mut Vec<u8>, status: Option<u8>) -> Result<(), AllocError>
+pub fn push_status(out: &mut Vec<u8>, status: Option<u8>) -> Result<(), AllocError>
     ensures { OnOk result (out.new.items ≡ out.old.items ++ status_text status) }
 {
     match status {
@@ -174,7 +221,7 @@ fn push_belonging(out: &mut Vec<u8>, survey: &Survey, block: BlockNo) -> Result<
 
 /// Adds a read error in words.
 #[tactic(auto, unfolding(crate::specs::FaultText::read_error_text))]
-pub(crate) fn push_read_error(
+pub fn push_read_error(
     out: &mut Vec<u8>,
     survey: &Survey,
     error: ReadError,

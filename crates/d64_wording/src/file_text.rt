@@ -4,7 +4,7 @@ ghost use Rattle.d64_files.specs.Slot.{EntryView};
 ghost use Rattle.d64_survey.specs.Owners.{blocks_from, way_slots};
 ghost use Rattle.d64_survey.specs.SlotBlocks.{slot_blocks};
 ghost use Rattle.d64_wording.specs.Words.{line_below};
-ghost use Rattle.d64_wording.specs.FileText.{kind_letters, letters_of, size_text, comma, flaw_text, flaws_from, file_text, file_line, file_lines};
+ghost use Rattle.d64_wording.specs.FileText.{kind_letters, letters_of, size_text, comma, flaw_text, flaws_text, file_text, file_line, file_lines};
 
 use crate::number::push_number;
 use crate::words::{LINE_END, LINE_START, push_count, push_quoted};
@@ -14,15 +14,15 @@ use d64_survey::{Flaw, Inspection, Survey, data_pair, side_pair, walk, wholeness
 use std::alloc::AllocError;
 
 /// The three letters of a kind.
-fn kind_letters(kind: Kind) -> &'static [u8]
+pub fn kind_letters(kind: Kind) -> &'static str
     ensures { result.now ≡ kind_letters kind }
 {
     match kind {
-        Kind::Del => b"del",
-        Kind::Seq => b"seq",
-        Kind::Prg => b"prg",
-        Kind::Usr => b"usr",
-        Kind::Rel => b"rel",
+        Kind::Del => "del",
+        Kind::Seq => "seq",
+        Kind::Prg => "prg",
+        Kind::Usr => "usr",
+        Kind::Rel => "rel",
     }
 }
 
@@ -31,7 +31,7 @@ fn letters_of(entry: &Entry) -> &'static [u8]
     ensures { result.now ≡ letters_of entry.now.bytes }
 {
     if entry.has_kind() {
-        kind_letters(entry.kind())
+        kind_letters(entry.kind()).as_bytes()
     } else {
         b"???"
     }
@@ -53,7 +53,7 @@ fn way_length(image: &Image, pair: Option<(u8, u8)>) -> usize
 }
 
 /// How many blocks the ways of a slot's file have.
-fn blocks_there(image: &Image, entry: &Entry) -> usize
+pub fn blocks_there(image: &Image, entry: &Entry) -> usize
     ensures { result ≡ length (slot_blocks image.now entry.now.bytes) }
 {
     way_length(image, data_pair(entry)) + way_length(image, side_pair(entry))
@@ -83,15 +83,10 @@ fn push_size(out: &mut Vec<u8>, shown: usize, there: usize) -> Result<(), AllocE
     Ok(())
 }
 
-/// Adds a reason why a file isn't whole.
+/// Adds a reason why a file isn't whole, of which the directory shows a size, and so many blocks are there.
 #[tactic(auto, unfolding(crate::specs::FileText::flaw_text))]
-fn push_flaw(
-    out: &mut Vec<u8>,
-    survey: &Survey,
-    entry: &Entry,
-    flaw: &Flaw,
-) -> Result<(), AllocError>
-    ensures { OnOk result (out.new.items ≡ out.old.items ++ flaw_text survey.now entry.now.bytes flaw.now) }
+fn push_flaw(out: &mut Vec<u8>, shown: usize, there: usize, flaw: Flaw) -> Result<(), AllocError>
+    ensures { OnOk result (out.new.items ≡ out.old.items ++ flaw_text shown there flaw) }
 {
     match flaw {
         Flaw::Unclosed => out.extend_from_slice(b"never closed"),
@@ -99,11 +94,7 @@ fn push_flaw(
         Flaw::Broken => out.extend_from_slice(b"its chain is broken"),
         Flaw::Shared => out.extend_from_slice(b"has a block that is not its own"),
         Flaw::Unreadable => out.extend_from_slice(b"has a read error"),
-        Flaw::Missized => push_size(
-            out,
-            usize::from(entry.blocks()),
-            blocks_there(survey.image(), entry),
-        ),
+        Flaw::Missized => push_size(out, shown, there),
         Flaw::Geos => out.extend_from_slice(b"a GEOS file, whose records are not looked at"),
     }
 }
@@ -115,20 +106,21 @@ fn comma(place: usize) -> &'static [u8]
     if place == 0 { b"" } else { b", " }
 }
 
-/// Adds the reasons why a file isn't whole, with commas between them.
-fn push_flaws(
+/// Adds the reasons why a file isn't whole, with commas between them: a file of which the directory shows a size in blocks, and of which
+/// so many are there.
+pub fn push_flaws(
     out: &mut Vec<u8>,
-    survey: &Survey,
-    entry: &Entry,
+    shown: usize,
+    there: usize,
     flaws: &[Flaw],
 ) -> Result<(), AllocError>
     requires { length flaws.now ≤ 7 }
-    ensures { OnOk result (out.new.items ≡ out.old.items ++ flaws_from survey.now entry.now.bytes 0 flaws.now) }
+    ensures { OnOk result (out.new.items ≡ out.old.items ++ flaws_text shown there flaws.now) }
 {
     let mut place = 0;
     for flaw in flaws {
         out.extend_from_slice(comma(place))?;
-        push_flaw(out, survey, entry, flaw)?;
+        push_flaw(out, shown, there, *flaw)?;
         place += 1;
     }
     Ok(())
@@ -149,7 +141,12 @@ fn push_file(
     out.extend_from_slice(b" ")?;
     out.extend_from_slice(letters_of(entry))?;
     out.extend_from_slice(b": ")?;
-    push_flaws(out, survey, entry, flaws)
+    push_flaws(
+        out,
+        usize::from(entry.blocks()),
+        blocks_there(survey.image(), entry),
+        flaws,
+    )
 }
 
 /// Adds the line of a slot, where its file isn't whole.

@@ -6,17 +6,17 @@ ghost use Rattle.d64_wording.specs.Words.{line_below};
 
 use crate::fault_text::{push_fault, push_read_error};
 use crate::file_text::push_file_lines;
-use crate::label::{disk_id, disk_name};
 use crate::shown::push_shown;
 use crate::words::{LINE_END, LINE_START, push_count, push_quoted, push_spelling};
 use d64_image::Image;
 use d64_map::blocks_free;
+use d64_names::{disk_id, disk_name};
 use d64_survey::{Fault, Inspection, ReadError, Survey};
 use std::alloc::AllocError;
 
 /// Adds the disk's name and its id.
 #[tactic(auto, unfolding(crate::specs::CheckText::label_text))]
-fn push_label(out: &mut Vec<u8>, image: &Image) -> Result<(), AllocError>
+pub fn push_label(out: &mut Vec<u8>, image: &Image) -> Result<(), AllocError>
     ensures { OnOk result (out.new.items ≡ out.old.items ++ label_text image.now) }
 {
     push_quoted(out, disk_name(image))?;
@@ -26,7 +26,7 @@ fn push_label(out: &mut Vec<u8>, image: &Image) -> Result<(), AllocError>
 
 /// Adds how many files and free blocks there are.
 #[tactic(auto, unfolding(crate::specs::CheckText::contents_text))]
-fn push_contents(out: &mut Vec<u8>, inspection: &Inspection) -> Result<(), AllocError>
+pub fn push_contents(out: &mut Vec<u8>, inspection: &Inspection) -> Result<(), AllocError>
     ensures { OnOk result (out.new.items ≡ out.old.items ++ contents_text inspection.now.image) }
 {
     push_count(out, inspection.entries(), b"file")?;
@@ -61,7 +61,7 @@ fn push_and(out: &mut Vec<u8>, count: usize, noun: &[u8], rest: &[u8]) -> Result
 
 /// Adds the state of a dump.
 #[tactic(auto, unfolding(crate::specs::CheckText::state_text))]
-fn push_state(out: &mut Vec<u8>, inspection: &Inspection) -> Result<(), AllocError>
+pub fn push_state(out: &mut Vec<u8>, inspection: &Inspection) -> Result<(), AllocError>
     ensures { OnOk result (out.new.items ≡ out.old.items ++ state_text inspection.now) }
 {
     push_faults(out, inspection.faults().len())?;

@@ -5,7 +5,7 @@ use itoa::Buffer;
 use std::alloc::AllocError;
 
 /// Adds a number in decimal.
-pub(crate) fn push_number(out: &mut Vec<u8>, number: usize) -> Result<(), AllocError>
+pub fn push_number(out: &mut Vec<u8>, number: usize) -> Result<(), AllocError>
     ensures { OnOk result (out.new.items ≡ out.old.items ++ decimal number) }
 {
     let mut buffer = Buffer::new();

@@ -3,9 +3,10 @@ ghost use Rattle.std.specs.Prelude.{◌≡◌, ◌≤◌, ◌<◌, ◌++◌, len
 ghost use Rattle.d64_wording.specs.OwnerText.{part_text, file_part, owner_text, separator, owners_from, more_text, owner_list, block_owners};
 
 use crate::number::push_number;
-use crate::words::{push_quoted, slot_name};
+use crate::words::push_quoted;
 use d64_files::SlotNo;
 use d64_image::BlockNo;
+use d64_names::slot_name;
 use d64_survey::{Owner, Part, SHOWN_OWNERS, Survey};
 use std::alloc::AllocError;
 
@@ -88,11 +89,7 @@ fn push_more(out: &mut Vec<u8>, count: usize) -> Result<(), AllocError>
 
 /// Adds the owners of a block, at most eight of them by name.
 #[tactic(auto, unfolding(crate::specs::OwnerText::block_owners))]
-pub(crate) fn push_owners(
-    out: &mut Vec<u8>,
-    survey: &Survey,
-    block: BlockNo,
-) -> Result<(), AllocError>
+pub fn push_owners(out: &mut Vec<u8>, survey: &Survey, block: BlockNo) -> Result<(), AllocError>
     ensures { OnOk result (out.new.items ≡ out.old.items ++ block_owners survey.now block) }
 {
     let owners = survey.owners(block);

@@ -1,13 +1,11 @@
 //! Small wordings: names, numbers of things, and blocks.
 ghost use Rattle.std.specs.Prelude.{◌≡◌, ◌++◌, OnOk};
 ghost use Rattle.petscii.specs.Spelling.{spelling};
-ghost use Rattle.d64_wording.specs.Names.{slot_name as slot_name_of, quoted};
+ghost use Rattle.d64_wording.specs.Names.{quoted};
 ghost use Rattle.d64_wording.specs.Words.{plural_of, count_of, pair_text, block_text};
 
 use crate::number::push_number;
-use d64_files::SlotNo;
 use d64_image::BlockNo;
-use d64_survey::Survey;
 use petscii::to_text;
 use std::alloc::AllocError;
 
@@ -17,7 +15,7 @@ pub(crate) const LINE_START: &[u8] = b"  ";
 pub(crate) const LINE_END: &[u8] = b"\n";
 
 /// Adds bytes of the disk in text form.
-pub(crate) fn push_spelling(out: &mut Vec<u8>, bytes: &[u8]) -> Result<(), AllocError>
+pub fn push_spelling(out: &mut Vec<u8>, bytes: &[u8]) -> Result<(), AllocError>
     ensures { OnOk result (out.new.items ≡ out.old.items ++ spelling bytes.now) }
 {
     let text = to_text(*out.allocator(), bytes)?;
@@ -26,22 +24,12 @@ pub(crate) fn push_spelling(out: &mut Vec<u8>, bytes: &[u8]) -> Result<(), Alloc
 
 /// Adds a name of the disk in text form, between quotes.
 #[tactic(auto, unfolding(crate::specs::Names::quoted))]
-pub(crate) fn push_quoted(out: &mut Vec<u8>, name: &[u8]) -> Result<(), AllocError>
+pub fn push_quoted(out: &mut Vec<u8>, name: &[u8]) -> Result<(), AllocError>
     ensures { OnOk result (out.new.items ≡ out.old.items ++ quoted name.now) }
 {
     out.extend_from_slice(b"\"")?;
     push_spelling(out, name)?;
     out.extend_from_slice(b"\"")
-}
-
-/// The name in a slot of the directory's way, of at most 16 bytes; empty where there is no such slot.
-pub(crate) fn slot_name<'a>(survey: &Survey<'a>, slot: SlotNo) -> &'a [u8]
-    ensures { result.now ≡ slot_name_of survey.now slot }
-{
-    match survey.entry(slot) {
-        Some(entry) => entry.name(),
-        None => &[],
-    }
 }
 
 /// What a noun ends in, of which there are so many.
@@ -53,7 +41,7 @@ fn plural_of(count: usize) -> &'static [u8]
 
 /// Adds so many of what a noun names.
 #[tactic(auto, unfolding(crate::specs::Words::count_of))]
-pub(crate) fn push_count(out: &mut Vec<u8>, count: usize, noun: &[u8]) -> Result<(), AllocError>
+pub fn push_count(out: &mut Vec<u8>, count: usize, noun: &[u8]) -> Result<(), AllocError>
     ensures { OnOk result (out.new.items ≡ out.old.items ++ count_of count noun.now) }
 {
     push_number(out, count)?;
@@ -73,7 +61,7 @@ pub(crate) fn push_pair(out: &mut Vec<u8>, track: u8, sector: u8) -> Result<(), 
 }
 
 /// Adds the track and the sector of a block.
-pub(crate) fn push_block(out: &mut Vec<u8>, block: BlockNo) -> Result<(), AllocError>
+pub fn push_block(out: &mut Vec<u8>, block: BlockNo) -> Result<(), AllocError>
     ensures { OnOk result (out.new.items ≡ out.old.items ++ block_text block) }
 {
     push_pair(out, block.track(), block.sector())

@@ -6,7 +6,7 @@ use Rattle.d64_report.proofs.name.put_name.Goals as goal
 
 pub unwrap-requires : goal.unwrap-requires
 unwrap-requires c =
-    let same : spelling c.args.name.now ≡ c.as_slice.result.now = sym (c.as_slice.ensures.value ∙ c.in_ok-text.ensures.spelled) in
+    let same : spelling c.args.name.now ≡ c.as_slice.result.now = sym (c.as_slice.ensures.value ∙ c.in_ok-spell.ensures) in
     let ascii = subst (λ (text : List ℕ). All (λ byte. byte < 128) text) same c.spelling_is_ascii.ensures in
     let text = IsUtf8-from_ascii c.as_slice.result.now (IsAscii-from_all c.as_slice.result.now ascii) in
     grind arith

@@ -1,9 +1,12 @@
-use Rattle.std.proofs.Common.{◌≡◌, ◌∙◌, ℕ, List, Option, ◌++◌, codes, ap, ap₂}
-use Rattle.csv.specs.Records.{fields_of}
-use Rattle.d64_report.specs.Rows.{row_of, columns}
+use Rattle.std.proofs.Common.{◌≡◌, ◌∙◌, ℕ, List, ◌++◌, codes, ap}
+use Rattle.std.proofs.lemmas.Result.{IfOk-weaker}
+use Rattle.d64_report.specs.Rows.{columns, in_digest, header_row}
+use Rattle.d64_report.proofs.EndedRows.{row_ended}
 use Rattle.d64_report.proofs.row.csv_header.Goals as goal
 
 pub returns : goal.returns
 returns c =
-    let named : fields_of c.push_fields.new.row ≡ columns = c.in_ok-push_fields.ensures.fields ∙ ap (λ (fields : List (List ℕ)). fields ++ columns) c.new-row.ensures.fields in
-    c.in_ok-text.ensures ∙ ap₂ (λ (fields : List (List ℕ)) (digest : Option (List ℕ)). c.args.out.items ++ row_of fields digest (codes "error")) named c.in_digest-digest.ensures
+    let has = c.args.has_digest in
+    let named = c.in_ok-push_fields.ensures.fields ∙ ap (λ (fields : List (List ℕ)). fields ++ columns) c.clear.ensures.fields in
+    let ended = row_ended c.args.out.items _ _ columns (in_digest has (codes "sha256")) (codes "error") named c.in_ok-push_in_digest.ensures.fields in
+    IfOk-weaker c.end_row.result _ (λ text. text.items ≡ c.args.out.items ++ header_row has) (λ text told. told ∙ ended) c.end_row.ensures

@@ -7,10 +7,10 @@ loop-flaw-preserved c = record {
   place = omega arith;
   text =
       let words = c.comma.ensures in
-      flaw_more c.args.survey.now c.args.entry.now.bytes c.loop-flaw.place c.loop-flaw.out.items c.extend_from_slice.new.self.items c.push_flaw.new.out.items _
+      flaw_more c.args.shown c.args.there c.loop-flaw.place c.loop-flaw.out.items c.extend_from_slice.new.self.items c.push_flaw.new.out.items _
       c.args.flaws.now c.loop-flaw.flaw-index _ c.loop-flaw.invariant.place c.loop-flaw-test.true
       (c.in_ok-extend_from_slice.ensures.items ∙ ap (λ (text : List ℕ). c.loop-flaw.out.items ++ text) words) c.in_ok-push_flaw.ensures c.loop-flaw.invariant.text;
 }
 
 pub returns : goal.returns
-returns c = flaws_end c.args.survey.now c.args.entry.now.bytes c.loop-flaw.out.items _ c.args.flaws.now c.loop-flaw.flaw-index (omega arith) c.loop-flaw.invariant.text
+returns c = flaws_end c.args.shown c.args.there c.loop-flaw.out.items _ c.args.flaws.now c.loop-flaw.flaw-index (omega arith) c.loop-flaw.invariant.text

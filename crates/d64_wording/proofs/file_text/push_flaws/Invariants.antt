@@ -5,5 +5,5 @@ use Rattle.d64_wording.proofs.file_text.push_flaws.Given as goal
 abbrev pub invariant-loop-flaw : goal.invariant-loop-flaw
 invariant-loop-flaw l = record {
   place : l.place ≡ l.flaw-index;
-  text : l.out.items ++ flaws_from l.survey l.entry.bytes l.flaw-index (drop l.flaw-index l.flaws) ≡ l.initial.out.items ++ flaws_from l.survey l.entry.bytes 0 l.flaws;
+  text : l.out.items ++ flaws_from l.shown l.there l.flaw-index (drop l.flaw-index l.flaws) ≡ l.initial.out.items ++ flaws_from l.shown l.there 0 l.flaws;
 }

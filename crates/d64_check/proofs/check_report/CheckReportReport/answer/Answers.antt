@@ -1,7 +1,8 @@
 use Rattle.std.proofs.Common.{rules, ap, Err}
 use Rattle.d64_survey.specs.Dump.{wrong_length}
 use Rattle.d64_survey.specs.declared.dump.DumpFault.{DumpFault}
-use Rattle.d64_check.proofs.Dumps.{answered_by, dump_of-bytes, dump_of-none, no_image_part}
+use Rattle.d64_report.proofs.Dumps.{dump_of-bytes, dump_of-none, no_image_part}
+use Rattle.d64_check.proofs.Answering.{answered_by}
 use Rattle.d64_check.proofs.check_report.CheckReportReport.answer.Goals as goal
 
 pub returns-in-Ok-clause-answered : goal.returns-in-Ok-clause-answered

@@ -1,6 +1,6 @@
 use Rattle.std.proofs.Common.{◌≡◌, [], ◌++◌, map, take}
 use Rattle.csv.specs.Records.{fields_of, partial_of}
-use Rattle.d64_report.proofs.row.push_fields.Given as goal
+use Rattle.d64_report.proofs.field.push_fields.Given as goal
 
 abbrev pub invariant-loop-field : goal.invariant-loop-field
 invariant-loop-field l = record {

@@ -1,16 +1,12 @@
 -- The bytes of a dump give that dump back.
-use Rattle.std.proofs.Common.{◌≡◌, ℕ, ◌+◌, ◌*◌, ◌/◌, List, [], ◌∷◌, ◌++◌, Option, Some, None, length, take, drop, refl, sym, ap, ap₂, ◌∙◌, inl, inr, arith, length-append, subst, Bool, if◌then◌else◌, Result}
-use Rattle.std.specs.Prelude.{All, ◌⊎◌, option_map, is_some, IfOk}
+use Rattle.std.proofs.Common.{◌≡◌, ℕ, ◌+◌, ◌*◌, ◌/◌, List, [], ◌∷◌, ◌++◌, Option, Some, None, length, take, drop, refl, sym, ap, ap₂, ◌∙◌, inl, inr, arith, length-append, Bool, if◌then◌else◌}
+use Rattle.std.specs.Prelude.{All, ◌⊎◌, option_map, is_some}
 use Rattle.std.specs.Simd.{first_chunks}
 use Rattle.std.proofs.Math.Seq.{take-append_seam, drop-append_seam}
 use Rattle.std.proofs.lemmas.List.Elements.{All-head, All-tail}
 use Rattle.d64_image.specs.Image.{IsBlock, IsSize, bytes_of}
 use Rattle.d64_survey.specs.Dump.{DumpView, IsDump, HasCodes, dump_bytes, code_bytes, codes_in, image_bytes}
-use Rattle.d64_words.specs.declared.asked.Format.{Format}
-use Rattle.d64_collection.specs.Answers.{Answer}
-use Rattle.d64_collection.specs.declared.report.Verdict.{Verdict}
-use Rattle.d64_check.specs.Check.{answer_of, check_rule}
-use Rattle.d64_check.specs.DumpOf.{dump_of, dump_with}
+use Rattle.d64_report.specs.DumpOf.{dump_of, dump_with}
 
 -- an image has 256 bytes a block
 length-bytes : (image : List (List ℕ)) → All IsBlock image → length (bytes_of image) ≡ length image * 256
@@ -79,11 +75,3 @@ dump_of-none bytes none = ap (option_map (dump_with bytes)) none
 pub no_image_part : (told part : Option ℕ) (n m : ℕ) → told ≡ Some n → told ≡ (if is_some part then None else Some m) → part ≡ None
 no_image_part told None n m is refused = refl
 no_image_part told (Some count) n m is refused = cc
-
--- an answer to the dump that bytes are is the answer to the bytes
-pub answered_by : {E : Type 0} (result : Result Verdict E) (answer : Verdict → Answer) (form : Format) (digest : Bool) (name bytes : List ℕ) (given : Option (List ℕ)) (dump : Option DumpView)
-    → given ≡ Some bytes → dump_of bytes ≡ dump → IfOk result (λ verdict. answer verdict ≡ answer_of form digest name bytes dump)
-    → IfOk result (λ verdict. answer verdict ≡ check_rule form digest name given)
-answered_by result answer form digest name bytes given dump is_given is_dump answered =
-    subst (λ (g : Option (List ℕ)). IfOk result (λ verdict. answer verdict ≡ check_rule form digest name g)) (sym is_given)
-    (subst (λ (d : Option DumpView). IfOk result (λ verdict. answer verdict ≡ answer_of form digest name bytes d)) (sym is_dump) answered)
