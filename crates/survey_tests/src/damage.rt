@@ -1,14 +1,14 @@
 //! Dumps that are made byte by byte.
 
 use d64_image::BlockNo;
-use d64_survey::{Dump, Fault, Survey};
+use d64_survey::Dump;
 use std::test::Fail;
 
 /// How many bytes the image of a dump of 35 tracks has; the codes follow them.
 const IMAGE_BYTES: usize = 174_848;
 
 /// Writes bytes over others, from a place on.
-pub(crate) fn put(bytes: &mut [u8], start: usize, part: &[u8]) {
+fn put(bytes: &mut [u8], start: usize, part: &[u8]) {
     for (at, byte) in bytes.iter_mut().skip(start).zip(part.iter()) {
         *at = *byte;
     }
@@ -36,11 +36,4 @@ pub(crate) fn dump_of(
         put(&mut bytes, at, &[*code]);
     }
     Ok(Dump::from_bytes(rt.alloc(), &bytes).map_err(|_| "no dump")?)
-}
-
-/// The faults of a survey's image.
-pub(crate) fn faults_of(rt: &HostRuntime, survey: &Survey) -> Result<Vec<Fault>, Fail> {
-    let mut faults = Vec::new(rt.alloc());
-    survey.list_faults(&mut faults)?;
-    Ok(faults)
 }

@@ -2,7 +2,7 @@
 
 use crate::damage::{block, dump_of};
 use d64_files::SlotNo;
-use d64_survey::{Dump, Fault, Inspection};
+use d64_survey::{Dump, Fault, Inspection, Survey};
 use std::test::Fail;
 
 /// "NOTES" in 17/3, a block that is marked free, is shown as two blocks; "DRAFT" was deleted; "THESIS" isn't closed.
@@ -14,35 +14,61 @@ const FILES: [(u8, u8, u8, &[u8]); 5] = [
     (18, 1, 66, b"\x02\x11\x03THESIS\xA0"),
 ];
 
+/// The numbers of read errors, entries, whole files, files that are not whole, and blocks without an owner.
+fn counts(all: &Inspection) -> [usize; 5] {
+    [
+        all.read_errors().len(),
+        all.entries(),
+        all.whole(),
+        all.unwhole(),
+        all.unowned(),
+    ]
+}
+
 #[test]
 fn all_is_told_of_a_dump(rt: HostRuntime) -> Result<(), Fail> {
+    let fault = Fault::MarkedFree(block(17, 3)?);
     let dump = dump_of(&rt, &FILES, &[(17, 4, 5)])?;
     let mut faults = Vec::new(rt.alloc());
     let mut errors = Vec::new(rt.alloc());
     let all = Inspection::of(&dump, &mut faults, &mut errors)?;
-    assert_eq!(rt; all.faults(), &[Fault::MarkedFree(block(17, 3)?)][..]);
-    assert_eq!(rt; all.read_errors().len(), 1);
-    assert_eq!(rt; all.entries(), 3);
-    assert_eq!(rt; all.whole(), 0);
-    assert_eq!(rt; all.unwhole(), 2);
-    assert_eq!(rt; all.unowned(), 680);
+    assert_eq!(rt; all.faults(), &[fault][..]);
+    assert_eq!(rt; counts(&all), [1, 3, 0, 2, 680]);
     assert!(rt; !all.is_sound() && all.is_amiss());
-    let entry = all.survey().entry(SlotNo::at(2)).ok_or("no slot")?;
-    assert_eq!(rt; entry.name(), b"THESIS".as_slice());
-    assert!(rt; all.survey().entry(SlotNo::at(8)).is_none());
     Ok(())
+}
+
+/// The name in the entry of this slot, if there is such a slot.
+fn name_at(dump: &Dump, slot: SlotNo) -> Option<&[u8]> {
+    match Survey::of(dump.image()).entry(slot) {
+        Some(entry) => Some(entry.name()),
+        None => None,
+    }
+}
+
+#[test]
+fn entries_are_found_by_their_slots(rt: HostRuntime) -> Result<(), Fail> {
+    let dump = dump_of(&rt, &FILES, &[(17, 4, 5)])?;
+    assert_eq!(rt; name_at(&dump, SlotNo::at(2)), Some(&b"THESIS"[..]));
+    assert_eq!(rt; name_at(&dump, SlotNo::at(8)), None);
+    Ok(())
+}
+
+/// Whether something is amiss in a dump.
+fn is_amiss(rt: &HostRuntime, dump: &Dump) -> Result<bool, Fail> {
+    let mut faults = Vec::new(rt.alloc());
+    let mut errors = Vec::new(rt.alloc());
+    Ok(Inspection::of(dump, &mut faults, &mut errors)?.is_amiss())
 }
 
 #[test]
 fn one_dump_follows_another(rt: HostRuntime) -> Result<(), Fail> {
-    let mut dump = dump_of(&rt, &FILES, &[])?;
     let blank = vec![in rt.alloc(); 0u8; 196_608]?;
-    dump.refill(&blank).map_err(|_| "no dump")?;
+    let mut dump = dump_of(&rt, &FILES, &[])?;
+    assert!(rt; dump.refill(&blank).is_ok());
     assert_eq!(rt; dump.image().tracks(), 40);
     assert!(rt; dump.codes().is_none());
     assert!(rt; dump.refill(&blank[1..]).is_err());
-    let mut faults = Vec::new(rt.alloc());
-    let mut errors = Vec::new(rt.alloc());
-    assert!(rt; !Inspection::of(&dump, &mut faults, &mut errors)?.is_amiss());
+    assert!(rt; !is_amiss(&rt, &dump)?);
     Ok(())
 }

@@ -12,6 +12,8 @@ mod inspections;
 #[cfg(test)]
 mod longest;
 #[cfg(test)]
+mod rows;
+#[cfg(test)]
 mod surveys;
 #[cfg(test)]
 mod wording;

@@ -3,14 +3,6 @@
 use d64_wording::{push_shown, unread_line, wrong_length_line};
 use std::test::Fail;
 
-/// The line of a file of so many bytes that are 0.
-fn line_of<R: AllocGlobal>(rt: &R, length: usize) -> Result<Vec<u8>, Fail> {
-    let bytes = vec![in rt.alloc(); 0; length]?;
-    let mut out = Vec::new(rt.alloc());
-    wrong_length_line(&mut out, b"x.d64", bytes.as_slice())?;
-    Ok(out)
-}
-
 #[test]
 fn names_are_shown_without_controls(rt: HostRuntime) -> Result<(), Fail> {
     let mut out = Vec::new(rt.alloc());
@@ -25,36 +17,37 @@ fn names_are_shown_without_controls(rt: HostRuntime) -> Result<(), Fail> {
     Ok(())
 }
 
+/// What is told of files of so many bytes that are 0.
+const LENGTHS: [(usize, &[u8]); 7] = [
+    (
+        174_000,
+        b"d64sh: x.d64: wrong length 174000 (a 35-track image cut short)\n",
+    ),
+    (
+        190_000,
+        b"d64sh: x.d64: wrong length 190000 (a 40-track image cut short)\n",
+    ),
+    (206_114, b"d64sh: x.d64: wrong length 206114 (42 tracks)\n"),
+    (
+        349_696,
+        b"d64sh: x.d64: wrong length 349696 (a 1571 image)\n",
+    ),
+    (
+        822_400,
+        b"d64sh: x.d64: wrong length 822400 (a 1581 image)\n",
+    ),
+    (0, b"d64sh: x.d64: wrong length 0 (an empty file)\n"),
+    (5, b"d64sh: x.d64: wrong length 5\n"),
+];
+
 #[test]
 fn lengths_are_told_with_a_guess(rt: HostRuntime) -> Result<(), Fail> {
-    assert_eq!(rt;
-        line_of(&rt, 174_000)?.as_slice(),
-        b"d64sh: x.d64: wrong length 174000 (a 35-track image cut short)\n".as_slice()
-    );
-    assert_eq!(rt;
-        line_of(&rt, 190_000)?.as_slice(),
-        b"d64sh: x.d64: wrong length 190000 (a 40-track image cut short)\n".as_slice()
-    );
-    assert_eq!(rt;
-        line_of(&rt, 206_114)?.as_slice(),
-        b"d64sh: x.d64: wrong length 206114 (42 tracks)\n".as_slice()
-    );
-    assert_eq!(rt;
-        line_of(&rt, 349_696)?.as_slice(),
-        b"d64sh: x.d64: wrong length 349696 (a 1571 image)\n".as_slice()
-    );
-    assert_eq!(rt;
-        line_of(&rt, 822_400)?.as_slice(),
-        b"d64sh: x.d64: wrong length 822400 (a 1581 image)\n".as_slice()
-    );
-    assert_eq!(rt;
-        line_of(&rt, 0)?.as_slice(),
-        b"d64sh: x.d64: wrong length 0 (an empty file)\n".as_slice()
-    );
-    assert_eq!(rt;
-        line_of(&rt, 5)?.as_slice(),
-        b"d64sh: x.d64: wrong length 5\n".as_slice()
-    );
+    for (length, line) in &LENGTHS {
+        let bytes = vec![in rt.alloc(); 0; *length]?;
+        let mut out = Vec::new(rt.alloc());
+        wrong_length_line(&mut out, b"x.d64", bytes.as_slice())?;
+        assert_eq!(rt; out.as_slice(), *line);
+    }
     Ok(())
 }
 

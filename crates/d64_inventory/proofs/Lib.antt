@@ -1,0 +1,10 @@
+pub mod AnyOf
+pub mod Naming
+pub mod NumberLists
+pub mod KeptContents
+pub mod ReadContents
+pub mod RecordBytes
+pub mod ListingTests
+pub mod FileTests
+pub mod RowFacts
+pub mod RowLists

@@ -1,0 +1,71 @@
+//! What is told of a used slot.
+
+use arrayvec::ArrayVec;
+use d64_files::Kind;
+use d64_survey::{FLAWS, Flaw};
+use std::marker::Model;
+
+/// The content of a file: how many bytes it has, and their SHA-256 digest.
+#[derive(Clone, Copy, Debug, PartialEq, Eq)]
+pub struct Content {
+    pub bytes: usize,
+    pub digest: [u8; 32],
+}
+
+/// What is told of a used slot of the directory's way and of its file.
+#[derive(Debug, Drop)]
+pub struct FileRow {
+    /// The number of the slot, from 0 along the directory's way.
+    pub slot: usize,
+    /// The field of the name: the name, then a shifted space ($A0) where it is shorter than 16 bytes.
+    pub field: [u8; 16],
+    /// None where the low four bits of the type byte are above 4.
+    pub kind: Option<Kind>,
+    pub type_byte: u8,
+    pub closed: bool,
+    pub locked: bool,
+    /// The size that the directory shows, in blocks.
+    pub size: u16,
+    /// The track and the sector of the first block, as they stand in the slot.
+    pub first: (u8, u8),
+    /// The length of a record in bytes, as it stands in the slot; None where the kind isn't REL.
+    pub record: Option<u8>,
+    /// How many blocks the data way has, where there is one.
+    pub blocks: Option<usize>,
+    /// How many blocks the side way has, where there is one.
+    pub side: Option<usize>,
+    /// None where the file has no content: its data way is broken, or there is none.
+    pub content: Option<Content>,
+    /// None where it isn't known.
+    pub whole: Option<bool>,
+    pub why: ArrayVec<Flaw, FLAWS>,
+    /// The numbers of the conditions, from 3 to 6, of the faults that name the slot.
+    pub conditions: ArrayVec<u8, 4>,
+    /// How many blocks of the file have a read error.
+    pub read_errors: usize,
+}
+
+impl Model for FileRow {
+    ghost use Rattle.d64_inventory.specs.Rows.{RowView};
+
+    ghost Value = { RowView };
+
+    ghost view = { λ row. record {
+      slot = row.slot;
+      field = row.field;
+      kind = row.kind;
+      type_byte = row.type_byte;
+      closed = row.closed;
+      locked = row.locked;
+      size = row.size;
+      first = row.first;
+      record_length = row.«record»;
+      blocks = row.blocks;
+      side = row.side;
+      content = row.content;
+      whole = row.whole;
+      why = row.why.items;
+      conditions = row.conditions.items;
+      read_errors = row.read_errors;
+    } };
+}
