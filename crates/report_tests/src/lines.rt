@@ -1,7 +1,7 @@
 //! What is printed of whole dumps.
 
 use crate::disks::{dump_of, holiday};
-use d64_report::{check_csv, check_json, csv_header};
+use d64_report::{Scratch, check_csv, check_json, csv_header};
 use d64_survey::{Dump, Inspection};
 use std::test::Fail;
 
@@ -10,9 +10,10 @@ fn prints(rt: &HostRuntime, dump: &Dump, expected: &[u8]) -> Result<bool, Fail> 
     let mut faults = Vec::new(rt.alloc());
     let mut errors = Vec::new(rt.alloc());
     let all = Inspection::of(dump, &mut faults, &mut errors)?;
-    let lines = csv_header(rt.alloc(), false, Vec::new(rt.alloc()))?;
-    let lines = check_csv(rt.alloc(), b"a.d64", &all, None, lines)?;
-    let lines = check_json(rt.alloc(), b"a.d64", &all, None, lines)?;
+    let mut scratch = Scratch::new(rt.alloc());
+    let lines = csv_header(&mut scratch, false, Vec::new(rt.alloc()))?;
+    let lines = check_csv(&mut scratch, b"a.d64", &all, None, lines)?;
+    let lines = check_json(&mut scratch, b"a.d64", &all, None, lines)?;
     Ok(lines.as_slice() == expected)
 }
 

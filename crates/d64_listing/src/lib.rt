@@ -1,0 +1,21 @@
+//! The files on a disk, told one by one: as objects of JSON, as rows of CSV, and as a table for people.
+#![tactic(auto)]
+
+mod csv_line;
+mod file_member;
+mod files_report;
+mod flaw_word;
+mod json_line;
+mod missing;
+mod printing;
+mod spaced;
+mod table;
+
+pub use csv_line::{
+    file_csv, files_header, push_file_fields, unread_file_csv, wrong_length_file_csv,
+};
+pub use file_member::put_file_members;
+pub use files_report::FilesReport;
+pub use json_line::{file_json, put_place};
+pub use missing::push_missing_lines;
+pub use table::{push_file_line, push_head_line};
