@@ -1,0 +1,11 @@
+pub mod States
+pub mod MapText
+pub mod Pictures
+pub mod Quiet
+pub mod Markup
+pub mod Colours
+pub mod Shapes
+pub mod Cells
+pub mod Legend
+pub mod Style
+pub mod Svg

@@ -1,0 +1,19 @@
+//! The map of a disk as a picture: which blocks are free, whose the others are, and where something is wrong.
+#![tactic(auto)]
+
+mod block_state;
+mod cells;
+mod colour;
+pub mod laws;
+mod legend;
+mod map_report;
+mod markup;
+mod shapes;
+mod style;
+mod svg;
+mod text;
+
+pub use block_state::{BlockState, state_of};
+pub use map_report::MapReport;
+pub use svg::map_svg;
+pub use text::map_text;
