@@ -1,2 +1,3 @@
 pub mod ProgramRuns
 pub mod SurveyRuns
+mod JobEnds

@@ -1,10 +1,12 @@
 -- What each job does.
-use Rattle.std.specs.Prelude.{ℕ, List, [], Option, Some, None, option_map, string_bytes, ⊤}
+use Rattle.std.specs.Prelude.{ℕ, List, [], ◌∷◌, Option, Some, None, option_map, string_bytes, ⊤}
 use Rattle.d64_words.specs.declared.asked.Job.{Job}
-use Rattle.d64_words.specs.declared.asked.Job.TheVariants.{Shell, Petcat, Crunch, Check}
+use Rattle.d64_words.specs.declared.asked.Job.TheVariants.{Shell, Petcat, Crunch, Check, Files, Map}
 use Rattle.d64_collection.specs.Answers.{Rule}
 use Rattle.d64_check.specs.Check.{check_rule, heading_of as check_heading}
-use Rattle.d64_shell.specs.SurveyFiles.{SurveyFiles, files_of}
+use Rattle.d64_listing.specs.Files.{files_rule, heading_of as files_heading}
+use Rattle.d64_picture.specs.Pictures.{map_rule}
+use Rattle.d64_shell.specs.SurveyFiles.{SurveyFiles, Named, files_of}
 use Rattle.d64_shell.specs.declared.tools.Tool.{Tool}
 use Rattle.d64_shell.specs.declared.tools.Tool.TheVariants as tools
 
@@ -39,6 +41,8 @@ work_of (Shell image tracks resume) =
 work_of (Petcat file) = Conversion tools.Petcat (option_map string_bytes file)
 work_of (Crunch start file) = Conversion (tools.Crunch start) (option_map string_bytes file)
 work_of (Check digest format names) = Survey (check_rule format digest) (check_heading format digest) (files_of names)
+work_of (Files format names) = Survey (files_rule format) (files_heading format) (files_of names)
+work_of (Map format file) = Survey (map_rule format) [] (Named (string_bytes file ∷ []))
 
 -- the work is a script, which tells nothing where it runs to its end
 abbrev pub IsScript : Work → Type 0

@@ -42,7 +42,7 @@ use Rattle.d64_shell.specs.declared.tools.Tool.{Tool}
 use Rattle.d64_shell.specs.declared.tools.ToolFault.{ToolFault}
 use Rattle.d64_shell.specs.declared.tools.ToolFault.TheVariants as tool_faults
 use Rattle.d64_shell.specs.declared.program_fault.ProgramFault.{ProgramFault}
-use Rattle.d64_shell.specs.declared.program_fault.ProgramFault.TheVariants.{UnreadableWords, Start, Tracks, Both, Format, Names, Null, WrongLength, UnreadableImage, UnreadableSession, NoSession, Read, Write, Memory}
+use Rattle.d64_shell.specs.declared.program_fault.ProgramFault.TheVariants.{UnreadableWords, Start, Tracks, Both, Format, Names, Null, Picture, WrongLength, UnreadableImage, UnreadableSession, NoSession, Read, Write, Memory}
 
 -- the most bytes of an image, a program or a text that are read from a file
 abbrev pub file_limit : ℕ
@@ -124,8 +124,9 @@ fault_text Start = codes "usage: --start takes one to four hexadecimal digits"
 fault_text Tracks = codes "usage: --tracks takes 35 or 40 and no IMAGE"
 fault_text Both = codes "usage: --resume and --tracks exclude each other"
 fault_text Format = codes "usage: --format takes text, json or csv"
-fault_text Names = codes "usage: check takes FILE.. or --files-from LIST"
+fault_text Names = codes "usage: FILE.. or --files-from LIST is wanted, not both"
 fault_text Null = codes "usage: --null goes with --files-from"
+fault_text Picture = codes "usage: --format takes text or svg"
 fault_text (WrongLength length) = codes "image: wrong length " ++ decimal length
 fault_text UnreadableImage = codes "image: cannot be read"
 fault_text UnreadableSession = codes "session: cannot be read"
@@ -263,6 +264,7 @@ AnswersWords words.Both old new faults told status = (new ≡ old) × Reports Bo
 AnswersWords words.Format old new faults told status = (new ≡ old) × Reports Format faults told status
 AnswersWords words.Names old new faults told status = (new ≡ old) × Reports Names faults told status
 AnswersWords words.Null old new faults told status = (new ≡ old) × Reports Null faults told status
+AnswersWords words.Picture old new faults told status = (new ≡ old) × Reports Picture faults told status
 
 -- the words with the program's name before them
 abbrev pub named : List (List ℕ) → List (List ℕ)

@@ -14,6 +14,8 @@ use crate::tools::Tool;
 use crate::word_faults::{answer_words, asked};
 use d64_check::CheckReport;
 use d64_host::Host;
+use d64_listing::FilesReport;
+use d64_picture::MapReport;
 use d64_script::input::InputStream;
 use d64_script::output::OutputStream;
 use d64_words::Job;
@@ -156,6 +158,15 @@ fn do_job<R: Read, W: Write, F: Write, H: Host>(
         } => {
             let report = CheckReport::new(alloc, format, digest);
             SurveyJob::new(alloc, FileNames::of(&names)).run(report, input, output, faults, host)
+        }
+        Job::Files { format, names } => {
+            let report = FilesReport::new(alloc, format);
+            SurveyJob::new(alloc, FileNames::of(&names)).run(report, input, output, faults, host)
+        }
+        Job::Map { format, file } => {
+            let report = MapReport::new(alloc, format);
+            let files = [file];
+            SurveyJob::new(alloc, FileNames::Given(&files)).run(report, input, output, faults, host)
         }
     }
 }

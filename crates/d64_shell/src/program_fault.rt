@@ -40,11 +40,14 @@ pub enum ProgramFault {
     #[error("usage: --format takes text, json or csv")]
     Format,
     /// There are both FILE and `--files-from`, or neither.
-    #[error("usage: check takes FILE.. or --files-from LIST")]
+    #[error("usage: FILE.. or --files-from LIST is wanted, not both")]
     Names,
     /// There is `--null` without `--files-from`.
     #[error("usage: --null goes with --files-from")]
     Null,
+    /// What follows `--format` of `map` is neither `text` nor `svg`.
+    #[error("usage: --format takes text or svg")]
+    Picture,
     /// The image file has this many bytes, and an image 174,848 or 196,608.
     #[error("image: wrong length {0}")]
     WrongLength(usize),
@@ -101,8 +104,12 @@ impl ProgramFault {
             ProgramFault::Tracks => { line_of(b"usage: --tracks takes 35 or 40 and no IMAGE", b"") }
             ProgramFault::Both => line_of(b"usage: --resume and --tracks exclude each other", b""),
             ProgramFault::Format => line_of(b"usage: --format takes text, json or csv", b""),
-            ProgramFault::Names => line_of(b"usage: check takes FILE.. or --files-from LIST", b""),
+            ProgramFault::Names => line_of(
+                b"usage: FILE.. or --files-from LIST is wanted, not both",
+                b"",
+            ),
             ProgramFault::Null => line_of(b"usage: --null goes with --files-from", b""),
+            ProgramFault::Picture => line_of(b"usage: --format takes text or svg", b""),
             ProgramFault::WrongLength(length) => line_of(
                 b"image: wrong length ",
                 Buffer::new().format(length).as_bytes(),

@@ -53,6 +53,7 @@ pub(crate) fn answer_words<W: Write, F: Write>(
         JobFault::Format => ProgramFault::Format.report_on(faults),
         JobFault::Names => ProgramFault::Names.report_on(faults),
         JobFault::Null => ProgramFault::Null.report_on(faults),
+        JobFault::Picture => ProgramFault::Picture.report_on(faults),
         JobFault::Words(_) => {
             if fault.was_asked_for() {
                 show(alloc, &fault, output, faults)

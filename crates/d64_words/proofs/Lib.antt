@@ -1,2 +1,4 @@
 pub mod Addresses
+pub mod Filled
 pub mod Parses
+pub mod Required

@@ -1,19 +1,20 @@
 -- What the words of the program ask for.
-use Rattle.std.specs.Prelude.{◌≡◌, ◌≢◌, ◌⊎◌, ◌∷◌, ℕ, List, [], codes, None, Option, Some, option_map, IsSome, IsSomeAnd, String, string_bytes, ⊤}
+use Rattle.std.specs.Prelude.{◌≡◌, ◌≢◌, ◌⊎◌, ◌∷◌, ◌++◌, ℕ, List, [], codes, None, Option, Some, option_map, IsSome, IsSomeAnd, String, string_bytes, ⊤}
 use Rattle.clap.specs.Words.{Row, Text, IsAmong, fault_of, first_of, kind_of, subcommand_of}
 use Rattle.clap.specs.declared.error.Error.{Error}
 use Rattle.clap.specs.declared.error.kind.ErrorKind.TheVariants.{DisplayHelp, DisplayVersion, OutOfMemory}
 use Rattle.d64_words.specs.Commands.{d64sh}
 use Rattle.d64_words.specs.Start.{IsStartBy, HasNoAddress}
 use Rattle.d64_words.specs.Tracks.{IsTracksBy, HasNoTracks}
-use Rattle.d64_words.specs.Format.{format_by}
+use Rattle.d64_words.specs.Format.{form_word, format_of, picture_form_of}
 use Rattle.d64_words.specs.Names.{HasNoNames, HasNullAlone, IsNamesBy}
 use Rattle.d64_words.specs.Values.{has_flag}
 use Rattle.d64_words.specs.declared.asked.Format.{Format as OutputFormat}
+use Rattle.d64_words.specs.declared.asked.PictureForm.{PictureForm}
 use Rattle.d64_words.specs.declared.asked.Job.{Job}
-use Rattle.d64_words.specs.declared.asked.Job.TheVariants.{Shell, Petcat, Crunch, Check}
+use Rattle.d64_words.specs.declared.asked.Job.TheVariants.{Shell, Petcat, Crunch, Check, Files, Map}
 use Rattle.d64_words.specs.declared.asked.JobFault.{JobFault}
-use Rattle.d64_words.specs.declared.asked.JobFault.TheVariants.{Words, Start, Memory, Tracks, Both, Format, Names, Null}
+use Rattle.d64_words.specs.declared.asked.JobFault.TheVariants.{Words, Start, Memory, Tracks, Both, Format, Names, Null, Picture}
 
 -- a subcommand that the words name, and the values that they give to its arguments
 abbrev pub Met : Type 0
@@ -26,11 +27,19 @@ IsOneOf (first ∷ rest) name = (name ≡ first) ⊎ IsOneOf rest name
 
 -- the subcommands that survey files, by their names and in a form of output
 abbrev pub surveys : List Text
-surveys = codes "check" ∷ []
+surveys = codes "check" ∷ codes "files" ∷ []
 
 -- the subcommands
 abbrev pub subcommands : List Text
-subcommands = codes "shell" ∷ codes "petcat" ∷ codes "crunch" ∷ surveys
+subcommands = codes "shell" ∷ codes "petcat" ∷ codes "crunch" ∷ (surveys ++ codes "map" ∷ [])
+
+-- the subcommand of this name has a value for this argument
+abbrev pub HasValue : Text → Text → Met → Type 0
+HasValue name id met = met.0 ≡ name → IsSome (first_of id met.1)
+
+-- the subcommand is one of the program's, and has a value for each argument that it requires
+abbrev pub IsWhole : Met → Type 0
+IsWhole met = IsOneOf subcommands met.0 × HasValue (codes "map") (codes "file") met
 
 -- a name in a job is the value that the words give to an argument, where they give one
 abbrev pub IsGiven : {A : Type 0} → Met → Text → Option (String A) → Type 0
@@ -40,9 +49,13 @@ IsGiven met id name = option_map string_bytes name ≡ first_of id met.1
 abbrev pub HasBoth : Met → Type 0
 HasBoth met = IsSomeAnd (first_of (codes "resume") met.1) (λ file. IsSome (first_of (codes "tracks") met.1))
 
--- the form of output that `--format` gives
+-- the form of a survey's output that `--format` gives
 abbrev pub format_given : Met → Option OutputFormat
-format_given met = format_by (first_of (codes "format") met.1)
+format_given met = format_of (form_word met.1)
+
+-- the form of a picture that it gives
+abbrev pub picture_form_given : Met → Option PictureForm
+picture_form_given met = picture_form_of (form_word met.1)
 
 -- the subcommand asks for this job
 abbrev pub IsJobOf : Met → Job → Type 0
@@ -54,6 +67,9 @@ IsJobOf met (Crunch start file) =
     (met.0 ≡ codes "crunch") × IsGiven met (codes "file") file × IsStartBy (first_of (codes "start") met.1) start
 IsJobOf met (Check digest format names) =
     (met.0 ≡ codes "check") × (digest ≡ has_flag (codes "digest") met.1) × (format_given met ≡ Some format) × IsNamesBy met.1 names
+IsJobOf met (Files format names) = (met.0 ≡ codes "files") × (format_given met ≡ Some format) × IsNamesBy met.1 names
+IsJobOf met (Map format file) =
+    (met.0 ≡ codes "map") × (picture_form_given met ≡ Some format) × (first_of (codes "file") met.1 ≡ Some (string_bytes file))
 
 -- it asks for no job, since its start is no address, or no disk has its number of tracks; or, where a disk has so many, since
 -- a session of a file has tracks of its own; or since its word for a form of output stands for none; or, where it has a form, since
@@ -68,6 +84,7 @@ IsFaultOf met Both = (met.0 ≡ codes "shell") × HasBoth met
 IsFaultOf met Format = IsOneOf surveys met.0 × (format_given met ≡ None)
 IsFaultOf met Names = IsOneOf surveys met.0 × IsSome (format_given met) × HasNoNames met.1
 IsFaultOf met Null = IsOneOf surveys met.0 × IsSome (format_given met) × HasNullAlone met.1
+IsFaultOf met Picture = (met.0 ≡ codes "map") × (picture_form_given met ≡ None)
 
 -- the words are the program's, and ask neither for help nor for the version; and of the subcommand that they name this holds
 abbrev pub IsUse : List Text → (Met → Type 0) → Type 0
@@ -88,6 +105,7 @@ IsFault words Both = IsUse words (λ met. IsFaultOf met Both)
 IsFault words Format = IsUse words (λ met. IsFaultOf met Format)
 IsFault words Names = IsUse words (λ met. IsFaultOf met Names)
 IsFault words Null = IsUse words (λ met. IsFaultOf met Null)
+IsFault words Picture = IsUse words (λ met. IsFaultOf met Picture)
 
 -- how clap's error is told: want of memory as that, and every other as it is
 abbrev pub IsToldAs : Error → JobFault → Type 0
@@ -99,6 +117,7 @@ IsToldAs error Both = ⊥
 IsToldAs error Format = ⊥
 IsToldAs error Names = ⊥
 IsToldAs error Null = ⊥
+IsToldAs error Picture = ⊥
 
 -- the fault is the help or the version that the words asked for
 abbrev pub WasAskedFor : JobFault → Type 0
@@ -110,3 +129,4 @@ WasAskedFor Both = ⊥
 WasAskedFor Format = ⊥
 WasAskedFor Names = ⊥
 WasAskedFor Null = ⊥
+WasAskedFor Picture = ⊥

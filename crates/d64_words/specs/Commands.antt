@@ -11,6 +11,10 @@ image_argument = record (new_rule (codes "image")) { value_names = 1 }
 abbrev pub file_argument : Rule
 file_argument = record (new_rule (codes "file")) { value_names = 1 }
 
+-- a place of this name, which must be given
+abbrev pub required_argument : List ℕ → Rule
+required_argument name = record (new_rule name) { value_names = 1; required = true }
+
 -- an option with a value, by its long name
 abbrev pub valued_option : List ℕ → Rule
 valued_option name = record (new_rule name) { long = Some name; value_names = 1 }
@@ -36,13 +40,23 @@ petcat = with_rule (new_app (codes "petcat")) file_argument
 abbrev pub crunch : App
 crunch = with_rule (with_rule (new_app (codes "crunch")) (valued_option (codes "start"))) file_argument
 
--- a subcommand with `--files-from LIST`, `--null` and `FILE..`
-abbrev pub with_names : App → App
-with_names app = with_rule (with_rule (with_rule app (valued_option (codes "files-from"))) (flag (codes "null"))) files_argument
+-- a subcommand with the words of a survey: `--format FORMAT`, `--files-from LIST`, `--null` and `FILE..`
+abbrev pub survey : App → App
+survey app =
+    let listed = with_rule (with_rule app (valued_option (codes "format"))) (valued_option (codes "files-from")) in
+    with_rule (with_rule listed (flag (codes "null"))) files_argument
 
--- `check [--digest] [--format FORMAT]` with names
+-- `check [--digest]` with the words of a survey
 abbrev pub check : App
-check = with_names (with_rule (with_rule (new_app (codes "check")) (flag (codes "digest"))) (valued_option (codes "format")))
+check = survey (with_rule (new_app (codes "check")) (flag (codes "digest")))
+
+-- `files` with the words of a survey
+abbrev pub files : App
+files = survey (new_app (codes "files"))
+
+-- `map [--format FORMAT] FILE`
+abbrev pub map : App
+map = with_rule (with_rule (new_app (codes "map")) (valued_option (codes "format"))) (required_argument (codes "file"))
 
 -- `d64sh` alone: it has a version, wants a subcommand, has none of the name `help`, and tells its help where it is given nothing
 abbrev pub bare : App
@@ -57,4 +71,6 @@ bare = let named = new_app (codes "d64sh") in record named {
 
 -- `d64sh` with its subcommands
 unfoldable pub d64sh : App
-d64sh = with_subcommand (with_subcommand (with_subcommand (with_subcommand bare shell.top) petcat.top) crunch.top) check.top
+d64sh =
+    let tools = with_subcommand (with_subcommand (with_subcommand bare shell.top) petcat.top) crunch.top in
+    with_subcommand (with_subcommand (with_subcommand tools check.top) files.top) map.top

@@ -34,6 +34,16 @@ pub enum Job {
         format: Format,
         names: Names,
     },
+    /// Tell of each file on dumps, and whether it is whole.
+    Files {
+        format: Format,
+        names: Names,
+    },
+    /// Draw the blocks of one dump.
+    Map {
+        format: PictureForm,
+        file: String,
+    },
 }
 
 /// The form of a survey's output.
@@ -45,6 +55,15 @@ pub enum Format {
     Json,
     /// CSV with one header row.
     Csv,
+}
+
+/// The form of a picture of blocks.
+#[derive(Clone, Copy, Debug, PartialEq, Eq)]
+pub enum PictureForm {
+    /// A line a track, for people.
+    Text,
+    /// One SVG document.
+    Svg,
 }
 
 /// The names of the files to survey.
@@ -80,15 +99,18 @@ pub enum JobFault {
     /// There is `--resume` beside `--tracks`.
     #[error("usage: --resume and --tracks exclude each other")]
     Both,
-    /// What follows `--format` is neither `text`, `json` nor `csv`.
+    /// What follows `--format` of a survey is neither `text`, `json` nor `csv`.
     #[error("usage: --format takes text, json or csv")]
     Format,
     /// There are both FILE and `--files-from`, or neither.
-    #[error("usage: check takes FILE.. or --files-from LIST")]
+    #[error("usage: FILE.. or --files-from LIST is wanted, not both")]
     Names,
     /// There is `--null` without `--files-from`.
     #[error("usage: --null goes with --files-from")]
     Null,
+    /// What follows `--format` of `map` is neither `text` nor `svg`.
+    #[error("usage: --format takes text or svg")]
+    Picture,
 }
 
 impl JobFault {
@@ -104,7 +126,8 @@ impl JobFault {
             | JobFault::Both
             | JobFault::Format
             | JobFault::Names
-            | JobFault::Null => false,
+            | JobFault::Null
+            | JobFault::Picture => false,
         }
     }
 }

@@ -3,7 +3,7 @@
 ghost use Rattle.std.specs.Prelude.{◌≡◌, IfOk, false};
 ghost use Rattle.clap.specs.Words.{app_of, rule_of};
 ghost use Rattle.clap.specs.declared.builder.command.Command.TheViews.{out-Command as fields_of};
-ghost use Rattle.d64_words.specs.Commands.{bare, d64sh, shell, petcat, crunch, check, with_names, file_argument, files_argument, valued_option, flag};
+ghost use Rattle.d64_words.specs.Commands.{bare, d64sh, shell, petcat, crunch, check, files, map, survey, file_argument, required_argument, files_argument, valued_option, flag};
 
 use clap::{Arg, ArgAction, Command};
 use std::alloc::{AllocError, Global};
@@ -63,7 +63,35 @@ Example: d64sh check *.d64
 No image is ever written. The manual says more: `man d64sh`, or docs/MANUAL.md
 beside the source.";
 
-/// The command `d64sh`, with its four subcommands.
+const FILES_USAGE: &str = "d64sh files [--format FORMAT] FILE..
+       d64sh files [--format FORMAT] --files-from LIST [--null]";
+
+const FILES_AFTER_HELP: &str =
+    "In:      images of 35 or 40 tracks, each with or without the read codes of its
+         blocks: files of 174,848, 175,531, 196,608 or 197,376 bytes
+Out:     a line a file: its image, size, kind and name, and that it is whole or
+         what is amiss; with --format json an object a line, with --format csv a
+         row a file, both with the SHA-256 digest of what it holds
+Exit:    0 nothing is amiss; 1 a file isn't whole, or a directory is broken or
+         has a read error; 2 a word, a file, reading or writing failed
+Example: d64sh files --format csv *.d64 >files.csv
+
+No image is ever written. The manual says more: `man d64sh`, or docs/MANUAL.md
+beside the source.";
+
+const MAP_AFTER_HELP: &str =
+    "In:      an image of 35 or 40 tracks, with or without the read codes of its
+         blocks: a file of 174,848, 175,531, 196,608 or 197,376 bytes
+Out:     a line a track with a character a sector, and what each character
+         stands for; with --format svg a picture, with a colour for each file
+Exit:    0 nothing is amiss; 1 the image has a fault, a read error or a file
+         that isn't whole; 2 a word, the file, reading or writing failed
+Example: d64sh map --format svg disk.d64 >disk.svg
+
+The image is never written. The manual says more: `man d64sh`, or docs/MANUAL.md
+beside the source.";
+
+/// The command `d64sh`, with its six subcommands.
 pub(crate) fn d64sh<'a>(alloc: Global) -> Result<Command<'a>, AllocError>
     ensures app { IfOk result (λ command. app_of command ≡ d64sh) }
     ensures local { IfOk result (λ command. (fields_of command).has_globals ≡ false) }
@@ -72,7 +100,9 @@ pub(crate) fn d64sh<'a>(alloc: Global) -> Result<Command<'a>, AllocError>
         .subcommand(shell(alloc)?)?
         .subcommand(petcat(alloc)?)?
         .subcommand(crunch(alloc)?)?
-        .subcommand(check(alloc)?)
+        .subcommand(check(alloc)?)?
+        .subcommand(files(alloc)?)?
+        .subcommand(map(alloc)?)
 }
 
 /// The command `d64sh` without its subcommands.
@@ -150,7 +180,7 @@ fn crunch<'a>(alloc: Global) -> Result<Command<'a>, AllocError>
         .arg(file)
 }
 
-/// `check [--digest] [--format FORMAT] FILE..`, and the same with `--files-from LIST [--null]` in the place of FILE..
+/// `check [--digest]` with the words of a survey.
 fn check<'a>(alloc: Global) -> Result<Command<'a>, AllocError>
     ensures app { IfOk result (λ command. app_of command ≡ check) }
     ensures local { IfOk result (λ command. (fields_of command).has_globals ≡ false) }
@@ -160,26 +190,58 @@ fn check<'a>(alloc: Global) -> Result<Command<'a>, AllocError>
         "digest",
         "Add the SHA-256 digest of each file's bytes",
     );
+    let command = Command::new(alloc, "check")
+        .about("Says what is wrong on disk images, and where")
+        .override_usage(CHECK_USAGE)
+        .after_help(CHECK_AFTER_HELP)
+        .arg(digest)?;
+    survey(alloc, command)
+}
+
+/// `files` with the words of a survey.
+fn files<'a>(alloc: Global) -> Result<Command<'a>, AllocError>
+    ensures app { IfOk result (λ command. app_of command ≡ files) }
+    ensures local { IfOk result (λ command. (fields_of command).has_globals ≡ false) }
+{
+    let command = Command::new(alloc, "files")
+        .about("Lists the files on disk images, and which are whole")
+        .override_usage(FILES_USAGE)
+        .after_help(FILES_AFTER_HELP);
+    survey(alloc, command)
+}
+
+/// `map [--format FORMAT] FILE`.
+fn map<'a>(alloc: Global) -> Result<Command<'a>, AllocError>
+    ensures app { IfOk result (λ command. app_of command ≡ map) }
+    ensures local { IfOk result (λ command. (fields_of command).has_globals ≡ false) }
+{
+    let format = valued_option(
+        alloc,
+        "format",
+        "FORMAT",
+        "Form of the map: text or svg; without it, text",
+    );
+    let file = required_argument(alloc, "file", "FILE", "The image to draw");
+    Command::new(alloc, "map")
+        .about("Draws a map of the blocks of a disk image")
+        .override_usage("d64sh map [--format FORMAT] FILE")
+        .after_help(MAP_AFTER_HELP)
+        .arg(format)?
+        .arg(file)
+}
+
+/// The subcommand with the words of a survey: `[--format FORMAT] FILE..`, and the same with `--files-from LIST [--null]` in the
+/// place of FILE..
+fn survey<'a>(alloc: Global, command: Command<'a>) -> Result<Command<'a>, AllocError>
+    ensures app { IfOk result (λ with. app_of with ≡ survey (app_of command.entry)) }
+    ensures local { IfOk result (λ with. (fields_of with).has_globals ≡ (fields_of command.entry).has_globals) }
+{
     let format = valued_option(
         alloc,
         "format",
         "FORMAT",
         "Form of the output: text, json or csv; without it, text",
     );
-    let command = Command::new(alloc, "check")
-        .about("Says what is wrong on disk images, and where")
-        .override_usage(CHECK_USAGE)
-        .after_help(CHECK_AFTER_HELP)
-        .arg(digest)?
-        .arg(format)?;
-    with_names(alloc, command)
-}
-
-/// The subcommand with `FILE..`, `--files-from LIST` and `--null`.
-fn with_names<'a>(alloc: Global, command: Command<'a>) -> Result<Command<'a>, AllocError>
-    ensures app { IfOk result (λ with. app_of with ≡ with_names (app_of command.entry)) }
-    ensures local { IfOk result (λ with. (fields_of with).has_globals ≡ (fields_of command.entry).has_globals) }
-{
     let list = valued_option(
         alloc,
         "files-from",
@@ -191,7 +253,11 @@ fn with_names<'a>(alloc: Global, command: Command<'a>) -> Result<Command<'a>, Al
         "null",
         "Names in LIST end with NUL bytes, and not with line feeds",
     );
-    command.arg(list)?.arg(null)?.arg(files_argument(alloc))
+    command
+        .arg(format)?
+        .arg(list)?
+        .arg(null)?
+        .arg(files_argument(alloc))
 }
 
 /// `[FILE]..`.
@@ -211,6 +277,17 @@ fn file_argument<'a>(alloc: Global, help: &'a str) -> Arg<'a>
     ensures local { result.global ≡ false }
 {
     Arg::new(alloc, "file").value_name("FILE").help(help)
+}
+
+/// `NAME`, which must be given.
+fn required_argument<'a>(alloc: Global, id: &'a str, name: &'a str, help: &'a str) -> Arg<'a>
+    ensures rule { rule_of result ≡ required_argument id.now }
+    ensures local { result.global ≡ false }
+{
+    Arg::new(alloc, id)
+        .value_name(name)
+        .required(true)
+        .help(help)
 }
 
 /// `--NAME VALUE`.

@@ -1,11 +1,13 @@
-//! The words of the program `d64sh`, read by `clap`: which of its four jobs they ask for, and with what.
+//! The words of the program `d64sh`, read by `clap`: which of its jobs they ask for, and with what.
 #![tactic(auto)]
 
 mod asked;
 mod command;
+mod dumps;
+mod forms;
 mod reading;
 mod surveys;
 mod values;
 
-pub use asked::{Format, Job, JobFault, Names, Separator};
+pub use asked::{Format, Job, JobFault, Names, PictureForm, Separator};
 pub use reading::job;

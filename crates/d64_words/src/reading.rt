@@ -4,14 +4,15 @@ ghost use Rattle.std.specs.Prelude.{◌≡◌, IfOk, IfErr, MatchOption, codes, 
 ghost use Rattle.std.specs.Char.{is_ascii_hexdigit};
 ghost use Rattle.std.specs.List.{list_all};
 ghost use Rattle.clap.specs.Words.{found_of, first_of, rows_of};
-ghost use Rattle.d64_words.specs.Asked.{IsOneOf, subcommands, IsJob, IsJobOf, IsFault, IsFaultOf};
+ghost use Rattle.d64_words.specs.Asked.{IsWhole, IsJob, IsJobOf, IsFault, IsFaultOf};
 ghost use Rattle.d64_words.specs.Start.{IsAddress, address_of, IsStartBy, HasNoAddress};
 ghost use Rattle.d64_words.specs.Tracks.{track_count, IsTracksBy, HasNoTracks};
 ghost use Rattle.d64_words.specs.declared.asked.JobFault.TheVariants.{Start, Tracks};
 
 use crate::asked::{Job, JobFault};
 use crate::command;
-use crate::surveys::check_job;
+use crate::dumps::map_job;
+use crate::surveys::{check_job, files_job};
 use crate::values::{given, value};
 use clap::ArgMatches;
 use std::alloc::Global;
@@ -30,8 +31,9 @@ const ADDRESS_DIGITS: usize = 4;
 /// `Words` comes exactly where the words are none of the program's, or ask for help or the version; else `Start` exactly where
 /// what follows `--start` is other than one to four hexadecimal digits; else `Tracks` exactly where what follows `--tracks` is
 /// neither 35 nor 40, or there is an image beside it; else `Both` exactly where there is `--resume` beside `--tracks`; else `Format`
-/// exactly where what follows `--format` is neither `text`, `json` nor `csv`; else `Names` exactly where there are both FILE and
-/// `--files-from`, or neither; else `Null` exactly where there is `--null` without `--files-from`; and `Memory` in place of any answer.
+/// exactly where what follows `--format` of a survey is neither `text`, `json` nor `csv`; else `Names` exactly where there are both FILE and
+/// `--files-from`, or neither; else `Null` exactly where there is `--null` without `--files-from`; else `Picture` exactly where what
+/// follows `--format` of `map` is neither `text` nor `svg`; and `Memory` in place of any answer.
 pub fn job(alloc: Global, words: &[&str]) -> Result<Job, JobFault>
     ensures job { IfOk result (IsJob (map (λ word. word.now) words.now)) }
     ensures fault { IfErr result (IsFault (map (λ word. word.now) words.now)) }
@@ -45,7 +47,7 @@ pub fn job(alloc: Global, words: &[&str]) -> Result<Job, JobFault>
 
 /// The job that a subcommand with these matches asks for.
 fn job_of(alloc: Global, name: &str, arguments: &ArgMatches) -> Result<Job, JobFault>
-    requires { IsOneOf subcommands name.now }
+    requires { IsWhole (name.now, rows_of (found_of arguments.now)) }
     ensures job { IfOk result (IsJobOf (name.now, rows_of (found_of arguments.now))) }
     ensures fault { IfErr result (IsFaultOf (name.now, rows_of (found_of arguments.now))) }
 {
@@ -58,7 +60,9 @@ fn job_of(alloc: Global, name: &str, arguments: &ArgMatches) -> Result<Job, JobF
             start: start(arguments)?,
             file: value(alloc, arguments, "file")?,
         }),
-        _ => check_job(alloc, arguments),
+        "check" => check_job(alloc, arguments),
+        "files" => files_job(alloc, arguments),
+        _ => map_job(alloc, arguments),
     }
 }
 

@@ -1,13 +1,12 @@
 //! The jobs that survey files: what their words have in common.
 
-ghost use Rattle.std.specs.Prelude.{◌≡◌, IfOk, IfErr, codes};
-ghost use Rattle.clap.specs.Words.{found_of, first_of, rows_of};
+ghost use Rattle.std.specs.Prelude.{IfOk, IfErr, codes};
+ghost use Rattle.clap.specs.Words.{found_of, rows_of};
 ghost use Rattle.d64_words.specs.Asked.{IsJobOf, IsFaultOf};
-ghost use Rattle.d64_words.specs.Format.{format_by, format_of};
 ghost use Rattle.d64_words.specs.Names.{IsNamesBy, IsNamesFault};
-ghost use Rattle.d64_words.specs.declared.asked.JobFault.TheVariants.{Format as NoFormat, Memory};
 
-use crate::asked::{Format, Job, JobFault, Names, Separator};
+use crate::asked::{Job, JobFault, Names, Separator};
+use crate::forms::format;
 use crate::values::{given, has_flag, values};
 use clap::ArgMatches;
 use std::alloc::Global;
@@ -25,27 +24,15 @@ pub(crate) fn check_job(alloc: Global, arguments: &ArgMatches) -> Result<Job, Jo
     })
 }
 
-/// The form of output that the words give, or text.
-fn format(arguments: &ArgMatches) -> Result<Format, JobFault>
-    ensures format { IfOk result (λ format. format_by (first_of (codes "format") (rows_of (found_of arguments.now))) ≡ Some format) }
-    ensures fault { IfErr result (λ fault. (fault ≡ NoFormat) × (format_by (first_of (codes "format") (rows_of (found_of arguments.now))) ≡ None)) }
+/// The job that `files` with these matches asks for.
+pub(crate) fn files_job(alloc: Global, arguments: &ArgMatches) -> Result<Job, JobFault>
+    ensures job { IfOk result (IsJobOf (codes "files", rows_of (found_of arguments.now))) }
+    ensures fault { IfErr result (IsFaultOf (codes "files", rows_of (found_of arguments.now))) }
 {
-    match given(arguments, "format") {
-        Some(word) => format_of(word).ok_or(JobFault::Format),
-        None => Ok(Format::Text),
-    }
-}
-
-/// The form of output that a word stands for; None where it stands for none.
-fn format_of(word: &str) -> Option<Format>
-    ensures { result ≡ format_of word.now }
-{
-    match word {
-        "text" => Some(Format::Text),
-        "json" => Some(Format::Json),
-        "csv" => Some(Format::Csv),
-        _ => None,
-    }
+    Ok(Job::Files {
+        format: format(arguments)?,
+        names: names(alloc, arguments)?,
+    })
 }
 
 /// The names that the words give, or the list that holds them.

@@ -1,6 +1,6 @@
 //! The values that the words give to the arguments of a subcommand.
 
-ghost use Rattle.std.specs.Prelude.{◌≡◌, IfOk, map, option_map, string_bytes};
+ghost use Rattle.std.specs.Prelude.{◌≡◌, IfOk, IsSome, Some, map, option_map, string_bytes};
 ghost use Rattle.clap.specs.Words.{found_of, first_of, rows_of};
 ghost use Rattle.d64_words.specs.Values.{all_given, has_flag};
 
@@ -26,6 +26,21 @@ pub(crate) fn given<'a>(arguments: &ArgMatches<'a>, id: &str) -> Option<&'a str>
     ensures { option_map (λ text. text.now) result ≡ first_of id.now (rows_of (found_of arguments.now)) }
 {
     arguments.get_str(id)
+}
+
+/// The value that the words give to an argument that must have one, copied.
+pub(crate) fn required_value(
+    alloc: Global,
+    arguments: &ArgMatches,
+    id: &str,
+) -> Result<String, AllocError>
+    requires { IsSome (first_of id.now (rows_of (found_of arguments.now))) }
+    ensures { IfOk result (λ value. first_of id.now (rows_of (found_of arguments.now)) ≡ Some (string_bytes value)) }
+{
+    let Some(text) = given(arguments, id) else {
+        unreachable!()
+    };
+    String::from_str(alloc, text)
 }
 
 /// The values that the words give to an argument of several, copied; none where it isn't there.

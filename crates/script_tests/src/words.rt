@@ -148,35 +148,89 @@ fn takes_the_options_of_check(rt: HostRuntime) -> Result<(), Fail> {
 }
 
 #[test]
+fn takes_the_words_of_files(rt: HostRuntime) -> Result<(), Fail> {
+    let rt = &rt;
+    let text = "Files { format: Text, names: Given([\"a\", \"check\"]) }";
+    assert!(rt; asks_for(rt, &["d64sh", "files", "a", "check"], text)?);
+    let json = "Files { format: Json, names: Listed { list: \"l\", separator: LineFeed } }";
+    assert!(rt;
+        asks_for(
+            rt,
+            &["d64sh", "files", "--format=json", "--files-from=l"],
+            json
+        )?
+    );
+    let csv = "Files { format: Csv, names: Listed { list: \"-\", separator: Nul } }";
+    assert!(rt;
+        asks_for(
+            rt,
+            &[
+                "d64sh",
+                "files",
+                "--files-from",
+                "-",
+                "--null",
+                "--format",
+                "csv"
+            ],
+            csv
+        )?
+    );
+    Ok(())
+}
+
+#[test]
+fn takes_the_words_of_map(rt: HostRuntime) -> Result<(), Fail> {
+    let rt = &rt;
+    let text = "Map { format: Text, file: \"my disk\" }";
+    assert!(rt; asks_for(rt, &["d64sh", "map", "my disk"], text)?);
+    assert!(rt; asks_for(rt, &["d64sh", "map", "--format", "text", "my disk"], text)?);
+    let svg = "Map { format: Svg, file: \"--format\" }";
+    assert!(rt; asks_for(rt, &["d64sh", "map", "--format=svg", "--", "--format"], svg)?);
+    let empty = "Map { format: Text, file: \"\" }";
+    assert!(rt; asks_for(rt, &["d64sh", "map", ""], empty)?);
+    Ok(())
+}
+
+#[test]
+fn refuses_other_pictures(rt: HostRuntime) {
+    for format in ["json", "SVG", "", "svg "] {
+        let fault = job(rt.alloc(), &["d64sh", "map", "a", "--format", format]);
+        assert!(rt; matches!(&fault, Err(JobFault::Picture)));
+    }
+}
+
+#[test]
 fn refuses_other_formats(rt: HostRuntime) {
     for format in ["svg", "JSON", "", "json "] {
-        let fault = job(rt.alloc(), &["d64sh", "check", "a", "--format", format]);
-        assert!(rt; matches!(&fault, Err(JobFault::Format)));
-        let fault = job(
-            rt.alloc(),
-            &["d64sh", "check", "--null", "--format", format],
-        );
-        assert!(rt; matches!(&fault, Err(JobFault::Format)));
+        for survey in ["check", "files"] {
+            let fault = job(rt.alloc(), &["d64sh", survey, "a", "--format", format]);
+            assert!(rt; matches!(&fault, Err(JobFault::Format)));
+            let fault = job(rt.alloc(), &["d64sh", survey, "--null", "--format", format]);
+            assert!(rt; matches!(&fault, Err(JobFault::Format)));
+        }
     }
 }
 
 #[test]
 fn refuses_names_in_both_ways_and_in_neither(rt: HostRuntime) {
-    let fault = job(rt.alloc(), &["d64sh", "check"]);
-    assert!(rt; matches!(&fault, Err(JobFault::Names)));
-    let fault = job(rt.alloc(), &["d64sh", "check", "--digest", "--"]);
-    assert!(rt; matches!(&fault, Err(JobFault::Names)));
-    let fault = job(rt.alloc(), &["d64sh", "check", "--null"]);
-    assert!(rt; matches!(&fault, Err(JobFault::Names)));
-    let fault = job(rt.alloc(), &["d64sh", "check", "a", "--files-from", "l"]);
-    assert!(rt; matches!(&fault, Err(JobFault::Names)));
-    let fault = job(
-        rt.alloc(),
-        &["d64sh", "check", "--null", "--files-from", "l", "a"],
-    );
-    assert!(rt; matches!(&fault, Err(JobFault::Names)));
-    let fault = job(rt.alloc(), &["d64sh", "check", "a", "--null"]);
-    assert!(rt; matches!(&fault, Err(JobFault::Null)));
+    for survey in ["check", "files"] {
+        let fault = job(rt.alloc(), &["d64sh", survey]);
+        assert!(rt; matches!(&fault, Err(JobFault::Names)));
+        let fault = job(rt.alloc(), &["d64sh", survey, "--format=csv", "--"]);
+        assert!(rt; matches!(&fault, Err(JobFault::Names)));
+        let fault = job(rt.alloc(), &["d64sh", survey, "--null"]);
+        assert!(rt; matches!(&fault, Err(JobFault::Names)));
+        let fault = job(rt.alloc(), &["d64sh", survey, "a", "--files-from", "l"]);
+        assert!(rt; matches!(&fault, Err(JobFault::Names)));
+        let fault = job(
+            rt.alloc(),
+            &["d64sh", survey, "--null", "--files-from", "l", "a"],
+        );
+        assert!(rt; matches!(&fault, Err(JobFault::Names)));
+        let fault = job(rt.alloc(), &["d64sh", survey, "a", "--null"]);
+        assert!(rt; matches!(&fault, Err(JobFault::Null)));
+    }
 }
 
 #[test]
@@ -253,6 +307,12 @@ fn tells_what_is_wrong(rt: HostRuntime) -> Result<(), Fail> {
             false
         )?
     );
+    let usage = "Usage: d64sh files [--format FORMAT] FILE..";
+    assert!(rt; is_told(rt, &["d64sh", "files", "a", "--digest"], usage, false)?);
+    let usage = "Usage: d64sh map [--format FORMAT] FILE";
+    assert!(rt; is_told(rt, &["d64sh", "map", "--format", "json"], usage, false)?);
+    assert!(rt; is_told(rt, &["d64sh", "map", "a", "b"], usage, false)?);
+    assert!(rt; is_told(rt, &["d64sh", "map"], "  <FILE>", false)?);
     Ok(())
 }
 
@@ -274,6 +334,10 @@ fn shows_help_and_version(rt: HostRuntime) -> Result<(), Fail> {
     let list =
         "      --files-from <LIST>  Take the names from the lines of a file; `-` is the standard input";
     assert!(rt; is_told(rt, &["d64sh", "check", "-h"], list, true)?);
+    let files = "Example: d64sh files --format csv *.d64 >files.csv";
+    assert!(rt; is_told(rt, &["d64sh", "files", "--help"], files, true)?);
+    let map = "Example: d64sh map --format svg disk.d64 >disk.svg";
+    assert!(rt; is_told(rt, &["d64sh", "map", "--help"], map, true)?);
     assert!(rt; is_told(rt, &["d64sh", "-V"], "d64sh 0.1.0", true)?);
     Ok(())
 }
@@ -296,10 +360,12 @@ fn shows_each_fault(rt: HostRuntime) -> Result<(), Fail> {
     assert!(rt; is_shown_as(rt, &JobFault::Both, both)?);
     let format = "usage: --format takes text, json or csv";
     assert!(rt; is_shown_as(rt, &JobFault::Format, format)?);
-    let names = "usage: check takes FILE.. or --files-from LIST";
+    let names = "usage: FILE.. or --files-from LIST is wanted, not both";
     assert!(rt; is_shown_as(rt, &JobFault::Names, names)?);
     let null = "usage: --null goes with --files-from";
     assert!(rt; is_shown_as(rt, &JobFault::Null, null)?);
+    let picture = "usage: --format takes text or svg";
+    assert!(rt; is_shown_as(rt, &JobFault::Picture, picture)?);
     let fault = WriteFault;
     let shown = format!(in rt.alloc(); "{fault}")?;
     assert_eq!(rt; shown.as_str(), "the output took no more bytes");

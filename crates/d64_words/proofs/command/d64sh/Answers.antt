@@ -13,9 +13,13 @@ returns-clause-app c =
     ∙ ap₂ with_subcommand first (ap (λ (a : App). a.top) c.in_ok-petcat.ensures.app) in
     let third = c.in_ok-subcommand-3.ensures.shape c.in_ok-crunch.ensures.local
     ∙ ap₂ with_subcommand second (ap (λ (a : App). a.top) c.in_ok-crunch.ensures.app) in
-    IfOk-weaker c.subcommand-4.result _ _ (λ command added. added.shape c.in_ok-check.ensures.local
-    ∙ ap₂ with_subcommand third (ap (λ (a : App). a.top) c.in_ok-check.ensures.app)) c.subcommand-4.ensures
+    let fourth = c.in_ok-subcommand-4.ensures.shape c.in_ok-check.ensures.local
+    ∙ ap₂ with_subcommand third (ap (λ (a : App). a.top) c.in_ok-check.ensures.app) in
+    let fifth = c.in_ok-subcommand-5.ensures.shape c.in_ok-files.ensures.local
+    ∙ ap₂ with_subcommand fourth (ap (λ (a : App). a.top) c.in_ok-files.ensures.app) in
+    IfOk-weaker c.subcommand-6.result _ _ (λ command added. added.shape c.in_ok-map.ensures.local
+    ∙ ap₂ with_subcommand fifth (ap (λ (a : App). a.top) c.in_ok-map.ensures.app)) c.subcommand-6.ensures
 
 pub returns-clause-local : goal.returns-clause-local
 returns-clause-local c =
-    IfOk-weaker c.subcommand-4.result _ _ (λ command added. rw (added.globals, c.in_ok-subcommand-3.ensures.globals, c.in_ok-subcommand-2.ensures.globals, c.in_ok-subcommand.ensures.globals, c.bare.ensures.local, c.in_ok-shell.ensures.local, c.in_ok-petcat.ensures.local, c.in_ok-crunch.ensures.local, c.in_ok-check.ensures.local) (search rules)) c.subcommand-4.ensures
+    IfOk-weaker c.subcommand-6.result _ _ (λ command added. rw (added.globals, c.in_ok-subcommand-5.ensures.globals, c.in_ok-subcommand-4.ensures.globals, c.in_ok-subcommand-3.ensures.globals, c.in_ok-subcommand-2.ensures.globals, c.in_ok-subcommand.ensures.globals, c.bare.ensures.local, c.in_ok-shell.ensures.local, c.in_ok-petcat.ensures.local, c.in_ok-crunch.ensures.local, c.in_ok-check.ensures.local, c.in_ok-files.ensures.local, c.in_ok-map.ensures.local) (search rules)) c.subcommand-6.ensures

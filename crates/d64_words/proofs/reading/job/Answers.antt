@@ -1,7 +1,8 @@
 use Rattle.std.proofs.Common.{[], ap, sym, true≢false, ◌∙◌}
 use Rattle.std.proofs.lemmas.Result.{IfOk-weaker, IfErr-weaker}
 use Rattle.clap.specs.Words.{App}
-use Rattle.d64_words.proofs.Parses.{asked, command_is_free, error_told, met_is, met_is_subcommand, no_fault, refused, told, wants_subcommand}
+use Rattle.d64_words.proofs.Parses.{asked, command_is_free, error_told, met_is, no_fault, refused, told, wants_subcommand}
+use Rattle.d64_words.proofs.Required.{met_is_whole}
 use Rattle.d64_words.proofs.reading.job.Goals as goal
 
 pub returns-in_err-matches-clause-fault : goal.returns-in_err-matches-clause-fault
@@ -19,7 +20,9 @@ unreachable-requires c =
 
 pub job_of-requires : goal.job_of-requires
 job_of-requires c =
-    met_is_subcommand _ _ (met_is c.in_ok-d64sh.field-0 _ c.in_ok-d64sh.ensures.app c.in_ok-matches.matches c.in_ok-matches.ensures.matches _ _ c.in-Some.ensures.name c.in-Some.ensures.rows)
+    let met = met_is c.in_ok-d64sh.field-0 _ c.in_ok-d64sh.ensures.app c.in_ok-matches.matches c.in_ok-matches.ensures.matches _ _ c.in-Some.ensures.name c.in-Some.ensures.rows in
+    let free = command_is_free c.in_ok-d64sh.field-0 [] c.in_ok-d64sh.ensures.app in
+    met_is_whole _ _ (no_fault c.in_ok-d64sh.field-0 _ c.in_ok-d64sh.ensures.app (c.in_ok-matches.ensures.kinds free)) met
 
 pub returns-clause-job : goal.returns-clause-job
 returns-clause-job c =

@@ -31,6 +31,10 @@ pub returns-in-Null : goal.returns-in-Null
 unfolding fault_line
 returns-in-Null c = search (rules, append_assoc)
 
+pub returns-in-Picture : goal.returns-in-Picture
+unfolding fault_line
+returns-in-Picture c = search (rules, append_assoc)
+
 pub returns-in-WrongLength : goal.returns-in-WrongLength
 unfolding fault_line
 returns-in-WrongLength c = search (rules, append_assoc)

@@ -1,0 +1,39 @@
+-- A survey has ended as the work of its job says.
+use Rattle.std.proofs.Common.{rules, ap}
+use Rattle.d64_collection.specs.Runs.{account_at}
+use Rattle.d64_check.specs.Check.{check_rule, heading_of as check_heading}
+use Rattle.d64_listing.specs.Files.{files_rule, heading_of as files_heading}
+use Rattle.d64_picture.specs.Pictures.{map_rule}
+use Rattle.std.specs.Prelude.{[], ◌∷◌, string_bytes}
+use Rattle.d64_shell.specs.Jobs.{work_of}
+use Rattle.d64_shell.specs.SurveyFiles.{Named, files_in, files_of}
+use Rattle.d64_shell.specs.Program.{outside_at}
+use Rattle.d64_shell.proofs.JobEnds.{survey_ended}
+use Rattle.d64_shell.proofs.entry.do_job.Goals as goal
+
+pub returns-in-Check-clause-ended : goal.returns-in-Check-clause-ended
+returns-in-Check-clause-ended g c =
+    survey_ended c.args.job (check_rule c.in-Check.format c.in-Check.digest) (check_heading c.in-Check.format c.in-Check.digest) (files_of c.in-Check.names) (files_in c.new.result.names)
+    (outside_at g.R.Read.remaining c.args.input.now g.W.Write.contents c.args.output.now g.H.Host.files g.H.Host.failure_count c.args.host.now)
+    (outside_at g.R.Read.remaining c.run.new.input g.W.Write.contents c.run.new.output g.H.Host.files g.H.Host.failure_count c.run.new.host)
+    (account_at g.F.Write.contents c.args.faults.now) (account_at g.F.Write.contents c.run.new.faults) c.run.result
+    (ap work_of c.in-Check.is) (search rules)
+    (c.run.ensures.ended (check_rule c.in-Check.format c.in-Check.digest) (check_heading c.in-Check.format c.in-Check.digest) (search rules))
+
+pub returns-in-Files-clause-ended : goal.returns-in-Files-clause-ended
+returns-in-Files-clause-ended g c =
+    survey_ended c.args.job (files_rule c.in-Files.format) (files_heading c.in-Files.format) (files_of c.in-Files.names) (files_in c.new-in-Files.result.names)
+    (outside_at g.R.Read.remaining c.args.input.now g.W.Write.contents c.args.output.now g.H.Host.files g.H.Host.failure_count c.args.host.now)
+    (outside_at g.R.Read.remaining c.run-in-Files.new.input g.W.Write.contents c.run-in-Files.new.output g.H.Host.files g.H.Host.failure_count c.run-in-Files.new.host)
+    (account_at g.F.Write.contents c.args.faults.now) (account_at g.F.Write.contents c.run-in-Files.new.faults) c.run-in-Files.result
+    (ap work_of c.in-Files.is) (search rules)
+    (c.run-in-Files.ensures.ended (files_rule c.in-Files.format) (files_heading c.in-Files.format) (search rules))
+
+pub returns-clause-ended : goal.returns-clause-ended
+returns-clause-ended g c =
+    survey_ended c.args.job (map_rule c.in-Map.format) [] (Named (string_bytes c.in-Map.file ∷ [])) (files_in c.new-in-Map.result.names)
+    (outside_at g.R.Read.remaining c.args.input.now g.W.Write.contents c.args.output.now g.H.Host.files g.H.Host.failure_count c.args.host.now)
+    (outside_at g.R.Read.remaining c.run-in-Map.new.input g.W.Write.contents c.run-in-Map.new.output g.H.Host.files g.H.Host.failure_count c.run-in-Map.new.host)
+    (account_at g.F.Write.contents c.args.faults.now) (account_at g.F.Write.contents c.run-in-Map.new.faults) c.run-in-Map.result
+    (ap work_of c.in-Map.is) (search rules)
+    (c.run-in-Map.ensures.ended (map_rule c.in-Map.format) [] (search rules))
