@@ -1,13 +1,14 @@
 """A plain model of surveys of dumps, written from the specification and not from the code: what is on a dump, what is wrong with it, which of its files
-are whole, and what `d64sh check` prints of it. It is slow and simple: it lists each block's owners, all of them.
+are whole, and what `d64sh check`, `files`, `map` and `diff` print of it. It is slow and simple: it lists each block's owners, all of them.
 """
 import functools
 import hashlib
 import json
 import re
 from collections import Counter, namedtuple
+from xml.etree import ElementTree
 
-from disk_model import BLANK, DEL, DIRECTORY, MAP, REL, USR, Disk, Slot, up_to_filler
+from disk_model import BLANK, DEL, DIRECTORY, MAP, REL, SECTORS, USR, Disk, Slot, up_to_filler
 from text_form import to_text
 
 # How many tracks a dump of each length has, and whether codes follow its image.
@@ -19,7 +20,16 @@ WORDS = ("open", "kind", "chain", "shared", "error", "size", "geos")
 MOST_OWNERS, MOST_NAME, SHOWN_OF_LONGER, LIMIT = 8, 4_096, 64, 16_777_216
 
 COLUMNS = ("image", "tracks", "codes", "name", "id", "dos", "entries", "whole", "free", "unowned", "sound", "amiss", "faults", "read_errors")
+COLUMNS_OF_FILES = ("image", "slot", "name", "field", "kind", "type", "closed", "locked", "size", "first", "record", "blocks", "side", "bytes", "sha256",
+                    "whole", "why", "conditions", "read_errors")
+KIND_WORDS = ("del", "seq", "prg", "usr", "rel")
 MARKS_OF_DIRECTION = {0x61C, 0x200E, 0x200F, *range(0x202A, 0x202F), *range(0x2066, 0x206A)}
+
+# The most bytes of a picture, its elements, and what the title of a block says by the character that the map has for it.
+MOST_OF_PICTURE, SVG = 204_800, "{http://www.w3.org/2000/svg}"
+WORDS_OF_MARKS = {"-": lambda text: text == "free", "#": lambda text: text.startswith('belongs to ') and '"' in text,
+                  "=": lambda text: text in ("belongs to the map", "belongs to the directory"), "?": lambda text: text.startswith("marked used"),
+                  "!": lambda text: text.startswith(("shared by", "marked free, but")), "x": lambda text: text.startswith("could not be read")}
 
 # The blocks along the links from a pair, how that ends (`end`, `loop` or `off`), and the pair at which it does.
 Way = namedtuple("Way", "blocks end to")
@@ -44,7 +54,7 @@ class Survey:
     def __init__(self, data):
         self.tracks, self.has_codes = KINDS_OF_DUMPS[len(data)]
         size = len(BLANK[self.tracks])
-        self.disk, self.codes, self.known_ways = Disk(data[:size]), data[size:], {}
+        self.disk, self.codes, self.known_ways, self.known_contents = Disk(data[:size]), data[size:], {}, {}
         self.directory = self.way(DIRECTORY)
         blocks = [(pair, self.disk.block(pair)) for pair in self.directory.blocks]
         slots = [Slot(pair, place, block[32 * place:32 * place + 32]) for pair, block in blocks for place in range(8)]
@@ -173,6 +183,68 @@ class Survey:
     def is_amiss(self):
         return bool(self.faults or self.errors or self.not_whole)
 
+    @property
+    def is_list_cut(self):
+        """Whether files may be missing from the directory."""
+        return self.directory.end != "end" or any(pair in self.errors for pair in (MAP, *self.directory.blocks))
+
+    @property
+    def is_list_amiss(self):
+        return self.is_list_cut or self.not_whole > 0
+
+    def content(self, slot):
+        """How many bytes the content of a slot's file has, and its digest, or None twice where it has none."""
+        way = self.ways_of(slot).get("data")
+        if way is None or way.end != "end":
+            return None, None
+        if slot.first not in self.known_contents:
+            content = self.disk.content(way.blocks)
+            self.known_contents[slot.first] = len(content), hashlib.sha256(content).hexdigest()
+        return self.known_contents[slot.first]
+
+    def conditions(self, slot):
+        """The numbers of the faults of files and blocks that name a slot."""
+        ways = self.ways_of(slot).values()
+        blocks = [pair for way in ways for pair in way.blocks]
+        holds = {3: slot.kind > REL, 4: any(way.end != "end" for way in ways), 5: any(len(self.owners[pair]) > 1 for pair in blocks),
+                 6: any(pair in self.free for pair in blocks)}
+        return [number for number in holds if holds[number]]
+
+    def file(self, number, slot, why):
+        """The members of the object that `files` prints of a used slot, but for the image's name."""
+        ways, (size, digest) = self.ways_of(slot), self.content(slot)
+        blocks = {what: len(way.blocks) for what, way in ways.items()}
+        whole = None if why in (None, ["geos"]) else not why
+        return {"slot": number, "name": self.names[number], "field": slot.data[5:21].hex(), "kind": KIND_WORDS[slot.kind] if slot.kind <= REL else None,
+                "type": slot.data[2], "closed": slot.closed, "locked": slot.locked, "size": slot.size, "first": pair_text(slot.first),
+                "record": slot.data[0x17] if slot.kind == REL else None, "blocks": blocks.get("data"), "side": blocks.get("side"),
+                "bytes": size, "sha256": digest, "whole": whole, "why": why or [], "conditions": self.conditions(slot),
+                "read_errors": len({pair for way in ways.values() for pair in way.blocks if pair in self.errors})}
+
+    @functools.cached_property
+    def files(self):
+        return [self.file(number, slot, why) for (number, slot), why in zip(self.entries, self.all_why)]
+
+    # The picture
+
+    def mark(self, pair):
+        """The character of a block in the map."""
+        owners, is_free = self.owners.get(pair, []), pair in self.free
+        mark = "-" if is_free else ""
+        if len(owners) == 1:
+            mark = "#"
+        if any(owner.what in ("map", "directory") for owner in owners):
+            mark = "="
+        if not is_free and not owners:
+            mark = "?"
+        if len(owners) > 1 or owners and is_free:
+            mark = "!"
+        return "x" if pair in self.errors else mark
+
+    def rows_of_map(self):
+        """The characters of each track."""
+        return [(track, "".join(self.mark((track, sector)) for sector in range(SECTORS[track]))) for track in range(1, self.tracks + 1)]
+
     def told(self):
         """The members of the object that `check` prints, but for the image's name."""
         head = self.disk.block(MAP)
@@ -232,6 +304,10 @@ def csv_header(digest=False):
     return csv_line([*COLUMNS, *["sha256"] * digest, "error"])
 
 
+def files_header():
+    return csv_line([*COLUMNS_OF_FILES, "error"])
+
+
 def error_of(data):
     """Why a file isn't answered, if so: it is None where it cannot be read."""
     if data is None or len(data) > LIMIT:
@@ -262,17 +338,81 @@ def check_csv(name, data, digest=False):
     return csv_line([*(told[column] for column in COLUMNS), *[hashlib.sha256(data).hexdigest()] * digest, None])
 
 
+def error_json(name, data):
+    """The line in JSON of a file that isn't answered."""
+    error = error_of(data)
+    return json_line({"image": name.decode(errors="replace"), "error": error, **({"length": len(data)} if error == "wrong length" else {})})
+
+
+def files_json(name, data):
+    """The lines of the files of a dump in JSON."""
+    if error_of(data):
+        return error_json(name, data)
+    image = {"image": name.decode(errors="replace")}
+    return "".join(json_line({**image, **file}) for file in survey_of(data).files)
+
+
+def files_csv(name, data):
+    """The rows of the files of a dump."""
+    name, error = name.decode(errors="replace"), error_of(data)
+    if error:
+        return csv_line([name, *[None] * (len(COLUMNS_OF_FILES) - 1), error])
+    rows = ({"image": name, **file, "why": " ".join(file["why"]), "conditions": " ".join(map(str, file["conditions"]))} for file in survey_of(data).files)
+    return "".join(csv_line([*(row[column] for column in COLUMNS_OF_FILES), None]) for row in rows)
+
+
+def header_of(command, digest=False):
+    """The header row of a command in CSV."""
+    return files_header() if command == "files" else csv_header(digest)
+
+
+def answer_of(command, form, name, data, digest=False):
+    """What a command prints of a file in JSON or CSV."""
+    if command == "files":
+        return (files_json if form == "json" else files_csv)(name, data)
+    return (check_json if form == "json" else check_csv)(name, data, digest)
+
+
+def diff_json(old_name, old, new_name, new):
+    """The lines of what changed from a dump to another one, in JSON."""
+    missing = [error_json(name, data) for name, data in ((old_name, old), (new_name, new)) if error_of(data)]
+    if missing:
+        return "".join(missing)
+    lines, before, after = [], survey_of(old), survey_of(new)
+    heads = [{key: survey.told()[key] for key in ("tracks", "codes", "name", "id", "dos", "free")} for survey in (before, after)]
+    if heads[0] != heads[1]:
+        lines.append({"change": "disk", "old": heads[0], "new": heads[1]})
+    files = [{file["slot"]: {key: value for key, value in file.items() if key != "slot"} for file in survey.files} for survey in (before, after)]
+    for slot in sorted({*files[0], *files[1]}):
+        one, other = (some.get(slot) for some in files)
+        if one != other:
+            lines.append({"slot": slot, "change": "added" if one is None else "removed" if other is None else "changed", "old": one, "new": other})
+    blocks = [pair for pair in max(before, after, key=lambda survey: survey.tracks).disk.pairs
+              if not before.disk.holds(pair) or not after.disk.holds(pair) or before.disk.block(pair) != after.disk.block(pair)]
+    if blocks:
+        lines.append({"change": "blocks", "blocks": list(map(pair_text, blocks))})
+    if before.has_codes and after.has_codes:
+        codes = [pair_text(pair) for pair, one, other in zip(before.disk.pairs, before.codes, after.codes) if one != other and (one > 1 or other > 1)]
+        if codes:
+            lines.append({"change": "codes", "blocks": codes})
+    return "".join(map(json_line, lines))
+
+
+def status_of_diff(old, new):
+    return 2 if error_of(old) or error_of(new) else int(old != new)
+
+
 def error_line(name, data):
     """The line on the standard error of a file that isn't answered, but for what it seems to be, or nothing."""
     error = error_of(data)
     return f"d64sh: {shown(name)}: {error}{f' {len(data)}' if error == 'wrong length' else ''}\n" if error else ""
 
 
-def status_of(all_data):
-    """The exit status of a run over these files."""
+def status_of(all_data, command="check"):
+    """The exit status of a run of a command over these files."""
     if any(error_of(data) for data in all_data):
         return 2
-    return 1 if any(survey_of(data).is_amiss for data in all_data) else 0
+    return int(any(survey_of(data).is_list_amiss if command == "files" else survey_of(data).is_amiss for data in all_data))
 
 
 # Texts, which are free but for these
@@ -299,8 +439,32 @@ def is_first_line(line, name, data):
     return is_told and end.startswith("sound") == told["sound"] and numbers_in(end) == counts
 
 
+def is_file_line(line, file):
+    """Whether a line of text may tell of a file: its size, name and kind, and whether it is whole."""
+    begin = f'{file["size"]:>5} "{file["name"]}"'
+    rest = line[len(begin):].split(maxsplit=1)
+    return line.startswith(begin) and len(rest) == 2 and rest[0] == (file["kind"] or "???") and (rest[1].split(",")[0] == "whole") == (file["whole"] is True)
+
+
 def numbers_in(text):
     return [int(number) for number in re.findall("[0-9]+", text)]
+
+
+# Pictures, which are free but for these
+
+def difference_of_picture(data, text):
+    """How a picture differs from what must come of it, or None: it is XML, fetches and runs nothing, and has a title for each block, which says its state."""
+    survey, root = survey_of(data), ElementTree.fromstring(text)
+    if len(text) > MOST_OF_PICTURE or root.tag != SVG + "svg" or not root.get("viewBox"):
+        return f"the picture has {len(text)} bytes, and begins with {root.tag}"
+    if any(element.tag in (SVG + "script", SVG + "image", SVG + "a") or "href" in key for element in root.iter() for key in ("", *element.attrib)):
+        return "the picture fetches or runs something"
+    titles = [title.text for element in root.iter() if element is not root for title in element.findall(SVG + "title")]
+    told = dict(title.split(": ", 1) for title in titles)
+    if len(titles) != len(told) or list(told) != list(map(pair_text, survey.disk.pairs)):
+        return f"the picture has {len(titles)} titles of blocks"
+    return next((f"of {pair} the picture says {told[pair_text(pair)]!r}" for pair in survey.disk.pairs
+                 if not WORDS_OF_MARKS[survey.mark(pair)](told[pair_text(pair)])), None)
 
 
 # What came of a run
