@@ -1,7 +1,6 @@
 -- What commands do, and when they are refused: a table with a row for each command.
 use Rattle.std.specs.Prelude.{◌≡◌, ℕ, ◌<◌, List, length, filter, Option, None, Some, IsSome, MatchOption}
 use Rattle.d64_image.specs.Disk.{Disk, Bytes}
-use Rattle.d64_image.specs.Disk.{Disk, Bytes}
 use Rattle.d64_image.specs.Image.{with_sector}
 use Rattle.d64_effects.specs.Contents.{names_and_contents}
 use Rattle.d64_effects.specs.ContentsAfter.{is_scratched_row}
@@ -31,13 +30,11 @@ pub record Promise : Type 0 where
   pub shows : View → View
 
 -- a command: of an image, the first refusal that applies, the image that it leaves, in which every byte that the command does not name is
--- as before, and the reply; and what it promises of the disk's files. A command that is no file command promises nothing.
--- And the block that a command names by itself, where it names one
+-- as before, and the reply; and the block that a command names by itself, where it names one
 pub record Row : Type 0 where
   pub refusal : Disk → Option Refusal
   pub effect : Disk → Disk
   pub reply : Disk → Reply
-  pub promise : Option Promise
   pub block : Option ℕ
 
 -- how many files of the directory's list patterns scratch
@@ -50,44 +47,48 @@ row (Format name id) = record {
   refusal = λ image. None;
   effect = λ image. formatted (length image) name id;
   reply = λ image. Done;
-  promise = Some (record { start = AnyDisk; reply = λ old. Done; shows = λ old. formatted_view old.count name id });
   block = None;
 }
 row (Write name kind bytes) = record {
   refusal = λ image. write_refusal image name kind (length bytes);
   effect = λ image. written image name kind bytes;
   reply = λ image. Done;
-  promise = Some (record { start = SoundDisk; reply = λ old. Done; shows = λ old. written_view old name kind bytes });
   block = None;
 }
 row (Delete patterns) = record {
   refusal = unsound_refusal;
   effect = λ image. scratched image patterns;
   reply = λ image. Scratched (scratched_count image patterns);
-  promise = Some (record { start = SoundDisk; reply = λ old. Scratched (scratched_of old patterns); shows = λ old. scratched_view old patterns });
   block = None;
 }
 row (Rename old new) = record {
   refusal = λ image. rename_refusal image old new;
   effect = λ image. renamed image old new;
   reply = λ image. Done;
-  promise = Some (record { start = SoundDisk; reply = λ shown. Done; shows = λ shown. renamed_view shown old new });
   block = None;
 }
 row Validate = record {
   refusal = validate_refusal;
   effect = validated;
   reply = λ image. Done;
-  promise = Some (record { start = AnyDisk; reply = λ old. Done; shows = validated_view });
   block = None;
 }
 row (BlockWrite at block) = record {
   refusal = λ image. None;
   effect = λ image. with_sector image at block;
   reply = λ image. Done;
-  promise = None;
   block = Some at;
 }
+
+-- what a command promises of the disk's files; a command that is no file command promises nothing
+abbrev pub promise_of : Change → Option Promise
+promise_of (Format name id) = Some (record { start = AnyDisk; reply = λ old. Done; shows = λ old. formatted_view old.count name id })
+promise_of (Write name kind bytes) = Some (record { start = SoundDisk; reply = λ old. Done; shows = λ old. written_view old name kind bytes })
+promise_of (Delete patterns) =
+    Some (record { start = SoundDisk; reply = λ old. Scratched (scratched_of old patterns); shows = λ old. scratched_view old patterns })
+promise_of (Rename old new) = Some (record { start = SoundDisk; reply = λ shown. Done; shows = λ shown. renamed_view shown old new })
+promise_of Validate = Some (record { start = AnyDisk; reply = λ old. Done; shows = validated_view })
+promise_of (BlockWrite at block) = None
 
 -- the first refusal of a command that applies to the image, and none where the command is to be accepted
 abbrev pub refusal_of : Disk → Change → Option Refusal
@@ -107,7 +108,7 @@ IsWithin image change = MatchOption (row change).block (Unit {0}) (λ block. blo
 
 -- a command that changes the files of a disk; a block write promises nothing of them
 abbrev pub IsFileCommand : Change → Type 0
-IsFileCommand change = IsSome (row change).promise
+IsFileCommand change = IsSome (promise_of change)
 
 -- the images from which a promise holds
 abbrev pub IsStart : Start → Disk → Type 0
@@ -116,8 +117,8 @@ IsStart SoundDisk image = IsSound image
 
 -- the images from which a file command is promised to leave a sound disk
 abbrev pub StartsFrom : Change → Disk → Type 0
-StartsFrom change image = MatchOption (row change).promise ⊥ (λ promise. IsStart promise.start image)
+StartsFrom change image = MatchOption (promise_of change) ⊥ (λ promise. IsStart promise.start image)
 
 -- what a disk shows before a file command, the reply, and what it shows after it
 abbrev pub ViewStep : View → Change → Reply → View → Type 0
-ViewStep old change reply new = MatchOption (row change).promise ⊥ (λ promise. (reply ≡ promise.reply old) × (new ≡ promise.shows old))
+ViewStep old change reply new = MatchOption (promise_of change) ⊥ (λ promise. (reply ≡ promise.reply old) × (new ≡ promise.shows old))

@@ -11,7 +11,9 @@ ghost use Rattle.d64_dos.specs.WriteRefusal.{has_room, is_writable, write_refusa
 use crate::plan::take_plan;
 use crate::refusal::Refusal;
 use arrayvec::ArrayVec;
-use d64_files::{Directory, Kind, Name, blocks_for, checked, grow_after, put_chain, put_entry_at};
+use d64_files::{
+    ClosedFile, Directory, Kind, Name, blocks_for, checked, grow_after, put_chain, put_entry_at,
+};
 use d64_image::{BLOCKS, BlockNo, BlockSet, Image, Patch};
 use d64_map::laws::plan_takes_free_blocks;
 use d64_map::{free_set, pick_dir, put_map};
@@ -109,23 +111,18 @@ fn put_new_entry(
     image: &mut Image,
     patch: &mut Patch,
     place: Place,
-    name: &Name,
-    kind: Kind,
-    first: BlockNo,
-    blocks: u16,
+    file: &ClosedFile,
 ) -> Result<(), AllocError>
     requires { IsPlace image.old (free_blocks image.old) place }
-    ensures written { OnOk result (image.new ≡ with_new_entry image.old (entry_bytes name.now kind first blocks)) }
+    ensures written { OnOk result (image.new ≡ with_new_entry image.old (entry_bytes file.now.name.now file.now.kind file.now.first file.now.blocks)) }
     ensures back { back image.new patch.new ≡ back image.old patch.old }
     ensures held { IsPatchOf image.old patch.old → IsPatchOf image.new patch.new }
 {
     match place {
-        Place::Vacant { block, index } => {
-            put_entry_at(image, patch, block, index, name, kind, first, blocks)
-        }
+        Place::Vacant { block, index } => put_entry_at(image, patch, block, index, file),
         Place::New { last, block } => {
             grow_after(image, patch, last, block)?;
-            put_entry_at(image, patch, block, 0, name, kind, first, blocks)
+            put_entry_at(image, patch, block, 0, file)
         }
     }
 }
@@ -146,15 +143,13 @@ fn put_file(
 {
     plan_takes_free_blocks();
     let blocks = space.blocks.as_slice();
-    put_new_entry(
-        image,
-        patch,
-        space.place,
+    let file = ClosedFile {
         name,
         kind,
-        blocks[0],
-        blocks.len() as u16,
-    )?;
+        first: blocks[0],
+        blocks: blocks.len() as u16,
+    };
+    put_new_entry(image, patch, space.place, &file)?;
     put_chain(image, patch, blocks, bytes)?;
     put_map(image, patch, &space.free)
 }

@@ -42,5 +42,5 @@ pub use slots::{SLOTS_PER_BLOCK, Slots, entry_in};
 pub use soundness::{check, checked, owned, slot_blocks};
 pub use vacancy::{dir_last, first_empty, is_taken};
 pub use writing::{
-    blocks_for, empty_directory, grow, grow_after, put_chain, put_entry, put_entry_at,
+    ClosedFile, blocks_for, empty_directory, grow, grow_after, put_chain, put_entry, put_entry_at,
 };

@@ -61,6 +61,17 @@ fn write_entry(
     write_at(block, start + 28, &blocks.to_le_bytes());
 }
 
+/// A closed file as its entry in the directory tells it, without side blocks.
+#[derive(Clone, Copy)]
+pub struct ClosedFile<'n> {
+    pub name: &'n Name,
+    pub kind: Kind,
+    /// The first block of its data.
+    pub first: BlockNo,
+    /// The size that the directory shows, in blocks.
+    pub blocks: u16,
+}
+
 /// Writes the entry of a closed file into one of the eight slots of a block of the directory, which the image has, which are counted from 0:
 /// its kind, its first block, its name, no side blocks, and the size in blocks that the directory shows. Every other
 /// byte of the image stays.
@@ -72,20 +83,24 @@ pub fn put_entry_at(
     patch: &mut Patch,
     block: BlockNo,
     index: usize,
-    name: &Name,
-    kind: Kind,
-    first: BlockNo,
-    blocks: u16,
+    file: &ClosedFile,
 ) -> Result<(), AllocError>
     requires block { block < length image.old }
     requires slot { index < 8 }
-    ensures written { OnOk result (image.new ≡ with_bytes image.old block (32 * index + 2) (entry_bytes name.now kind first blocks)) }
+    ensures written { OnOk result (image.new ≡ with_bytes image.old block (32 * index + 2) (entry_bytes file.now.name.now file.now.kind file.now.first file.now.blocks)) }
     ensures back { back image.new patch.new ≡ back image.old patch.old }
     ensures held { IsPatchOf image.old patch.old → IsPatchOf image.new patch.new }
 {
     let start = SLOT_BYTES * index + 2;
     let mut bytes = *image.sector(block);
-    write_entry(&mut bytes, start, name, kind, first, blocks);
+    write_entry(
+        &mut bytes,
+        start,
+        file.name,
+        file.kind,
+        file.first,
+        file.blocks,
+    );
     patch.write(image, block, &bytes)
 }
 
@@ -112,7 +127,13 @@ pub fn put_entry(
 {
     let block = block_of_slot(image, slot);
     let index = slot.place() % SLOTS_PER_BLOCK;
-    put_entry_at(image, patch, block, index, name, kind, first, blocks)
+    let file = ClosedFile {
+        name,
+        kind,
+        first,
+        blocks,
+    };
+    put_entry_at(image, patch, block, index, &file)
 }
 
 /// A block of a file that another one follows: the link to that one, and the first 254 of the bytes.

@@ -19,7 +19,7 @@ returns-in-Vacant-clause-written c =
 
 pub returns-in_ok-grow_after-in-New-clause-written : goal.returns-in_ok-grow_after-in-New-clause-written
 returns-in_ok-grow_after-in-New-clause-written c =
-    let entry : List ℕ = entry_bytes c.args.name.now c.args.kind c.args.first c.args.blocks in
+    let entry : List ℕ = entry_bytes c.args.file.now.name.now c.args.file.now.kind c.args.file.now.first c.args.file.now.blocks in
     let grown = c.in_ok-grow_after-in-New.ensures.written in
     on_ok_weaker c.put_entry_at-in-New.result
     (λ written. written

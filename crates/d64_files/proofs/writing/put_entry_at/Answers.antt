@@ -6,7 +6,7 @@ use Rattle.d64_files.proofs.writing.put_entry_at.Goals as goal
 
 pub returns-clause-written : goal.returns-clause-written
 returns-clause-written c =
-    let entry : List ℕ = entry_bytes c.args.name.now c.args.kind c.args.first c.args.blocks in
+    let entry : List ℕ = entry_bytes c.args.file.now.name.now c.args.file.now.kind c.args.file.now.first c.args.file.now.blocks in
     on_ok_weaker c.write.result
     (λ written.
     written
