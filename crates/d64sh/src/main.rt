@@ -1,6 +1,7 @@
 //! The program `d64sh`: hands its words, its streams and the files of the system to the shell.
 #![tactic(auto)]
 
+mod progress;
 mod retrying;
 mod within_limit;
 
@@ -8,20 +9,24 @@ use d64_host::{SizeLimit, StandardStream};
 use d64_script::input::InputStream;
 use d64_script::output::OutputStream;
 use d64_shell::{FolderHost, ProgramFault, program_on};
+use progress::{ProgressLine, WatchedHost, WipingWriter};
 use retrying::Retrying;
 use std::env;
-use std::io::{self, BufWriter, ErrorKind, Write};
+use std::io::{self, BufWriter, ErrorKind, IsTerminal, Write};
 use std::process::ExitCode;
 use within_limit::WithinLimit;
 
 fn main(rt: HostRuntime) -> ExitCode {
     let limit = SizeLimit::of_process(&rt);
-    let mut errors = Retrying(WithinLimit::new(&rt, limit, StandardStream::Error, rt.stderr()));
+    let line = ProgressLine::new(&rt, rt.stderr().is_terminal() && !rt.stdout().is_terminal());
+    let errors = Retrying(WithinLimit::new(&rt, limit, StandardStream::Error, rt.stderr()));
+    let mut errors = WipingWriter::new(&line, errors);
     let mut faults = OutputStream::new(&mut errors);
-    let status = match start(&rt, limit, &mut faults) {
+    let status = match start(&rt, limit, &line, &mut faults) {
         Ok(status) => status,
         Err(fault) => fault.report_on(&mut faults),
     };
+    line.wipe();
     ExitCode::from(status)
 }
 
@@ -29,6 +34,7 @@ fn main(rt: HostRuntime) -> ExitCode {
 fn start<E: Write>(
     rt: &HostRuntime,
     limit: SizeLimit,
+    line: &ProgressLine<HostRuntime>,
     faults: &mut OutputStream<'_, E>,
 ) -> Result<u8, ProgramFault> {
     let arguments = env::args(rt).map_err(fault_of_words)?;
@@ -46,7 +52,7 @@ fn start<E: Write>(
         &mut InputStream::new(&mut input),
         &mut OutputStream::new(&mut output),
         faults,
-        &mut FolderHost::new(rt),
+        &mut WatchedHost::new(line, FolderHost::new(rt)),
     ))
 }
 

@@ -1,0 +1,142 @@
+//! How many files of a long run are done, on one line of a terminal that is written over and wiped at the end.
+
+ghost use Rattle.std.specs.Io.{WritesAtMost};
+ghost use Rattle.std.specs.Io.KnownBytes.{WriteAppends, Keeps};
+
+use d64_host::{Host, HostFault};
+use std::alloc::Global;
+use std::cell::Cell;
+use std::io::{self, Eprint, Write};
+use std::rt::Clock;
+use std::time::Instant;
+
+/// The milliseconds between two lines: at most ten come in a second.
+const PAUSE: u128 = 100;
+
+/// The line of a terminal, where one is wanted. It is written over, and wiped before anything else is written there.
+#[derive(Drop)]
+pub(crate) struct ProgressLine<'a, R> {
+    rt: &'a R,
+    is_wanted: bool,
+    told: Cell<Option<Instant>>,
+    is_shown: Cell<bool>,
+}
+
+impl<'a, R: Clock + Eprint> ProgressLine<'a, R> {
+    /// A line on which nothing is shown yet.
+    pub(crate) fn new(rt: &'a R, is_wanted: bool) -> ProgressLine<'a, R> {
+        ProgressLine {
+            rt,
+            is_wanted,
+            told: Cell::new(None),
+            is_shown: Cell::new(false),
+        }
+    }
+
+    /// Shows how many files are done, where the last line is old enough; the first one comes that long after the first call.
+    fn show(&self, done: u64) {
+        if !self.is_wanted || !self.is_due() {
+            return;
+        }
+        if done > 0 {
+            let noun = if done == 1 { "file" } else { "files" };
+            let _ = eprint!(self.rt; "\r{done} {noun} done\x1b[K");
+            self.is_shown.set(true);
+        }
+        self.told.set(Instant::now(self.rt).ok());
+    }
+
+    /// Whether the last line is old enough, or there was none.
+    fn is_due(&self) -> bool {
+        match self.told.get() {
+            Some(told) => match told.elapsed(self.rt) {
+                Ok(passed) => passed.as_millis() >= PAUSE,
+                Err(_) => false,
+            },
+            None => true,
+        }
+    }
+
+    /// Wipes the line where it is shown.
+    pub(crate) fn wipe(&self) {
+        if self.is_shown.get() {
+            let _ = eprint!(self.rt; "\r\x1b[K");
+            self.is_shown.set(false);
+        }
+    }
+}
+
+/// A host of which each file that is read for a survey counts as one that is shown on the line.
+#[derive(Drop)]
+pub(crate) struct WatchedHost<'a, R, H> {
+    line: &'a ProgressLine<'a, R>,
+    host: H,
+    done: u64,
+}
+
+impl<'a, R, H> WatchedHost<'a, R, H> {
+    /// A host of which no file was read.
+    pub(crate) fn new(line: &'a ProgressLine<'a, R>, host: H) -> WatchedHost<'a, R, H> {
+        WatchedHost {
+            line,
+            host,
+            done: 0,
+        }
+    }
+}
+
+impl<'a, R: Clock + Eprint, H: Host> Host for WatchedHost<'a, R, H> {
+    ghost files = { λ watched. H.files watched.host };
+
+    ghost failure_count = { λ watched. H.failure_count watched.host };
+
+    fn fetch(&mut self, alloc: Global, name: &str, limit: usize) -> Result<Vec<u8>, HostFault> {
+        self.host.fetch(alloc, name, limit)
+    }
+
+    fn fill(&mut self, name: &str, limit: usize, bytes: &mut Vec<u8>) -> Result<(), HostFault> {
+        self.line.show(self.done);
+        let outcome = self.host.fill(name, limit, bytes);
+        self.done = self.done.saturating_add(1);
+        outcome
+    }
+
+    fn store(&mut self, alloc: Global, name: &str, bytes: &[u8]) -> Result<(), HostFault> {
+        self.host.store(alloc, name, bytes)
+    }
+
+    fn failures(&self) -> u64 {
+        self.host.failures()
+    }
+}
+
+/// A writer to the terminal, on which the line is wiped first.
+#[derive(Drop)]
+pub(crate) struct WipingWriter<'a, R, W> {
+    line: &'a ProgressLine<'a, R>,
+    writer: W,
+}
+
+impl<'a, R, W> WipingWriter<'a, R, W> {
+    pub(crate) fn new(line: &'a ProgressLine<'a, R>, writer: W) -> WipingWriter<'a, R, W> {
+        WipingWriter { line, writer }
+    }
+}
+
+impl<'a, R: Clock + Eprint, W: Write> Write for WipingWriter<'a, R, W> {
+    ghost contents = { λ wiping. W.contents wiping.writer };
+
+    fn write(&mut self, bytes: &[u8]) -> io::Result<usize>
+        ensures bound { WritesAtMost result bytes.now }
+        ensures bytes { WriteAppends (W.contents self.old.writer) (W.contents self.new.writer) result bytes.now }
+    {
+        self.line.wipe();
+        self.writer.write(bytes)
+    }
+
+    fn flush(&mut self) -> io::Result<()>
+        ensures { Keeps (W.contents self.old.writer) (W.contents self.new.writer) }
+    {
+        self.writer.flush()
+    }
+}
