@@ -6,7 +6,7 @@ ghost use Rattle.d64_report.specs.Names.{name_value};
 
 use crate::member::put_text;
 use json::Writer;
-use petscii::to_text;
+use petscii::push_spelling;
 use std::alloc::AllocError;
 use std::str;
 
@@ -19,8 +19,8 @@ fn spelling_is_ascii(bytes: &[u8])
 pub(crate) fn spell(text: &mut Vec<u8>, name: &[u8]) -> Result<(), AllocError>
     ensures { OnOk result (text.new.items ≡ spelling name.now) }
 {
-    *text = to_text(*text.allocator(), name)?;
-    Ok(())
+    text.clear();
+    push_spelling(text, name)
 }
 
 /// Prints a member whose value is a name of the disk, in text form.

@@ -7,11 +7,12 @@ ghost use Rattle.d64_wording.specs.Words.{line_below};
 use crate::fault_text::{push_fault, push_read_error};
 use crate::file_text::push_file_lines;
 use crate::shown::push_shown;
-use crate::words::{LINE_END, LINE_START, push_count, push_quoted, push_spelling};
+use crate::words::{LINE_END, LINE_START, push_count, push_quoted};
 use d64_image::Image;
 use d64_map::blocks_free;
 use d64_names::{disk_id, disk_name};
 use d64_survey::{Fault, Inspection, ReadError, Survey};
+use petscii::push_spelling;
 use std::alloc::AllocError;
 
 /// Adds the disk's name and its id.

@@ -20,5 +20,6 @@ pub use guess::{Guess, guess_of};
 pub use image_text::{check_text, push_contents, push_label, push_state};
 pub use number::push_number;
 pub use owner_text::push_owners;
+pub use petscii::push_spelling;
 pub use shown::push_shown;
-pub use words::{push_block, push_count, push_quoted, push_spelling};
+pub use words::{push_block, push_count, push_quoted};

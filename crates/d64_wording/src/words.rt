@@ -6,21 +6,13 @@ ghost use Rattle.d64_wording.specs.Words.{plural_of, count_of, pair_text, block_
 
 use crate::number::push_number;
 use d64_image::BlockNo;
-use petscii::to_text;
+use petscii::push_spelling;
 use std::alloc::AllocError;
 
 /// What a line below that of the image begins with, and what it ends with.
 pub(crate) const LINE_START: &[u8] = b"  ";
 
 pub(crate) const LINE_END: &[u8] = b"\n";
-
-/// Adds bytes of the disk in text form.
-pub fn push_spelling(out: &mut Vec<u8>, bytes: &[u8]) -> Result<(), AllocError>
-    ensures { OnOk result (out.new.items ≡ out.old.items ++ spelling bytes.now) }
-{
-    let text = to_text(*out.allocator(), bytes)?;
-    out.extend_from_slice(text.as_slice())
-}
 
 /// Adds a name of the disk in text form, between quotes.
 #[tactic(auto, unfolding(crate::specs::Names::quoted))]

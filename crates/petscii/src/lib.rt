@@ -16,4 +16,4 @@ mod unit;
 
 pub use fault::TextFault;
 pub use laws::{one_outcome, spelling_reads_back};
-pub use text::{from_text, to_text};
+pub use text::{from_text, push_spelling, to_text};

@@ -15,20 +15,30 @@ use std::alloc::{AllocError, Global};
 /// braces, else its value as `{$xx}`, two hexadecimal digits in small letters.
 ///
 /// An `Err` comes only where there is no memory for the text.
-#[tactic(auto, unfolding(crate::specs::Spelling::spelling))]
 pub fn to_text(alloc: Global, bytes: &[u8]) -> Result<Vec<u8>, AllocError>
     ensures spelled { IfOk result (λ text. text.items ≡ spelling bytes.now) }
 {
     let mut text = Vec::new(alloc);
-    for byte in bytes {
-        push_spelling(&mut text, *byte)?;
-    }
+    push_spelling(&mut text, bytes)?;
     Ok(text)
+}
+
+/// Adds the text of bytes of PETSCII, as `to_text` writes it, to a text. It asks for memory only where the text has no room for it.
+///
+/// An `Err` comes only where there is no memory for the text.
+#[tactic(auto, unfolding(crate::specs::Spelling::spelling))]
+pub fn push_spelling(text: &mut Vec<u8>, bytes: &[u8]) -> Result<(), AllocError>
+    ensures { OnOk result (text.new.items ≡ text.old.items ++ spelling bytes.now) }
+{
+    for byte in bytes {
+        push_unit(text, *byte)?;
+    }
+    Ok(())
 }
 
 /// Adds the text of one byte.
 #[tactic(auto, unfolding(crate::specs::Spelling::spell))]
-pub(crate) fn push_spelling(text: &mut Vec<u8>, byte: u8) -> Result<(), AllocError>
+pub(crate) fn push_unit(text: &mut Vec<u8>, byte: u8) -> Result<(), AllocError>
     ensures spelled { OnOk result (text.new.items ≡ text.old.items ++ spell byte) }
 {
     if let Some(shown) = character_of(byte) {

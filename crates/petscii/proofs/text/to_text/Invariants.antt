@@ -1,6 +1,0 @@
-use Rattle.std.proofs.Common.{◌≡◌, take}
-use Rattle.petscii.specs.Spelling.{spelling}
-use Rattle.petscii.proofs.text.to_text.Given as goal
-
-abbrev pub invariant-loop-byte : goal.invariant-loop-byte
-invariant-loop-byte l = l.text.items ≡ spelling (take l.byte-index l.bytes)
