@@ -16,7 +16,7 @@ use Rattle.d64_picture.specs.declared.block_state.BlockState.TheVariants.{Free, 
 use Rattle.d64_picture.specs.States.{state_of}
 use Rattle.d64_picture.specs.declared.colour.Colour.{Colour}
 use Rattle.d64_picture.specs.Colours.{class_of, colour_of}
-use Rattle.d64_picture.specs.Markup.{attribute, element, escaped_within}
+use Rattle.d64_markup.specs.Markup.{attribute, element, escaped_within}
 use Rattle.d64_picture.specs.Shapes.{path_from, path_of}
 
 -- the place of a sector's column

@@ -15,7 +15,7 @@ use Rattle.d64_picture.specs.declared.colour.Colour.{Colour}
 use Rattle.d64_picture.specs.declared.colour.Colour.TheVariants.{Free, Unowned, System, File}
 use Rattle.d64_picture.specs.Cells.{square_of, mark_at}
 use Rattle.d64_picture.specs.Colours.{class_of, colour_of_slot}
-use Rattle.d64_picture.specs.Markup.{empty_element, escaped, shortened}
+use Rattle.d64_markup.specs.Markup.{empty_element, escaped, shortened}
 use Rattle.d64_picture.specs.Shapes.{text_at, text_of, path_of}
 
 -- the colour by which a state is explained

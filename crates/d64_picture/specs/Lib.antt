@@ -2,7 +2,6 @@ pub mod States
 pub mod MapText
 pub mod Pictures
 pub mod Quiet
-pub mod Markup
 pub mod Colours
 pub mod Shapes
 pub mod Cells

@@ -1,6 +1,6 @@
 -- Squares, marks and lines of text at places of a picture.
 use Rattle.std.specs.Prelude.{ℕ, List, [], ◌++◌, codes, decimal}
-use Rattle.d64_picture.specs.Markup.{attribute, number_attribute, element, empty_element}
+use Rattle.d64_markup.specs.Markup.{attribute, number_attribute, element, empty_element}
 use Rattle.d64_picture.specs.Colours.{class_of}
 
 -- where a path begins, and how it goes on from there

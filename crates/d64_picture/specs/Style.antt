@@ -1,6 +1,6 @@
 -- How the parts of a picture look.
 use Rattle.std.specs.Prelude.{ℕ, List, ◌++◌, codes}
-use Rattle.d64_picture.specs.Markup.{attribute, element}
+use Rattle.d64_markup.specs.Markup.{attribute, element}
 
 -- the page, texts and squares
 unfoldable pub basic_rules : List ℕ

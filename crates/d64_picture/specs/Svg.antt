@@ -9,7 +9,7 @@ use Rattle.d64_wording.specs.Shown.{shown}
 use Rattle.d64_wording.specs.CheckText.{label_text, contents_text, state_text}
 use Rattle.d64_picture.specs.Cells.{column_x, row_y, cells}
 use Rattle.d64_picture.specs.Legend.{shown_files, rows_below, legend}
-use Rattle.d64_picture.specs.Markup.{attribute, number_attribute, element, empty_element, escaped, held, shortened}
+use Rattle.d64_markup.specs.Markup.{attribute, number_attribute, element, empty_element, escaped, held, shortened}
 use Rattle.d64_picture.specs.Shapes.{text_at, text_of}
 use Rattle.d64_picture.specs.Style.{style}
 

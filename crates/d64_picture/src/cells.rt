@@ -7,9 +7,9 @@ ghost use Rattle.d64_picture.specs.Cells.{read_text, error_text, claim_text, mar
 
 use crate::block_state::{is_marked_free, state_of};
 use crate::colour::colour_of;
-use crate::markup::push_escaped_within;
 use crate::shapes::{push_mark, push_square_tag};
 use d64_image::BlockNo;
+use d64_markup::push_escaped_within;
 use d64_survey::{Inspection, code_of, drive_status, is_read_error};
 use d64_wording::{push_block, push_number, push_owners, push_status};
 use std::alloc::AllocError;
@@ -107,7 +107,7 @@ fn push_cell_text(
 }
 
 /// Adds what a browser shows of a block under the pointer. The text is room that is used again.
-#[tactic(auto, unfolding(crate::specs::Cells::cell_title, crate::specs::Markup::element, crate::specs::Markup::tag))]
+#[tactic(auto, unfolding(crate::specs::Cells::cell_title, d64_markup::specs::Markup::element, d64_markup::specs::Markup::tag))]
 fn push_title(
     out: &mut Vec<u8>,
     inspection: &Inspection,
@@ -124,7 +124,7 @@ fn push_title(
 }
 
 /// Adds the square of a block at a place, and what is said of it.
-#[tactic(auto, unfolding(crate::specs::Cells::cell_square, crate::specs::Markup::element))]
+#[tactic(auto, unfolding(crate::specs::Cells::cell_square, d64_markup::specs::Markup::element))]
 fn push_square(
     out: &mut Vec<u8>,
     inspection: &Inspection,

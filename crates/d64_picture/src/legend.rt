@@ -6,12 +6,12 @@ ghost use Rattle.d64_picture.specs.Legend.{sample, state_sample, state_words, st
 
 use crate::block_state::BlockState;
 use crate::colour::{Colour, colour_of_slot};
-use crate::markup::push_shortened;
 use crate::shapes::{
     push_mark, push_number_of, push_path, push_square_tag, push_text_at, push_text_of,
 };
 use d64_files::Entry;
 use d64_image::Image;
+use d64_markup::push_shortened;
 use d64_survey::Inspection;
 use d64_wording::{blocks_there, push_number, push_spelling};
 use std::alloc::AllocError;
@@ -55,7 +55,7 @@ fn state_words(state: BlockState) -> &'static [u8]
 }
 
 /// Adds a square and the mark of a state on it.
-#[tactic(auto, unfolding(crate::specs::Markup::empty_element))]
+#[tactic(auto, unfolding(d64_markup::specs::Markup::empty_element))]
 fn push_sample(out: &mut Vec<u8>, y: usize, state: BlockState) -> Result<(), AllocError>
     requires { y < 1000 }
     ensures { OnOk result (out.new.items ≡ out.old.items ++ state_sample y state) }

@@ -4,10 +4,8 @@
 mod block_state;
 mod cells;
 mod colour;
-pub mod laws;
 mod legend;
 mod map_report;
-mod markup;
 mod shapes;
 mod style;
 mod svg;

@@ -1,18 +1,18 @@
 //! Squares, marks and lines of text at places of a picture.
 ghost use Rattle.std.specs.Prelude.{◌≡◌, ◌+◌, ◌<◌, ◌++◌, [], codes, decimal, OnOk};
-ghost use Rattle.d64_picture.specs.Markup.{attribute, element, empty_element, tag, escaped};
+ghost use Rattle.d64_markup.specs.Markup.{attribute, element, empty_element, tag, escaped};
 ghost use Rattle.d64_picture.specs.Colours.{class_of};
 ghost use Rattle.d64_picture.specs.Shapes.{path_from, place_at, text_at, text_of, path_of};
 ghost use Rattle.d64_picture.specs.Cells.{square_of, mark_at};
 
 use crate::block_state::BlockState;
 use crate::colour::{Colour, push_class};
-use crate::markup::{push_attribute, push_escaped, push_number_attribute};
+use d64_markup::{push_attribute, push_escaped, push_number_attribute};
 use d64_wording::push_number;
 use std::alloc::AllocError;
 
 /// Adds where a path begins, and how it goes on from there.
-#[tactic(auto, unfolding(crate::specs::Shapes::path_from, crate::specs::Markup::attribute))]
+#[tactic(auto, unfolding(crate::specs::Shapes::path_from, d64_markup::specs::Markup::attribute))]
 fn push_path_from(out: &mut Vec<u8>, x: usize, y: usize, steps: &[u8]) -> Result<(), AllocError>
     ensures { OnOk result (out.new.items ≡ out.old.items ++ path_from x y steps.now) }
 {
@@ -34,7 +34,7 @@ fn push_place(out: &mut Vec<u8>, x: usize, y: usize) -> Result<(), AllocError>
 }
 
 /// Adds the tag of a line of text.
-#[tactic(auto, unfolding(crate::specs::Markup::tag))]
+#[tactic(auto, unfolding(d64_markup::specs::Markup::tag))]
 fn push_text_tag(out: &mut Vec<u8>, x: usize, y: usize) -> Result<(), AllocError>
     ensures { OnOk result (out.new.items ≡ out.old.items ++ tag (codes "text") (place_at x y)) }
 {
@@ -43,7 +43,7 @@ fn push_text_tag(out: &mut Vec<u8>, x: usize, y: usize) -> Result<(), AllocError
 }
 
 /// Adds the tag of a line of text of a class.
-#[tactic(auto, unfolding(crate::specs::Markup::tag))]
+#[tactic(auto, unfolding(d64_markup::specs::Markup::tag))]
 fn push_class_text_tag(
     out: &mut Vec<u8>,
     class: &[u8],
@@ -58,7 +58,7 @@ fn push_class_text_tag(
 }
 
 /// Adds a line of text, in which no byte makes markup.
-#[tactic(auto, unfolding(crate::specs::Shapes::text_at, crate::specs::Markup::element))]
+#[tactic(auto, unfolding(crate::specs::Shapes::text_at, d64_markup::specs::Markup::element))]
 pub(crate) fn push_text_at(
     out: &mut Vec<u8>,
     x: usize,
@@ -74,7 +74,7 @@ pub(crate) fn push_text_at(
 }
 
 /// Adds a line of text of a class, in which no byte makes markup.
-#[tactic(auto, unfolding(crate::specs::Shapes::text_of, crate::specs::Markup::element))]
+#[tactic(auto, unfolding(crate::specs::Shapes::text_of, d64_markup::specs::Markup::element))]
 pub(crate) fn push_text_of(
     out: &mut Vec<u8>,
     class: &[u8],
@@ -91,7 +91,7 @@ pub(crate) fn push_text_of(
 }
 
 /// Adds a number of a class.
-#[tactic(auto, unfolding(crate::specs::Shapes::text_of, crate::specs::Markup::element))]
+#[tactic(auto, unfolding(crate::specs::Shapes::text_of, d64_markup::specs::Markup::element))]
 pub(crate) fn push_number_of(
     out: &mut Vec<u8>,
     class: &[u8],
@@ -108,7 +108,7 @@ pub(crate) fn push_number_of(
 }
 
 /// Adds the class that has a colour, as an attribute.
-#[tactic(auto, unfolding(crate::specs::Markup::attribute))]
+#[tactic(auto, unfolding(d64_markup::specs::Markup::attribute))]
 fn push_colour(out: &mut Vec<u8>, colour: Colour) -> Result<(), AllocError>
     ensures { OnOk result (out.new.items ≡ out.old.items ++ attribute (codes "class") (class_of colour)) }
 {
@@ -118,7 +118,7 @@ fn push_colour(out: &mut Vec<u8>, colour: Colour) -> Result<(), AllocError>
 }
 
 /// Adds the tag of a path in a colour.
-#[tactic(auto, unfolding(crate::specs::Markup::tag))]
+#[tactic(auto, unfolding(d64_markup::specs::Markup::tag))]
 fn push_path_tag(
     out: &mut Vec<u8>,
     colour: Colour,
@@ -134,7 +134,7 @@ fn push_path_tag(
 }
 
 /// Adds a path in a colour.
-#[tactic(auto, unfolding(crate::specs::Shapes::path_of, crate::specs::Markup::empty_element))]
+#[tactic(auto, unfolding(crate::specs::Shapes::path_of, d64_markup::specs::Markup::empty_element))]
 pub(crate) fn push_path(
     out: &mut Vec<u8>,
     colour: Colour,
@@ -149,7 +149,7 @@ pub(crate) fn push_path(
 }
 
 /// Adds a path of a class.
-#[tactic(auto, unfolding(crate::specs::Shapes::path_of, crate::specs::Markup::empty_element, crate::specs::Markup::tag))]
+#[tactic(auto, unfolding(crate::specs::Shapes::path_of, d64_markup::specs::Markup::empty_element, d64_markup::specs::Markup::tag))]
 fn push_class_path(
     out: &mut Vec<u8>,
     class: &[u8],

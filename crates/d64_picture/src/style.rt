@@ -73,7 +73,7 @@ fn push_rules(out: &mut Vec<u8>) -> Result<(), AllocError>
 }
 
 /// Adds all that says how the parts look.
-#[tactic(auto, unfolding(crate::specs::Style::style, crate::specs::Markup::element, crate::specs::Markup::tag, crate::specs::Markup::attribute))]
+#[tactic(auto, unfolding(crate::specs::Style::style, d64_markup::specs::Markup::element, d64_markup::specs::Markup::tag, d64_markup::specs::Markup::attribute))]
 pub(crate) fn push_style(out: &mut Vec<u8>) -> Result<(), AllocError>
     ensures { OnOk result (out.new.items ≡ out.old.items ++ style) }
 {

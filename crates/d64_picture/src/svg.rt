@@ -4,17 +4,15 @@ ghost use Rattle.std.specs.List.{flat_map, range_with_len};
 ghost use Rattle.d64_image.specs.Image.{tracks_of};
 ghost use Rattle.d64_survey.specs.Inspection.{entry_count};
 ghost use Rattle.d64_wording.specs.CheckText.{label_text};
-ghost use Rattle.d64_picture.specs.Markup.{element, tag};
+ghost use Rattle.d64_markup.specs.Markup.{element, tag};
 ghost use Rattle.d64_picture.specs.Svg.{name_text, summary, height as height_of, description, title, page, page_attributes, label_line, summary_line, heads, column_head, column_heads, row_head, row_heads, view_box, picture_attributes, top, front, content, picture, svg_of};
 
 use crate::cells::{column_x, push_cells, row_y};
 use crate::legend::{SHOWN_FILES, push_legend, rows_below};
-use crate::markup::{
-    push_attribute, push_escaped, push_held, push_number_attribute, push_shortened,
-};
 use crate::shapes::{push_number_of, push_text_at, push_text_of};
 use crate::style::push_style;
 use d64_image::Image;
+use d64_markup::{push_attribute, push_escaped, push_held, push_number_attribute, push_shortened};
 use d64_survey::Inspection;
 use d64_wording::{push_contents, push_label, push_number, push_shown, push_state};
 use std::alloc::AllocError;
@@ -73,7 +71,7 @@ fn push_description(
 }
 
 /// Adds the title.
-#[tactic(auto, unfolding(crate::specs::Svg::title, crate::specs::Markup::element, crate::specs::Markup::tag))]
+#[tactic(auto, unfolding(crate::specs::Svg::title, d64_markup::specs::Markup::element, d64_markup::specs::Markup::tag))]
 fn push_title(out: &mut Vec<u8>, name: &[u8], inspection: &Inspection) -> Result<(), AllocError>
     ensures { OnOk result (out.new.items ≡ out.old.items ++ title name.now inspection.now) }
 {
@@ -95,7 +93,7 @@ fn push_page_attributes(out: &mut Vec<u8>, high: usize) -> Result<(), AllocError
 }
 
 /// Adds the paper.
-#[tactic(auto, unfolding(crate::specs::Svg::page, crate::specs::Markup::empty_element, crate::specs::Markup::tag))]
+#[tactic(auto, unfolding(crate::specs::Svg::page, d64_markup::specs::Markup::empty_element, d64_markup::specs::Markup::tag))]
 fn push_page(out: &mut Vec<u8>, high: usize) -> Result<(), AllocError>
     ensures { OnOk result (out.new.items ≡ out.old.items ++ page high) }
 {
@@ -188,7 +186,7 @@ fn push_row_heads(out: &mut Vec<u8>, tracks: u8) -> Result<(), AllocError>
 }
 
 /// Adds the part of the page that is seen.
-#[tactic(auto, unfolding(crate::specs::Svg::view_box, crate::specs::Markup::attribute))]
+#[tactic(auto, unfolding(crate::specs::Svg::view_box, d64_markup::specs::Markup::attribute))]
 fn push_view_box(out: &mut Vec<u8>, high: usize) -> Result<(), AllocError>
     ensures { OnOk result (out.new.items ≡ out.old.items ++ view_box high) }
 {
@@ -255,7 +253,7 @@ fn push_content(
 
 /// Adds the map as a picture in SVG 1.1: a cell for each block, in the colour of its file, with a mark where something is wrong with
 /// it, and a title that says whose it is; a legend. No name makes markup in it.
-#[tactic(auto, unfolding(crate::specs::Svg::svg_of, crate::specs::Svg::picture, crate::specs::Markup::element, crate::specs::Markup::tag))]
+#[tactic(auto, unfolding(crate::specs::Svg::svg_of, crate::specs::Svg::picture, d64_markup::specs::Markup::element, d64_markup::specs::Markup::tag))]
 pub fn map_svg(name: &[u8], inspection: &Inspection, out: &mut Vec<u8>) -> Result<(), AllocError>
     ensures { OnOk result (out.new.items ≡ out.old.items ++ svg_of name.now inspection.now) }
 {

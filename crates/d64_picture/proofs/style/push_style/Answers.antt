@@ -1,7 +1,7 @@
 use Rattle.std.proofs.Common.{ℕ, List, ◌++◌, ap, ◌∙◌, append_assoc, sym}
 use Rattle.std.specs.Prelude.{codes}
 use Rattle.d64_wording.proofs.Joins.{join3}
-use Rattle.d64_picture.specs.Markup.{attribute, tag, element}
+use Rattle.d64_markup.specs.Markup.{attribute, tag, element}
 use Rattle.d64_picture.specs.Style.{basic_rules, colour_rules, mark_rules, style}
 use Rattle.d64_picture.proofs.style.push_style.Goals as goal
 

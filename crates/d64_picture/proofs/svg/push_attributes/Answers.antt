@@ -1,7 +1,7 @@
 use Rattle.std.proofs.Common.{ℕ, List, ◌++◌, ap, ◌∙◌}
 use Rattle.std.specs.Prelude.{codes}
 use Rattle.d64_wording.proofs.Joins.{join4}
-use Rattle.d64_picture.specs.Markup.{attribute}
+use Rattle.d64_markup.specs.Markup.{attribute}
 use Rattle.d64_picture.specs.Svg.{view_box, picture_attributes}
 use Rattle.d64_picture.proofs.svg.push_attributes.Goals as goal
 

@@ -1,7 +1,7 @@
 use Rattle.std.proofs.Common.{ℕ, List, ◌++◌, ap, ◌∙◌}
 use Rattle.std.specs.Prelude.{codes, decimal}
 use Rattle.d64_wording.proofs.Joins.{join3}
-use Rattle.d64_picture.specs.Markup.{attribute}
+use Rattle.d64_markup.specs.Markup.{attribute}
 use Rattle.d64_picture.specs.Svg.{view_box}
 use Rattle.d64_picture.proofs.svg.push_view_box.Goals as goal
 

@@ -1,10 +1,9 @@
 -- No text makes markup where it is escaped.
-use Rattle.std.proofs.Common.{◌≡◌, ◌≢◌, ℕ, ◌-◌, ◌<◌, ◌≤◌, Bool, true, false, List, [], ◌∷◌, ◌++◌, length, ◌⊎◌, inl, inr, refl, sym, subst, ap, ◌∙◌, arith}
+use Rattle.std.proofs.Common.{◌≡◌, ◌≢◌, ℕ, ◌-◌, Bool, true, false, List, [], ◌∷◌, ◌++◌, length, inl, inr, refl, sym, subst, arith}
 use Rattle.std.specs.Prelude.{nat_le, ◌==◌, ◌&&◌, not, if◌then◌else◌, codes}
-use Rattle.std.specs.List.{flat_map}
 use Rattle.std.proofs.lemmas.Bool.{cases_eq}
 use Rattle.std.proofs.lemmas.Bool.Decides.{nat_tests}
-use Rattle.d64_picture.specs.Markup.{entities, escaped_byte, escaped, escaped_within, IsPlain, begins_entity, IsHarmless, NoNameMakesMarkup, NoPartMakesMarkup}
+use Rattle.d64_markup.specs.Markup.{entities, escaped_byte, escaped, escaped_within, IsPlain, begins_entity, IsHarmless, NoNameMakesMarkup, NoPartMakesMarkup}
 
 -- a byte that neither begins an entity nor makes markup
 abbrev is_plain : ℕ → Bool

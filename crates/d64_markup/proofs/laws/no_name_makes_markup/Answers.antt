@@ -1,5 +1,5 @@
-use Rattle.d64_picture.proofs.Markups.{no_name, no_part}
-use Rattle.d64_picture.proofs.laws.no_name_makes_markup.Goals as goal
+use Rattle.d64_markup.proofs.Markups.{no_name, no_part}
+use Rattle.d64_markup.proofs.laws.no_name_makes_markup.Goals as goal
 
 pub returns-clause-whole : goal.returns-clause-whole
 returns-clause-whole c = no_name

@@ -1,6 +1,6 @@
-use Rattle.d64_picture.specs.Markup.{held_byte}
-use Rattle.d64_picture.proofs.Escapes.{held_more}
-use Rattle.d64_picture.proofs.markup.push_held.Goals as goal
+use Rattle.d64_markup.specs.Markup.{held_byte}
+use Rattle.d64_markup.proofs.Escapes.{held_more}
+use Rattle.d64_markup.proofs.markup.push_held.Goals as goal
 
 pub loop-place-preserved : goal.loop-place-preserved
 loop-place-preserved c =

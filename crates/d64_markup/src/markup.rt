@@ -1,6 +1,6 @@
 //! Elements of XML, and texts as they stand in them.
 ghost use Rattle.std.specs.Prelude.{◌≡◌, ◌<◌, ◌++◌, length, option_map, codes, OnOk};
-ghost use Rattle.d64_picture.specs.Markup.{entity_in, entities, escaped_byte, escaped as escaped_of, escaped_within, shortened, held_byte, held, attribute, number_attribute, tag};
+ghost use Rattle.d64_markup.specs.Markup.{entity_in, entities, escaped_byte, escaped as escaped_of, escaped_within, shortened, held_byte, held, attribute, number_attribute, tag};
 
 use d64_wording::push_number;
 use std::alloc::AllocError;
@@ -44,7 +44,7 @@ fn escaped_len(byte: u8) -> usize
 
 /// Adds a text, in which no byte makes markup.
 #[tactic(auto, unfolding(crate::specs::Markup::escaped))]
-pub(crate) fn push_escaped(out: &mut Vec<u8>, text: &[u8]) -> Result<(), AllocError>
+pub fn push_escaped(out: &mut Vec<u8>, text: &[u8]) -> Result<(), AllocError>
     ensures { OnOk result (out.new.items ≡ out.old.items ++ escaped_of text.now) }
 {
     for byte in text {
@@ -54,11 +54,7 @@ pub(crate) fn push_escaped(out: &mut Vec<u8>, text: &[u8]) -> Result<(), AllocEr
 }
 
 /// Adds a text as far as it has room in so many bytes, and `..` where it has not. No entity is cut.
-pub(crate) fn push_escaped_within(
-    out: &mut Vec<u8>,
-    room: usize,
-    text: &[u8],
-) -> Result<(), AllocError>
+pub fn push_escaped_within(out: &mut Vec<u8>, room: usize, text: &[u8]) -> Result<(), AllocError>
     ensures { OnOk result (out.new.items ≡ out.old.items ++ escaped_within room text.now) }
 {
     let mut left = room;
@@ -74,7 +70,7 @@ pub(crate) fn push_escaped_within(
 }
 
 /// Adds at most so many bytes of a text, and `..` where it has more.
-pub(crate) fn push_shortened(out: &mut Vec<u8>, count: usize, text: &[u8]) -> Result<(), AllocError>
+pub fn push_shortened(out: &mut Vec<u8>, count: usize, text: &[u8]) -> Result<(), AllocError>
     ensures { OnOk result (out.new.items ≡ out.old.items ++ shortened count text.now) }
 {
     if text.len() <= count {
@@ -97,7 +93,7 @@ fn held_byte(text: &[u8], place: usize) -> u8
 
 /// Adds a text of UTF-8 in which U+FFFD stands for U+FFFE and U+FFFF.
 #[tactic(auto, unfolding(crate::specs::Markup::held))]
-pub(crate) fn push_held(out: &mut Vec<u8>, text: &[u8]) -> Result<(), AllocError>
+pub fn push_held(out: &mut Vec<u8>, text: &[u8]) -> Result<(), AllocError>
     ensures { OnOk result (out.new.items ≡ out.old.items ++ held text.now) }
 {
     for place in 0..text.len() {
@@ -108,7 +104,7 @@ pub(crate) fn push_held(out: &mut Vec<u8>, text: &[u8]) -> Result<(), AllocError
 
 /// Adds an attribute.
 #[tactic(auto, unfolding(crate::specs::Markup::attribute))]
-pub(crate) fn push_attribute(out: &mut Vec<u8>, name: &[u8], value: &[u8]) -> Result<(), AllocError>
+pub fn push_attribute(out: &mut Vec<u8>, name: &[u8], value: &[u8]) -> Result<(), AllocError>
     ensures { OnOk result (out.new.items ≡ out.old.items ++ attribute name.now value.now) }
 {
     out.extend_from_slice(b" ")?;
@@ -120,7 +116,7 @@ pub(crate) fn push_attribute(out: &mut Vec<u8>, name: &[u8], value: &[u8]) -> Re
 
 /// Adds an attribute whose value is a number.
 #[tactic(auto, unfolding(crate::specs::Markup::attribute))]
-pub(crate) fn push_number_attribute(
+pub fn push_number_attribute(
     out: &mut Vec<u8>,
     name: &[u8],
     number: usize,

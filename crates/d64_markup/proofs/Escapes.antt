@@ -1,11 +1,11 @@
 -- Texts as they stand in elements, a byte at a time.
-use Rattle.std.proofs.Common.{◌≡◌, ℕ, ◌+◌, ◌-◌, ◌<◌, ◌≤◌, Bool, true, false, List, [], ◌∷◌, ◌++◌, length, take, drop, get_or, refl, sym, ap, ◌∙◌, append_assoc, append-nil, arith}
+use Rattle.std.proofs.Common.{◌≡◌, ℕ, ◌+◌, ◌-◌, ◌<◌, ◌≤◌, Bool, true, false, List, [], ◌∷◌, ◌++◌, length, drop, get_or, sym, ap, ◌∙◌, append_assoc, append-nil, arith}
 use Rattle.std.specs.Prelude.{map, nat_le, if◌then◌else◌, codes}
 use Rattle.std.specs.List.{range_with_len}
 use Rattle.std.proofs.lemmas.List.{at_drop_more, at_drop_all, map-append}
 use Rattle.std.proofs.lemmas.Bool.Decides.{nat_tests}
 use Rattle.d64_map.proofs.Ranges.{range_push}
-use Rattle.d64_picture.specs.Markup.{escaped_byte, escaped_within, held_byte}
+use Rattle.d64_markup.specs.Markup.{escaped_byte, escaped_within}
 
 -- a byte that has room
 within-room : (room byte : ℕ) (text : List ℕ) → length (escaped_byte byte) ≤ room

@@ -1,7 +1,6 @@
-use Rattle.std.proofs.Common.{ℕ, ◌+◌, ◌-◌, ◌<◌, ◌≤◌, length, get_or, sym, ap, ◌∙◌, arith}
-use Rattle.d64_picture.specs.Markup.{escaped_byte, escaped_within}
-use Rattle.d64_picture.proofs.Escapes.{one_more, no_more, all_there}
-use Rattle.d64_picture.proofs.markup.push_escaped_within.Goals as goal
+use Rattle.std.proofs.Common.{ℕ, ◌-◌, ap, arith}
+use Rattle.d64_markup.proofs.Escapes.{one_more, no_more, all_there}
+use Rattle.d64_markup.proofs.markup.push_escaped_within.Goals as goal
 
 pub loop-byte-preserved : goal.loop-byte-preserved
 loop-byte-preserved c =
