@@ -52,7 +52,8 @@ impl From<WriteFault> for RunFault {
 #[derive(Drop)]
 pub struct Desk {
     bytes: Vec<u8>,
-    room: AnswerRoom,
+    /// The answer that `tell` tells.
+    pub room: AnswerRoom,
     worst: Verdict,
 }
 
@@ -175,7 +176,7 @@ impl Desk {
 
     /// Writes and delivers what is in the room, and counts the verdict. Where there is no complaint, the standard error is left alone; where that
     /// fails, the rest of a complaint is dropped.
-    fn tell<W: Write, F: Write>(
+    pub fn tell<W: Write, F: Write>(
         &mut self,
         verdict: Verdict,
         output: &mut OutputStream<'_, W>,

@@ -1,3 +1,4 @@
 pub mod ProgramRuns
 pub mod SurveyRuns
 mod JobEnds
+mod ComparisonRuns

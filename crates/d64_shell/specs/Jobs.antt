@@ -1,11 +1,14 @@
 -- What each job does.
 use Rattle.std.specs.Prelude.{ℕ, List, [], ◌∷◌, Option, Some, None, option_map, string_bytes, ⊤}
 use Rattle.d64_words.specs.declared.asked.Job.{Job}
-use Rattle.d64_words.specs.declared.asked.Job.TheVariants.{Shell, Petcat, Crunch, Check, Files, Map}
+use Rattle.d64_words.specs.declared.asked.Job.TheVariants.{Shell, Petcat, Crunch, Check, Files, Map, Catalogue, Diff}
 use Rattle.d64_collection.specs.Answers.{Rule}
 use Rattle.d64_check.specs.Check.{check_rule, heading_of as check_heading}
 use Rattle.d64_listing.specs.Files.{files_rule, heading_of as files_heading}
 use Rattle.d64_picture.specs.Pictures.{map_rule}
+use Rattle.d64_catalogue.specs.Catalogue.{catalogue_rule, catalogue_heading}
+use Rattle.d64_difference.specs.Differences.{difference_rule}
+use Rattle.d64_shell.specs.Comparisons.{PairRule}
 use Rattle.d64_shell.specs.SurveyFiles.{SurveyFiles, Named, files_of}
 use Rattle.d64_shell.specs.declared.tools.Tool.{Tool}
 use Rattle.d64_shell.specs.declared.tools.Tool.TheVariants as tools
@@ -28,11 +31,12 @@ home_of None = []
 home_of (Some name) = name
 
 -- what a job does: it runs a script from a beginning, with the name where `save` stores by default; runs a tool on the input, or on the host
--- file of a name; or surveys files, by a rule, with what stands before all answers
+-- file of a name; surveys files, by a rule, with what stands before all answers; or compares the files of two names, by a rule
 pub data Work : Type 0 where
   Script : Beginning → List ℕ → Work
   Conversion : Tool → Option (List ℕ) → Work
   Survey : Rule → List ℕ → SurveyFiles → Work
+  Comparison : PairRule → List ℕ → List ℕ → Work
 
 -- what each job does
 abbrev pub work_of : Job → Work
@@ -43,9 +47,12 @@ work_of (Crunch start file) = Conversion (tools.Crunch start) (option_map string
 work_of (Check digest format names) = Survey (check_rule format digest) (check_heading format digest) (files_of names)
 work_of (Files format names) = Survey (files_rule format) (files_heading format) (files_of names)
 work_of (Map format file) = Survey (map_rule format) [] (Named (string_bytes file ∷ []))
+work_of (Catalogue maps names) = Survey (catalogue_rule maps) catalogue_heading (files_of names)
+work_of (Diff format old new) = Comparison (difference_rule format) (string_bytes old) (string_bytes new)
 
 -- the work is a script, which tells nothing where it runs to its end
 abbrev pub IsScript : Work → Type 0
 IsScript (Script beginning home) = ⊤
 IsScript (Conversion tool name) = ⊥
 IsScript (Survey rule heading files) = ⊥
+IsScript (Comparison rule old_name new_name) = ⊥

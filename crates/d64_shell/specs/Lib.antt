@@ -5,6 +5,7 @@ pub use Rattle.d64_host.specs.Host
 pub use Rattle.d64_host.specs.MemoryHost
 pub mod SurveyFiles
 pub mod Surveys
+pub mod Comparisons
 pub mod Jobs
 pub mod Program
 pub mod Tools

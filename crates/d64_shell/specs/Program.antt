@@ -25,9 +25,12 @@ use Rattle.d64_collection.specs.Runs.{Stand, Told, host_of, stand_of, told_of}
 use Rattle.d64_collection.specs.declared.desk.RunFault.{RunFault}
 use Rattle.d64_collection.specs.declared.desk.RunFault.TheVariants as run_faults
 use Rattle.d64_collection.specs.declared.report.Verdict.TheVariants.{Clean}
-use Rattle.d64_shell.specs.Jobs.{Beginning, Blank, ImageFile, SessionFile, Work, Script, Conversion, Survey, IsScript, work_of}
+use Rattle.d64_shell.specs.Jobs.{Beginning, Blank, ImageFile, SessionFile, Work, Script, Conversion, Survey, Comparison, IsScript, work_of}
 use Rattle.d64_shell.specs.SurveyFiles.{SurveyFiles, list_name}
 use Rattle.d64_shell.specs.Surveys.{Surveys}
+use Rattle.d64_shell.specs.Comparisons.{PairRule, Compares}
+use Rattle.d64_shell.specs.declared.difference_job.DifferenceFault.{DifferenceFault}
+use Rattle.d64_shell.specs.declared.difference_job.DifferenceFault.TheVariants as comparisons
 use Rattle.d64_undo.specs.History.{History, begun}
 use Rattle.d64_undo.specs.ResumeFault.{fault_number, first_fault}
 use Rattle.d64_undo.specs.SessionFile.{IsSession, file_of}
@@ -42,7 +45,7 @@ use Rattle.d64_shell.specs.declared.tools.Tool.{Tool}
 use Rattle.d64_shell.specs.declared.tools.ToolFault.{ToolFault}
 use Rattle.d64_shell.specs.declared.tools.ToolFault.TheVariants as tool_faults
 use Rattle.d64_shell.specs.declared.program_fault.ProgramFault.{ProgramFault}
-use Rattle.d64_shell.specs.declared.program_fault.ProgramFault.TheVariants.{UnreadableWords, Start, Tracks, Both, Format, Names, Null, Picture, WrongLength, UnreadableImage, UnreadableSession, NoSession, Read, Write, Memory}
+use Rattle.d64_shell.specs.declared.program_fault.ProgramFault.TheVariants.{UnreadableWords, Start, Tracks, Both, Format, Names, Null, Picture, Difference, WrongLength, UnreadableImage, UnreadableSession, NoSession, Read, Write, Memory}
 
 -- the most bytes of an image, a program or a text that are read from a file
 abbrev pub file_limit : ℕ
@@ -127,6 +130,7 @@ fault_text Format = codes "usage: --format takes text, json or csv"
 fault_text Names = codes "usage: FILE.. or --files-from LIST is wanted, not both"
 fault_text Null = codes "usage: --null goes with --files-from"
 fault_text Picture = codes "usage: --format takes text or svg"
+fault_text Difference = codes "usage: --format takes text or json"
 fault_text (WrongLength length) = codes "image: wrong length " ++ decimal length
 fault_text UnreadableImage = codes "image: cannot be read"
 fault_text UnreadableSession = codes "session: cannot be read"
@@ -223,7 +227,7 @@ abbrev pub TellsEnd : List ℕ → Result (Unit {0}) RunFault → Told → Accou
 TellsEnd list (Ok done) old told status = (told ≡ old.error) × (status ≡ verdict_status old.worst)
 TellsEnd list (Err fault) old told status = TellsFault list fault old.error told status
 
--- where a survey begins: at what the program begins with, with nothing amiss
+-- where a survey or a comparison begins: at what the program begins with, with nothing amiss
 abbrev pub first_stand : Outside → Account → Stand
 first_stand old faults = stand_of (host_of old.host.files old.host.failures) (told_of (account_of old.writer false) faults Clean)
 
@@ -236,11 +240,28 @@ pub record EndedSurvey (rule : Rule) (heading : List ℕ) (files : SurveyFiles) 
   pub writer : new.writer ≡ last.told.output.contents
   pub tells : TellsEnd (list_name files) ended last.told told status
 
+-- how the end of a comparison is told, of which this was told: by the status of the verdict, or by the line of a fault
+abbrev pub TellsComparison : Result (Unit {0}) DifferenceFault → Told → Account → ℕ → Type 0
+TellsComparison (Ok done) old told status = (told ≡ old.error) × (status ≡ verdict_status old.worst)
+TellsComparison (Err comparisons.Write) old told status = Reports Write old.error told status
+TellsComparison (Err comparisons.Memory) old told status = Reports Memory old.error told status
+
+-- a comparison has ended, for which nothing of the input was read
+pub record EndedComparison (rule : PairRule) (old_name new_name : List ℕ) (old new : Outside) (faults told : Account) (status : ℕ) : Type 0 where
+  pub ended : Result (Unit {0}) DifferenceFault
+  pub last : Stand
+  pub compared : Compares rule old_name new_name (first_stand old faults) last ended
+  pub reader : new.reader ≡ old.reader
+  pub host : host_of new.host.files new.host.failures ≡ last.host
+  pub writer : new.writer ≡ last.told.output.contents
+  pub tells : TellsComparison ended last.told told status
+
 -- how a job ended that does this work
 abbrev pub EndedWork : Work → Outside → Outside → Account → Account → ℕ → Type 0
 EndedWork (Script beginning home) old new faults told status = EndedShell beginning home old new faults told status
 EndedWork (Conversion tool name) old new faults told status = EndedTool tool name old new faults told status
 EndedWork (Survey rule heading files) old new faults told status = EndedSurvey rule heading files old new faults told status
+EndedWork (Comparison rule old_name new_name) old new faults told status = EndedComparison rule old_name new_name old new faults told status
 
 -- help or the version was written, whole; or there was a fault: a first part of it was written, or there was no memory
 abbrev pub HasShown : Option (List ℕ) → Option (List ℕ) → Account → Account → ℕ → Type 0
@@ -265,6 +286,7 @@ AnswersWords words.Format old new faults told status = (new ≡ old) × Reports 
 AnswersWords words.Names old new faults told status = (new ≡ old) × Reports Names faults told status
 AnswersWords words.Null old new faults told status = (new ≡ old) × Reports Null faults told status
 AnswersWords words.Picture old new faults told status = (new ≡ old) × Reports Picture faults told status
+AnswersWords words.Difference old new faults told status = (new ≡ old) × Reports Difference faults told status
 
 -- the words with the program's name before them
 abbrev pub named : List (List ℕ) → List (List ℕ)

@@ -6,12 +6,14 @@ ghost use Rattle.d64_collection.specs.Runs.{account_at};
 ghost use Rattle.d64_shell.specs.Jobs.{IsScript, work_of};
 ghost use Rattle.d64_shell.specs.Program.{AsksForShell, Ended, EndedWork, outside_at, outside_of};
 
+use crate::difference_job::DifferenceJob;
 use crate::file_names::FileNames;
 use crate::shell_job::{exit_status, shell};
 use crate::survey_job::SurveyJob;
 use crate::tool_job::{run_tool, tell_answer};
 use crate::tools::Tool;
 use crate::word_faults::{answer_words, asked};
+use d64_catalogue::CatalogueReport;
 use d64_check::CheckReport;
 use d64_host::Host;
 use d64_listing::FilesReport;
@@ -167,6 +169,13 @@ fn do_job<R: Read, W: Write, F: Write, H: Host>(
             let report = MapReport::new(alloc, format);
             let files = [file];
             SurveyJob::new(alloc, FileNames::Given(&files)).run(report, input, output, faults, host)
+        }
+        Job::Catalogue { maps, names } => {
+            let report = CatalogueReport::new(alloc, maps);
+            SurveyJob::new(alloc, FileNames::of(&names)).run(report, input, output, faults, host)
+        }
+        Job::Diff { format, old, new } => {
+            DifferenceJob::new(alloc, format, old.as_str(), new.as_str()).run(output, faults, host)
         }
     }
 }

@@ -1,6 +1,7 @@
 //! The shell over disk images: the program, from its words to its exit status.
 #![tactic(auto)]
 
+mod difference_job;
 mod entry;
 mod file_names;
 mod program_fault;

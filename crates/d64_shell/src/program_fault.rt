@@ -48,6 +48,9 @@ pub enum ProgramFault {
     /// What follows `--format` of `map` is neither `text` nor `svg`.
     #[error("usage: --format takes text or svg")]
     Picture,
+    /// What follows `--format` of `diff` is neither `text` nor `json`.
+    #[error("usage: --format takes text or json")]
+    Difference,
     /// The image file has this many bytes, and an image 174,848 or 196,608.
     #[error("image: wrong length {0}")]
     WrongLength(usize),
@@ -110,6 +113,7 @@ impl ProgramFault {
             ),
             ProgramFault::Null => line_of(b"usage: --null goes with --files-from", b""),
             ProgramFault::Picture => line_of(b"usage: --format takes text or svg", b""),
+            ProgramFault::Difference => line_of(b"usage: --format takes text or json", b""),
             ProgramFault::WrongLength(length) => line_of(
                 b"image: wrong length ",
                 Buffer::new().format(length).as_bytes(),

@@ -1,3 +1,4 @@
+pub mod Additions
 pub mod Addresses
 pub mod Filled
 pub mod Parses

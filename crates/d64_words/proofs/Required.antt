@@ -1,6 +1,6 @@
 -- Where words have no fault, an argument that their subcommand requires has a value.
 use Rattle.std.proofs.Common.{◌≡◌, ◌∙◌, ◌&&◌, ◌||◌, Bool, true, false, not, refl, sym, ap, subst, List, [], ◌∷◌, Option, Some, None, true≢false}
-use Rattle.std.specs.Prelude.{IsSome, codes, option_map}
+use Rattle.std.specs.Prelude.{IsSome, option_map}
 use Rattle.std.specs.List.{find, list_all, list_any}
 use Rattle.std.specs.Option.{option_map_or}
 use Rattle.std.specs.Str.{bytes_eq}
@@ -14,9 +14,13 @@ use Rattle.clap.specs.Walk.{Row, Rule, Text, answers_to, first_of, nothing_held,
 use Rattle.clap.proofs.WalkLemmas.{both}
 use Rattle.clap.proofs.OnLiterals.{clap_on_literals}
 use Rattle.d64_words.specs.Commands.{d64sh}
-use Rattle.d64_words.specs.Asked.{HasValue, IsWhole, Met}
+use Rattle.d64_words.specs.Asked.{HasValues, IsWhole, Met, requirements}
 use Rattle.d64_words.proofs.Filled.{found_all, has_value, is_place, rows_full}
 use Rattle.d64_words.proofs.Parses.{met_is_subcommand, none≢some, same_Some}
+
+-- the subcommand of this name has a value for this argument
+abbrev HasValue : Text → Text → Met → Type 0
+HasValue name id met = met.0 ≡ name → IsSome (first_of id met.1)
 
 -- where nothing that is required is missing, it is given
 abbrev is_required : Text → Rule → Bool
@@ -107,11 +111,22 @@ module _ (app : App) (words : List Text) where
       go None none e = absurd (none≢some met e)
       go (Some p) none e = entered_has_value name id app.subs all (λ s. answers_to p.0 (label_of s)) p.1 met e none
 
-map_wants_file : list_all (is_wanted_by (codes "map") (codes "file")) (built d64sh).subs ≡ true
+  -- each of these arguments is wanted by its subcommand
+  abbrev are_wanted : List (Text × Text) → Bool
+  are_wanted pairs = list_all (λ pair. list_all (is_wanted_by pair.0 pair.1) app.subs) pairs
+
+  values_met : (pairs : List (Text × Text)) → are_wanted pairs ≡ true → (met : Met) → built_fault app nothing_held words ≡ []
+      → entered app (stop_after app.top.rules (names_of app) words) ≡ Some met → HasValues pairs met
+  values_met [] all met none e = tt
+  values_met (pair ∷ pairs) all met none e =
+      let parts = both (list_all (is_wanted_by pair.0 pair.1) app.subs) (are_wanted pairs) all in
+      (value_met pair.0 pair.1 parts.0 met none e, values_met pairs parts.1 met none e)
+
+all_wanted : are_wanted (built d64sh) [] requirements ≡ true
 unfolding clap_on_literals d64sh
-map_wants_file = refl
+all_wanted = refl
 
 -- the words that have no fault give a value to each argument that their subcommand requires
 pub met_is_whole : (words : List Text) (met : Met) → fault_of d64sh words ≡ [] → subcommand_of d64sh words ≡ Some met → IsWhole met
 met_is_whole words met none is =
-    (met_is_subcommand words met is, value_met (built d64sh) (argument_words d64sh words) (codes "map") (codes "file") map_wants_file met none is)
+    (met_is_subcommand words met is, values_met (built d64sh) (argument_words d64sh words) requirements all_wanted met none is)

@@ -6,15 +6,16 @@ use Rattle.clap.specs.declared.error.kind.ErrorKind.TheVariants.{DisplayHelp, Di
 use Rattle.d64_words.specs.Commands.{d64sh}
 use Rattle.d64_words.specs.Start.{IsStartBy, HasNoAddress}
 use Rattle.d64_words.specs.Tracks.{IsTracksBy, HasNoTracks}
-use Rattle.d64_words.specs.Format.{form_word, format_of, picture_form_of}
+use Rattle.d64_words.specs.Format.{diff_form_of, form_word, format_of, picture_form_of}
 use Rattle.d64_words.specs.Names.{HasNoNames, HasNullAlone, IsNamesBy}
 use Rattle.d64_words.specs.Values.{has_flag}
+use Rattle.d64_words.specs.declared.asked.DiffForm.{DiffForm}
 use Rattle.d64_words.specs.declared.asked.Format.{Format as OutputFormat}
 use Rattle.d64_words.specs.declared.asked.PictureForm.{PictureForm}
 use Rattle.d64_words.specs.declared.asked.Job.{Job}
-use Rattle.d64_words.specs.declared.asked.Job.TheVariants.{Shell, Petcat, Crunch, Check, Files, Map}
+use Rattle.d64_words.specs.declared.asked.Job.TheVariants.{Shell, Petcat, Crunch, Check, Files, Map, Diff, Catalogue}
 use Rattle.d64_words.specs.declared.asked.JobFault.{JobFault}
-use Rattle.d64_words.specs.declared.asked.JobFault.TheVariants.{Words, Start, Memory, Tracks, Both, Format, Names, Null, Picture}
+use Rattle.d64_words.specs.declared.asked.JobFault.TheVariants.{Words, Start, Memory, Tracks, Both, Format, Names, Null, Picture, Difference}
 
 -- a subcommand that the words name, and the values that they give to its arguments
 abbrev pub Met : Type 0
@@ -25,21 +26,26 @@ abbrev pub IsOneOf : List Text → Text → Type 0
 IsOneOf [] name = ⊥
 IsOneOf (first ∷ rest) name = (name ≡ first) ⊎ IsOneOf rest name
 
--- the subcommands that survey files, by their names and in a form of output
+-- the subcommands that survey files by their names, and print in a form of output
 abbrev pub surveys : List Text
 surveys = codes "check" ∷ codes "files" ∷ []
 
 -- the subcommands
 abbrev pub subcommands : List Text
-subcommands = codes "shell" ∷ codes "petcat" ∷ codes "crunch" ∷ (surveys ++ codes "map" ∷ [])
+subcommands = codes "shell" ∷ codes "petcat" ∷ codes "crunch" ∷ (surveys ++ codes "map" ∷ codes "diff" ∷ codes "catalogue" ∷ [])
 
--- the subcommand of this name has a value for this argument
-abbrev pub HasValue : Text → Text → Met → Type 0
-HasValue name id met = met.0 ≡ name → IsSome (first_of id met.1)
+-- the arguments that a subcommand requires, each with that subcommand
+abbrev pub requirements : List (Text × Text)
+requirements = (codes "map", codes "file") ∷ (codes "diff", codes "old") ∷ (codes "diff", codes "new") ∷ []
+
+-- each of these arguments has a value where its subcommand is the one that is met
+abbrev pub HasValues : List (Text × Text) → Met → Type 0
+HasValues [] met = ⊤
+HasValues (first ∷ rest) met = (met.0 ≡ first.0 → IsSome (first_of first.1 met.1)) × HasValues rest met
 
 -- the subcommand is one of the program's, and has a value for each argument that it requires
 abbrev pub IsWhole : Met → Type 0
-IsWhole met = IsOneOf subcommands met.0 × HasValue (codes "map") (codes "file") met
+IsWhole met = IsOneOf subcommands met.0 × HasValues requirements met
 
 -- a name in a job is the value that the words give to an argument, where they give one
 abbrev pub IsGiven : {A : Type 0} → Met → Text → Option (String A) → Type 0
@@ -53,9 +59,17 @@ HasBoth met = IsSomeAnd (first_of (codes "resume") met.1) (λ file. IsSome (firs
 abbrev pub format_given : Met → Option OutputFormat
 format_given met = format_of (form_word met.1)
 
+-- the subcommand takes names of files: a survey, where it has a form of output, or `catalogue`, which has one form alone
+abbrev pub TakesNames : Met → Type 0
+TakesNames met = (IsOneOf surveys met.0 × IsSome (format_given met)) ⊎ (met.0 ≡ codes "catalogue")
+
 -- the form of a picture that it gives
 abbrev pub picture_form_given : Met → Option PictureForm
 picture_form_given met = picture_form_of (form_word met.1)
+
+-- the form in which it wants changes told
+abbrev pub diff_form_given : Met → Option DiffForm
+diff_form_given met = diff_form_of (form_word met.1)
 
 -- the subcommand asks for this job
 abbrev pub IsJobOf : Met → Job → Type 0
@@ -70,6 +84,11 @@ IsJobOf met (Check digest format names) =
 IsJobOf met (Files format names) = (met.0 ≡ codes "files") × (format_given met ≡ Some format) × IsNamesBy met.1 names
 IsJobOf met (Map format file) =
     (met.0 ≡ codes "map") × (picture_form_given met ≡ Some format) × (first_of (codes "file") met.1 ≡ Some (string_bytes file))
+IsJobOf met (Diff format old new) =
+    (met.0 ≡ codes "diff") × (diff_form_given met ≡ Some format)
+    × (first_of (codes "old") met.1 ≡ Some (string_bytes old)) × (first_of (codes "new") met.1 ≡ Some (string_bytes new))
+IsJobOf met (Catalogue maps names) =
+    (met.0 ≡ codes "catalogue") × (maps ≡ has_flag (codes "maps") met.1) × IsNamesBy met.1 names
 
 -- it asks for no job, since its start is no address, or no disk has its number of tracks; or, where a disk has so many, since
 -- a session of a file has tracks of its own; or since its word for a form of output stands for none; or, where it has a form, since
@@ -82,9 +101,10 @@ IsFaultOf met Tracks = (met.0 ≡ codes "shell") × HasNoTracks (first_of (codes
 IsFaultOf met Both = (met.0 ≡ codes "shell") × HasBoth met
     × (tracks : ℕ) × IsTracksBy (first_of (codes "tracks") met.1) (first_of (codes "image") met.1) tracks
 IsFaultOf met Format = IsOneOf surveys met.0 × (format_given met ≡ None)
-IsFaultOf met Names = IsOneOf surveys met.0 × IsSome (format_given met) × HasNoNames met.1
-IsFaultOf met Null = IsOneOf surveys met.0 × IsSome (format_given met) × HasNullAlone met.1
+IsFaultOf met Names = TakesNames met × HasNoNames met.1
+IsFaultOf met Null = TakesNames met × HasNullAlone met.1
 IsFaultOf met Picture = (met.0 ≡ codes "map") × (picture_form_given met ≡ None)
+IsFaultOf met Difference = (met.0 ≡ codes "diff") × (diff_form_given met ≡ None)
 
 -- the words are the program's, and ask neither for help nor for the version; and of the subcommand that they name this holds
 abbrev pub IsUse : List Text → (Met → Type 0) → Type 0
@@ -106,6 +126,7 @@ IsFault words Format = IsUse words (λ met. IsFaultOf met Format)
 IsFault words Names = IsUse words (λ met. IsFaultOf met Names)
 IsFault words Null = IsUse words (λ met. IsFaultOf met Null)
 IsFault words Picture = IsUse words (λ met. IsFaultOf met Picture)
+IsFault words Difference = IsUse words (λ met. IsFaultOf met Difference)
 
 -- how clap's error is told: want of memory as that, and every other as it is
 abbrev pub IsToldAs : Error → JobFault → Type 0
@@ -118,6 +139,7 @@ IsToldAs error Format = ⊥
 IsToldAs error Names = ⊥
 IsToldAs error Null = ⊥
 IsToldAs error Picture = ⊥
+IsToldAs error Difference = ⊥
 
 -- the fault is the help or the version that the words asked for
 abbrev pub WasAskedFor : JobFault → Type 0
@@ -130,3 +152,4 @@ WasAskedFor Format = ⊥
 WasAskedFor Names = ⊥
 WasAskedFor Null = ⊥
 WasAskedFor Picture = ⊥
+WasAskedFor Difference = ⊥

@@ -40,11 +40,13 @@ petcat = with_rule (new_app (codes "petcat")) file_argument
 abbrev pub crunch : App
 crunch = with_rule (with_rule (new_app (codes "crunch")) (valued_option (codes "start"))) file_argument
 
--- a subcommand with the words of a survey: `--format FORMAT`, `--files-from LIST`, `--null` and `FILE..`
+-- a subcommand with the names of files: `--files-from LIST`, `--null` and `FILE..`
+abbrev pub with_names : App → App
+with_names app = with_rule (with_rule (with_rule app (valued_option (codes "files-from"))) (flag (codes "null"))) files_argument
+
+-- a subcommand with the words of a survey: `--format FORMAT` and the names of files
 abbrev pub survey : App → App
-survey app =
-    let listed = with_rule (with_rule app (valued_option (codes "format"))) (valued_option (codes "files-from")) in
-    with_rule (with_rule listed (flag (codes "null"))) files_argument
+survey app = with_names (with_rule app (valued_option (codes "format")))
 
 -- `check [--digest]` with the words of a survey
 abbrev pub check : App
@@ -57,6 +59,16 @@ files = survey (new_app (codes "files"))
 -- `map [--format FORMAT] FILE`
 abbrev pub map : App
 map = with_rule (with_rule (new_app (codes "map")) (valued_option (codes "format"))) (required_argument (codes "file"))
+
+-- `diff [--format FORMAT] OLD NEW`
+abbrev pub diff : App
+diff =
+    let formed = with_rule (new_app (codes "diff")) (valued_option (codes "format")) in
+    with_rule (with_rule formed (required_argument (codes "old"))) (required_argument (codes "new"))
+
+-- `catalogue [--maps]` with the names of files
+abbrev pub catalogue : App
+catalogue = with_names (with_rule (new_app (codes "catalogue")) (flag (codes "maps")))
 
 -- `d64sh` alone: it has a version, wants a subcommand, has none of the name `help`, and tells its help where it is given nothing
 abbrev pub bare : App
@@ -73,4 +85,5 @@ bare = let named = new_app (codes "d64sh") in record named {
 unfoldable pub d64sh : App
 d64sh =
     let tools = with_subcommand (with_subcommand (with_subcommand bare shell.top) petcat.top) crunch.top in
-    with_subcommand (with_subcommand (with_subcommand tools check.top) files.top) map.top
+    let surveyed = with_subcommand (with_subcommand tools check.top) files.top in
+    with_subcommand (with_subcommand (with_subcommand surveyed map.top) diff.top) catalogue.top

@@ -3,6 +3,8 @@ use Rattle.std.specs.Prelude.{List, Option, Some, None, if◌then◌else◌, byt
 use Rattle.clap.specs.Words.{Row, Text as Word, first_of}
 use Rattle.d64_words.specs.declared.asked.Format.{Format}
 use Rattle.d64_words.specs.declared.asked.Format.TheVariants.{Text, Json, Csv}
+use Rattle.d64_words.specs.declared.asked.DiffForm.{DiffForm}
+use Rattle.d64_words.specs.declared.asked.DiffForm.TheVariants as diff
 use Rattle.d64_words.specs.declared.asked.PictureForm.{PictureForm}
 use Rattle.d64_words.specs.declared.asked.PictureForm.TheVariants as picture
 
@@ -23,4 +25,11 @@ abbrev pub picture_form_of : Word → Option PictureForm
 picture_form_of word =
     if bytes_eq word (codes "text") then Some picture.Text
     else if bytes_eq word (codes "svg") then Some picture.Svg
+    else None
+
+-- the form in which changes are told that it stands for
+abbrev pub diff_form_of : Word → Option DiffForm
+diff_form_of word =
+    if bytes_eq word (codes "text") then Some diff.Text
+    else if bytes_eq word (codes "json") then Some diff.Json
     else None

@@ -44,6 +44,17 @@ pub enum Job {
         format: PictureForm,
         file: String,
     },
+    /// Make one page of what is on dumps, with the picture of each one's blocks where `maps` is set.
+    Catalogue {
+        maps: bool,
+        names: Names,
+    },
+    /// Say what changed from one dump to another.
+    Diff {
+        format: DiffForm,
+        old: String,
+        new: String,
+    },
 }
 
 /// The form of a survey's output.
@@ -64,6 +75,15 @@ pub enum PictureForm {
     Text,
     /// One SVG document.
     Svg,
+}
+
+/// The form in which changes are told.
+#[derive(Clone, Copy, Debug, PartialEq, Eq)]
+pub enum DiffForm {
+    /// Lines for people.
+    Text,
+    /// One JSON object a line.
+    Json,
 }
 
 /// The names of the files to survey.
@@ -111,6 +131,9 @@ pub enum JobFault {
     /// What follows `--format` of `map` is neither `text` nor `svg`.
     #[error("usage: --format takes text or svg")]
     Picture,
+    /// What follows `--format` of `diff` is neither `text` nor `json`.
+    #[error("usage: --format takes text or json")]
+    Difference,
 }
 
 impl JobFault {
@@ -127,7 +150,8 @@ impl JobFault {
             | JobFault::Format
             | JobFault::Names
             | JobFault::Null
-            | JobFault::Picture => false,
+            | JobFault::Picture
+            | JobFault::Difference => false,
         }
     }
 }

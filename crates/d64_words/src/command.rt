@@ -3,7 +3,7 @@
 ghost use Rattle.std.specs.Prelude.{◌≡◌, IfOk, false};
 ghost use Rattle.clap.specs.Words.{app_of, rule_of};
 ghost use Rattle.clap.specs.declared.builder.command.Command.TheViews.{out-Command as fields_of};
-ghost use Rattle.d64_words.specs.Commands.{bare, d64sh, shell, petcat, crunch, check, files, map, survey, file_argument, required_argument, files_argument, valued_option, flag};
+ghost use Rattle.d64_words.specs.Commands.{bare, d64sh, shell, petcat, crunch, check, files, map, diff, catalogue, survey, with_names, file_argument, required_argument, files_argument, valued_option, flag};
 
 use clap::{Arg, ArgAction, Command};
 use std::alloc::{AllocError, Global};
@@ -91,10 +91,37 @@ Example: d64sh map --format svg disk.d64 >disk.svg
 The image is never written. The manual says more: `man d64sh`, or docs/MANUAL.md
 beside the source.";
 
-/// The command `d64sh`, with its six subcommands.
+const DIFF_AFTER_HELP: &str =
+    "In:      two images of 35 or 40 tracks, each with or without the read codes of
+         its blocks: files of 174,848, 175,531, 196,608 or 197,376 bytes
+Out:     what changed from OLD to NEW, files first: lines with `-` for OLD and
+         `+` for NEW, then the blocks that differ; with --format json an object
+         a line
+Exit:    0 the files are the same in each byte; 1 they differ; 2 a word, a file,
+         reading or writing failed
+Example: d64sh diff before.d64 after.d64
+
+No image is ever written. The manual says more: `man d64sh`, or docs/MANUAL.md
+beside the source.";
+
+const CATALOGUE_USAGE: &str = "d64sh catalogue [--maps] FILE..
+       d64sh catalogue [--maps] --files-from LIST [--null]";
+
+const CATALOGUE_AFTER_HELP: &str =
+    "In:      images of 35 or 40 tracks, each with or without the read codes of its
+         blocks: files of 174,848, 175,531, 196,608 or 197,376 bytes
+Out:     one HTML page with a section for each image: its name, what is wrong
+         on it and its files, with a field to search them
+Exit:    0 nothing is amiss; 1 a file isn't whole, or a directory is broken or
+         has a read error; 2 a word, a file, reading or writing failed
+Example: d64sh catalogue --maps *.d64 >disks.html
+
+No image is ever written. The manual says more: `man d64sh`, or docs/MANUAL.md
+beside the source.";
+
+/// The command `d64sh`, with its subcommands.
 pub(crate) fn d64sh<'a>(alloc: Global) -> Result<Command<'a>, AllocError>
-    ensures app { IfOk result (λ command. app_of command ≡ d64sh) }
-    ensures local { IfOk result (λ command. (fields_of command).has_globals ≡ false) }
+    ensures { IfOk result (λ command. (app_of command ≡ d64sh) × ((fields_of command).has_globals ≡ false)) }
 {
     bare(alloc)
         .subcommand(shell(alloc)?)?
@@ -102,7 +129,9 @@ pub(crate) fn d64sh<'a>(alloc: Global) -> Result<Command<'a>, AllocError>
         .subcommand(crunch(alloc)?)?
         .subcommand(check(alloc)?)?
         .subcommand(files(alloc)?)?
-        .subcommand(map(alloc)?)
+        .subcommand(map(alloc)?)?
+        .subcommand(diff(alloc)?)?
+        .subcommand(catalogue(alloc)?)
 }
 
 /// The command `d64sh` without its subcommands.
@@ -230,8 +259,43 @@ fn map<'a>(alloc: Global) -> Result<Command<'a>, AllocError>
         .arg(file)
 }
 
-/// The subcommand with the words of a survey: `[--format FORMAT] FILE..`, and the same with `--files-from LIST [--null]` in the
-/// place of FILE..
+/// `diff [--format FORMAT] OLD NEW`.
+fn diff<'a>(alloc: Global) -> Result<Command<'a>, AllocError>
+    ensures app { IfOk result (λ command. app_of command ≡ diff) }
+    ensures local { IfOk result (λ command. (fields_of command).has_globals ≡ false) }
+{
+    let format = valued_option(
+        alloc,
+        "format",
+        "FORMAT",
+        "Form of the output: text or json; without it, text",
+    );
+    let old = required_argument(alloc, "old", "OLD", "The image as it was");
+    let new = required_argument(alloc, "new", "NEW", "The image as it is now");
+    Command::new(alloc, "diff")
+        .about("Says what changed from one disk image to another")
+        .override_usage("d64sh diff [--format FORMAT] OLD NEW")
+        .after_help(DIFF_AFTER_HELP)
+        .arg(format)?
+        .arg(old)?
+        .arg(new)
+}
+
+/// `catalogue [--maps]` with the names of files.
+fn catalogue<'a>(alloc: Global) -> Result<Command<'a>, AllocError>
+    ensures app { IfOk result (λ command. app_of command ≡ catalogue) }
+    ensures local { IfOk result (λ command. (fields_of command).has_globals ≡ false) }
+{
+    let maps = flag(alloc, "maps", "Add a picture of the blocks of each image");
+    let command = Command::new(alloc, "catalogue")
+        .about("Makes one page of what is on disk images, to look at and search")
+        .override_usage(CATALOGUE_USAGE)
+        .after_help(CATALOGUE_AFTER_HELP)
+        .arg(maps)?;
+    with_names(alloc, command)
+}
+
+/// The subcommand with the words of a survey: `[--format FORMAT]` and the names of files.
 fn survey<'a>(alloc: Global, command: Command<'a>) -> Result<Command<'a>, AllocError>
     ensures app { IfOk result (λ with. app_of with ≡ survey (app_of command.entry)) }
     ensures local { IfOk result (λ with. (fields_of with).has_globals ≡ (fields_of command.entry).has_globals) }
@@ -242,6 +306,14 @@ fn survey<'a>(alloc: Global, command: Command<'a>) -> Result<Command<'a>, AllocE
         "FORMAT",
         "Form of the output: text, json or csv; without it, text",
     );
+    with_names(alloc, command.arg(format)?)
+}
+
+/// The subcommand with the names of files: `FILE..`, and `--files-from LIST [--null]` in its place.
+fn with_names<'a>(alloc: Global, command: Command<'a>) -> Result<Command<'a>, AllocError>
+    ensures app { IfOk result (λ with. app_of with ≡ with_names (app_of command.entry)) }
+    ensures local { IfOk result (λ with. (fields_of with).has_globals ≡ (fields_of command.entry).has_globals) }
+{
     let list = valued_option(
         alloc,
         "files-from",
@@ -253,11 +325,7 @@ fn survey<'a>(alloc: Global, command: Command<'a>) -> Result<Command<'a>, AllocE
         "null",
         "Names in LIST end with NUL bytes, and not with line feeds",
     );
-    command
-        .arg(format)?
-        .arg(list)?
-        .arg(null)?
-        .arg(files_argument(alloc))
+    command.arg(list)?.arg(null)?.arg(files_argument(alloc))
 }
 
 /// `[FILE]..`.

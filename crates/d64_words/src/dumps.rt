@@ -5,7 +5,7 @@ ghost use Rattle.clap.specs.Words.{found_of, first_of, rows_of};
 ghost use Rattle.d64_words.specs.Asked.{IsJobOf, IsFaultOf};
 
 use crate::asked::{Job, JobFault};
-use crate::forms::picture_form;
+use crate::forms::{diff_form, picture_form};
 use crate::values::required_value;
 use clap::ArgMatches;
 use std::alloc::Global;
@@ -19,5 +19,19 @@ pub(crate) fn map_job(alloc: Global, arguments: &ArgMatches) -> Result<Job, JobF
     Ok(Job::Map {
         format: picture_form(arguments)?,
         file: required_value(alloc, arguments, "file")?,
+    })
+}
+
+/// The job that `diff` with these matches asks for.
+pub(crate) fn diff_job(alloc: Global, arguments: &ArgMatches) -> Result<Job, JobFault>
+    requires old { IsSome (first_of (codes "old") (rows_of (found_of arguments.now))) }
+    requires new { IsSome (first_of (codes "new") (rows_of (found_of arguments.now))) }
+    ensures job { IfOk result (IsJobOf (codes "diff", rows_of (found_of arguments.now))) }
+    ensures fault { IfErr result (IsFaultOf (codes "diff", rows_of (found_of arguments.now))) }
+{
+    Ok(Job::Diff {
+        format: diff_form(arguments)?,
+        old: required_value(alloc, arguments, "old")?,
+        new: required_value(alloc, arguments, "new")?,
     })
 }

@@ -2,10 +2,10 @@
 
 ghost use Rattle.std.specs.Prelude.{◌≡◌, IfOk, IfErr, Some, None};
 ghost use Rattle.clap.specs.Words.{found_of, rows_of};
-ghost use Rattle.d64_words.specs.Format.{form_word, format_of, picture_form_of};
-ghost use Rattle.d64_words.specs.declared.asked.JobFault.TheVariants.{Format as NoFormat, Picture as NoPicture};
+ghost use Rattle.d64_words.specs.Format.{diff_form_of, form_word, format_of, picture_form_of};
+ghost use Rattle.d64_words.specs.declared.asked.JobFault.TheVariants.{Difference as NoDifference, Format as NoFormat, Picture as NoPicture};
 
-use crate::asked::{Format, JobFault, PictureForm};
+use crate::asked::{DiffForm, Format, JobFault, PictureForm};
 use crate::values::given;
 use clap::ArgMatches;
 
@@ -31,6 +31,18 @@ pub(crate) fn picture_form(arguments: &ArgMatches) -> Result<PictureForm, JobFau
         "text" => Ok(PictureForm::Text),
         "svg" => Ok(PictureForm::Svg),
         _ => Err(JobFault::Picture),
+    }
+}
+
+/// The form in which the words want changes told.
+pub(crate) fn diff_form(arguments: &ArgMatches) -> Result<DiffForm, JobFault>
+    ensures form { IfOk result (λ form. diff_form_of (form_word (rows_of (found_of arguments.now))) ≡ Some form) }
+    ensures fault { IfErr result (λ fault. (fault ≡ NoDifference) × (diff_form_of (form_word (rows_of (found_of arguments.now))) ≡ None)) }
+{
+    match form_word(arguments) {
+        "text" => Ok(DiffForm::Text),
+        "json" => Ok(DiffForm::Json),
+        _ => Err(JobFault::Difference),
     }
 }
 

@@ -35,6 +35,17 @@ pub(crate) fn files_job(alloc: Global, arguments: &ArgMatches) -> Result<Job, Jo
     })
 }
 
+/// The job that `catalogue` with these matches asks for.
+pub(crate) fn catalogue_job(alloc: Global, arguments: &ArgMatches) -> Result<Job, JobFault>
+    ensures job { IfOk result (IsJobOf (codes "catalogue", rows_of (found_of arguments.now))) }
+    ensures fault { IfErr result (IsFaultOf (codes "catalogue", rows_of (found_of arguments.now))) }
+{
+    Ok(Job::Catalogue {
+        maps: has_flag(arguments, "maps"),
+        names: names(alloc, arguments)?,
+    })
+}
+
 /// The names that the words give, or the list that holds them.
 fn names(alloc: Global, arguments: &ArgMatches) -> Result<Names, JobFault>
     ensures names { IfOk result (IsNamesBy (rows_of (found_of arguments.now))) }

@@ -193,6 +193,61 @@ fn takes_the_words_of_map(rt: HostRuntime) -> Result<(), Fail> {
 }
 
 #[test]
+fn takes_the_words_of_catalogue(rt: HostRuntime) -> Result<(), Fail> {
+    let rt = &rt;
+    let given = "Catalogue { maps: false, names: Given([\"a\", \"b\"]) }";
+    assert!(rt; asks_for(rt, &["d64sh", "catalogue", "a", "b"], given)?);
+    let lines = "Catalogue { maps: true, names: Listed { list: \"-\", separator: LineFeed } }";
+    assert!(rt;
+        asks_for(
+            rt,
+            &["d64sh", "catalogue", "--files-from=-", "--maps"],
+            lines
+        )?
+    );
+    let pieces = "Catalogue { maps: false, names: Listed { list: \"l\", separator: Nul } }";
+    assert!(rt;
+        asks_for(
+            rt,
+            &["d64sh", "catalogue", "--null", "--files-from", "l"],
+            pieces
+        )?
+    );
+    Ok(())
+}
+
+#[test]
+fn takes_the_words_of_diff(rt: HostRuntime) -> Result<(), Fail> {
+    let rt = &rt;
+    let text = "Diff { format: Text, old: \"a\", new: \"my disk\" }";
+    assert!(rt; asks_for(rt, &["d64sh", "diff", "a", "my disk"], text)?);
+    assert!(rt;
+        asks_for(
+            rt,
+            &["d64sh", "diff", "a", "--format", "text", "my disk"],
+            text
+        )?
+    );
+    let json = "Diff { format: Json, old: \"-\", new: \"--format\" }";
+    assert!(rt;
+        asks_for(
+            rt,
+            &["d64sh", "diff", "--format=json", "--", "-", "--format"],
+            json
+        )?
+    );
+    Ok(())
+}
+
+#[test]
+fn refuses_other_forms_of_changes(rt: HostRuntime) {
+    for format in ["csv", "JSON", "", "json "] {
+        let fault = job(rt.alloc(), &["d64sh", "diff", "a", "b", "--format", format]);
+        assert!(rt; matches!(&fault, Err(JobFault::Difference)));
+    }
+}
+
+#[test]
 fn refuses_other_pictures(rt: HostRuntime) {
     for format in ["json", "SVG", "", "svg "] {
         let fault = job(rt.alloc(), &["d64sh", "map", "a", "--format", format]);
@@ -214,10 +269,10 @@ fn refuses_other_formats(rt: HostRuntime) {
 
 #[test]
 fn refuses_names_in_both_ways_and_in_neither(rt: HostRuntime) {
-    for survey in ["check", "files"] {
+    for survey in ["check", "files", "catalogue"] {
         let fault = job(rt.alloc(), &["d64sh", survey]);
         assert!(rt; matches!(&fault, Err(JobFault::Names)));
-        let fault = job(rt.alloc(), &["d64sh", survey, "--format=csv", "--"]);
+        let fault = job(rt.alloc(), &["d64sh", survey, "--"]);
         assert!(rt; matches!(&fault, Err(JobFault::Names)));
         let fault = job(rt.alloc(), &["d64sh", survey, "--null"]);
         assert!(rt; matches!(&fault, Err(JobFault::Names)));
@@ -309,10 +364,23 @@ fn tells_what_is_wrong(rt: HostRuntime) -> Result<(), Fail> {
     );
     let usage = "Usage: d64sh files [--format FORMAT] FILE..";
     assert!(rt; is_told(rt, &["d64sh", "files", "a", "--digest"], usage, false)?);
+    let usage = "Usage: d64sh catalogue [--maps] FILE..";
+    assert!(rt;
+        is_told(
+            rt,
+            &["d64sh", "catalogue", "a", "--format", "text"],
+            usage,
+            false
+        )?
+    );
     let usage = "Usage: d64sh map [--format FORMAT] FILE";
     assert!(rt; is_told(rt, &["d64sh", "map", "--format", "json"], usage, false)?);
     assert!(rt; is_told(rt, &["d64sh", "map", "a", "b"], usage, false)?);
     assert!(rt; is_told(rt, &["d64sh", "map"], "  <FILE>", false)?);
+    let usage = "Usage: d64sh diff [--format FORMAT] OLD NEW";
+    assert!(rt; is_told(rt, &["d64sh", "diff", "a", "b", "c"], usage, false)?);
+    assert!(rt; is_told(rt, &["d64sh", "diff", "a"], "  <NEW>", false)?);
+    assert!(rt; is_told(rt, &["d64sh", "diff"], "  <OLD>", false)?);
     Ok(())
 }
 
@@ -324,7 +392,7 @@ fn shows_help_and_version(rt: HostRuntime) -> Result<(), Fail> {
         is_told(
             rt,
             &["d64sh", "--help"],
-            "  petcat  Lists a BASIC program as text",
+            "  petcat     Lists a BASIC program as text",
             true
         )?
     );
@@ -338,6 +406,10 @@ fn shows_help_and_version(rt: HostRuntime) -> Result<(), Fail> {
     assert!(rt; is_told(rt, &["d64sh", "files", "--help"], files, true)?);
     let map = "Example: d64sh map --format svg disk.d64 >disk.svg";
     assert!(rt; is_told(rt, &["d64sh", "map", "--help"], map, true)?);
+    let diff = "Example: d64sh diff before.d64 after.d64";
+    assert!(rt; is_told(rt, &["d64sh", "diff", "--help"], diff, true)?);
+    let catalogue = "Example: d64sh catalogue --maps *.d64 >disks.html";
+    assert!(rt; is_told(rt, &["d64sh", "catalogue", "--help"], catalogue, true)?);
     assert!(rt; is_told(rt, &["d64sh", "-V"], "d64sh 0.1.0", true)?);
     Ok(())
 }
@@ -366,6 +438,8 @@ fn shows_each_fault(rt: HostRuntime) -> Result<(), Fail> {
     assert!(rt; is_shown_as(rt, &JobFault::Null, null)?);
     let picture = "usage: --format takes text or svg";
     assert!(rt; is_shown_as(rt, &JobFault::Picture, picture)?);
+    let difference = "usage: --format takes text or json";
+    assert!(rt; is_shown_as(rt, &JobFault::Difference, difference)?);
     let fault = WriteFault;
     let shown = format!(in rt.alloc(); "{fault}")?;
     assert_eq!(rt; shown.as_str(), "the output took no more bytes");

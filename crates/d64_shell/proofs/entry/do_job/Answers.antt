@@ -4,6 +4,7 @@ use Rattle.d64_collection.specs.Runs.{account_at}
 use Rattle.d64_check.specs.Check.{check_rule, heading_of as check_heading}
 use Rattle.d64_listing.specs.Files.{files_rule, heading_of as files_heading}
 use Rattle.d64_picture.specs.Pictures.{map_rule}
+use Rattle.d64_catalogue.specs.Catalogue.{catalogue_rule, catalogue_heading}
 use Rattle.std.specs.Prelude.{[], ◌∷◌, string_bytes}
 use Rattle.d64_shell.specs.Jobs.{work_of}
 use Rattle.d64_shell.specs.SurveyFiles.{Named, files_in, files_of}
@@ -29,11 +30,20 @@ returns-in-Files-clause-ended g c =
     (ap work_of c.in-Files.is) (search rules)
     (c.run-in-Files.ensures.ended (files_rule c.in-Files.format) (files_heading c.in-Files.format) (search rules))
 
-pub returns-clause-ended : goal.returns-clause-ended
-returns-clause-ended g c =
+pub returns-in-Map-clause-ended : goal.returns-in-Map-clause-ended
+returns-in-Map-clause-ended g c =
     survey_ended c.args.job (map_rule c.in-Map.format) [] (Named (string_bytes c.in-Map.file ∷ [])) (files_in c.new-in-Map.result.names)
     (outside_at g.R.Read.remaining c.args.input.now g.W.Write.contents c.args.output.now g.H.Host.files g.H.Host.failure_count c.args.host.now)
     (outside_at g.R.Read.remaining c.run-in-Map.new.input g.W.Write.contents c.run-in-Map.new.output g.H.Host.files g.H.Host.failure_count c.run-in-Map.new.host)
     (account_at g.F.Write.contents c.args.faults.now) (account_at g.F.Write.contents c.run-in-Map.new.faults) c.run-in-Map.result
     (ap work_of c.in-Map.is) (search rules)
     (c.run-in-Map.ensures.ended (map_rule c.in-Map.format) [] (search rules))
+
+pub returns-in-Catalogue-clause-ended : goal.returns-in-Catalogue-clause-ended
+returns-in-Catalogue-clause-ended g c =
+    survey_ended c.args.job (catalogue_rule c.in-Catalogue.maps) catalogue_heading (files_of c.in-Catalogue.names) (files_in c.new-in-Catalogue.result.names)
+    (outside_at g.R.Read.remaining c.args.input.now g.W.Write.contents c.args.output.now g.H.Host.files g.H.Host.failure_count c.args.host.now)
+    (outside_at g.R.Read.remaining c.run-in-Catalogue.new.input g.W.Write.contents c.run-in-Catalogue.new.output g.H.Host.files g.H.Host.failure_count c.run-in-Catalogue.new.host)
+    (account_at g.F.Write.contents c.args.faults.now) (account_at g.F.Write.contents c.run-in-Catalogue.new.faults) c.run-in-Catalogue.result
+    (ap work_of c.in-Catalogue.is) (search rules)
+    (c.run-in-Catalogue.ensures.ended (catalogue_rule c.in-Catalogue.maps) catalogue_heading (search rules))

@@ -1,19 +1,18 @@
-use Rattle.std.proofs.Common.{◌≡◌, ◌||◌, Bool, true, false, ap, ap₂, refl, ◌∙◌}
+use Rattle.std.proofs.Common.{◌≡◌, ap, ◌∙◌}
 use Rattle.std.proofs.lemmas.Result.{IfOk-weaker}
 use Rattle.clap.specs.Words.{with_rule}
+use Rattle.clap.specs.declared.builder.command.Command.TheViews.{out-Command as fields_of}
+use Rattle.d64_words.specs.Commands.{with_names}
+use Rattle.d64_words.proofs.Additions.{kept}
 use Rattle.d64_words.proofs.command.survey.Goals as goal
-
-kept : (globals : Bool) → (globals || false) ≡ globals
-kept true = refl
-kept false = refl
 
 pub returns-clause-app : goal.returns-clause-app
 returns-clause-app c =
     let format = c.in_ok-arg.ensures.shape c.valued_option-format.ensures.local ∙ ap (with_rule _) c.valued_option-format.ensures.rule in
-    let list = c.in_ok-arg-2.ensures.shape c.valued_option-list.ensures.local ∙ ap₂ with_rule format c.valued_option-list.ensures.rule in
-    let null = c.in_ok-arg-3.ensures.shape c.flag-null.ensures.local ∙ ap₂ with_rule list c.flag-null.ensures.rule in
-    IfOk-weaker c.arg-4.result _ _ (λ command added. added.shape c.files_argument.ensures.local ∙ ap₂ with_rule null c.files_argument.ensures.rule) c.arg-4.ensures
+    IfOk-weaker c.with_names.result _ _ (λ command is. is ∙ ap with_names format) c.with_names.ensures.app
 
 pub returns-clause-local : goal.returns-clause-local
 returns-clause-local c =
-    IfOk-weaker c.arg-4.result _ _ (λ command added. rw (added.globals, c.in_ok-arg-3.ensures.globals, c.in_ok-arg-2.ensures.globals, c.in_ok-arg.ensures.globals, c.valued_option-format.ensures.local, c.valued_option-list.ensures.local, c.flag-null.ensures.local, c.files_argument.ensures.local) (kept _ ∙ kept _ ∙ kept _ ∙ kept _)) c.arg-4.ensures
+    let local : (fields_of c.in_ok-arg.field-0).has_globals ≡ (fields_of c.args.command).has_globals =
+    c.in_ok-arg.ensures.globals ∙ rw (c.valued_option-format.ensures.local) (kept _) in
+    IfOk-weaker c.with_names.result _ _ (λ command same. same ∙ local) c.with_names.ensures.local

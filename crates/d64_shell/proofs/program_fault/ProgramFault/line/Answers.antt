@@ -35,6 +35,10 @@ pub returns-in-Picture : goal.returns-in-Picture
 unfolding fault_line
 returns-in-Picture c = search (rules, append_assoc)
 
+pub returns-in-Difference : goal.returns-in-Difference
+unfolding fault_line
+returns-in-Difference c = search (rules, append_assoc)
+
 pub returns-in-WrongLength : goal.returns-in-WrongLength
 unfolding fault_line
 returns-in-WrongLength c = search (rules, append_assoc)

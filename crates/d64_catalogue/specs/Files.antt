@@ -1,0 +1,83 @@
+-- The table of the files on a disk.
+use Rattle.std.specs.Prelude.{ℕ, ◌==◌, if◌then◌else◌, Bool, true, false, List, [], ◌++◌, length, Option, Some, None, codes, decimal}
+use Rattle.std.specs.List.{flat_map}
+use Rattle.d64_image.specs.Disk.{Disk, Bytes}
+use Rattle.d64_files.specs.Slot.{is_used, is_locked, size_of, name_of}
+use Rattle.d64_survey.specs.Dump.{DumpView}
+use Rattle.d64_survey.specs.Flaws.{why, wholeness_by}
+use Rattle.d64_survey.specs.Owners.{way_slots}
+use Rattle.d64_survey.specs.SlotBlocks.{slot_blocks}
+use Rattle.d64_survey.specs.declared.flaw.Flaw.{Flaw}
+use Rattle.petscii.specs.Spelling.{spelling}
+use Rattle.d64_wording.specs.FileText.{letters_of, flaws_text}
+use Rattle.d64_markup.specs.Markup.{element}
+use Rattle.d64_catalogue.specs.Elements.{text_in}
+
+-- why the file of a slot isn't whole, or why that isn't known
+unfoldable pub reasons : Disk → Bytes → List Flaw → List ℕ
+reasons image cell flaws = flaws_text (size_of cell) (length (slot_blocks image cell)) flaws
+
+-- that it isn't known whether the file is whole, and why, where there is more to say
+unfoldable pub unknown_text : Disk → Bytes → List Flaw → List ℕ
+unknown_text image cell flaws = codes "not known" ++ (if length flaws == 0 then [] else codes ": " ++ reasons image cell flaws)
+
+-- whether the file is whole, or what is amiss, by the answer to that
+abbrev pub wholeness_text : Option Bool → Disk → Bytes → List Flaw → List ℕ
+wholeness_text None image cell flaws = unknown_text image cell flaws
+wholeness_text (Some true) image cell flaws = codes "whole"
+wholeness_text (Some false) image cell flaws = reasons image cell flaws
+
+-- that a file is locked
+abbrev pub locked_text : Bool → List ℕ
+locked_text locked = if locked then codes ", locked" else []
+
+-- the state of the file of a slot with these flaws
+unfoldable pub state_words : Disk → Bytes → List Flaw → List ℕ
+state_words image cell flaws = wholeness_text (wholeness_by cell flaws) image cell flaws ++ locked_text (is_locked cell)
+
+-- the attribute by which a state looks different
+abbrev pub state_class : Option Bool → List ℕ
+state_class None = codes " class=\"unknown\""
+state_class (Some true) = codes " class=\"whole\""
+state_class (Some false) = codes " class=\"broken\""
+
+-- the cell of the state
+unfoldable pub state_cell : Disk → Bytes → List Flaw → List ℕ
+state_cell image cell flaws = text_in (codes "td") (state_class (wholeness_by cell flaws)) (state_words image cell flaws)
+
+-- the size that the directory shows
+unfoldable pub size_cell : Bytes → List ℕ
+size_cell cell = text_in (codes "td") [] (decimal (size_of cell))
+
+-- the name in text form; it is the head of its row
+unfoldable pub name_cell : Bytes → List ℕ
+name_cell cell = text_in (codes "th") (codes " scope=\"row\"") (spelling (name_of cell))
+
+-- the letters of the kind
+unfoldable pub kind_cell : Bytes → List ℕ
+kind_cell cell = text_in (codes "td") [] (letters_of cell)
+
+-- all cells of a file with these flaws
+unfoldable pub file_cells : Disk → Bytes → List Flaw → List ℕ
+file_cells image cell flaws = size_cell cell ++ (name_cell cell ++ (kind_cell cell ++ state_cell image cell flaws))
+
+-- the row of such a file
+unfoldable pub flawed_row : Disk → Bytes → List Flaw → List ℕ
+flawed_row image cell flaws = element (codes "tr") [] (file_cells image cell flaws) ++ codes "\n"
+
+-- the row of a slot, where it is used
+unfoldable pub file_row : DumpView → Bytes → List ℕ
+file_row dump cell = if is_used cell then flawed_row dump.image cell (why dump.image dump.codes cell) else []
+
+-- the rows of all files
+unfoldable pub file_rows : DumpView → List Bytes → List ℕ
+file_rows dump cells = flat_map (file_row dump) cells
+
+-- the heads of the columns
+unfoldable pub table_head : List ℕ
+table_head =
+    codes "<thead><tr><th scope=\"col\">Blocks</th><th scope=\"col\">Name</th><th scope=\"col\">Kind</th><th scope=\"col\">State</th></tr></thead>\n"
+
+-- the table
+unfoldable pub table : DumpView → List ℕ
+table dump = element (codes "table") [] (codes "\n" ++ (table_head ++ element (codes "tbody") [] (codes "\n" ++ file_rows dump (way_slots dump.image)))) ++ codes "\n"

@@ -1,0 +1,12 @@
+//! A collection of disks as one page of HTML: a section for each image, with its state, its files and, if wanted, its picture.
+#![tactic(auto)]
+
+mod catalogue_report;
+mod element;
+mod files;
+mod head;
+mod script;
+mod section;
+mod style;
+
+pub use catalogue_report::CatalogueReport;

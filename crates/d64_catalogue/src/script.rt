@@ -1,0 +1,100 @@
+//! How the page searches itself. Without the script all of it can be read.
+ghost use Rattle.std.specs.Prelude.{◌≡◌, ◌++◌, OnOk};
+ghost use Rattle.d64_catalogue.specs.Script.{gathering, showing, listening, steps, script};
+
+use std::alloc::AllocError;
+
+/// What is on the page: each section, with its names and files.
+const GATHERING: &[u8] = b"addEventListener(\"DOMContentLoaded\", () => {\n\
+\x20 const all = (words, within = document) => [...within.querySelectorAll(words)];\n\
+\x20 const lower = (part) => part.textContent.toLowerCase();\n\
+\x20 const [field] = all(\"input\"), [count] = all(\"output\"), [tools] = all(\".tools\"), buttons = all(\"button\");\n\
+\x20 const disks = all(\"details, section\").map((box) => ({\n\
+\x20   box,\n\
+\x20   names: all(\".name, .host\", box).map(lower),\n\
+\x20   files: all(\"tbody th\", box).map((head) => ({ row: head.parentNode, name: lower(head), hidden: false })),\n\
+\x20 }));\n";
+
+/// What is shown: the sections and files whose name holds what is typed, of the state that is asked for.
+const SHOWING: &[u8] = b"  let state = \"\", last = \"\";\n\
+\x20 const show = () => {\n\
+\x20   const text = field.value.toLowerCase();\n\
+\x20   const kept = disks.filter((disk) => {\n\
+\x20     const whole = disk.names.some((name) => name.includes(text));\n\
+\x20     let found = whole;\n\
+\x20     for (const file of disk.files) {\n\
+\x20       const holds = whole || file.name.includes(text);\n\
+\x20       if (file.hidden === holds) file.row.hidden = !holds;\n\
+\x20       file.hidden = !holds;\n\
+\x20       found ||= holds;\n\
+\x20     }\n\
+\x20     return !(disk.box.hidden = !found || (state && disk.box.className !== state));\n\
+\x20   });\n\
+\x20   if (text !== last) for (const disk of disks) disk.box.open = text && kept.length <= 20;\n\
+\x20   last = text;\n\
+\x20   count.value = `${kept.length} of ${disks.length} disks`;\n\
+\x20 };\n";
+
+/// When that is asked: as the page opens, by its address, and by the reader.
+const LISTENING: &[u8] = b"  const search = () => {\n\
+\x20   const [, text = \"\"] = location.hash.match(/^#q=(.*)/) || [];\n\
+\x20   try { field.value = decodeURIComponent(text); } catch { field.value = text; }\n\
+\x20   show();\n\
+\x20 };\n\
+\x20 field.addEventListener(\"input\", () => {\n\
+\x20   show();\n\
+\x20   history.replaceState(null, \"\", \"#\" + (field.value && \"q=\" + encodeURIComponent(field.value)));\n\
+\x20 });\n\
+\x20 for (const button of buttons) button.addEventListener(\"click\", () => {\n\
+\x20   state = button.value;\n\
+\x20   for (const other of buttons) other.setAttribute(\"aria-pressed\", other === button);\n\
+\x20   show();\n\
+\x20 });\n\
+\x20 addEventListener(\"hashchange\", search);\n\
+\x20 tools.hidden = false;\n\
+\x20 search();\n\
+});\n";
+
+/// Adds what is on the page.
+#[tactic(auto, unfolding(crate::specs::Script::gathering))]
+fn push_gathering(out: &mut Vec<u8>) -> Result<(), AllocError>
+    ensures { OnOk result (out.new.items ≡ out.old.items ++ gathering) }
+{
+    out.extend_from_slice(GATHERING)
+}
+
+/// Adds what is shown.
+#[tactic(auto, unfolding(crate::specs::Script::showing))]
+fn push_showing(out: &mut Vec<u8>) -> Result<(), AllocError>
+    ensures { OnOk result (out.new.items ≡ out.old.items ++ showing) }
+{
+    out.extend_from_slice(SHOWING)
+}
+
+/// Adds when that is asked.
+#[tactic(auto, unfolding(crate::specs::Script::listening))]
+fn push_listening(out: &mut Vec<u8>) -> Result<(), AllocError>
+    ensures { OnOk result (out.new.items ≡ out.old.items ++ listening) }
+{
+    out.extend_from_slice(LISTENING)
+}
+
+/// Adds all steps.
+#[tactic(auto, unfolding(crate::specs::Script::steps))]
+fn push_steps(out: &mut Vec<u8>) -> Result<(), AllocError>
+    ensures { OnOk result (out.new.items ≡ out.old.items ++ steps) }
+{
+    push_gathering(out)?;
+    push_showing(out)?;
+    push_listening(out)
+}
+
+/// Adds the script.
+#[tactic(auto, unfolding(crate::specs::Script::script, d64_markup::specs::Markup::element, d64_markup::specs::Markup::tag))]
+pub(crate) fn push_script(out: &mut Vec<u8>) -> Result<(), AllocError>
+    ensures { OnOk result (out.new.items ≡ out.old.items ++ script) }
+{
+    out.extend_from_slice(b"<script>\n")?;
+    push_steps(out)?;
+    out.extend_from_slice(b"</script>\n")
+}

@@ -1,0 +1,3 @@
+pub mod Keeping
+pub mod Printed
+pub mod Unchanged

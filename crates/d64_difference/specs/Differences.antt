@@ -1,0 +1,72 @@
+-- What is said of two dumps.
+use Rattle.std.specs.Prelude.{ℕ, ◌==◌, nat_eq, List, [], ◌++◌, length, Option, Some, None, is_some, if◌then◌else◌, codes}
+use Rattle.std.specs.List.{flat_map}
+use Rattle.std.specs.Cmp.Lexicographic.{pointwise}
+use Rattle.d64_image.specs.Disk.{Bytes}
+use Rattle.d64_survey.specs.Dump.{DumpView}
+use Rattle.d64_report.specs.Values.{line_of}
+use Rattle.d64_report.specs.DumpOf.{dump_of}
+use Rattle.d64_report.specs.Unanswered.{unread_object, wrong_length_object}
+use Rattle.d64_wording.specs.FaultLines.{unread_line, wrong_length_line}
+use Rattle.d64_collection.specs.Answers.{Answer}
+use Rattle.d64_collection.specs.declared.report.Verdict.TheVariants.{Clean, Amiss, Failed}
+use Rattle.d64_words.specs.declared.asked.DiffForm.{DiffForm}
+use Rattle.d64_words.specs.declared.asked.DiffForm.TheVariants.{Text, Json}
+use Rattle.d64_difference.specs.Changes.{Change, changes}
+use Rattle.d64_difference.specs.ChangeObject.{change_object}
+use Rattle.d64_difference.specs.ChangeText.{change_lines, heading}
+
+-- what is printed of a change
+abbrev pub printed_change : DiffForm → Change → List ℕ
+printed_change Text change = change_lines change
+printed_change Json change = line_of (change_object change)
+
+-- what is printed of changes, in their order
+unfoldable pub printed_changes : DiffForm → List Change → List ℕ
+printed_changes form list = flat_map (printed_change form) list
+
+-- the changes for people, with these lines: the names stand before them; files that differ where no line tells it differ in good read codes
+unfoldable pub under_names : Bytes → Bytes → List ℕ → List ℕ
+under_names old_name new_name lines = if length lines == 0 then codes "only good read codes differ\n" else heading old_name new_name ++ lines
+
+-- what is printed of two dumps that differ in a byte
+abbrev pub printed_difference : DiffForm → Bytes → Bytes → DumpView → DumpView → List ℕ
+printed_difference Text old_name new_name old new = under_names old_name new_name (printed_changes Text (changes old new))
+printed_difference Json old_name new_name old new = printed_changes Json (changes old new)
+
+-- the line on standard error of a file that isn't answered: it cannot be read, or no dump has its length
+abbrev pub fault_line : Bytes → Option Bytes → List ℕ
+fault_line name None = unread_line name
+fault_line name (Some bytes) = if is_some (dump_of bytes) then [] else wrong_length_line name bytes
+
+-- and what is printed of it
+abbrev pub printed_fault : DiffForm → Bytes → Option Bytes → List ℕ
+printed_fault Text name bytes = []
+printed_fault Json name None = line_of (unread_object name)
+printed_fault Json name (Some bytes) = if is_some (dump_of bytes) then [] else line_of (wrong_length_object name (length bytes))
+
+-- what is answered where one of two files isn't, or neither
+abbrev pub unanswered : DiffForm → Bytes → Option Bytes → Bytes → Option Bytes → Answer
+unanswered form old_name old new_name new =
+    record { printed = printed_fault form old_name old ++ printed_fault form new_name new; complaint = fault_line old_name old ++ fault_line new_name new; verdict = Failed }
+
+-- what is answered of two dumps that differ in a byte
+abbrev pub amiss_with : List ℕ → Answer
+amiss_with printed = record { printed = printed; complaint = []; verdict = Amiss }
+
+-- what is answered where nothing is said
+abbrev pub silence : Answer
+silence = record { printed = []; complaint = []; verdict = Clean }
+
+-- what is answered of two files by the dumps that their bytes are: nothing where the bytes are equal, and else what changed
+abbrev pub difference_by : DiffForm → Bytes → Bytes → Bytes → Bytes → Option DumpView → Option DumpView → Answer
+difference_by form old_name old new_name new (Some old_dump) (Some new_dump) =
+    if pointwise nat_eq old new then silence else amiss_with (printed_difference form old_name new_name old_dump new_dump)
+difference_by form old_name old new_name new (Some old_dump) None = unanswered form old_name (Some old) new_name (Some new)
+difference_by form old_name old new_name new None new_dump = unanswered form old_name (Some old) new_name (Some new)
+
+-- what `diff` answers of an old file and a new one in a form: of their bytes, or that they cannot be read
+abbrev pub difference_rule : DiffForm → Bytes → Option Bytes → Bytes → Option Bytes → Answer
+difference_rule form old_name (Some old) new_name (Some new) = difference_by form old_name old new_name new (dump_of old) (dump_of new)
+difference_rule form old_name (Some old) new_name None = unanswered form old_name (Some old) new_name None
+difference_rule form old_name None new_name new = unanswered form old_name None new_name new

@@ -1,0 +1,17 @@
+//! What changed from one dump of a disk to another: in the disk's label, its files, its blocks and their read codes.
+#![tactic(auto)]
+
+mod blocks;
+mod difference_report;
+mod drafts;
+mod dump_room;
+mod laws;
+mod lines;
+mod objects;
+mod printing;
+mod slots;
+mod unanswered;
+
+pub use blocks::{list_changed_blocks, list_changed_codes};
+pub use difference_report::DifferenceReport;
+pub use laws::{equal_bytes_are_silent, images_are_told};
