@@ -42,12 +42,12 @@ bench: all
 # needs the toolchain only where the program has to be built first
 install:
 	@$(IS_BUILT) || $(MAKE) --no-print-directory all
-	@install -d "$$DESTDIR$$PREFIX/bin" "$$DESTDIR$$PREFIX/share/man/man1"
-	@install -m 755 $(PROGRAM) "$$DESTDIR$$PREFIX/bin/d64sh"
-	@install -m 644 docs/d64sh.1 "$$DESTDIR$$PREFIX/share/man/man1/d64sh.1"
+	@install -D -m 755 $(PROGRAM) "$$DESTDIR$$PREFIX/bin/d64sh"
+	@packaging/place --docs "$$DESTDIR$$PREFIX"
 
 uninstall:
-	@rm -f "$$DESTDIR$$PREFIX/bin/d64sh" "$$DESTDIR$$PREFIX/share/man/man1/d64sh.1"
+	@rm -f "$$DESTDIR$$PREFIX/bin/d64sh"
+	@packaging/place --remove "$$DESTDIR$$PREFIX"
 
 # into out/dist; `packaging/try-dist out/dist` then installs it in a clean root, which needs to be root and the network
 dist:

@@ -17,6 +17,8 @@ TEXTS = [
     ["scripts/functions-without-wrong-body"],
     ["scripts/check-pages", "--names", *PAGES],
     ["scripts/manual-page", "docs/MANUAL.md", "docs/d64sh.1"],
+    ["scripts/same-words"],
+    ["scripts/completions", "--try", "packaging/completions"],
 ]
 
 # Scripts that take seconds on the program, and those of both lists that a change of pages alone asks for.
@@ -40,6 +42,8 @@ SWEEPS = [
     "scripts/sweep-damage",
     "scripts/sweep-sessions",
     "scripts/sweep-surveys",
+    "scripts/sweep-differences",
+    "scripts/sweep-catalogue",
     "scripts/sweep-survey-names",
 ]
 

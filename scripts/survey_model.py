@@ -455,8 +455,9 @@ def numbers_in(text):
 def difference_of_picture(data, text):
     """How a picture differs from what must come of it, or None: it is XML, fetches and runs nothing, and has a title for each block, which says its state."""
     survey, root = survey_of(data), ElementTree.fromstring(text)
-    if len(text) > MOST_OF_PICTURE or root.tag != SVG + "svg" or not root.get("viewBox"):
-        return f"the picture has {len(text)} bytes, and begins with {root.tag}"
+    size = len(text.encode())
+    if size > MOST_OF_PICTURE or root.tag != SVG + "svg" or not root.get("viewBox"):
+        return f"the picture has {size} bytes, and begins with {root.tag}"
     if any(element.tag in (SVG + "script", SVG + "image", SVG + "a") or "href" in key for element in root.iter() for key in ("", *element.attrib)):
         return "the picture fetches or runs something"
     titles = [title.text for element in root.iter() if element is not root for title in element.findall(SVG + "title")]

@@ -1,0 +1,45 @@
+# Completions of d64sh, made by scripts/completions of what its help says.
+
+_d64sh_take() {
+    compopt -o filenames 2>/dev/null
+    mapfile -t COMPREPLY
+}
+
+_d64sh() {
+    local word=${COMP_WORDS[COMP_CWORD]} before=${COMP_WORDS[COMP_CWORD - 1]} command=${COMP_WORDS[1]} options=
+    COMPREPLY=()
+    if [ "$COMP_CWORD" -eq 1 ]; then
+        mapfile -t COMPREPLY < <(compgen -W "shell petcat crunch check files map diff catalogue -h --help -V --version" -- "$word")
+        return
+    fi
+    case "$command $before" in
+    "shell --tracks") mapfile -t COMPREPLY < <(compgen -W "35 40" -- "$word"); return ;;
+    "shell --resume" | "check --files-from" | "files --files-from" | "catalogue --files-from") _d64sh_take < <(compgen -f -- "$word"); return ;;
+    "crunch --start") :; return ;;
+    "check --format" | "files --format") mapfile -t COMPREPLY < <(compgen -W "text json csv" -- "$word"); return ;;
+    "map --format") mapfile -t COMPREPLY < <(compgen -W "text svg" -- "$word"); return ;;
+    "diff --format") mapfile -t COMPREPLY < <(compgen -W "text json" -- "$word"); return ;;
+    "help "*) mapfile -t COMPREPLY < <(compgen -W "shell petcat crunch check files map diff catalogue" -- "$word"); return ;;
+    esac
+    case $command in
+    shell) options="--tracks --resume -h --help" ;;
+    petcat) options="-h --help" ;;
+    crunch) options="--start -h --help" ;;
+    check) options="--digest --format --files-from --null -h --help" ;;
+    files) options="--format --files-from --null -h --help" ;;
+    map) options="--format -h --help" ;;
+    diff) options="--format -h --help" ;;
+    catalogue) options="--maps --files-from --null -h --help" ;;
+    esac
+    if [[ $word == -* && " ${COMP_WORDS[*]:0:COMP_CWORD} " != *" -- "* ]]; then
+        mapfile -t COMPREPLY < <(compgen -W "$options" -- "$word")
+        return
+    fi
+    case $command in
+    shell | check | files | map | diff | catalogue) _d64sh_take < <(compgen -f -X '!*.[dD]64' -- "$word"; compgen -d -- "$word") ;;
+    petcat) _d64sh_take < <(compgen -f -X '!*.[pP][rR][gG]' -- "$word"; compgen -d -- "$word") ;;
+    crunch) _d64sh_take < <(compgen -f -- "$word") ;;
+    esac
+}
+
+complete -F _d64sh d64sh
