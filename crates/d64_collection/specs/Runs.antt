@@ -1,7 +1,7 @@
 -- Runs over files: what is answered of each, and where a run stops.
 use Rattle.std.specs.Prelude.{◌≡◌, ℕ, List, [], ◌∷◌, ◌++◌, Option, Some, None, Result, Ok, Err, ◌⊎◌, true}
 use Rattle.std.specs.Io.KnownBytes.{Appends}
-use Rattle.d64_host.specs.Files.{Files}
+use Rattle.d64_host.specs.Files.{HostState}
 use Rattle.d64_host.specs.Host.{Fetches, CountsDevice}
 use Rattle.d64_host.specs.declared.host.HostFault.{HostFault}
 use Rattle.d64_host.specs.declared.host.HostFault.TheVariants.{Missing, Device, TooLong, Memory}
@@ -18,11 +18,6 @@ use Rattle.d64_collection.specs.declared.desk.RunFault.TheVariants as faults
 abbrev pub file_limit : ℕ
 file_limit = 16777216
 
--- what a host shows: its files, where it tells them, and how many of its calls failed
-pub record HostView : Type 0 where
-  pub files : Option Files
-  pub failures : ℕ
-
 -- what was told so far: what the output and the standard error have, and the worst verdict
 pub record Told : Type 0 where
   pub output : Account
@@ -31,16 +26,13 @@ pub record Told : Type 0 where
 
 -- how it stands with a run
 pub record Stand : Type 0 where
-  pub host : HostView
+  pub host : HostState
   pub told : Told
-
-abbrev pub host_of : Option Files → ℕ → HostView
-host_of files failures = record { files = files; failures = failures }
 
 abbrev pub told_of : Account → Account → Verdict → Told
 told_of output error worst = record { output = output; error = error; worst = worst }
 
-abbrev pub stand_of : HostView → Told → Stand
+abbrev pub stand_of : HostState → Told → Stand
 stand_of host told = record { host = host; told = told }
 
 -- what is known of an output stream, of whose writer this tells the bytes
@@ -51,10 +43,10 @@ account_at contents stream = account_of (contents stream.writer.now) stream.has_
 abbrev pub told_at : {W F : Type 0} → (W → Option (List ℕ)) → OutputStream W → (F → Option (List ℕ)) → OutputStream F → Verdict → Told
 told_at written output complained faults worst = told_of (account_at written output) (account_at complained faults) worst
 
--- how it stands with a run over a host, of which two functions tell the files and the failures, and on two output streams
-abbrev pub stand_at : {H W F : Type 0} → (H → Option Files) → (H → ℕ) → H → (W → Option (List ℕ)) → OutputStream W → (F → Option (List ℕ)) → OutputStream F → Verdict → Stand
-stand_at files failures host written output complained faults worst =
-    stand_of (host_of (files host) (failures host)) (told_at written output complained faults worst)
+-- how it stands with a run over a host, whose state this tells, and on two output streams
+abbrev pub stand_at : {H W F : Type 0} → (H → HostState) → H → (W → Option (List ℕ)) → OutputStream W → (F → Option (List ℕ)) → OutputStream F → Verdict → Stand
+stand_at state host written output complained faults worst =
+    stand_of (state host) (told_at written output complained faults worst)
 
 -- what a fetch gives a report: the bytes, or none where the file cannot be read; and nothing at all where memory was wanting
 abbrev pub given_by : Result (List ℕ) HostFault → Option (Option (List ℕ))
@@ -65,12 +57,12 @@ given_by (Err TooLong) = Some None
 given_by (Err (Memory error)) = None
 
 -- a file was fetched of the host, which keeps its files
-abbrev pub IsFetched : List ℕ → HostView → Result (List ℕ) HostFault → HostView → Type 0
+abbrev pub IsFetched : List ℕ → HostState → Result (List ℕ) HostFault → HostState → Type 0
 IsFetched name old answer new =
     Fetches old.files name file_limit answer × (new.files ≡ old.files) × CountsDevice old.failures new.failures answer
 
 -- what was read for a report: the bytes of a file, or none where it cannot be read; of what is no file the host is asked nothing
-abbrev pub IsRead : Asked → HostView → Option (List ℕ) → HostView → Type 0
+abbrev pub IsRead : Asked → HostState → Option (List ℕ) → HostState → Type 0
 IsRead (File name) old bytes new = (answer : Result (List ℕ) HostFault) × IsFetched name old answer new × (given_by answer ≡ Some bytes)
 IsRead (NoFile name) old bytes new = (bytes ≡ None) × (new ≡ old)
 

@@ -1,7 +1,8 @@
 //! Where files are answered, one after another.
 ghost use Rattle.std.specs.Prelude.{◌≡◌, [], true, map, string_bytes, OnErr, OnOk};
 ghost use Rattle.d64_collection.specs.Names.{File, NoFile};
-ghost use Rattle.d64_collection.specs.Runs.{Begins, EndsAt, HostView, Runs, Tells, account_at, stand_at, stand_of, told_at};
+ghost use Rattle.d64_host.specs.Files.{HostState};
+ghost use Rattle.d64_collection.specs.Runs.{Begins, EndsAt, Runs, Tells, account_at, stand_at, stand_of, told_at};
 
 use crate::report::{AnswerRoom, Report, Verdict};
 use d64_host::{Host, HostFault};
@@ -111,8 +112,8 @@ impl Desk {
         ensures unfailed { OnOk result (output.new.has_failed ≡ output.old.has_failed) }
         ensures silent { self.new.worst ≡ Verdict.Clean → (self.old.worst ≡ Verdict.Clean) × (faults.new ≡ faults.old) }
         ensures answered { EndsAt (P.rule report.old) (File name.now)
-            (stand_at H.files H.failure_count host.old W.contents output.old F.contents faults.old self.old.worst)
-            (stand_at H.files H.failure_count host.new W.contents output.new F.contents faults.new self.new.worst) result }
+            (stand_at H.state host.old W.contents output.old F.contents faults.old self.old.worst)
+            (stand_at H.state host.new W.contents output.new F.contents faults.new self.new.worst) result }
     {
         let verdict = match host.fill(name, FILE_BYTES, &mut self.bytes) {
             Ok(()) => report.answer(name.as_bytes(), Some(self.bytes.as_slice()), &mut self.room)?,
@@ -139,7 +140,7 @@ impl Desk {
         ensures delivered { OnOk result (output.new.is_delivered ≡ true) }
         ensures unfailed { OnOk result (output.new.has_failed ≡ output.old.has_failed) }
         ensures silent { self.new.worst ≡ Verdict.Clean → (self.old.worst ≡ Verdict.Clean) × (faults.new ≡ faults.old) }
-        ensures answered { (seen : HostView) → EndsAt (P.rule report.old) (NoFile name.now)
+        ensures answered { (seen : HostState) → EndsAt (P.rule report.old) (NoFile name.now)
             (stand_of seen (told_at W.contents output.old F.contents faults.old self.old.worst))
             (stand_of seen (told_at W.contents output.new F.contents faults.new self.new.worst)) result }
     {
@@ -165,8 +166,8 @@ impl Desk {
         ensures unfailed { OnOk result (output.new.has_failed ≡ output.old.has_failed) }
         ensures silent { self.new.worst ≡ Verdict.Clean → (self.old.worst ≡ Verdict.Clean) × (faults.new ≡ faults.old) }
         ensures answered { Runs (P.rule report.old) (map (λ name. File (string_bytes name)) names.now)
-            (stand_at H.files H.failure_count host.old W.contents output.old F.contents faults.old self.old.worst)
-            (stand_at H.files H.failure_count host.new W.contents output.new F.contents faults.new self.new.worst) result }
+            (stand_at H.state host.old W.contents output.old F.contents faults.old self.old.worst)
+            (stand_at H.state host.new W.contents output.new F.contents faults.new self.new.worst) result }
     {
         for name in names {
             self.answer_file(name.as_str(), host, report, output, faults)?;

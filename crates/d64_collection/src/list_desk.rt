@@ -60,8 +60,8 @@ impl ListDesk {
         ensures unfailed { OnOk result (output.new.has_failed ≡ output.old.has_failed) }
         ensures silent { self.new.desk.worst ≡ Verdict.Clean → (self.old.desk.worst ≡ Verdict.Clean) × (faults.new ≡ faults.old) }
         ensures answered { self.old.name ≡ [] → Runs (P.rule report.old) (map listed (names_in self.old.separator list.now))
-            (stand_at H.files H.failure_count host.old W.contents output.old F.contents faults.old self.old.desk.worst)
-            (stand_at H.files H.failure_count host.new W.contents output.new F.contents faults.new self.new.desk.worst) result }
+            (stand_at H.state host.old W.contents output.old F.contents faults.old self.old.desk.worst)
+            (stand_at H.state host.new W.contents output.new F.contents faults.new self.new.desk.worst) result }
     {
         self.take(list, host, report, output, faults)?;
         self.end(host, report, output, faults)
@@ -89,8 +89,8 @@ impl ListDesk {
         ensures unfailed { OnOk result (output.new.has_failed ≡ output.old.has_failed) }
         ensures silent { self.new.desk.worst ≡ Verdict.Clean → (self.old.desk.worst ≡ Verdict.Clean) × (faults.new ≡ faults.old) }
         ensures answered { self.old.name ≡ [] → RunsStream (P.rule report.old) self.old.separator (R.remaining input.old.reader.now) (R.remaining input.new.reader.now)
-            (stand_at H.files H.failure_count host.old W.contents output.old F.contents faults.old self.old.desk.worst)
-            (stand_at H.files H.failure_count host.new W.contents output.new F.contents faults.new self.new.desk.worst) result }
+            (stand_at H.state host.old W.contents output.old F.contents faults.old self.old.desk.worst)
+            (stand_at H.state host.new W.contents output.new F.contents faults.new self.new.desk.worst) result }
     {
         let mut left = SCRIPT_BYTES;
         let mut buffer = [0; READ_BYTES];
@@ -128,17 +128,17 @@ impl ListDesk {
         ensures silent { self.new.desk.worst ≡ Verdict.Clean → (self.old.desk.worst ≡ Verdict.Clean) × (faults.new ≡ faults.old) }
         ensures came { (first : Stand) (before : List ℕ)
             → HasCome (P.rule report.old) self.old.separator first
-            (stand_at H.files H.failure_count host.old W.contents output.old F.contents faults.old self.old.desk.worst)
+            (stand_at H.state host.old W.contents output.old F.contents faults.old self.old.desk.worst)
             self.old.name before
             → OnOk result (HasCome (P.rule report.old) self.old.separator first
-            (stand_at H.files H.failure_count host.new W.contents output.new F.contents faults.new self.new.desk.worst)
+            (stand_at H.state host.new W.contents output.new F.contents faults.new self.new.desk.worst)
             self.new.name (before ++ bytes.now)) }
         ensures stopped { (first : Stand) (before : List ℕ)
             → HasCome (P.rule report.old) self.old.separator first
-            (stand_at H.files H.failure_count host.old W.contents output.old F.contents faults.old self.old.desk.worst)
+            (stand_at H.state host.old W.contents output.old F.contents faults.old self.old.desk.worst)
             self.old.name before
             → IfErr result (λ fault. (more : List ℕ) → StopsInList (P.rule report.old) self.old.separator ((before ++ bytes.now) ++ more) fault first
-            (stand_at H.files H.failure_count host.new W.contents output.new F.contents faults.new self.new.desk.worst)) }
+            (stand_at H.state host.new W.contents output.new F.contents faults.new self.new.desk.worst)) }
     {
         for byte in bytes {
             self.take_byte(*byte, host, report, output, faults)?;
@@ -165,17 +165,17 @@ impl ListDesk {
         ensures silent { self.new.desk.worst ≡ Verdict.Clean → (self.old.desk.worst ≡ Verdict.Clean) × (faults.new ≡ faults.old) }
         ensures came { (first : Stand) (before : List ℕ)
             → HasCome (P.rule report.old) self.old.separator first
-            (stand_at H.files H.failure_count host.old W.contents output.old F.contents faults.old self.old.desk.worst)
+            (stand_at H.state host.old W.contents output.old F.contents faults.old self.old.desk.worst)
             self.old.name before
             → OnOk result (HasCome (P.rule report.old) self.old.separator first
-            (stand_at H.files H.failure_count host.new W.contents output.new F.contents faults.new self.new.desk.worst)
+            (stand_at H.state host.new W.contents output.new F.contents faults.new self.new.desk.worst)
             self.new.name (before ++ byte ∷ [])) }
         ensures stopped { (first : Stand) (before : List ℕ)
             → HasCome (P.rule report.old) self.old.separator first
-            (stand_at H.files H.failure_count host.old W.contents output.old F.contents faults.old self.old.desk.worst)
+            (stand_at H.state host.old W.contents output.old F.contents faults.old self.old.desk.worst)
             self.old.name before
             → IfErr result (λ fault. (more : List ℕ) → StopsInList (P.rule report.old) self.old.separator ((before ++ byte ∷ []) ++ more) fault first
-            (stand_at H.files H.failure_count host.new W.contents output.new F.contents faults.new self.new.desk.worst)) }
+            (stand_at H.state host.new W.contents output.new F.contents faults.new self.new.desk.worst)) }
     {
         if byte != self.separator {
             self.name.push(byte);
@@ -203,8 +203,8 @@ impl ListDesk {
         ensures unfailed { OnOk result (output.new.has_failed ≡ output.old.has_failed) }
         ensures silent { self.new.desk.worst ≡ Verdict.Clean → (self.old.desk.worst ≡ Verdict.Clean) × (faults.new ≡ faults.old) }
         ensures answered { Runs (P.rule report.old) (asked_by self.old.name)
-            (stand_at H.files H.failure_count host.old W.contents output.old F.contents faults.old self.old.desk.worst)
-            (stand_at H.files H.failure_count host.new W.contents output.new F.contents faults.new self.new.desk.worst) result }
+            (stand_at H.state host.old W.contents output.old F.contents faults.old self.old.desk.worst)
+            (stand_at H.state host.new W.contents output.new F.contents faults.new self.new.desk.worst) result }
     {
         if !self.name.is_name() {
             return Ok(());

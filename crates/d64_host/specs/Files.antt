@@ -1,5 +1,5 @@
--- The files of a host.
-use Rattle.std.specs.Prelude.{ℕ, List}
+-- The files of a host, and what else it shows.
+use Rattle.std.specs.Prelude.{ℕ, List, Option}
 use Rattle.std.specs.Ordering.{nat_cmp}
 use Rattle.std.specs.Cmp.Lexicographic.{slice_cmp}
 use Rattle.std.specs.FinMap.{FinMap}
@@ -7,3 +7,8 @@ use Rattle.std.specs.FinMap.{FinMap}
 -- a host's files: from names, as the bytes of their texts, to the files' bytes
 abbrev pub Files : Type 0
 Files = FinMap (slice_cmp nat_cmp) (List ℕ)
+
+-- what a host shows: its files, where it tells them, and how many of its calls failed, up to the greatest number that it can count to
+pub record HostState : Type 0 where
+  pub files : Option Files
+  pub failures : ℕ

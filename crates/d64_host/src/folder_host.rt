@@ -46,9 +46,7 @@ impl<R: Files + Drop> Host for FolderHost<R>
 where
     R::File: AsFd,
 {
-    ghost files = { λ _. None };
-
-    ghost failure_count = { λ count. count };
+    ghost state = { λ count. record { files = None; failures = count } };
 
     fn fetch(&mut self, alloc: Global, name: &str, limit: usize) -> Result<Vec<u8>, HostFault> {
         let mut bytes = Vec::new(alloc);

@@ -1,7 +1,7 @@
 //! Where the shell's files lie, and why a host refuses them.
 
-ghost use Rattle.std.specs.Prelude.{◌≡◌, ℕ, Option};
-ghost use Rattle.d64_host.specs.Files.{Files};
+ghost use Rattle.std.specs.Prelude.{◌≡◌};
+ghost use Rattle.d64_host.specs.Files.{HostState};
 ghost use Rattle.d64_host.specs.Host.{fault_number, fetched, filled, Fetches, Stores, CountsDevice};
 
 use std::alloc::{AllocError, Global};
@@ -43,35 +43,32 @@ impl HostFault {
 /// A host may tell its files to a proof, as one in memory does, or tell nothing, as one over a disk
 /// that others write to. It counts the calls that its device failed.
 pub trait Host {
-    // The files, where the host tells them.
-    ghost files: { Self → Option Files };
-
-    // How many calls answered `Device`, up to the greatest number that `failures` can answer.
-    ghost failure_count: { Self → ℕ };
+    // What it shows: its files, where it tells them, and how many calls answered `Device`.
+    ghost state: { Self → HostState };
 
     /// The bytes of the named file, of which there are at most `limit`. `Missing` where there is no
     /// such file, `TooLong` where it has more bytes, and else only `Device` or `Memory`.
     fn fetch(&mut self, alloc: Global, name: &str, limit: usize) -> Result<Vec<u8>, HostFault>
-        ensures answer { Fetches (files self.old) name.now limit (fetched result) }
-        ensures files_kept { files self.new ≡ files self.old }
-        ensures counted { CountsDevice (failure_count self.old) (failure_count self.new) result };
+        ensures answer { Fetches (state self.old).files name.now limit (fetched result) }
+        ensures files_kept { (state self.new).files ≡ (state self.old).files }
+        ensures counted { CountsDevice (state self.old).failures (state self.new).failures result };
 
     /// Puts the bytes of the named file in the place of what `bytes` has, in the memory that it has, where that is enough. It is
     /// refused as `fetch` is; `bytes` then has no content that is told.
     fn fill(&mut self, name: &str, limit: usize, bytes: &mut Vec<u8>) -> Result<(), HostFault>
-        ensures answer { Fetches (files self.old) name.now limit (filled result bytes.new) }
-        ensures files_kept { files self.new ≡ files self.old }
-        ensures counted { CountsDevice (failure_count self.old) (failure_count self.new) result };
+        ensures answer { Fetches (state self.old).files name.now limit (filled result bytes.new) }
+        ensures files_kept { (state self.new).files ≡ (state self.old).files }
+        ensures counted { CountsDevice (state self.old).failures (state self.new).failures result };
 
     /// Makes these bytes the content of the named file, which need not be there. Refused, it answers
     /// `Device` or `Memory` and, where the host tells its files, changes none of them.
     fn store(&mut self, alloc: Global, name: &str, bytes: &[u8]) -> Result<(), HostFault>
-        ensures stored { Stores (files self.old) name.now bytes.now result (files self.new) }
-        ensures counted { CountsDevice (failure_count self.old) (failure_count self.new) result };
+        ensures stored { Stores (state self.old).files name.now bytes.now result (state self.new).files }
+        ensures counted { CountsDevice (state self.old).failures (state self.new).failures result };
 
     /// How many calls answered `Device`; it stays at `u64::MAX` once it is there.
     fn failures(&self) -> u64
-        ensures { result ≡ failure_count self.now };
+        ensures { result ≡ (state self.now).failures };
 }
 
 #[cfg(test)]

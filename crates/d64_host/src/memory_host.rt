@@ -86,9 +86,7 @@ impl MemoryHost {
 }
 
 impl Host for MemoryHost {
-    ghost files = { λ host. Some host.files };
-
-    ghost failure_count = { λ host. host.failures };
+    ghost state = { λ host. record { files = Some host.files; failures = host.failures } };
 
     fn fetch(&mut self, alloc: Global, name: &str, limit: usize) -> Result<Vec<u8>, HostFault>
         ensures refused { answered_fault result ≡ fetch_refusal self.old name.now limit }

@@ -7,7 +7,8 @@ use Rattle.d64_dos.specs.declared.refusal.Refusal.{Refusal}
 use Rattle.d64_dos.specs.declared.refusal.Refusal.TheVariants.{NotClosed, NotFound, Exists, WrongType, Directory, DiskFull, Memory}
 use Rattle.d64_script.specs.declared.status.Status.{Status}
 use Rattle.d64_script.specs.declared.status.Status.TheVariants.{OutOfMemory}
-use Rattle.d64_line.specs.Act.{Act, Give, Refuse, Then, ◌>>=◌, Call, Gives, Does, Ending, HostState, LineAnswer, World, plain}
+use Rattle.d64_line.specs.Act.{Act, Give, Refuse, Then, ◌>>=◌, Call, Gives, Does, Ending, LineAnswer, World, plain}
+use Rattle.d64_host.specs.Files.{HostState}
 use Rattle.d64_undo.specs.History.{History}
 use Rattle.d64_line.specs.Line.{allowed, act_of, act_of_command, status_of_refusal}
 use Rattle.d64_line.specs.CommandWord.{counts}

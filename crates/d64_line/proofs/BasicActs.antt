@@ -7,7 +7,8 @@ use Rattle.cbm_text.specs.BasicText.{IsFirstFault, IsOfMemory, TellsLine, fault_
 use Rattle.cbm_text.specs.declared.fault.BasicFault.{BasicFault}
 use Rattle.cbm_text.specs.declared.fault.BasicFault.TheVariants.{NoNumber, NumberTooLarge, Text, TokenByte, ZeroByte, TooLong, Memory}
 use Rattle.d64_undo.specs.History.{History}
-use Rattle.d64_line.specs.Act.{Act, Then, Crunch, Does, Ending, HostState, plain}
+use Rattle.d64_line.specs.Act.{Act, Then, Crunch, Does, Ending, plain}
+use Rattle.d64_host.specs.Files.{HostState}
 use Rattle.d64_line.specs.BasicFiles.{program_start, status_of_basic}
 use Rattle.d64_line.specs.Line.{host_file_limit}
 use Rattle.d64_line.proofs.Acts.{Does-refused, Does-no_memory}

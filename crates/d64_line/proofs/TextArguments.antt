@@ -9,7 +9,8 @@ use Rattle.petscii.specs.declared.fault.TextFault.{TextFault}
 use Rattle.petscii.specs.declared.fault.TextFault.TheVariants.{UnknownName, OpenBrace, BadByte, Memory}
 use Rattle.d64_script.specs.declared.status.Status.{Status}
 use Rattle.d64_script.specs.declared.status.Status.TheVariants.{OutOfMemory}
-use Rattle.d64_line.specs.Act.{Act, Give, Then, ◌>>=◌, Text, each_text, Does, Ending, HostState, IsSpelled, LineAnswer, World, plain}
+use Rattle.d64_line.specs.Act.{Act, Give, Then, ◌>>=◌, Text, each_text, Does, Ending, IsSpelled, LineAnswer, World, plain}
+use Rattle.d64_host.specs.Files.{HostState}
 use Rattle.d64_undo.specs.History.{History}
 use Rattle.d64_line.proofs.Acts.{Does-given, Does-grouped}
 use Rattle.d64_line.specs.Arguments.{status_of_text}

@@ -1,8 +1,8 @@
 -- What a line asks for, as an act of one step after another, and how an act is done.
-use Rattle.std.specs.Prelude.{◌≡◌, ℕ, List, [], ◌∷◌, ◌++◌, Bool, true, false, if◌then◌else◌, Option, Result, MatchResult, Ok, Err, IfOk, ◌⊎◌}
+use Rattle.std.specs.Prelude.{◌≡◌, ℕ, List, [], ◌∷◌, ◌++◌, Bool, true, false, if◌then◌else◌, Result, MatchResult, Ok, Err, IfOk, ◌⊎◌}
 use Rattle.d64_effects.specs.Laws.{AreBytes}
 use Rattle.petscii.specs.TextForm.{IsTextOf}
-use Rattle.d64_host.specs.Files.{Files}
+use Rattle.d64_host.specs.Files.{HostState}
 use Rattle.d64_host.specs.Host.{fault_number, Fetches, Stores, CountsDevice}
 use Rattle.d64_undo.specs.History.{History}
 use Rattle.d64_host.specs.declared.host.HostFault.{HostFault}
@@ -26,19 +26,13 @@ plain status = record { output = []; status = status; closes = false }
 abbrev pub printed : LineAnswer → List ℕ
 printed answer = answer.output ++ status_line answer.status
 
--- what a host shows: its files, where it tells them, and the count of its failures
-pub record HostState : Type 0 where
-  pub files : Option Files
-  pub failures : ℕ
-
 -- what the script works on: the host and the history
 pub record World : Type 0 where
   pub host : HostState
   pub history : History
 
--- the world of a host, by its files and the count of its failures, and of a history
-abbrev pub world_of : Option Files → ℕ → History → World
-world_of files failures history = record { host = record { files = files; failures = failures }; history = history }
+abbrev pub world_of : HostState → History → World
+world_of host history = record { host = host; history = history }
 
 -- a call of what may refuse, whatever the session is; it gives bytes
 pub data Call : Type 0 where

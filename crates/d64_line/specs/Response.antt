@@ -2,7 +2,8 @@
 use Rattle.std.specs.Prelude.{ℕ, nat_lt, if◌then◌else◌, List, [], length, Result, Ok, Err}
 use Rattle.d64_image.specs.Image.{sector_at}
 use Rattle.d64_script.specs.Dump.{dump}
-use Rattle.d64_line.specs.Act.{Act, Ending, HostState, World, Does, LineAnswer, plain}
+use Rattle.d64_line.specs.Act.{Act, Ending, World, world_of, Does, LineAnswer, plain}
+use Rattle.d64_host.specs.Files.{HostState}
 use Rattle.d64_undo.specs.History.{History, present}
 use Rattle.d64_line.specs.declared.response.Response.{Response}
 use Rattle.d64_line.specs.declared.response.Output.{Output}
@@ -31,4 +32,4 @@ Responds act old result new = Does act old (answer_of (present new.history) resu
 -- an act is done by the session alone, whatever the host is
 abbrev pub RespondsAlone : Act Ending → History → Result Response Status → History → Type 0
 RespondsAlone act old result new =
-    (host : HostState) → Responds act (record { host = host; history = old }) result (record { host = host; history = new })
+    (host : HostState) → Responds act (world_of host old) result (world_of host new)

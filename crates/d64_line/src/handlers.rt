@@ -63,9 +63,9 @@ pub(crate) fn block_read<H: Host>(
 ) -> Result<Response, Status>
     requires { All IsPrintable name.now }
     ensures { Responds (block_read_act session.now name.now track.now sector.now)
-        (world_of (H.files host.old) (H.failure_count host.old) session.now)
+        (world_of (H.state host.old) session.now)
         result
-        (world_of (H.files host.new) (H.failure_count host.new) session.now) }
+        (world_of (H.state host.new) session.now) }
 {
     let name = host_in(name)?;
     let image = session.image();
@@ -84,9 +84,9 @@ pub(crate) fn block_write<H: Host>(
 ) -> Result<Response, Status>
     requires { All IsPrintable name.now }
     ensures { Responds (block_write_act session.old name.now track.now sector.now)
-        (world_of (H.files host.old) (H.failure_count host.old) session.old)
+        (world_of (H.state host.old) session.old)
         result
-        (world_of (H.files host.new) (H.failure_count host.new) session.new) }
+        (world_of (H.state host.new) session.new) }
 {
     let name = host_in(name)?;
     let at = block_in(session.image(), track, sector)?;
@@ -128,9 +128,9 @@ pub(crate) fn crunch<H: Host>(
 ) -> Result<Response, Status>
     requires { All IsPrintable name.now }
     ensures { Responds (crunch_act session.old name.now (map (λ word. word.now) words.now))
-        (world_of (H.files host.old) (H.failure_count host.old) session.old)
+        (world_of (H.state host.old) session.old)
         result
-        (world_of (H.files host.new) (H.failure_count host.new) session.new) }
+        (world_of (H.state host.new) session.new) }
 {
     let source = host_in(name)?;
     let name = name_in(alloc, name_word(name, words))?;
@@ -204,9 +204,9 @@ pub(crate) fn keep<H: Host>(
 ) -> Result<Response, Status>
     requires { All IsPrintable name.now }
     ensures { Responds (keep_act session.now name.now)
-        (world_of (H.files host.old) (H.failure_count host.old) session.now)
+        (world_of (H.state host.old) session.now)
         result
-        (world_of (H.files host.new) (H.failure_count host.new) session.now) }
+        (world_of (H.state host.new) session.now) }
 {
     let name = host_in(name)?;
     let file = session.keep(alloc)?;
@@ -263,9 +263,9 @@ pub(crate) fn read<H: Host>(
 ) -> Result<Response, Status>
     requires { All (λ word. All IsPrintable word.now) words.now }
     ensures { Responds (read_act session.now name.now (map (λ word. word.now) words.now))
-        (world_of (H.files host.old) (H.failure_count host.old) session.now)
+        (world_of (H.state host.old) session.now)
         result
-        (world_of (H.files host.new) (H.failure_count host.new) session.now) }
+        (world_of (H.state host.new) session.now) }
 {
     let pattern = pattern_in(alloc, name)?;
     match words.first() {
@@ -284,9 +284,9 @@ fn read_to<H: Host>(
 ) -> Result<Response, Status>
     requires { All IsPrintable word.now }
     ensures { Responds (read_to session.now pattern.now (word.now ∷ []))
-        (world_of (H.files host.old) (H.failure_count host.old) session.now)
+        (world_of (H.state host.old) session.now)
         result
-        (world_of (H.files host.new) (H.failure_count host.new) session.now) }
+        (world_of (H.state host.new) session.now) }
 {
     let name = host_in(word)?;
     match d64_dos::read(alloc, session.image(), pattern) {
@@ -303,9 +303,9 @@ fn read_as_found<H: Host>(
     pattern: &Pattern,
 ) -> Result<Response, Status>
     ensures { Responds (read_to session.now pattern.now [])
-        (world_of (H.files host.old) (H.failure_count host.old) session.now)
+        (world_of (H.state host.old) session.now)
         result
-        (world_of (H.files host.new) (H.failure_count host.new) session.now) }
+        (world_of (H.state host.new) session.now) }
 {
     let file = d64_dos::read(alloc, session.image(), pattern).map_err(of_refusal)?;
     let name = to_text(alloc, file.name.as_slice())?;
@@ -349,9 +349,9 @@ pub(crate) fn save<H: Host>(
 ) -> Result<Response, Status>
     requires { All (λ word. All IsPrintable word.now) words.now }
     ensures { Responds (save_act home.now session.now (map (λ word. word.now) words.now))
-        (world_of (H.files host.old) (H.failure_count host.old) session.now)
+        (world_of (H.state host.old) session.now)
         result
-        (world_of (H.files host.new) (H.failure_count host.new) session.now) }
+        (world_of (H.state host.new) session.now) }
 {
     let name = match words.first() {
         Some(word) => host_in(word)?,
@@ -385,9 +385,9 @@ pub(crate) fn write<H: Host>(
 ) -> Result<Response, Status>
     requires { All IsPrintable name.now }
     ensures { Responds (write_act session.old name.now (map (λ word. word.now) words.now))
-        (world_of (H.files host.old) (H.failure_count host.old) session.old)
+        (world_of (H.state host.old) session.old)
         result
-        (world_of (H.files host.new) (H.failure_count host.new) session.new) }
+        (world_of (H.state host.new) session.new) }
 {
     let source = host_in(name)?;
     let (name, kind) = name_and_kind_of(name, words)?;
@@ -401,9 +401,9 @@ pub(crate) fn write<H: Host>(
 /// Bytes stored in a host file.
 fn store<H: Host>(alloc: Global, host: &mut H, name: &str, bytes: &[u8]) -> Result<Response, Status>
     ensures { (history : History) → Responds (put history name.now bytes.now)
-        (world_of (H.files host.old) (H.failure_count host.old) history)
+        (world_of (H.state host.old) history)
         result
-        (world_of (H.files host.new) (H.failure_count host.new) history) }
+        (world_of (H.state host.new) history) }
 {
     match host.store(alloc, name, bytes) {
         Ok(()) => Ok(Response::plain(Status::Done)),

@@ -14,9 +14,9 @@ pub fn fetch<H: Host>(
     limit: usize,
 ) -> Result<Vec<u8>, HostFault>
     ensures { FetchesFile
-        (record { files = H.files host.old; failures = H.failure_count host.old })
+        (H.state host.old)
         name.now limit (fetched result)
-        (record { files = H.files host.new; failures = H.failure_count host.new }) }
+        (H.state host.new) }
 {
     let bytes = host.fetch(alloc, name, limit)?;
     known_bytes(&bytes);

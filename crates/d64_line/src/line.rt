@@ -37,12 +37,12 @@ pub fn answer_line<H: Host>(
 ) -> Option<Response>
     ensures { (raw : List ℕ) → Says line.now raw → MatchOption result
         (IsSkipped home.now session.old raw
-        (world_of (H.files host.old) (H.failure_count host.old) session.old)
-        (world_of (H.files host.new) (H.failure_count host.new) session.new))
+        (world_of (H.state host.old) session.old)
+        (world_of (H.state host.new) session.new))
         (λ response. IsAnswered home.now session.old raw
-        (world_of (H.files host.old) (H.failure_count host.old) session.old)
+        (world_of (H.state host.old) session.old)
         (shown (present session.new) response)
-        (world_of (H.files host.new) (H.failure_count host.new) session.new)) }
+        (world_of (H.state host.new) session.new)) }
 {
     let Some(text) = line.text() else {
         return Some(Response::plain(Status::LongLine));
@@ -64,9 +64,9 @@ fn answer_text<H: Host>(
 ) -> Result<Response, Status>
     requires { length text.now ≤ 1024 }
     ensures { Responds (act_of_text home.now session.old text.now)
-        (world_of (H.files host.old) (H.failure_count host.old) session.old)
+        (world_of (H.state host.old) session.old)
         result
-        (world_of (H.files host.new) (H.failure_count host.new) session.new) }
+        (world_of (H.state host.new) session.new) }
 {
     let Ok(words) = Words::of(text) else {
         return Err(Status::SyntaxError);
@@ -93,9 +93,9 @@ fn answer_many<H: Host>(
     requires len { length words ≤ 512 }
     requires printable { All (All IsPrintable) words }
     ensures { Responds (act_of_words home.now session.old words.entry)
-        (world_of (H.files host.old) (H.failure_count host.old) session.old)
+        (world_of (H.state host.old) session.old)
         result
-        (world_of (H.files host.new) (H.failure_count host.new) session.new) }
+        (world_of (H.state host.new) session.new) }
 {
     let many = held::<MAX_WORDS>(words);
     answer_words(alloc, host, home, session, many.as_slice())
@@ -123,9 +123,9 @@ fn answer_words<H: Host>(
 ) -> Result<Response, Status>
     requires { All (λ word. All IsPrintable word.now) words.now }
     ensures { Responds (act_of_words home.now session.old (map (λ word. word.now) words.now))
-        (world_of (H.files host.old) (H.failure_count host.old) session.old)
+        (world_of (H.state host.old) session.old)
         result
-        (world_of (H.files host.new) (H.failure_count host.new) session.new) }
+        (world_of (H.state host.new) session.new) }
 {
     let Some((first, arguments)) = words.split_first() else {
         return Err(Status::UnknownCommand);
@@ -147,9 +147,9 @@ fn answer_command<H: Host>(
 ) -> Result<Response, Status>
     requires { All (λ word. All IsPrintable word.now) words.now }
     ensures { Responds (act_of_command home.now session.old command (map (λ word. word.now) words.now))
-        (world_of (H.files host.old) (H.failure_count host.old) session.old)
+        (world_of (H.state host.old) session.old)
         result
-        (world_of (H.files host.new) (H.failure_count host.new) session.new) }
+        (world_of (H.state host.new) session.new) }
 {
     let (fewest, most) = command.counts(home);
     if words.len() < fewest {

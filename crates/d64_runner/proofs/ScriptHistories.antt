@@ -28,7 +28,8 @@ use Rattle.d64_undo.specs.declared.request.Answer.TheVariants.{Accepted, Undone,
 use Rattle.d64_script.specs.RawLines.{text_of, is_too_long, is_skipped}
 use Rattle.d64_script.specs.Words.{words_of}
 use Rattle.petscii.specs.Spelling.{spelling}
-use Rattle.d64_line.specs.Act.{printed, Act, Give, Refuse, Then, Call, Text, Fetch, Store, Crunch, Expand, Room, Gives, given_by, Ending, Does, LineAnswer, World, HostState, ◌>>=◌, valid, need, each_text, plain}
+use Rattle.d64_line.specs.Act.{printed, Act, Give, Refuse, Then, Call, Text, Fetch, Store, Crunch, Expand, Room, Gives, given_by, Ending, Does, LineAnswer, World, ◌>>=◌, valid, need, each_text, plain}
+use Rattle.d64_host.specs.Files.{HostState}
 use Rattle.d64_line.specs.Arguments.{host_in, block_in, at_comma, can_be_id, name_and_kind_of}
 use Rattle.d64_line.specs.CommandWord.{command_word_of, counts}
 use Rattle.d64_line.specs.FoundFile.{found_name, is_file_name}

@@ -101,8 +101,8 @@ pub fn run<R: Read, W: Write, H: Host>(
     session: &mut Session,
 ) -> Result<Outcome, ShellFault>
     ensures { Ran home.now (R.remaining reader.old) (R.remaining reader.new)
-        (stand_of (W.contents writer.old) (world_of (H.files host.old) (H.failure_count host.old) session.old))
-        (stand_of (W.contents writer.new) (world_of (H.files host.new) (H.failure_count host.new) session.new))
+        (stand_of (W.contents writer.old) (world_of (H.state host.old) session.old))
+        (stand_of (W.contents writer.new) (world_of (H.state host.new) session.new))
         result }
 {
     let mut input = InputStream::new(reader);
@@ -128,8 +128,8 @@ pub fn run_on<R: Read, W: Write, H: Host>(
     ensures input { input.new.reader.ghost_name ≡ input.old.reader.ghost_name }
     ensures output { output.new.writer.ghost_name ≡ output.old.writer.ghost_name }
     ensures ran { Ran home.now (R.remaining input.old.reader.now) (R.remaining input.new.reader.now)
-        (stand_of (W.contents output.old.writer.now) (world_of (H.files host.old) (H.failure_count host.old) session.old))
-        (stand_of (W.contents output.new.writer.now) (world_of (H.files host.new) (H.failure_count host.new) session.new))
+        (stand_of (W.contents output.old.writer.now) (world_of (H.state host.old) session.old))
+        (stand_of (W.contents output.new.writer.now) (world_of (H.state host.new) session.new))
         result }
     ensures streams { EndsWith result (reading_of input.new.reads input.new.came input.new.has_failed) output.new.has_failed }
 {
@@ -192,10 +192,10 @@ fn run_last<W: Write, H: Host>(
     ensures failed { FailsWith result output.old.has_failed output.new.has_failed }
     ensures ended { (first : Stand) (script : List ℕ)
         → HasCome home.now first
-        (stand_of (W.contents output.old.writer.now) (world_of (H.files host.old) (H.failure_count host.old) session.old))
+        (stand_of (W.contents output.old.writer.now) (world_of (H.state host.old) session.old))
         tally.old line.now script
         → EndsRun home.now first
-        (stand_of (W.contents output.new.writer.now) (world_of (H.files host.new) (H.failure_count host.new) session.new))
+        (stand_of (W.contents output.new.writer.now) (world_of (H.state host.new) session.new))
         script result }
 {
     if line.is_empty() {
@@ -226,17 +226,17 @@ fn run_piece<W: Write, H: Host>(
     ensures heard { output.new.is_delivered ≡ false → output.old.is_delivered ≡ true → 0 < tally.new.outcome.accepted + tally.new.outcome.refused }
     ensures came { (first : Stand) (before : List ℕ)
         → HasCome home.now first
-        (stand_of (W.contents output.old.writer.now) (world_of (H.files host.old) (H.failure_count host.old) session.old))
+        (stand_of (W.contents output.old.writer.now) (world_of (H.state host.old) session.old))
         tally.old line.old before
         → OnOk result (ComesTo home.now first
-        (stand_of (W.contents output.new.writer.now) (world_of (H.files host.new) (H.failure_count host.new) session.new))
+        (stand_of (W.contents output.new.writer.now) (world_of (H.state host.new) session.new))
         tally.new line.new (before ++ piece.now)) }
     ensures stopped { (first : Stand) (before : List ℕ)
         → HasCome home.now first
-        (stand_of (W.contents output.old.writer.now) (world_of (H.files host.old) (H.failure_count host.old) session.old))
+        (stand_of (W.contents output.old.writer.now) (world_of (H.state host.old) session.old))
         tally.old line.old before
         → OnErr result ((more : List ℕ) → StoppedAt home.now first
-        (stand_of (W.contents output.new.writer.now) (world_of (H.files host.new) (H.failure_count host.new) session.new))
+        (stand_of (W.contents output.new.writer.now) (world_of (H.state host.new) session.new))
         (lines_of ((before ++ piece.now) ++ more))) }
 {
     for part in RawLines(piece) {
@@ -271,12 +271,12 @@ fn run_line<W: Write, H: Host>(
     ensures more { tally.old.outcome.accepted + tally.old.outcome.refused ≤ tally.new.outcome.accepted + tally.new.outcome.refused }
     ensures heard { output.new.is_delivered ≡ false → output.old.is_delivered ≡ true → 0 < tally.new.outcome.accepted + tally.new.outcome.refused }
     ensures ran { (raw : List ℕ) → Says line.now raw → tally.old.closed ≡ false → OnOk result (RunsLine home.now raw
-        (stand_of (W.contents output.old.writer.now) (world_of (H.files host.old) (H.failure_count host.old) session.old))
-        (stand_of (W.contents output.new.writer.now) (world_of (H.files host.new) (H.failure_count host.new) session.new))
+        (stand_of (W.contents output.old.writer.now) (world_of (H.state host.old) session.old))
+        (stand_of (W.contents output.new.writer.now) (world_of (H.state host.new) session.new))
         tally.old tally.new) }
     ensures stopped { (raw : List ℕ) → Says line.now raw → tally.old.closed ≡ false → OnErr result (StopsInLine home.now raw
-        (stand_of (W.contents output.old.writer.now) (world_of (H.files host.old) (H.failure_count host.old) session.old))
-        (stand_of (W.contents output.new.writer.now) (world_of (H.files host.new) (H.failure_count host.new) session.new))
+        (stand_of (W.contents output.old.writer.now) (world_of (H.state host.old) session.old))
+        (stand_of (W.contents output.new.writer.now) (world_of (H.state host.new) session.new))
         tally.old) }
 {
     let Some(response) = answer_line(alloc, host, home, session, line) else {

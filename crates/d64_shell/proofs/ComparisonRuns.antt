@@ -1,9 +1,10 @@
 -- What a comparison leaves, by what its steps leave.
 use Rattle.std.proofs.Common.{◌≡◌, ◌∙◌, ℕ, List, Option, Result, Ok, Err, inr, refl, sym, ap, subst}
 use Rattle.d64_script.specs.Output.{Account}
+use Rattle.d64_host.specs.Files.{HostState}
 use Rattle.d64_collection.specs.Names.{File}
 use Rattle.d64_collection.specs.Answers.{Answer}
-use Rattle.d64_collection.specs.Runs.{HostView, IsCut, IsRead, IsTold, Stand, Told, host_of, stand_of}
+use Rattle.d64_collection.specs.Runs.{IsCut, IsRead, IsTold, Stand, Told, stand_of}
 use Rattle.d64_shell.specs.Comparisons.{AreCompared, Compares, PairRule}
 use Rattle.d64_shell.specs.Program.{EndedComparison, Outside, TellsComparison, first_stand}
 use Rattle.d64_shell.specs.declared.difference_job.DifferenceFault.{DifferenceFault}
@@ -17,7 +18,7 @@ same_answer rule said old_name old_name' old old' new_name new_name' new new' is
     ∙ ap (λ (n : List ℕ). rule old_name' old' n new) e3 ∙ ap (λ (o : Option (List ℕ)). rule old_name' old' new_name' o) e4
 
 -- both files were read, and there was no memory to tell of them
-pub wants_memory : (rule : PairRule) (old_name new_name : List ℕ) (first middle last : HostView) (told : Told) (old new : Option (List ℕ)) (result : Result (Unit {0}) DifferenceFault)
+pub wants_memory : (rule : PairRule) (old_name new_name : List ℕ) (first middle last : HostState) (told : Told) (old new : Option (List ℕ)) (result : Result (Unit {0}) DifferenceFault)
     → IsRead (File old_name) first old middle → IsRead (File new_name) middle new last → result ≡ Err Memory
     → Compares rule old_name new_name (stand_of first told) (stand_of last told) result
 wants_memory rule old_name new_name first middle last told old new result old_read new_read is =
@@ -26,7 +27,7 @@ wants_memory rule old_name new_name first middle last told old new result old_re
     subst (λ (r : Result (Unit {0}) DifferenceFault). Compares rule old_name new_name (stand_of first told) (stand_of last told) r) (sym is) ended
 
 -- both files were read, and the output failed while they were told of
-pub was_cut : (rule : PairRule) (old_name new_name : List ℕ) (first middle last : HostView) (before after : Told) (old new : Option (List ℕ)) (said : Answer) (result : Result (Unit {0}) DifferenceFault)
+pub was_cut : (rule : PairRule) (old_name new_name : List ℕ) (first middle last : HostState) (before after : Told) (old new : Option (List ℕ)) (said : Answer) (result : Result (Unit {0}) DifferenceFault)
     → IsRead (File old_name) first old middle → IsRead (File new_name) middle new last → said ≡ rule old_name old new_name new → IsCut said before after → result ≡ Err Write
     → Compares rule old_name new_name (stand_of first before) (stand_of last after) result
 was_cut rule old_name new_name first middle last before after old new said result old_read new_read same cut is =
@@ -39,7 +40,7 @@ was_cut rule old_name new_name first middle last before after old new said resul
     subst (λ (r : Result (Unit {0}) DifferenceFault). Compares rule old_name new_name (stand_of first before) (stand_of last after) r) (sym is) ended
 
 -- both files were read and told of
-pub compared : (rule : PairRule) (old_name new_name : List ℕ) (first middle last : HostView) (before after : Told) (old new : Option (List ℕ)) (said : Answer)
+pub compared : (rule : PairRule) (old_name new_name : List ℕ) (first middle last : HostState) (before after : Told) (old new : Option (List ℕ)) (said : Answer)
     → IsRead (File old_name) first old middle → IsRead (File new_name) middle new last → said ≡ rule old_name old new_name new → IsTold said before after
     → AreCompared rule old_name new_name (stand_of first before) (stand_of last after)
 compared rule old_name new_name first middle last before after old new said old_read new_read same told = record {
@@ -51,7 +52,7 @@ compared rule old_name new_name first middle last before after old new said old_
 
 -- a comparison that began with nothing amiss has ended as its run has
 pub comparison_ended : (rule : PairRule) (old_name new_name : List ℕ) (old new : Outside) (faults told : Account) (status : ℕ) (ended : Result (Unit {0}) DifferenceFault) (first last : Stand)
-    → first ≡ first_stand old faults → Compares rule old_name new_name first last ended → new.reader ≡ old.reader → host_of new.host.files new.host.failures ≡ last.host
+    → first ≡ first_stand old faults → Compares rule old_name new_name first last ended → new.reader ≡ old.reader → new.host ≡ last.host
     → new.writer ≡ last.told.output.contents → TellsComparison ended last.told told status → EndedComparison rule old_name new_name old new faults told status
 comparison_ended rule old_name new_name old new faults told status ended first last is ran reader host writer tells = record {
   ended = ended;

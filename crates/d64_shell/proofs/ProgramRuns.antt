@@ -6,8 +6,7 @@ use Rattle.std.proofs.KnownBytes.{Appends-kept}
 use Rattle.d64_script.specs.Output.{account_of}
 use Rattle.d64_script.specs.RawLines.{lines_of, ended_lines}
 use Rattle.d64_script.specs.Script.{script_limit}
-use Rattle.d64_host.specs.Files.{Files}
-use Rattle.d64_line.specs.Act.{HostState}
+use Rattle.d64_host.specs.Files.{HostState}
 use Rattle.d64_undo.specs.History.{History}
 use Rattle.d64_shell.specs.Jobs.{Beginning, home_of}
 use Rattle.d64_shell.specs.Program.{Ended, IsFirstHistory, Outside, outside_of, RanShell, IsToldOf}
@@ -110,16 +109,16 @@ told_of-write (Ok outcome) = refl
 told_of-write (Err fault) = inr refl
 
 -- what the program has done over wrapped streams it has done over the streams that are in them
-pub Ended-streams : (after : List (List ℕ)) (r r' w w' r1 r1' w1 w1' f f' f1 f1' : Option (List ℕ)) (files files1 : Option Files) (n n1 : ℕ) (b b' b1 : Bool) (status : ℕ)
+pub Ended-streams : (after : List (List ℕ)) (r r' w w' r1 r1' w1 w1' f f' f1 f1' : Option (List ℕ)) (host host1 : HostState) (b b' b1 : Bool) (status : ℕ)
     → r ≡ r' → w ≡ w' → r1 ≡ r1' → w1 ≡ w1' → f ≡ f' → b ≡ b' → f1 ≡ f1'
-    → Ended after (outside_of r w files n) (outside_of r1 w1 files1 n1) (account_of f b) (account_of f1 b1) status
-    → Ended after (outside_of r' w' files n) (outside_of r1' w1' files1 n1) (account_of f' b') (account_of f1' b1) status
-Ended-streams after r r' w w' r1 r1' w1 w1' f f' f1 f1' files files1 n n1 b b' b1 status e1 e2 e3 e4 e5 e6 e7 ended =
-    subst (λ (x : Option (List ℕ)). Ended after (outside_of r' w' files n) (outside_of r1' w1' files1 n1) (account_of f' b') (account_of x b1) status) e7
-    (subst (λ (x : Bool). Ended after (outside_of r' w' files n) (outside_of r1' w1' files1 n1) (account_of f' x) (account_of f1 b1) status) e6
-    (subst (λ (x : Option (List ℕ)). Ended after (outside_of r' w' files n) (outside_of r1' w1' files1 n1) (account_of x b) (account_of f1 b1) status) e5
-    (subst (λ (x : Option (List ℕ)). Ended after (outside_of r' w' files n) (outside_of r1' x files1 n1) (account_of f b) (account_of f1 b1) status) e4
-    (subst (λ (x : Option (List ℕ)). Ended after (outside_of r' w' files n) (outside_of x w1 files1 n1) (account_of f b) (account_of f1 b1) status) e3
-    (subst (λ (x : Option (List ℕ)). Ended after (outside_of r' x files n) (outside_of r1 w1 files1 n1) (account_of f b) (account_of f1 b1) status) e2
-    (subst (λ (x : Option (List ℕ)). Ended after (outside_of x w files n) (outside_of r1 w1 files1 n1) (account_of f b) (account_of f1 b1) status) e1
+    → Ended after (outside_of r w host) (outside_of r1 w1 host1) (account_of f b) (account_of f1 b1) status
+    → Ended after (outside_of r' w' host) (outside_of r1' w1' host1) (account_of f' b') (account_of f1' b1) status
+Ended-streams after r r' w w' r1 r1' w1 w1' f f' f1 f1' host host1 b b' b1 status e1 e2 e3 e4 e5 e6 e7 ended =
+    subst (λ (x : Option (List ℕ)). Ended after (outside_of r' w' host) (outside_of r1' w1' host1) (account_of f' b') (account_of x b1) status) e7
+    (subst (λ (x : Bool). Ended after (outside_of r' w' host) (outside_of r1' w1' host1) (account_of f' x) (account_of f1 b1) status) e6
+    (subst (λ (x : Option (List ℕ)). Ended after (outside_of r' w' host) (outside_of r1' w1' host1) (account_of x b) (account_of f1 b1) status) e5
+    (subst (λ (x : Option (List ℕ)). Ended after (outside_of r' w' host) (outside_of r1' x host1) (account_of f b) (account_of f1 b1) status) e4
+    (subst (λ (x : Option (List ℕ)). Ended after (outside_of r' w' host) (outside_of x w1 host1) (account_of f b) (account_of f1 b1) status) e3
+    (subst (λ (x : Option (List ℕ)). Ended after (outside_of r' x host) (outside_of r1 w1 host1) (account_of f b) (account_of f1 b1) status) e2
+    (subst (λ (x : Option (List ℕ)). Ended after (outside_of x w host) (outside_of r1 w1 host1) (account_of f b) (account_of f1 b1) status) e1
     (ended)))))))

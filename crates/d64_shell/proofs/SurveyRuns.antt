@@ -6,7 +6,8 @@ use Rattle.d64_host.specs.declared.host.HostFault.{HostFault}
 use Rattle.d64_script.specs.Output.{Account, account_of}
 use Rattle.d64_collection.specs.Names.{Asked, File, listed, names_in}
 use Rattle.d64_collection.specs.Answers.{Rule}
-use Rattle.d64_collection.specs.Runs.{Begins, HostView, IsFetched, Runs, Stand, stand_of, told_of}
+use Rattle.d64_host.specs.Files.{HostState}
+use Rattle.d64_collection.specs.Runs.{Begins, IsFetched, Runs, Stand, stand_of, told_of}
 use Rattle.d64_collection.specs.Lists.{RunsStream}
 use Rattle.d64_collection.specs.declared.desk.RunFault.{RunFault}
 use Rattle.d64_collection.specs.declared.desk.RunFault.TheVariants as stops
@@ -55,7 +56,7 @@ over_file rule names list separator byte reader a b ended is file bytes ran =
     subst (λ (n : FileNames). RunsOver rule (files_in n) reader reader a b ended) (sym is) whole
 
 -- a survey that was begun goes on as its run
-pub surveyed : (rule same : Rule) (heading : List ℕ) (files : SurveyFiles) (reader left : Option (List ℕ)) (host : HostView) (before after error : Account) (worst : Verdict) (last : Stand)
+pub surveyed : (rule same : Rule) (heading : List ℕ) (files : SurveyFiles) (reader left : Option (List ℕ)) (host : HostState) (before after error : Account) (worst : Verdict) (last : Stand)
     (done : Unit {0}) (ended : Result (Unit {0}) RunFault)
     → Begins {A = Unit {0}} heading before after (Ok done) → worst ≡ Clean → same ≡ rule → RunsOver same files reader left (stand_of host (told_of after error worst)) last ended
     → Surveys rule heading files reader left (stand_of host (told_of before error Clean)) last ended
@@ -68,14 +69,14 @@ surveyed rule same heading files reader left host before after error worst last 
 }
 
 -- a run over the names of a list that was fetched
-pub file_fetched : (rule : Rule) (separator : ℕ) (list : List ℕ) (first : Stand) (host : HostView) (bytes slice : List ℕ) (last : Stand) (ended : Result (Unit {0}) RunFault)
+pub file_fetched : (rule : Rule) (separator : ℕ) (list : List ℕ) (first : Stand) (host : HostState) (bytes slice : List ℕ) (last : Stand) (ended : Result (Unit {0}) RunFault)
     → slice ≡ bytes → IsFetched list first.host (Ok bytes) host → Runs rule (map listed (names_in separator slice)) (stand_of host first.told) last ended
     → RunsListFile rule separator list first last ended
 file_fetched rule separator list first host bytes slice last ended same fetched ran =
     (Ok bytes, host, fetched, subst (λ (l : List ℕ). Runs rule (map listed (names_in separator l)) (stand_of host first.told) last ended) same ran)
 
 -- and of one that was not
-pub file_unfetched : (rule : Rule) (separator : ℕ) (list : List ℕ) (first : Stand) (host : HostView) (fault : HostFault) (told : RunFault)
+pub file_unfetched : (rule : Rule) (separator : ℕ) (list : List ℕ) (first : Stand) (host : HostState) (fault : HostFault) (told : RunFault)
     → told ≡ fault_of_list fault → IsFetched list first.host (Err fault) host → RunsListFile {A = Unit {0}} rule separator list first (stand_of host first.told) (Err told)
 file_unfetched rule separator list first host fault told is fetched = (Err fault, host, fetched, (ap Err is, refl))
 

@@ -1,8 +1,9 @@
 -- How a comparison of two files ends.
 use Rattle.std.specs.Prelude.{◌≡◌, ℕ, List, Option, Result, Ok, Err, ◌⊎◌}
+use Rattle.d64_host.specs.Files.{HostState}
 use Rattle.d64_collection.specs.Names.{File}
 use Rattle.d64_collection.specs.Answers.{Answer}
-use Rattle.d64_collection.specs.Runs.{HostView, IsCut, IsRead, IsTold, Stand}
+use Rattle.d64_collection.specs.Runs.{IsCut, IsRead, IsTold, Stand}
 use Rattle.d64_shell.specs.declared.difference_job.DifferenceFault.{DifferenceFault}
 use Rattle.d64_shell.specs.declared.difference_job.DifferenceFault.TheVariants.{Write, Memory}
 
@@ -11,8 +12,8 @@ abbrev pub PairRule : Type 0
 PairRule = List ℕ → Option (List ℕ) → List ℕ → Option (List ℕ) → Answer
 
 -- both files were read, the old one first
-pub record AreRead (old_name new_name : List ℕ) (first : HostView) (old new : Option (List ℕ)) (last : HostView) : Type 0 where
-  pub middle : HostView
+pub record AreRead (old_name new_name : List ℕ) (first : HostState) (old new : Option (List ℕ)) (last : HostState) : Type 0 where
+  pub middle : HostState
   pub old_read : IsRead (File old_name) first old middle
   pub new_read : IsRead (File new_name) middle new last
 
@@ -31,7 +32,7 @@ pub record AreCut (rule : PairRule) (old_name new_name : List ℕ) (first last :
   pub told : IsCut (rule old_name old new_name new) first.told last.told
 
 -- how far the reading of the files has come: none is read, or the old one, or both
-abbrev pub AreReadSoFar : List ℕ → List ℕ → HostView → HostView → Type 0
+abbrev pub AreReadSoFar : List ℕ → List ℕ → HostState → HostState → Type 0
 AreReadSoFar old_name new_name first last =
     (last ≡ first)
     ⊎ (((old : Option (List ℕ)) × IsRead (File old_name) first old last)

@@ -6,7 +6,7 @@ use Rattle.d64_script.specs.Output.{Account, AppendsPart, Writes, account_of}
 use Rattle.d64_script.specs.Status.{status_line}
 use Rattle.d64_script.specs.declared.input.InputStream.{InputStream}
 use Rattle.d64_script.specs.declared.output.OutputStream.{OutputStream}
-use Rattle.d64_host.specs.Files.{Files}
+use Rattle.d64_host.specs.Files.{HostState}
 use Rattle.d64_host.specs.declared.host.HostFault.{HostFault}
 use Rattle.d64_host.specs.declared.host.HostFault.TheVariants as files
 use Rattle.d64_image.specs.declared.image.ImageFault.{ImageFault}
@@ -17,11 +17,11 @@ use Rattle.d64_words.specs.Asked.{IsFault, IsJob, WasAskedFor}
 use Rattle.d64_words.specs.declared.asked.Job.{Job}
 use Rattle.d64_words.specs.declared.asked.JobFault.{JobFault}
 use Rattle.d64_words.specs.declared.asked.JobFault.TheVariants as words
-use Rattle.d64_line.specs.Act.{HostState, FetchesFile}
+use Rattle.d64_line.specs.Act.{FetchesFile}
 use Rattle.d64_line.specs.BasicFiles.{status_of_basic, status_of_listing}
 use Rattle.d64_wording.specs.FaultLines.{unread_line}
 use Rattle.d64_collection.specs.Answers.{Rule, status_of as verdict_status}
-use Rattle.d64_collection.specs.Runs.{Stand, Told, host_of, stand_of, told_of}
+use Rattle.d64_collection.specs.Runs.{Stand, Told, stand_of, told_of}
 use Rattle.d64_collection.specs.declared.desk.RunFault.{RunFault}
 use Rattle.d64_collection.specs.declared.desk.RunFault.TheVariants as run_faults
 use Rattle.d64_collection.specs.declared.report.Verdict.TheVariants.{Clean}
@@ -57,14 +57,12 @@ pub record Outside : Type 0 where
   pub writer : Option (List ℕ)
   pub host : HostState
 
-abbrev pub outside_of : Option (List ℕ) → Option (List ℕ) → Option Files → ℕ → Outside
-outside_of reader writer known failures = record { reader = reader; writer = writer; host = record { files = known; failures = failures } }
+abbrev pub outside_of : Option (List ℕ) → Option (List ℕ) → HostState → Outside
+outside_of reader writer host = record { reader = reader; writer = writer; host = host }
 
--- what the program works on: two streams, of whose reader and writer these tell the bytes, and a host, of which two functions tell the
--- files and the failures
-abbrev pub outside_at : {R W H : Type 0} → (R → Option (List ℕ)) → InputStream R → (W → Option (List ℕ)) → OutputStream W → (H → Option Files) → (H → ℕ) → H → Outside
-outside_at remaining input written output known failures host =
-    outside_of (remaining input.reader.now) (written output.writer.now) (known host) (failures host)
+-- what the program works on: two streams, of whose reader and writer these tell the bytes, and a host, whose state this tells
+abbrev pub outside_at : {R W H : Type 0} → (R → Option (List ℕ)) → InputStream R → (W → Option (List ℕ)) → OutputStream W → (H → HostState) → H → Outside
+outside_at remaining input written output state host = outside_of (remaining input.reader.now) (written output.writer.now) (state host)
 
 -- the most bytes of a session file that are read
 abbrev pub session_limit : ℕ
@@ -229,14 +227,14 @@ TellsEnd list (Err fault) old told status = TellsFault list fault old.error told
 
 -- where a survey or a comparison begins: at what the program begins with, with nothing amiss
 abbrev pub first_stand : Outside → Account → Stand
-first_stand old faults = stand_of (host_of old.host.files old.host.failures) (told_of (account_of old.writer false) faults Clean)
+first_stand old faults = stand_of old.host (told_of (account_of old.writer false) faults Clean)
 
 -- a survey has ended
 pub record EndedSurvey (rule : Rule) (heading : List ℕ) (files : SurveyFiles) (old new : Outside) (faults told : Account) (status : ℕ) : Type 0 where
   pub ended : Result (Unit {0}) RunFault
   pub last : Stand
   pub surveyed : Surveys rule heading files old.reader new.reader (first_stand old faults) last ended
-  pub host : host_of new.host.files new.host.failures ≡ last.host
+  pub host : new.host ≡ last.host
   pub writer : new.writer ≡ last.told.output.contents
   pub tells : TellsEnd (list_name files) ended last.told told status
 
@@ -252,7 +250,7 @@ pub record EndedComparison (rule : PairRule) (old_name new_name : List ℕ) (old
   pub last : Stand
   pub compared : Compares rule old_name new_name (first_stand old faults) last ended
   pub reader : new.reader ≡ old.reader
-  pub host : host_of new.host.files new.host.failures ≡ last.host
+  pub host : new.host ≡ last.host
   pub writer : new.writer ≡ last.told.output.contents
   pub tells : TellsComparison ended last.told told status
 

@@ -5,7 +5,8 @@ use Rattle.d64_host.specs.declared.host.HostFault.TheVariants as refusals
 use Rattle.d64_script.specs.Output.{Account}
 use Rattle.d64_collection.specs.Names.{File, listed, names_in}
 use Rattle.d64_collection.specs.Answers.{Rule}
-use Rattle.d64_collection.specs.Runs.{Begins, HostView, IsFetched, Runs, Stand, stand_of, told_of}
+use Rattle.d64_host.specs.Files.{HostState}
+use Rattle.d64_collection.specs.Runs.{Begins, IsFetched, Runs, Stand, stand_of, told_of}
 use Rattle.d64_collection.specs.Lists.{RunsStream}
 use Rattle.d64_collection.specs.declared.desk.RunFault.{RunFault}
 use Rattle.d64_collection.specs.declared.desk.RunFault.TheVariants as faults
@@ -29,7 +30,7 @@ RunsFetched rule separator (Err fault) first last result = (result ≡ Err (faul
 -- how a run over the names of a list of the host ends
 abbrev pub RunsListFile : {A : Type 0} → Rule → ℕ → List ℕ → Stand → Stand → Result A RunFault → Type 0
 RunsListFile rule separator list first last result =
-    (fetched : Result (List ℕ) HostFault) × (host : HostView) × IsFetched list first.host fetched host × RunsFetched rule separator fetched (stand_of host first.told) last result
+    (fetched : Result (List ℕ) HostFault) × (host : HostState) × IsFetched list first.host fetched host × RunsFetched rule separator fetched (stand_of host first.told) last result
 
 -- how a run over the files of a survey ends, and what it leaves of the input
 abbrev pub RunsOver : {A : Type 0} → Rule → SurveyFiles → Option (List ℕ) → Option (List ℕ) → Stand → Stand → Result A RunFault → Type 0

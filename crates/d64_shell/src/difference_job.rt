@@ -1,7 +1,7 @@
 //! The job that compares two files.
 ghost use Rattle.std.specs.Prelude.{◌≡◌, ◌≤◌, ℕ, List, Option, IfErr, IfOk, OnOk, option_map, true, false};
 ghost use Rattle.d64_collection.specs.Names.{File};
-ghost use Rattle.d64_collection.specs.Runs.{IsRead, account_at, host_of, stand_at};
+ghost use Rattle.d64_collection.specs.Runs.{IsRead, account_at, stand_at};
 ghost use Rattle.d64_collection.specs.declared.report.Verdict.TheVariants.{Clean};
 ghost use Rattle.d64_difference.specs.Differences.{difference_rule};
 ghost use Rattle.d64_shell.specs.Comparisons.{Compares};
@@ -92,8 +92,8 @@ impl<'n> DifferenceJob<'n> {
         ensures faults { faults.new.writer.ghost_name ≡ faults.old.writer.ghost_name }
         ensures status { result ≤ 2 }
         ensures ended { (reader : Option (List ℕ)) → EndedComparison (difference_rule self.now.form) self.now.old.now self.now.new.now
-            (outside_of reader (W.contents output.old.writer.now) (H.files host.old) (H.failure_count host.old))
-            (outside_of reader (W.contents output.new.writer.now) (H.files host.new) (H.failure_count host.new))
+            (outside_of reader (W.contents output.old.writer.now) (H.state host.old))
+            (outside_of reader (W.contents output.new.writer.now) (H.state host.new))
             (account_at F.contents faults.old) (account_at F.contents faults.new) result }
         ensures delivered { result ≡ 0 → (output.new.is_delivered ≡ true) × (output.new.has_failed ≡ false) }
         ensures silent { result ≡ 0 → faults.new ≡ faults.old }
@@ -120,8 +120,8 @@ impl<'n> DifferenceJob<'n> {
         ensures unfailed { OnOk result (output.new.has_failed ≡ output.old.has_failed) }
         ensures silent { desk.new.worst ≡ Clean → faults.new ≡ faults.old }
         ensures compared { Compares (difference_rule self.now.form) self.now.old.now self.now.new.now
-            (stand_at H.files H.failure_count host.old W.contents output.old F.contents faults.old desk.old.worst)
-            (stand_at H.files H.failure_count host.new W.contents output.new F.contents faults.new desk.new.worst) result }
+            (stand_at H.state host.old W.contents output.old F.contents faults.old desk.old.worst)
+            (stand_at H.state host.new W.contents output.new F.contents faults.new desk.new.worst) result }
     {
         let old = self.read(self.old, host)?;
         let new = self.read(self.new, host)?;
@@ -139,10 +139,10 @@ impl<'n> DifferenceJob<'n> {
 
     /// The bytes of a file of the host, or nothing where it cannot be read.
     fn read<H: Host>(&self, name: &str, host: &mut H) -> Result<Option<Vec<u8>>, DifferenceFault>
-        ensures read { IfOk result (λ bytes. IsRead (File name.now) (host_of (H.files host.old) (H.failure_count host.old))
-            (option_map (λ bytes. bytes.items) bytes) (host_of (H.files host.new) (H.failure_count host.new))) }
+        ensures read { IfOk result (λ bytes. IsRead (File name.now) (H.state host.old)
+            (option_map (λ bytes. bytes.items) bytes) (H.state host.new)) }
         ensures memory { IfErr result (λ fault. (fault ≡ DifferenceFault.Memory)
-            × (host_of (H.files host.new) (H.failure_count host.new) ≡ host_of (H.files host.old) (H.failure_count host.old))) }
+            × (H.state host.new ≡ H.state host.old)) }
     {
         match host.fetch(self.alloc, name, FILE_BYTES) {
             Ok(bytes) => Ok(Some(bytes)),

@@ -59,8 +59,8 @@ pub fn program<R: Read, W: Write, F: Write, H: Host>(
 ) -> u8
     ensures status { result ≤ 2 }
     ensures ended { (failed : Bool) × Ended (map (λ word. word.now) words.now)
-        (outside_of (R.remaining reader.old) (W.contents writer.old) (H.files host.old) (H.failure_count host.old))
-        (outside_of (R.remaining reader.new) (W.contents writer.new) (H.files host.new) (H.failure_count host.new))
+        (outside_of (R.remaining reader.old) (W.contents writer.old) (H.state host.old))
+        (outside_of (R.remaining reader.new) (W.contents writer.new) (H.state host.new))
         (account_of (F.contents faults.old) false) (account_of (F.contents faults.new) failed) result }
     ensures silent { result ≡ 0 → faults.new ≡ faults.old }
     ensures script { AsksForShell (map (λ word. word.now) words.now) → result ≢ 2 → faults.new ≡ faults.old }
@@ -91,8 +91,8 @@ pub fn program_on<R: Read, W: Write, F: Write, H: Host>(
     ensures status { result ≤ 2 }
     ensures delivered { result ≡ 0 → (output.new.is_delivered ≡ true) × (output.new.has_failed ≡ false) }
     ensures ended { Ended (map (λ word. word.now) words.now)
-        (outside_at R.remaining input.old W.contents output.old H.files H.failure_count host.old)
-        (outside_at R.remaining input.new W.contents output.new H.files H.failure_count host.new)
+        (outside_at R.remaining input.old W.contents output.old H.state host.old)
+        (outside_at R.remaining input.new W.contents output.new H.state host.new)
         (account_at F.contents faults.old) (account_at F.contents faults.new) result }
     ensures silent { result ≡ 0 → faults.new ≡ faults.old }
     ensures script { AsksForShell (map (λ word. word.now) words.now) → result ≢ 2 → faults.new ≡ faults.old }
@@ -119,8 +119,8 @@ fn do_job<R: Read, W: Write, F: Write, H: Host>(
     ensures output { output.new.writer.ghost_name ≡ output.old.writer.ghost_name }
     ensures faults { faults.new.writer.ghost_name ≡ faults.old.writer.ghost_name }
     ensures ended { EndedWork (work_of job)
-        (outside_at R.remaining input.old W.contents output.old H.files H.failure_count host.old)
-        (outside_at R.remaining input.new W.contents output.new H.files H.failure_count host.new)
+        (outside_at R.remaining input.old W.contents output.old H.state host.old)
+        (outside_at R.remaining input.new W.contents output.new H.state host.new)
         (account_at F.contents faults.old) (account_at F.contents faults.new) result }
     ensures status { result ≤ 2 }
     ensures delivered { result ≡ 0 → (output.new.is_delivered ≡ true) × (output.new.has_failed ≡ false) }

@@ -38,11 +38,11 @@ pub(crate) fn shell<R: Read, W: Write, H: Host>(
     ensures output { output.new.writer.ghost_name ≡ output.old.writer.ghost_name }
     ensures delivered { OnOk result ((output.new.is_delivered ≡ true) × (output.new.has_failed ≡ false)) }
     ensures ran { IfOk result (λ outcome. RanShell (beginning_of (option_copied image.entry) tracks (option_copied resume.entry)) (home_of (option_copied image.entry))
-        (outside_at R.remaining input.old W.contents output.old H.files H.failure_count host.old)
-        (outside_at R.remaining input.new W.contents output.new H.files H.failure_count host.new) (Ok outcome)) }
+        (outside_at R.remaining input.old W.contents output.old H.state host.old)
+        (outside_at R.remaining input.new W.contents output.new H.state host.new) (Ok outcome)) }
     ensures stopped { IfErr result (λ fault. StoppedBy fault (beginning_of (option_copied image.entry) tracks (option_copied resume.entry)) (home_of (option_copied image.entry))
-        (outside_at R.remaining input.old W.contents output.old H.files H.failure_count host.old)
-        (outside_at R.remaining input.new W.contents output.new H.files H.failure_count host.new)) }
+        (outside_at R.remaining input.old W.contents output.old H.state host.old)
+        (outside_at R.remaining input.new W.contents output.new H.state host.new)) }
 {
     let mut session = first_session(alloc, host, image, tracks, resume)?;
     let home = image.unwrap_or("");
@@ -62,13 +62,13 @@ fn first_session<H: Host>(
     resume: Option<&str>,
 ) -> Result<Session, ProgramFault>
     ensures session { IfOk result (λ session. IsFirstHistory
-        (record { files = H.files host.old; failures = H.failure_count host.old })
+        (H.state host.old)
         (beginning_of (option_copied image.entry) tracks (option_copied resume.entry)) session
-        (record { files = H.files host.new; failures = H.failure_count host.new })) }
+        (H.state host.new)) }
     ensures none { IfErr result (λ fault. HasNoHistory fault
-        (record { files = H.files host.old; failures = H.failure_count host.old })
+        (H.state host.old)
         (beginning_of (option_copied image.entry) tracks (option_copied resume.entry))
-        (record { files = H.files host.new; failures = H.failure_count host.new })) }
+        (H.state host.new)) }
 {
     if let Some(name) = resume {
         return session_of_file(alloc, host, name);
@@ -86,13 +86,13 @@ fn session_of_file<H: Host>(
     name: &str,
 ) -> Result<Session, ProgramFault>
     ensures session { IfOk result (λ session. IsSession session × FetchesFile
-        (record { files = H.files host.old; failures = H.failure_count host.old })
+        (H.state host.old)
         name.now session_limit (Ok (file_of session))
-        (record { files = H.files host.new; failures = H.failure_count host.new })) }
+        (H.state host.new)) }
     ensures none { IfErr result (λ fault. (fetched : Result (List ℕ) HostFault) × FetchesFile
-        (record { files = H.files host.old; failures = H.failure_count host.old })
+        (H.state host.old)
         name.now session_limit fetched
-        (record { files = H.files host.new; failures = H.failure_count host.new })
+        (H.state host.new)
         × GivesNoSession fetched fault) }
 {
     match fetch(alloc, host, name, SESSION_BYTES) {
@@ -115,13 +115,13 @@ fn blank_image(alloc: Global, tracks: u8) -> Result<Image, AllocError>
 /// The image of a host file.
 fn image_of_file<H: Host>(alloc: Global, host: &mut H, name: &str) -> Result<Image, ProgramFault>
     ensures image { IfOk result (λ image. IsImage image × FetchesFile
-        (record { files = H.files host.old; failures = H.failure_count host.old })
+        (H.state host.old)
         name.now file_limit (Ok (bytes_of image))
-        (record { files = H.files host.new; failures = H.failure_count host.new })) }
+        (H.state host.new)) }
     ensures none { IfErr result (λ fault. (fetched : Result (List ℕ) HostFault) × FetchesFile
-        (record { files = H.files host.old; failures = H.failure_count host.old })
+        (H.state host.old)
         name.now file_limit fetched
-        (record { files = H.files host.new; failures = H.failure_count host.new })
+        (H.state host.new)
         × GivesNoImage fetched fault) }
 {
     match fetch(alloc, host, name, FILE_BYTES) {

@@ -3,7 +3,7 @@ ghost use Rattle.std.specs.Prelude.{◌≡◌, ◌≤◌, ℕ, List, Err, IfErr,
 ghost use Rattle.d64_host.specs.declared.host.HostFault.{HostFault};
 ghost use Rattle.d64_script.specs.Input.{IsUnread, reading_of};
 ghost use Rattle.d64_collection.specs.Answers.{Rule};
-ghost use Rattle.d64_collection.specs.Runs.{IsFetched, account_at, host_of, stand_at};
+ghost use Rattle.d64_collection.specs.Runs.{IsFetched, account_at, stand_at};
 ghost use Rattle.d64_shell.specs.Program.{EndedSurvey, TellsFault, outside_at};
 ghost use Rattle.d64_shell.specs.SurveyFiles.{files_in, list_name};
 ghost use Rattle.d64_shell.specs.Surveys.{Says, Surveys, fault_of_list};
@@ -70,8 +70,8 @@ impl<'n> SurveyJob<'n> {
         ensures silent { result ≡ 0 → faults.new ≡ faults.old }
         ensures ended { (rule : Rule) (heading : List ℕ) → IfOk report (λ report. (P.rule report ≡ rule) × (P.heading report ≡ heading))
             → EndedSurvey rule heading (files_in self.now.names)
-            (outside_at R.remaining input.old W.contents output.old H.files H.failure_count host.old)
-            (outside_at R.remaining input.new W.contents output.new H.files H.failure_count host.new)
+            (outside_at R.remaining input.old W.contents output.old H.state host.old)
+            (outside_at R.remaining input.new W.contents output.new H.state host.new)
             (account_at F.contents faults.old) (account_at F.contents faults.new) result }
     {
         let mut report = match report {
@@ -102,8 +102,8 @@ impl<'n> SurveyJob<'n> {
         ensures delivered { OnOk result ((output.new.is_delivered ≡ true) × (output.new.has_failed ≡ false)) }
         ensures silent { result ≡ Ok Verdict.Clean → faults.new ≡ faults.old }
         ensures surveyed { (worst : Verdict) × (ended : Result (Unit {0}) RunFault) × Surveys (P.rule report.old) (P.heading report.old) (files_in self.now.names) (R.remaining input.old.reader.now) (R.remaining input.new.reader.now)
-            (stand_at H.files H.failure_count host.old W.contents output.old F.contents faults.old Verdict.Clean)
-            (stand_at H.files H.failure_count host.new W.contents output.new F.contents faults.new worst) ended × Says worst ended result }
+            (stand_at H.state host.old W.contents output.old F.contents faults.old Verdict.Clean)
+            (stand_at H.state host.new W.contents output.new F.contents faults.new worst) ended × Says worst ended result }
     {
         let mut desk = Desk::new(self.alloc);
         desk.begin(report, output)?;
@@ -131,10 +131,10 @@ impl<'n> SurveyJob<'n> {
 
     /// The bytes of a list of the host.
     fn list_bytes<H: Host>(&self, list: &str, host: &mut H) -> Result<Vec<u8>, RunFault>
-        ensures fetched { IfOk result (λ bytes. IsFetched list.now (host_of (H.files host.old) (H.failure_count host.old))
-            (Ok bytes.items) (host_of (H.files host.new) (H.failure_count host.new))) }
-        ensures refused { IfErr result (λ told. (fault : HostFault) × IsFetched list.now (host_of (H.files host.old) (H.failure_count host.old))
-            (Err fault) (host_of (H.files host.new) (H.failure_count host.new)) × (told ≡ fault_of_list fault)) }
+        ensures fetched { IfOk result (λ bytes. IsFetched list.now (H.state host.old)
+            (Ok bytes.items) (H.state host.new)) }
+        ensures refused { IfErr result (λ told. (fault : HostFault) × IsFetched list.now (H.state host.old)
+            (Err fault) (H.state host.new) × (told ≡ fault_of_list fault)) }
     {
         match host.fetch(self.alloc, list, LIST_BYTES) {
             Ok(bytes) => Ok(bytes),

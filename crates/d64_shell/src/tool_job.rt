@@ -32,8 +32,8 @@ pub(crate) fn run_tool<R: Read, W: Write, H: Host>(
     ensures input { input.new.reader.ghost_name ≡ input.old.reader.ghost_name }
     ensures output { output.new.writer.ghost_name ≡ output.old.writer.ghost_name }
     ensures ran { RanToolOn tool (option_copied name.entry)
-        (outside_at R.remaining input.old W.contents output.old H.files H.failure_count host.old)
-        (outside_at R.remaining input.new W.contents output.new H.files H.failure_count host.new) result }
+        (outside_at R.remaining input.old W.contents output.old H.state host.old)
+        (outside_at R.remaining input.new W.contents output.new H.state host.new) result }
     ensures line { IfErr result TellsSmallLine }
     ensures reads { option_copied name.entry ≡ None → ReadsWith result (reading_of input.new.reads input.new.came input.new.has_failed) }
     ensures writes { WritesWith result output.old.has_failed output.new.has_failed }
@@ -59,8 +59,8 @@ fn write_result<R: Read, W: Write, H: Host>(
     ensures input { input.new.reader.ghost_name ≡ input.old.reader.ghost_name }
     ensures output { output.new.writer.ghost_name ≡ output.old.writer.ghost_name }
     ensures ran { RanToolOn tool (option_copied name.entry)
-        (outside_at R.remaining input.old W.contents output.old H.files H.failure_count host.old)
-        (outside_at R.remaining input.new W.contents output.new H.files H.failure_count host.new) result }
+        (outside_at R.remaining input.old W.contents output.old H.state host.old)
+        (outside_at R.remaining input.new W.contents output.new H.state host.new) result }
     ensures line { IfErr result TellsSmallLine }
     ensures reads { option_copied name.entry ≡ None → ReadsWith result (reading_of input.new.reads input.new.came input.new.has_failed) }
     ensures writes { WritesWith result output.old.has_failed output.new.has_failed }

@@ -86,9 +86,7 @@ impl<'a, R, H> WatchedHost<'a, R, H> {
 }
 
 impl<'a, R: Clock + Eprint, H: Host> Host for WatchedHost<'a, R, H> {
-    ghost files = { λ watched. H.files watched.host };
-
-    ghost failure_count = { λ watched. H.failure_count watched.host };
+    ghost state = { λ watched. H.state watched.host };
 
     fn fetch(&mut self, alloc: Global, name: &str, limit: usize) -> Result<Vec<u8>, HostFault> {
         self.host.fetch(alloc, name, limit)

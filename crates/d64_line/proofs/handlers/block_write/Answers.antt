@@ -1,6 +1,5 @@
 use Rattle.std.proofs.Common.{◌≡◌, Ok, Err, refl}
 use Rattle.d64_undo.specs.History.{present}
-use Rattle.d64_line.specs.Act.{HostState}
 use Rattle.d64_line.specs.Arguments.{block_in}
 use Rattle.d64_line.proofs.Acts.{Does-given, Does-refused}
 use Rattle.d64_line.proofs.handlers.block_write.Goals as goal
@@ -8,7 +7,7 @@ use Rattle.d64_line.proofs.handlers.block_write.Goals as goal
 pub returns-in-Ok : goal.returns-in-Ok
 returns-in-Ok g c =
     let at : Ok c.in_ok-at.at ≡ block_in (present c.args.session.now) c.args.track.now c.args.sector.now = rw c.image.ensures.present at c.in_ok-at.ensures.block in
-    let new : HostState = record { files = g.H.Host.files c.fetch.new.host; failures = g.H.Host.failure_count c.fetch.new.host } in
+    let new = g.H.Host.state c.fetch.new.host in
     rw (← c.in_ok-name.ensures, ← at)
     (Does-given _ _ c.in-Ok.bytes.items _ new _ _ _ (Ok c.in-Ok.bytes.items, c.in-Ok.ensures, refl)
     (rw c.as_slice.ensures.value at (c.write_one_block.ensures new)))

@@ -1,5 +1,4 @@
 use Rattle.std.proofs.Common.{Ok, Err, refl}
-use Rattle.d64_line.specs.Act.{HostState}
 use Rattle.d64_line.proofs.Acts.{Does-given, Does-refused}
 use Rattle.d64_line.proofs.BasicActs.{length-fetched}
 use Rattle.d64_line.proofs.TextArguments.{Does-read}
@@ -10,7 +9,7 @@ write_program-requires g c = rw c.as_slice.ensures.value (length-fetched _ _ _ _
 
 pub returns-in-Ok : goal.returns-in-Ok
 returns-in-Ok g c =
-    let new : HostState = record { files = g.H.Host.files c.fetch.new.host; failures = g.H.Host.failure_count c.fetch.new.host } in
+    let new = g.H.Host.state c.fetch.new.host in
     rw (← c.in_ok-source.ensures, ← c.name_word.ensures)
     (Does-read _ _ _ c.in_ok-name.name _ _ _ _ c.in_ok-name.ensures
     (Does-given _ _ c.in-Ok.text.items _ new _ _ _ (Ok c.in-Ok.text.items, c.in-Ok.ensures, refl)

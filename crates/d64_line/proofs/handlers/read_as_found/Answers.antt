@@ -3,7 +3,6 @@ use Rattle.std.proofs.lemmas.Str.{IsUtf8-from_ascii}
 use Rattle.std.proofs.lemmas.Str.Ascii.{IsAscii-from_all}
 use Rattle.petscii.specs.Spelling.{spelling}
 use Rattle.d64_dos.specs.Reading.{read_refusal}
-use Rattle.d64_line.specs.Act.{HostState}
 use Rattle.d64_line.specs.FoundFile.{found_name, found_content, is_file_name}
 use Rattle.d64_undo.specs.History.{present}
 use Rattle.d64_script.specs.declared.status.Status.TheVariants.{BadName}
@@ -15,7 +14,7 @@ pub returns-then-not-is_file_name : goal.returns-then-not-is_file_name
 returns-then-not-is_file_name g c =
     let history = c.args.session.now in
     let pattern = c.args.pattern.now in
-    let old : HostState = record { files = g.H.Host.files c.args.host.now; failures = g.H.Host.failure_count c.args.host.now } in
+    let old = g.H.Host.state c.args.host.now in
     let got : c.read.result ≡ Ok c.in_ok-file.file = search rules in
     let back = rw (c.image.ensures.present, got) at c.read.ensures.back in
     let refused : None ≡ read_refusal (present history) pattern = rw (c.image.ensures.present, got) at c.read.ensures.refused in
@@ -37,7 +36,7 @@ pub returns : goal.returns
 returns g c =
     let history = c.args.session.now in
     let pattern = c.args.pattern.now in
-    let old : HostState = record { files = g.H.Host.files c.args.host.now; failures = g.H.Host.failure_count c.args.host.now } in
+    let old = g.H.Host.state c.args.host.now in
     let got : c.read.result ≡ Ok c.in_ok-file.file = search rules in
     let back = rw (c.image.ensures.present, got) at c.read.ensures.back in
     let refused : None ≡ read_refusal (present history) pattern = rw (c.image.ensures.present, got) at c.read.ensures.refused in

@@ -27,8 +27,8 @@ pub returns : goal.returns
 returns g c =
     let history = c.args.session.now in
     let P : Act Ending → Type 0 = λ act. Responds act
-    (world_of (g.H.Host.files c.args.host.now) (g.H.Host.failure_count c.args.host.now) history) c.store.result
-    (world_of (g.H.Host.files c.store.new.host) (g.H.Host.failure_count c.store.new.host) history) in
+    (world_of (g.H.Host.state c.args.host.now) history) c.store.result
+    (world_of (g.H.Host.state c.store.new.host) history) in
     let stored = rw (c.bytes.ensures.value, c.image.ensures.present) at (c.store.ensures history) in
     elim c.match-first.branch [
       | in-Some+in_ok-name-in-Some w ↦

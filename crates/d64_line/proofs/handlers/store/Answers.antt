@@ -1,5 +1,5 @@
 use Rattle.std.proofs.Common.{[], Ok, Err, refl}
-use Rattle.d64_line.specs.Act.{Does, Store, Gives, HostState, World}
+use Rattle.d64_line.specs.Act.{Does, Store, Gives, World}
 use Rattle.d64_undo.specs.History.{present}
 use Rattle.d64_line.specs.Line.{leave}
 use Rattle.d64_line.specs.Response.{shown}
@@ -9,8 +9,8 @@ use Rattle.d64_line.proofs.handlers.store.Goals as goal
 pub returns-in-Ok : goal.returns-in-Ok
 unfolding Does
 returns-in-Ok g c = λ history.
-    let old : HostState = record { files = g.H.Host.files c.args.host.now; failures = g.H.Host.failure_count c.args.host.now } in
-    let new : HostState = record { files = g.H.Host.files c.store.new.self; failures = g.H.Host.failure_count c.store.new.self } in
+    let old = g.H.Host.state c.args.host.now in
+    let new = g.H.Host.state c.store.new.self in
     let after : World = record { host = new; history = history } in
     let gives : Gives (Store c.args.name.now c.args.bytes.now) old (Ok []) new =
     (Ok tt, record { answer = c.in-Ok.ensures.stored; counted = c.in-Ok.ensures.counted }, refl) in

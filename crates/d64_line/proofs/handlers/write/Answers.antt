@@ -1,12 +1,11 @@
 use Rattle.std.proofs.Common.{Ok, Err, refl}
-use Rattle.d64_line.specs.Act.{HostState}
 use Rattle.d64_line.proofs.Acts.{Does-given, Does-refused}
 use Rattle.d64_line.proofs.TextArguments.{Does-read}
 use Rattle.d64_line.proofs.handlers.write.Goals as goal
 
 pub returns-in-Ok : goal.returns-in-Ok
 returns-in-Ok g c =
-    let new : HostState = record { files = g.H.Host.files c.fetch.new.host; failures = g.H.Host.failure_count c.fetch.new.host } in
+    let new = g.H.Host.state c.fetch.new.host in
     rw (← c.in_ok-source.ensures, ← c.in_ok-name.ensures)
     (Does-read _ _ _ c.in_ok-name-2.name _ _ _ _ c.in_ok-name-2.ensures
     (Does-given _ _ c.in-Ok.bytes.items _ new _ _ _ (Ok c.in-Ok.bytes.items, c.in-Ok.ensures, refl)

@@ -13,8 +13,8 @@ invariant-loop g l = record {
   lost : Consumes (g.R.Read.remaining l.initial.input.reader.now) (g.R.Read.remaining l.input.reader.now) bytes;
   within : length bytes + l.room ≡ script_limit;
   came : HasCome l.home
-      (stand_of (g.W.Write.contents l.initial.output.writer.now) (world_of (g.H.Host.files l.initial.host) (g.H.Host.failure_count l.initial.host) l.initial.session))
-      (stand_of (g.W.Write.contents l.output.writer.now) (world_of (g.H.Host.files l.host) (g.H.Host.failure_count l.host) l.session))
+      (stand_of (g.W.Write.contents l.initial.output.writer.now) (world_of (g.H.Host.state l.initial.host) l.initial.session))
+      (stand_of (g.W.Write.contents l.output.writer.now) (world_of (g.H.Host.state l.host) l.session))
       l.tally l.line bytes;
   few : l.tally.outcome.accepted + l.tally.outcome.refused ≤ length bytes;
   same_input : l.input.reader.ghost_name ≡ l.initial.input.reader.ghost_name;

@@ -11,10 +11,10 @@ invariant-loop-part g l = record {
   split : done ++ l.part-iterator.0.now ≡ l.piece;
   came : (first : Stand) (before : List ℕ)
       → HasCome l.home first
-      (stand_of (g.W.Write.contents l.initial.output.writer.now) (world_of (g.H.Host.files l.initial.host) (g.H.Host.failure_count l.initial.host) l.initial.session))
+      (stand_of (g.W.Write.contents l.initial.output.writer.now) (world_of (g.H.Host.state l.initial.host) l.initial.session))
       l.initial.tally l.initial.line before
       → HasCome l.home first
-      (stand_of (g.W.Write.contents l.output.writer.now) (world_of (g.H.Host.files l.host) (g.H.Host.failure_count l.host) l.session))
+      (stand_of (g.W.Write.contents l.output.writer.now) (world_of (g.H.Host.state l.host) l.session))
       l.tally l.line (before ++ done);
   few : l.tally.outcome.accepted + l.tally.outcome.refused ≤ l.initial.tally.outcome.accepted + l.initial.tally.outcome.refused + length done;
   same : l.output.writer.ghost_name ≡ l.initial.output.writer.ghost_name;

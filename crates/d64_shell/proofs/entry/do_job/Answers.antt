@@ -15,8 +15,8 @@ use Rattle.d64_shell.proofs.entry.do_job.Goals as goal
 pub returns-in-Check-clause-ended : goal.returns-in-Check-clause-ended
 returns-in-Check-clause-ended g c =
     survey_ended c.args.job (check_rule c.in-Check.format c.in-Check.digest) (check_heading c.in-Check.format c.in-Check.digest) (files_of c.in-Check.names) (files_in c.new.result.names)
-    (outside_at g.R.Read.remaining c.args.input.now g.W.Write.contents c.args.output.now g.H.Host.files g.H.Host.failure_count c.args.host.now)
-    (outside_at g.R.Read.remaining c.run.new.input g.W.Write.contents c.run.new.output g.H.Host.files g.H.Host.failure_count c.run.new.host)
+    (outside_at g.R.Read.remaining c.args.input.now g.W.Write.contents c.args.output.now g.H.Host.state c.args.host.now)
+    (outside_at g.R.Read.remaining c.run.new.input g.W.Write.contents c.run.new.output g.H.Host.state c.run.new.host)
     (account_at g.F.Write.contents c.args.faults.now) (account_at g.F.Write.contents c.run.new.faults) c.run.result
     (ap work_of c.in-Check.is) (search rules)
     (c.run.ensures.ended (check_rule c.in-Check.format c.in-Check.digest) (check_heading c.in-Check.format c.in-Check.digest) (search rules))
@@ -24,8 +24,8 @@ returns-in-Check-clause-ended g c =
 pub returns-in-Files-clause-ended : goal.returns-in-Files-clause-ended
 returns-in-Files-clause-ended g c =
     survey_ended c.args.job (files_rule c.in-Files.format) (files_heading c.in-Files.format) (files_of c.in-Files.names) (files_in c.new-in-Files.result.names)
-    (outside_at g.R.Read.remaining c.args.input.now g.W.Write.contents c.args.output.now g.H.Host.files g.H.Host.failure_count c.args.host.now)
-    (outside_at g.R.Read.remaining c.run-in-Files.new.input g.W.Write.contents c.run-in-Files.new.output g.H.Host.files g.H.Host.failure_count c.run-in-Files.new.host)
+    (outside_at g.R.Read.remaining c.args.input.now g.W.Write.contents c.args.output.now g.H.Host.state c.args.host.now)
+    (outside_at g.R.Read.remaining c.run-in-Files.new.input g.W.Write.contents c.run-in-Files.new.output g.H.Host.state c.run-in-Files.new.host)
     (account_at g.F.Write.contents c.args.faults.now) (account_at g.F.Write.contents c.run-in-Files.new.faults) c.run-in-Files.result
     (ap work_of c.in-Files.is) (search rules)
     (c.run-in-Files.ensures.ended (files_rule c.in-Files.format) (files_heading c.in-Files.format) (search rules))
@@ -33,8 +33,8 @@ returns-in-Files-clause-ended g c =
 pub returns-in-Map-clause-ended : goal.returns-in-Map-clause-ended
 returns-in-Map-clause-ended g c =
     survey_ended c.args.job (map_rule c.in-Map.format) [] (Named (string_bytes c.in-Map.file ∷ [])) (files_in c.new-in-Map.result.names)
-    (outside_at g.R.Read.remaining c.args.input.now g.W.Write.contents c.args.output.now g.H.Host.files g.H.Host.failure_count c.args.host.now)
-    (outside_at g.R.Read.remaining c.run-in-Map.new.input g.W.Write.contents c.run-in-Map.new.output g.H.Host.files g.H.Host.failure_count c.run-in-Map.new.host)
+    (outside_at g.R.Read.remaining c.args.input.now g.W.Write.contents c.args.output.now g.H.Host.state c.args.host.now)
+    (outside_at g.R.Read.remaining c.run-in-Map.new.input g.W.Write.contents c.run-in-Map.new.output g.H.Host.state c.run-in-Map.new.host)
     (account_at g.F.Write.contents c.args.faults.now) (account_at g.F.Write.contents c.run-in-Map.new.faults) c.run-in-Map.result
     (ap work_of c.in-Map.is) (search rules)
     (c.run-in-Map.ensures.ended (map_rule c.in-Map.format) [] (search rules))
@@ -42,8 +42,8 @@ returns-in-Map-clause-ended g c =
 pub returns-in-Catalogue-clause-ended : goal.returns-in-Catalogue-clause-ended
 returns-in-Catalogue-clause-ended g c =
     survey_ended c.args.job (catalogue_rule c.in-Catalogue.maps) catalogue_heading (files_of c.in-Catalogue.names) (files_in c.new-in-Catalogue.result.names)
-    (outside_at g.R.Read.remaining c.args.input.now g.W.Write.contents c.args.output.now g.H.Host.files g.H.Host.failure_count c.args.host.now)
-    (outside_at g.R.Read.remaining c.run-in-Catalogue.new.input g.W.Write.contents c.run-in-Catalogue.new.output g.H.Host.files g.H.Host.failure_count c.run-in-Catalogue.new.host)
+    (outside_at g.R.Read.remaining c.args.input.now g.W.Write.contents c.args.output.now g.H.Host.state c.args.host.now)
+    (outside_at g.R.Read.remaining c.run-in-Catalogue.new.input g.W.Write.contents c.run-in-Catalogue.new.output g.H.Host.state c.run-in-Catalogue.new.host)
     (account_at g.F.Write.contents c.args.faults.now) (account_at g.F.Write.contents c.run-in-Catalogue.new.faults) c.run-in-Catalogue.result
     (ap work_of c.in-Catalogue.is) (search rules)
     (c.run-in-Catalogue.ensures.ended (catalogue_rule c.in-Catalogue.maps) catalogue_heading (search rules))

@@ -6,6 +6,6 @@ use Rattle.d64_shell.proofs.entry.program.Goals as goal
 pub returns-clause-ended : goal.returns-clause-ended
 returns-clause-ended g c = (
   c.program_on.new.faults.has_failed,
-  Ended-streams _ _ _ _ _ _ _ _ _ _ _ _ _ _ _ _ _ _ _ _ _
+  Ended-streams _ _ _ _ _ _ _ _ _ _ _ _ _ _ _ _ _ _ _
       (search rules) (search rules) (search rules) (search rules) (search rules) (search rules) (search rules) c.program_on.ensures.ended,
 )

@@ -11,11 +11,11 @@ returns-in-Ok-clause-ran g c =
     let image = option_copied c.args.image in
     let home : c.unwrap_or-home.result.now ≡ home_of image =
     ap (λ text. text.now) c.unwrap_or-home.ensures ∙ home_is c.args.image _ (search rules) in
-    let old : Outside = outside_of (g.R.Read.remaining c.args.input.now.reader.now) (g.W.Write.contents c.args.output.now.writer.now) (g.H.Host.files c.args.host.now) (g.H.Host.failure_count c.args.host.now) in
-    let new : Outside = outside_of (g.R.Read.remaining c.run_on-ran.new.input.reader.now) (g.W.Write.contents c.flush.new.self.writer.now) (g.H.Host.files c.run_on-ran.new.host) (g.H.Host.failure_count c.run_on-ran.new.host) in
+    let old : Outside = outside_of (g.R.Read.remaining c.args.input.now.reader.now) (g.W.Write.contents c.args.output.now.writer.now) (g.H.Host.state c.args.host.now) in
+    let new : Outside = outside_of (g.R.Read.remaining c.run_on-ran.new.input.reader.now) (g.W.Write.contents c.flush.new.self.writer.now) (g.H.Host.state c.run_on-ran.new.host) in
     let is : c.run_on-ran.result ≡ Ok c.in_ok-ran-in-Ok.field-0 = search rules in
     RanShell-flushed old new (Ok c.in_ok-ran-in-Ok.field-0) (beginning_of image c.args.tracks (option_copied c.args.resume)) (home_of image)
-    c.unwrap_or-home.result.now (record { files = g.H.Host.files c.first_session.new.host; failures = g.H.Host.failure_count c.first_session.new.host })
+    c.unwrap_or-home.result.now (g.H.Host.state c.first_session.new.host)
     c.in_ok-session.session c.run_on-ran.new.session (g.W.Write.contents c.run_on-ran.new.output.writer.now)
     c.in_ok-session.ensures.session home (rw is at c.run_on-ran.ensures.ran) c.flush.ensures.kept
 
@@ -31,11 +31,11 @@ returns-in_err-ran-in-Ok-clause-stopped g c =
     let image = option_copied c.args.image in
     let home : c.unwrap_or-home.result.now ≡ home_of image =
     ap (λ text. text.now) c.unwrap_or-home.ensures ∙ home_is c.args.image _ (search rules) in
-    let old : Outside = outside_of (g.R.Read.remaining c.args.input.now.reader.now) (g.W.Write.contents c.args.output.now.writer.now) (g.H.Host.files c.args.host.now) (g.H.Host.failure_count c.args.host.now) in
-    let new : Outside = outside_of (g.R.Read.remaining c.run_on-ran.new.input.reader.now) (g.W.Write.contents c.flush.new.self.writer.now) (g.H.Host.files c.run_on-ran.new.host) (g.H.Host.failure_count c.run_on-ran.new.host) in
+    let old : Outside = outside_of (g.R.Read.remaining c.args.input.now.reader.now) (g.W.Write.contents c.args.output.now.writer.now) (g.H.Host.state c.args.host.now) in
+    let new : Outside = outside_of (g.R.Read.remaining c.run_on-ran.new.input.reader.now) (g.W.Write.contents c.flush.new.self.writer.now) (g.H.Host.state c.run_on-ran.new.host) in
     let is : c.run_on-ran.result ≡ Err c.in_err-ran-in-Ok.field-0.0 = search rules in
     let ran = RanShell-flushed old new (Err c.in_err-ran-in-Ok.field-0.0) (beginning_of image c.args.tracks (option_copied c.args.resume)) (home_of image)
-    c.unwrap_or-home.result.now (record { files = g.H.Host.files c.first_session.new.host; failures = g.H.Host.failure_count c.first_session.new.host })
+    c.unwrap_or-home.result.now (g.H.Host.state c.first_session.new.host)
     c.in_ok-session.session c.run_on-ran.new.session (g.W.Write.contents c.run_on-ran.new.output.writer.now)
     c.in_ok-session.ensures.session home (rw is at c.run_on-ran.ensures.ran) c.flush.ensures.kept in
     IfErr-of_error c.from_residual-in_err-ran-in-Ok.result (fault_of_run c.in_err-ran-in-Ok.field-0.0)
@@ -48,12 +48,12 @@ returns-clause-stopped g c =
     let image = option_copied c.args.image in
     let home : c.unwrap_or-home.result.now ≡ home_of image =
     ap (λ text. text.now) c.unwrap_or-home.ensures ∙ home_is c.args.image _ (search rules) in
-    let old : Outside = outside_of (g.R.Read.remaining c.args.input.now.reader.now) (g.W.Write.contents c.args.output.now.writer.now) (g.H.Host.files c.args.host.now) (g.H.Host.failure_count c.args.host.now) in
-    let new : Outside = outside_of (g.R.Read.remaining c.run_on-ran.new.input.reader.now) (g.W.Write.contents c.flush.new.self.writer.now) (g.H.Host.files c.run_on-ran.new.host) (g.H.Host.failure_count c.run_on-ran.new.host) in
+    let old : Outside = outside_of (g.R.Read.remaining c.args.input.now.reader.now) (g.W.Write.contents c.args.output.now.writer.now) (g.H.Host.state c.args.host.now) in
+    let new : Outside = outside_of (g.R.Read.remaining c.run_on-ran.new.input.reader.now) (g.W.Write.contents c.flush.new.self.writer.now) (g.H.Host.state c.run_on-ran.new.host) in
     inr (
       c.run_on-ran.result,
       RanShell-flushed old new c.run_on-ran.result (beginning_of image c.args.tracks (option_copied c.args.resume)) (home_of image)
-          c.unwrap_or-home.result.now (record { files = g.H.Host.files c.first_session.new.host; failures = g.H.Host.failure_count c.first_session.new.host })
+          c.unwrap_or-home.result.now (g.H.Host.state c.first_session.new.host)
           c.in_ok-session.session c.run_on-ran.new.session (g.W.Write.contents c.run_on-ran.new.output.writer.now)
           c.in_ok-session.ensures.session home c.run_on-ran.ensures.ran c.flush.ensures.kept,
       told_of-write c.run_on-ran.result,

@@ -14,6 +14,6 @@ invariant-loop-name g l = record {
   unfailed : l.output.has_failed ≡ l.initial.output.has_failed;
   silent : l.self.worst ≡ Clean → (l.initial.self.worst ≡ Clean) × (l.faults ≡ l.initial.faults);
   answered : Steps (g.P.Report.rule l.initial.report) (map (λ name. File (string_bytes name)) (take l.name-index l.names))
-      (stand_at g.H.Host.files g.H.Host.failure_count l.initial.host g.W.Write.contents l.initial.output g.F.Write.contents l.initial.faults l.initial.self.worst)
-      (stand_at g.H.Host.files g.H.Host.failure_count l.host g.W.Write.contents l.output g.F.Write.contents l.faults l.self.worst);
+      (stand_at g.H.Host.state l.initial.host g.W.Write.contents l.initial.output g.F.Write.contents l.initial.faults l.initial.self.worst)
+      (stand_at g.H.Host.state l.host g.W.Write.contents l.output g.F.Write.contents l.faults l.self.worst);
 }

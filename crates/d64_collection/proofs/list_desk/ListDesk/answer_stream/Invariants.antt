@@ -12,8 +12,8 @@ invariant-loop g l = record {
   lost : Consumes (g.R.Read.remaining l.initial.input.reader.now) (g.R.Read.remaining l.input.reader.now) bytes;
   within : length bytes + l.left ≡ list_limit;
   came : l.initial.self.name ≡ [] → HasCome (g.P.Report.rule l.initial.report) l.initial.self.separator
-      (stand_at g.H.Host.files g.H.Host.failure_count l.initial.host g.W.Write.contents l.initial.output g.F.Write.contents l.initial.faults l.initial.self.desk.worst)
-      (stand_at g.H.Host.files g.H.Host.failure_count l.host g.W.Write.contents l.output g.F.Write.contents l.faults l.self.desk.worst)
+      (stand_at g.H.Host.state l.initial.host g.W.Write.contents l.initial.output g.F.Write.contents l.initial.faults l.initial.self.desk.worst)
+      (stand_at g.H.Host.state l.host g.W.Write.contents l.output g.F.Write.contents l.faults l.self.desk.worst)
       l.self.name bytes;
   silent : l.self.desk.worst ≡ Clean → (l.initial.self.desk.worst ≡ Clean) × (l.faults ≡ l.initial.faults);
   separator : l.self.separator ≡ l.initial.self.separator;

@@ -1,6 +1,5 @@
 use Rattle.std.proofs.Common.{rules, None, ◌≡◌, false, true}
 use Rattle.d64_collection.specs.Names.{is_name}
-use Rattle.d64_collection.specs.Runs.{host_of}
 use Rattle.d64_collection.proofs.RunSteps.{EndsAt-never}
 use Rattle.d64_collection.proofs.ListSteps.{Runs-no_name, Runs-name, listed-file, listed-no_file}
 use Rattle.d64_collection.proofs.list_desk.ListDesk.end.Goals as goal
@@ -21,4 +20,4 @@ returns-in-None-clause-answered g c =
     Runs-name _ _ _ _ c.args.self.now.name _ named (listed-no_file c.args.self.now.name _ c.in-None.ensures (search rules)) (c.answer_no_file.ensures.answered _)
 
 pub returns-in-None-clause-never : goal.returns-in-None-clause-never
-returns-in-None-clause-never g c = EndsAt-never _ _ _ _ c.answer_no_file.result (c.answer_no_file.ensures.answered (host_of None 0))
+returns-in-None-clause-never g c = EndsAt-never _ _ _ _ c.answer_no_file.result (c.answer_no_file.ensures.answered (record { files = None; failures = 0 }))

@@ -16,9 +16,9 @@ invariant-loop-byte g l = record {
   silent : l.self.desk.worst ≡ Clean → (l.initial.self.desk.worst ≡ Clean) × (l.faults ≡ l.initial.faults);
   came : (first : Stand) (before : List ℕ)
       → HasCome (g.P.Report.rule l.initial.report) l.initial.self.separator first
-      (stand_at g.H.Host.files g.H.Host.failure_count l.initial.host g.W.Write.contents l.initial.output g.F.Write.contents l.initial.faults l.initial.self.desk.worst)
+      (stand_at g.H.Host.state l.initial.host g.W.Write.contents l.initial.output g.F.Write.contents l.initial.faults l.initial.self.desk.worst)
       l.initial.self.name before
       → HasCome (g.P.Report.rule l.initial.report) l.initial.self.separator first
-      (stand_at g.H.Host.files g.H.Host.failure_count l.host g.W.Write.contents l.output g.F.Write.contents l.faults l.self.desk.worst)
+      (stand_at g.H.Host.state l.host g.W.Write.contents l.output g.F.Write.contents l.faults l.self.desk.worst)
       l.self.name (before ++ take l.byte-index l.bytes);
 }
