@@ -512,10 +512,12 @@ class Shell:
     def do_quit(self, _):
         pass
 
-    def run(self, script):
-        """What a script prints."""
+    def run(self, script, stops=False):
+        """What a script prints, which ends after the first refused line where `stops` is set."""
         answers = []
         for line in lines_of(script):
+            if stops and self.refused:
+                break
             if len(line.removesuffix(b"\n")) > 1_024:
                 self.refused += 1
                 answers.append(status(32))

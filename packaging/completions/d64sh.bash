@@ -9,22 +9,22 @@ _d64sh() {
     local word=${COMP_WORDS[COMP_CWORD]} before=${COMP_WORDS[COMP_CWORD - 1]} command=${COMP_WORDS[1]} options=
     COMPREPLY=()
     if [ "$COMP_CWORD" -eq 1 ]; then
-        mapfile -t COMPREPLY < <(compgen -W "shell petcat crunch check files map diff catalogue -h --help -V --version" -- "$word")
+        mapfile -t COMPREPLY < <(compgen -W "shell petcat crunch check files map diff catalogue help -h --help -V --version" -- "$word")
         return
     fi
     case "$command $before" in
     "shell --tracks") mapfile -t COMPREPLY < <(compgen -W "35 40" -- "$word"); return ;;
-    "shell --resume" | "check --files-from" | "files --files-from" | "catalogue --files-from") _d64sh_take < <(compgen -f -- "$word"); return ;;
-    "crunch --start") :; return ;;
+    "shell --resume" | "petcat -o" | "petcat --output" | "crunch -o" | "crunch --output" | "check --files-from" | "files --files-from" | "catalogue --files-from") _d64sh_take < <(compgen -f -- "$word"); return ;;
+    "shell -c" | "shell --command" | "crunch --start") :; return ;;
     "check --format" | "files --format") mapfile -t COMPREPLY < <(compgen -W "text json csv" -- "$word"); return ;;
     "map --format") mapfile -t COMPREPLY < <(compgen -W "text svg" -- "$word"); return ;;
     "diff --format") mapfile -t COMPREPLY < <(compgen -W "text json" -- "$word"); return ;;
-    "help "*) mapfile -t COMPREPLY < <(compgen -W "shell petcat crunch check files map diff catalogue" -- "$word"); return ;;
+    "help "*) mapfile -t COMPREPLY < <(compgen -W "shell petcat crunch check files map diff catalogue help" -- "$word"); return ;;
     esac
     case $command in
-    shell) options="--tracks --resume -h --help" ;;
-    petcat) options="-h --help" ;;
-    crunch) options="--start -h --help" ;;
+    shell) options="--tracks --resume -c --command -e --stop-at-refusal -h --help" ;;
+    petcat) options="-o --output -h --help" ;;
+    crunch) options="--start -o --output -h --help" ;;
     check) options="--digest --format --files-from --null -h --help" ;;
     files) options="--format --files-from --null -h --help" ;;
     map) options="--format -h --help" ;;

@@ -1,5 +1,5 @@
 -- Runs that come through a script piece by piece.
-use Rattle.std.proofs.Common.{◌≡◌, ℕ, ◌+◌, ◌<◌, List, [], ◌∷◌, ◌++◌, length, true, false, cond, filter, Option, refl, sym, ap, ◌∙◌, subst, append_assoc, append-nil, arith, eqb, eqb-true}
+use Rattle.std.proofs.Common.{◌≡◌, ℕ, ◌+◌, ◌<◌, List, [], ◌∷◌, ◌++◌, length, true, false, cond, filter, Option, refl, sym, ap, ◌∙◌, subst, append_assoc, append-nil, arith, ◌||◌, eqb, eqb-true}
 use Rattle.std.proofs.lemmas.Bool.{false≢true}
 use Rattle.std.specs.Io.KnownBytes.{Appends}
 use Rattle.std.specs.Prelude.{OnOk, OnErr, if◌then◌else◌, Result, Ok, Err}
@@ -14,7 +14,7 @@ use Rattle.d64_script.proofs.LineCuts.{lines_of-nil}
 use Rattle.d64_script.proofs.OpenLines.{IsOpen-append, lines_of-ended, lines_of-begun, is_ended-push}
 use Rattle.d64_line.specs.Act.{printed, LineAnswer, World}
 use Rattle.d64_script.specs.Status.{is_accepted}
-use Rattle.d64_runner.specs.Transcript.{Transcript, counted}
+use Rattle.d64_runner.specs.Transcript.{ends_script, Manner, Transcript, counted}
 use Rattle.d64_runner.specs.Runner.{Stand, begin, RanLines, StoppedAt}
 use Rattle.d64_runner.specs.LineByLine.{progress_of, AreCutInto, HasCome, HasClosed, RunsLine, StopsInLine}
 use Rattle.d64_runner.specs.declared.runner.Tally.{Tally}
@@ -52,21 +52,21 @@ AreCutInto-line bytes part begun lines cut is_open =
     }
 
 -- one line more has run
-RanLines-line : (home : List ℕ) (first old new : Stand) (lines : List (List ℕ)) (line : List ℕ) (before after : Tally)
-    → RanLines home first old lines (progress_of before old.world) → before.closed ≡ false → RunsLine home line old new before after
-    → RanLines home first new (lines ++ line ∷ []) (progress_of after new.world)
-RanLines-line home first old new lines line before after ran open_run runs = record {
+RanLines-line : (manner : Manner) (first old new : Stand) (lines : List (List ℕ)) (line : List ℕ) (before after : Tally)
+    → RanLines manner first old lines (progress_of before old.world) → before.closed ≡ false → RunsLine manner line old new before after
+    → RanLines manner first new (lines ++ line ∷ []) (progress_of after new.world)
+RanLines-line manner first old new lines line before after ran open_run runs = record {
   out = ran.out ++ runs.said;
-  told = Transcript-line home lines line (begin first.world) ran.out runs.said (progress_of before old.world) (progress_of after new.world) ran.told open_run runs.told;
+  told = Transcript-line manner lines line (begin first.world) ran.out runs.said (progress_of before old.world) (progress_of after new.world) ran.told open_run runs.told;
   written = Appends-trans first.writer old.writer new.writer ran.out runs.said ran.written runs.written;
   world = refl;
 }
 
 -- a run that begins
-pub HasCome-none : (home : List ℕ) (stand : Stand) (tally : Tally) (line : HeldLine)
-    → tally ≡ record { outcome = record { accepted = 0; refused = 0 }; closed = false } → Holds line [] → HasCome home stand stand tally line []
+pub HasCome-none : (manner : Manner) (stand : Stand) (tally : Tally) (line : HeldLine)
+    → tally ≡ record { outcome = record { accepted = 0; refused = 0 }; closed = false } → Holds line [] → HasCome manner stand stand tally line []
 unfolding Transcript
-HasCome-none home stand tally line none held = record {
+HasCome-none manner stand tally line none held = record {
   lines = [];
   begun = [];
   cut = AreCutInto-none;
@@ -76,10 +76,10 @@ HasCome-none home stand tally line none held = record {
 }
 
 -- bytes more, with no LF among them
-pub HasCome-more : (home : List ℕ) (first stand : Stand) (tally : Tally) (line longer : HeldLine) (bytes part : List ℕ)
-    → HasCome home first stand tally line bytes → IsOpen part → ((begun : List ℕ) → Holds line begun → Holds longer (begun ++ part))
-    → HasCome home first stand tally longer (bytes ++ part)
-HasCome-more home first stand tally line longer bytes part come is_open held = record {
+pub HasCome-more : (manner : Manner) (first stand : Stand) (tally : Tally) (line longer : HeldLine) (bytes part : List ℕ)
+    → HasCome manner first stand tally line bytes → IsOpen part → ((begun : List ℕ) → Holds line begun → Holds longer (begun ++ part))
+    → HasCome manner first stand tally longer (bytes ++ part)
+HasCome-more manner first stand tally line longer bytes part come is_open held = record {
   lines = come.lines;
   begun = come.begun ++ part;
   cut = AreCutInto-more bytes part come.begun come.lines come.cut is_open;
@@ -89,41 +89,41 @@ HasCome-more home first stand tally line longer bytes part come is_open held = r
 }
 
 -- a line more was ended, and has run
-pub HasCome-line : (home : List ℕ) (first old new : Stand) (before after : Tally) (line next : HeldLine) (bytes part : List ℕ)
-    → (come : HasCome home first old before line bytes) → IsOpen part → RunsLine home ((come.begun ++ part) ++ 10 ∷ []) old new before after
-    → after.closed ≡ false → Holds next [] → HasCome home first new after next (bytes ++ (part ++ 10 ∷ []))
-HasCome-line home first old new before after line next bytes part come is_open runs open_run held = record {
+pub HasCome-line : (manner : Manner) (first old new : Stand) (before after : Tally) (line next : HeldLine) (bytes part : List ℕ)
+    → (come : HasCome manner first old before line bytes) → IsOpen part → RunsLine manner ((come.begun ++ part) ++ 10 ∷ []) old new before after
+    → after.closed ≡ false → Holds next [] → HasCome manner first new after next (bytes ++ (part ++ 10 ∷ []))
+HasCome-line manner first old new before after line next bytes part come is_open runs open_run held = record {
   lines = come.lines ++ ((come.begun ++ part) ++ 10 ∷ []) ∷ [];
   begun = [];
   cut = AreCutInto-line bytes part come.begun come.lines come.cut is_open;
-  ran = RanLines-line home first old new come.lines ((come.begun ++ part) ++ 10 ∷ []) before after come.ran come.open_run runs;
+  ran = RanLines-line manner first old new come.lines ((come.begun ++ part) ++ 10 ∷ []) before after come.ran come.open_run runs;
   held = held;
   open_run = open_run;
 }
 
--- a line more was ended, and was an accepted `quit`: what comes after it is silent
-pub HasClosed-line : (home : List ℕ) (first old new : Stand) (before after : Tally) (line : HeldLine) (bytes part rest : List ℕ)
-    → (come : HasCome home first old before line bytes) → IsOpen part → RunsLine home ((come.begun ++ part) ++ 10 ∷ []) old new before after
-    → after.closed ≡ true → HasClosed home first new after ((bytes ++ (part ++ 10 ∷ [])) ++ rest)
-HasClosed-line home first old new before after line bytes part rest come is_open runs closed_run =
+-- a line more was ended, and ended the run: what comes after it is silent
+pub HasClosed-line : (manner : Manner) (first old new : Stand) (before after : Tally) (line : HeldLine) (bytes part rest : List ℕ)
+    → (come : HasCome manner first old before line bytes) → IsOpen part → RunsLine manner ((come.begun ++ part) ++ 10 ∷ []) old new before after
+    → after.closed ≡ true → HasClosed manner first new after ((bytes ++ (part ++ 10 ∷ [])) ++ rest)
+HasClosed-line manner first old new before after line bytes part rest come is_open runs closed_run =
     let script = bytes ++ (part ++ 10 ∷ []) in
     let last = (come.begun ++ part) ++ 10 ∷ [] in
     let lines = come.lines ++ last ∷ [] in
     let cut = AreCutInto-line bytes part come.begun come.lines come.cut is_open in
-    let ran = RanLines-line home first old new come.lines last before after come.ran come.open_run runs in
-    let P : List (List ℕ) → Type 0 = λ l. RanLines home first new l (progress_of after new.world) in
+    let ran = RanLines-line manner first old new come.lines last before after come.ran come.open_run runs in
+    let P : List (List ℕ) → Type 0 = λ l. RanLines manner first new l (progress_of after new.world) in
     record {
       ran = λ more.
           subst P (sym (ap lines_of (append_assoc script rest more) ∙ cut.goes_on (rest ++ more)))
-          (RanLines-closed home first new lines (lines_of (rest ++ more)) (progress_of after new.world) ran closed_run);
+          (RanLines-closed manner first new lines (lines_of (rest ++ more)) (progress_of after new.world) ran closed_run);
       closed_run = closed_run;
     }
 
 -- a write failed at a line
-StoppedAt-line : (home : List ℕ) (first old new : Stand) (lines rest all : List (List ℕ)) (line : List ℕ) (before : Tally)
-    → RanLines home first old lines (progress_of before old.world) → before.closed ≡ false → StopsInLine home line old new before
-    → lines ++ line ∷ rest ≡ all → StoppedAt home first new all
-StoppedAt-line home first old new lines rest all line before ran open_run stops split = record {
+StoppedAt-line : (manner : Manner) (first old new : Stand) (lines rest all : List (List ℕ)) (line : List ℕ) (before : Tally)
+    → RanLines manner first old lines (progress_of before old.world) → before.closed ≡ false → StopsInLine manner line old new before
+    → lines ++ line ∷ rest ≡ all → StoppedAt manner first new all
+StoppedAt-line manner first old new lines rest all line before ran open_run stops split = record {
   before = lines;
   line = line;
   rest = rest;
@@ -143,15 +143,15 @@ StoppedAt-line home first old new lines rest all line before ran open_run stops 
 }
 
 -- at one that was ended
-pub StoppedAt-ended : (home : List ℕ) (first old new : Stand) (before : Tally) (line : HeldLine) (bytes part rest more : List ℕ)
-    → (come : HasCome home first old before line bytes) → IsOpen part → StopsInLine home ((come.begun ++ part) ++ 10 ∷ []) old new before
-    → StoppedAt home first new (lines_of (((bytes ++ (part ++ 10 ∷ [])) ++ rest) ++ more))
-StoppedAt-ended home first old new before line bytes part rest more come is_open stops =
+pub StoppedAt-ended : (manner : Manner) (first old new : Stand) (before : Tally) (line : HeldLine) (bytes part rest more : List ℕ)
+    → (come : HasCome manner first old before line bytes) → IsOpen part → StopsInLine manner ((come.begun ++ part) ++ 10 ∷ []) old new before
+    → StoppedAt manner first new (lines_of (((bytes ++ (part ++ 10 ∷ [])) ++ rest) ++ more))
+StoppedAt-ended manner first old new before line bytes part rest more come is_open stops =
     let script = bytes ++ (part ++ 10 ∷ []) in
     let last = (come.begun ++ part) ++ 10 ∷ [] in
     let others = lines_of (rest ++ more) in
     let cut = AreCutInto-line bytes part come.begun come.lines come.cut is_open in
-    StoppedAt-line home first old new come.lines others (lines_of ((script ++ rest) ++ more)) last before come.ran come.open_run stops
+    StoppedAt-line manner first old new come.lines others (lines_of ((script ++ rest) ++ more)) last before come.ran come.open_run stops
     (sym (ap lines_of (append_assoc script rest more) ∙ cut.goes_on (rest ++ more) ∙ append_assoc come.lines (last ∷ []) others))
 
 -- the lines of a script that has come whole
@@ -164,10 +164,10 @@ no_bytes [] none = refl
 no_bytes (byte ∷ rest) none = absurd (omega arith)
 
 -- nothing follows the last LF
-pub RanLines-whole : (home : List ℕ) (first stand : Stand) (tally : Tally) (line : HeldLine) (bytes : List ℕ)
-    → (come : HasCome home first stand tally line bytes) → length come.begun < 1 → RanLines home first stand (lines_of bytes) (progress_of tally stand.world)
-RanLines-whole home first stand tally line bytes come none =
-    let P : List (List ℕ) → Type 0 = λ l. RanLines home first stand l (progress_of tally stand.world) in
+pub RanLines-whole : (manner : Manner) (first stand : Stand) (tally : Tally) (line : HeldLine) (bytes : List ℕ)
+    → (come : HasCome manner first stand tally line bytes) → length come.begun < 1 → RanLines manner first stand (lines_of bytes) (progress_of tally stand.world)
+RanLines-whole manner first stand tally line bytes come none =
+    let P : List (List ℕ) → Type 0 = λ l. RanLines manner first stand l (progress_of tally stand.world) in
     let same = lines_of-whole bytes come.begun come.lines come.cut ∙ ap (λ l. come.lines ++ lines_of l) (no_bytes come.begun none)
     ∙ ap (λ l. come.lines ++ l) lines_of-nil ∙ append-nil come.lines in
     subst P (sym same) come.ran
@@ -176,55 +176,55 @@ RanLines-whole home first stand tally line bytes come none =
 lines_of-last : (bytes begun : List ℕ) (lines : List (List ℕ)) → AreCutInto bytes lines begun → 0 < length begun → lines_of bytes ≡ lines ++ begun ∷ []
 lines_of-last bytes begun lines cut some = lines_of-whole bytes begun lines cut ∙ ap (λ l. lines ++ l) (lines_of-begun begun cut.is_open some)
 
-pub RanLines-last : (home : List ℕ) (first old new : Stand) (before after : Tally) (line : HeldLine) (bytes : List ℕ)
-    → (come : HasCome home first old before line bytes) → 0 < length come.begun → RunsLine home come.begun old new before after
-    → RanLines home first new (lines_of bytes) (progress_of after new.world)
-RanLines-last home first old new before after line bytes come some runs =
-    let P : List (List ℕ) → Type 0 = λ l. RanLines home first new l (progress_of after new.world) in
+pub RanLines-last : (manner : Manner) (first old new : Stand) (before after : Tally) (line : HeldLine) (bytes : List ℕ)
+    → (come : HasCome manner first old before line bytes) → 0 < length come.begun → RunsLine manner come.begun old new before after
+    → RanLines manner first new (lines_of bytes) (progress_of after new.world)
+RanLines-last manner first old new before after line bytes come some runs =
+    let P : List (List ℕ) → Type 0 = λ l. RanLines manner first new l (progress_of after new.world) in
     subst P (sym (lines_of-last bytes come.begun come.lines come.cut some))
-    (RanLines-line home first old new come.lines come.begun before after come.ran come.open_run runs)
+    (RanLines-line manner first old new come.lines come.begun before after come.ran come.open_run runs)
 
-pub StoppedAt-last : (home : List ℕ) (first old new : Stand) (before : Tally) (line : HeldLine) (bytes : List ℕ)
-    → (come : HasCome home first old before line bytes) → 0 < length come.begun → StopsInLine home come.begun old new before
-    → StoppedAt home first new (lines_of bytes)
-StoppedAt-last home first old new before line bytes come some stops =
-    StoppedAt-line home first old new come.lines [] (lines_of bytes) come.begun before come.ran come.open_run stops
+pub StoppedAt-last : (manner : Manner) (first old new : Stand) (before : Tally) (line : HeldLine) (bytes : List ℕ)
+    → (come : HasCome manner first old before line bytes) → 0 < length come.begun → StopsInLine manner come.begun old new before
+    → StoppedAt manner first new (lines_of bytes)
+StoppedAt-last manner first old new before line bytes come some stops =
+    StoppedAt-line manner first old new come.lines [] (lines_of bytes) come.begun before come.ran come.open_run stops
     (sym (lines_of-last bytes come.begun come.lines come.cut some))
 
 -- a line that is skipped has run, and nothing was written
-pub RunsLine-skipped : (home raw : List ℕ) (writer : Option (List ℕ)) (world after : World) (tally : Tally) → IsSkipped home world.history raw world after
-    → RunsLine home raw (record { writer = writer; world = world }) (record { writer = writer; world = after }) tally tally
-RunsLine-skipped home raw writer world after tally skipped =
-    let P : World → Type 0 = λ w. RunsLine home raw (record { writer = writer; world = world }) (record { writer = writer; world = w }) tally tally in
+pub RunsLine-skipped : (manner : Manner) (raw : List ℕ) (writer : Option (List ℕ)) (world after : World) (tally : Tally) → IsSkipped manner.home world.history raw world after
+    → RunsLine manner raw (record { writer = writer; world = world }) (record { writer = writer; world = after }) tally tally
+RunsLine-skipped manner raw writer world after tally skipped =
+    let P : World → Type 0 = λ w. RunsLine manner raw (record { writer = writer; world = world }) (record { writer = writer; world = w }) tally tally in
     subst P (sym skipped.1) (record {
       said = [];
-      told = Line-skipped home raw (progress_of tally world) skipped.0;
+      told = Line-skipped manner raw (progress_of tally world) skipped.0;
       written = Appends-nil writer;
     })
 
 -- a line that is answered has run, and its answer was written
-pub RunsLine-answered : {E : Type 0} (home raw : List ℕ) (old new : Option (List ℕ)) (world left : World) (before after : Tally) (answer : LineAnswer) (wrote : Result (Unit {0}) E)
-    → IsAnswered home world.history raw world answer left → after.closed ≡ answer.closes
+pub RunsLine-answered : {E : Type 0} (manner : Manner) (raw : List ℕ) (old new : Option (List ℕ)) (world left : World) (before after : Tally) (answer : LineAnswer) (wrote : Result (Unit {0}) E)
+    → IsAnswered manner.home world.history raw world answer left → after.closed ≡ (answer.closes || ends_script manner.refusals answer.status)
     → after.outcome.accepted ≡ before.outcome.accepted + (if is_accepted answer.status then 1 else 0)
     → after.outcome.refused ≡ before.outcome.refused + (if is_accepted answer.status then 0 else 1)
     → OnOk wrote (Appends old new (printed answer))
-    → OnOk wrote (RunsLine home raw (record { writer = old; world = world }) (record { writer = new; world = left }) before after)
-RunsLine-answered home raw old new world left before after answer (Ok done) answered closes accepted refused written = record {
+    → OnOk wrote (RunsLine manner raw (record { writer = old; world = world }) (record { writer = new; world = left }) before after)
+RunsLine-answered manner raw old new world left before after answer (Ok done) answered closes accepted refused written = record {
   said = printed answer;
-  told = rw (closes, accepted, refused) (Line-answered home raw (progress_of before world) answer left answered);
+  told = rw (closes, accepted, refused) (Line-answered manner raw (progress_of before world) answer left answered);
   written = written;
 }
-RunsLine-answered home raw old new world left before after answer (Err error) answered closes accepted refused written = tt
+RunsLine-answered manner raw old new world left before after answer (Err error) answered closes accepted refused written = tt
 
 -- a write of its answer failed
-pub StopsInLine-answered : {E : Type 0} (home raw : List ℕ) (old new : Option (List ℕ)) (world left : World) (before : Tally) (answer : LineAnswer) (wrote : Result (Unit {0}) E)
-    → IsAnswered home world.history raw world answer left → OnErr wrote (AppendsPart old new (printed answer))
-    → OnErr wrote (StopsInLine home raw (record { writer = old; world = world }) (record { writer = new; world = left }) before)
-StopsInLine-answered home raw old new world left before answer (Ok done) answered part = tt
-StopsInLine-answered home raw old new world left before answer (Err error) answered part = record {
+pub StopsInLine-answered : {E : Type 0} (manner : Manner) (raw : List ℕ) (old new : Option (List ℕ)) (world left : World) (before : Tally) (answer : LineAnswer) (wrote : Result (Unit {0}) E)
+    → IsAnswered manner.home world.history raw world answer left → OnErr wrote (AppendsPart old new (printed answer))
+    → OnErr wrote (StopsInLine manner raw (record { writer = old; world = world }) (record { writer = new; world = left }) before)
+StopsInLine-answered manner raw old new world left before answer (Ok done) answered part = tt
+StopsInLine-answered manner raw old new world left before answer (Err error) answered part = record {
   said = printed answer;
-  after = counted (progress_of before world) answer left;
-  told = Line-answered home raw (progress_of before world) answer left answered;
+  after = counted manner.refusals (progress_of before world) answer left;
+  told = Line-answered manner raw (progress_of before world) answer left answered;
   part = part;
   world = refl;
 }

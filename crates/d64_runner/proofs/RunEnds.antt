@@ -13,7 +13,7 @@ use Rattle.d64_script.specs.Output.{FailsWith}
 use Rattle.d64_script.specs.Script.{script_limit}
 use Rattle.d64_script.specs.declared.held_line.HeldLine.{HeldLine}
 use Rattle.d64_script.proofs.LineCuts.{ended_lines-none}
-use Rattle.d64_runner.specs.Transcript.{Progress, Line, Transcript, IsSilent}
+use Rattle.d64_runner.specs.Transcript.{Manner, Progress, Line, Transcript, IsSilent}
 use Rattle.d64_runner.specs.Runner.{EndsWith, Stand, begin, Ran, RanLines, RanRead, RanUpTo, RanWhole, StoppedAt}
 use Rattle.d64_runner.specs.LineByLine.{progress_of, EndsRun, HasClosed, HasCome}
 use Rattle.d64_runner.specs.declared.runner.Outcome.{Outcome}
@@ -27,9 +27,9 @@ abbrev pub flushed_stand : Stand → Option (List ℕ) → Stand
 flushed_stand stand flushed = record { writer = flushed; world = stand.world }
 
 -- a flush changes nothing of how far a run has come
-pub HasCome-flushed : (home : List ℕ) (first stand : Stand) (tally : Tally) (line : HeldLine) (bytes : List ℕ) (flushed : Option (List ℕ))
-    → HasCome home first stand tally line bytes → Keeps stand.writer flushed → HasCome home first (flushed_stand stand flushed) tally line bytes
-HasCome-flushed home first stand tally line bytes flushed come kept = record {
+pub HasCome-flushed : (manner : Manner) (first stand : Stand) (tally : Tally) (line : HeldLine) (bytes : List ℕ) (flushed : Option (List ℕ))
+    → HasCome manner first stand tally line bytes → Keeps stand.writer flushed → HasCome manner first (flushed_stand stand flushed) tally line bytes
+HasCome-flushed manner first stand tally line bytes flushed come kept = record {
   lines = come.lines;
   begun = come.begun;
   cut = come.cut;
@@ -44,19 +44,19 @@ HasCome-flushed home first stand tally line bytes flushed come kept = record {
 }
 
 -- the script that the reader had, of which some bytes have come and some more were read
-pub RanUpTo-by : (home : List ℕ) (reader left : Option (List ℕ)) (first stand : Stand) (bytes over : List ℕ) → Consumes reader left (bytes ++ over)
-    → ((more : List ℕ) → StoppedAt home first stand (lines_of (bytes ++ more))) → RanUpTo home reader first stand
-RanUpTo-by home None left first stand bytes over lost stopped = record { script = bytes ++ []; all = tt; stopped = stopped [] }
-RanUpTo-by home (Some xs) None first stand bytes over lost stopped = absurd lost
-RanUpTo-by home (Some xs) (Some ys) first stand bytes over lost stopped =
+pub RanUpTo-by : (manner : Manner) (reader left : Option (List ℕ)) (first stand : Stand) (bytes over : List ℕ) → Consumes reader left (bytes ++ over)
+    → ((more : List ℕ) → StoppedAt manner first stand (lines_of (bytes ++ more))) → RanUpTo manner reader first stand
+RanUpTo-by manner None left first stand bytes over lost stopped = record { script = bytes ++ []; all = tt; stopped = stopped [] }
+RanUpTo-by manner (Some xs) None first stand bytes over lost stopped = absurd lost
+RanUpTo-by manner (Some xs) (Some ys) first stand bytes over lost stopped =
     record { script = bytes ++ (over ++ ys); all = sym (lost ∙ append_assoc bytes over ys); stopped = stopped (over ++ ys) }
 
-pub RanWhole-by : (home : List ℕ) (reader left : Option (List ℕ)) (first stand : Stand) (tally : Tally) (bytes over : List ℕ) → Consumes reader left (bytes ++ over)
-    → HasClosed home first stand tally bytes → RanWhole home reader first stand tally.outcome
-RanWhole-by home None left first stand tally bytes over lost closed =
+pub RanWhole-by : (manner : Manner) (reader left : Option (List ℕ)) (first stand : Stand) (tally : Tally) (bytes over : List ℕ) → Consumes reader left (bytes ++ over)
+    → HasClosed manner first stand tally bytes → RanWhole manner reader first stand tally.outcome
+RanWhole-by manner None left first stand tally bytes over lost closed =
     record { script = bytes ++ []; all = tt; after = progress_of tally stand.world; ran = closed.ran []; accepted = refl; refused = refl }
-RanWhole-by home (Some xs) None first stand tally bytes over lost closed = absurd lost
-RanWhole-by home (Some xs) (Some ys) first stand tally bytes over lost closed =
+RanWhole-by manner (Some xs) None first stand tally bytes over lost closed = absurd lost
+RanWhole-by manner (Some xs) (Some ys) first stand tally bytes over lost closed =
     record {
       script = bytes ++ (over ++ ys);
       all = sym (lost ∙ append_assoc bytes over ys);
@@ -67,9 +67,9 @@ RanWhole-by home (Some xs) (Some ys) first stand tally bytes over lost closed =
     }
 
 -- the run ended with its script
-pub Ran-ended : (home : List ℕ) (reader left : Option (List ℕ)) (first stand : Stand) (bytes : List ℕ) (ended : Result Outcome ShellFault)
-    → Consumes reader left bytes → IsAtEnd left → EndsRun home first stand bytes ended → Ran home reader left first stand ended
-Ran-ended home reader left first stand bytes (Ok outcome) lost end ran =
+pub Ran-ended : (manner : Manner) (reader left : Option (List ℕ)) (first stand : Stand) (bytes : List ℕ) (ended : Result Outcome ShellFault)
+    → Consumes reader left bytes → IsAtEnd left → EndsRun manner first stand bytes ended → Ran manner reader left first stand ended
+Ran-ended manner reader left first stand bytes (Ok outcome) lost end ran =
     record {
       script = bytes;
       all = Consumes-whole reader left bytes (λ input. bytes ≡ input) lost end refl;
@@ -78,27 +78,27 @@ Ran-ended home reader left first stand bytes (Ok outcome) lost end ran =
       accepted = ran.2;
       refused = ran.3;
     }
-Ran-ended home reader left first stand bytes (Err fault) lost end stopped =
-    subst (λ f. Ran home reader left first stand (Err f)) (sym stopped.0)
+Ran-ended manner reader left first stand bytes (Err fault) lost end stopped =
+    subst (λ f. Ran manner reader left first stand (Err f)) (sym stopped.0)
     (record { script = bytes; all = Consumes-whole reader left bytes (λ input. bytes ≡ input) lost end refl; stopped = stopped.1 })
 
 -- the ended lines of the bytes that have come
-ended_lines-come : (home : List ℕ) (first stand : Stand) (tally : Tally) (line : HeldLine) (bytes : List ℕ)
-    → (come : HasCome home first stand tally line bytes) → ended_lines bytes ≡ come.lines
-ended_lines-come home first stand tally line bytes come =
+ended_lines-come : (manner : Manner) (first stand : Stand) (tally : Tally) (line : HeldLine) (bytes : List ℕ)
+    → (come : HasCome manner first stand tally line bytes) → ended_lines bytes ≡ come.lines
+ended_lines-come manner first stand tally line bytes come =
     ap (filter is_ended) (lines_of-whole bytes come.begun come.lines come.cut) ∙ filter-append is_ended come.lines (lines_of come.begun)
     ∙ ap (λ l. l ++ ended_lines come.begun) come.cut.ended ∙ ap (λ l. come.lines ++ l) (ended_lines-none come.begun come.cut.is_open) ∙ append-nil come.lines
 
 -- reading failed, or passed a limit after the bytes that have come
-pub RanRead-by : (home : List ℕ) (reader left : Option (List ℕ)) (first stand : Stand) (tally : Tally) (line : HeldLine) (bytes consumed : List ℕ)
-    → Consumes reader left consumed → take script_limit consumed ≡ bytes → HasCome home first stand tally line bytes → RanRead home reader left first stand
-RanRead-by home reader left first stand tally line bytes consumed lost kept come =
-    let P : List (List ℕ) → Type 0 = λ l. RanLines home first stand l (progress_of tally stand.world) in
+pub RanRead-by : (manner : Manner) (reader left : Option (List ℕ)) (first stand : Stand) (tally : Tally) (line : HeldLine) (bytes consumed : List ℕ)
+    → Consumes reader left consumed → take script_limit consumed ≡ bytes → HasCome manner first stand tally line bytes → RanRead manner reader left first stand
+RanRead-by manner reader left first stand tally line bytes consumed lost kept come =
+    let P : List (List ℕ) → Type 0 = λ l. RanLines manner first stand l (progress_of tally stand.world) in
     record {
       consumed = consumed;
       lost = lost;
       after = progress_of tally stand.world;
-      ran = subst P (sym (ap ended_lines kept ∙ ended_lines-come home first stand tally line bytes come)) come.ran;
+      ran = subst P (sym (ap ended_lines kept ∙ ended_lines-come manner first stand tally line bytes come)) come.ran;
       open_run = come.open_run;
     }
 
@@ -108,13 +108,13 @@ silent true start said after Q ended one = one.1
 silent false start said after Q ended one = absurd (false≢true ended)
 
 -- the lines of an open run were read in an open run
-closed_stays : (home : List ℕ) (lines : List (List ℕ)) (start : Progress) (out : List ℕ) (after : Progress)
-    → Transcript home lines start out after → start.closed ≡ true → after.closed ≡ true
+closed_stays : (manner : Manner) (lines : List (List ℕ)) (start : Progress) (out : List ℕ) (after : Progress)
+    → Transcript manner lines start out after → start.closed ≡ true → after.closed ≡ true
 unfolding Transcript
-closed_stays home [] start out after told closed = ap (λ p. p.closed) told.1 ∙ closed
-closed_stays home (line ∷ lines) start out after told closed =
+closed_stays manner [] start out after told closed = ap (λ p. p.closed) told.1 ∙ closed
+closed_stays manner (line ∷ lines) start out after told closed =
     let (said, rest, middle, split, one, others) = told in
-    closed_stays home lines middle rest after others (ap (λ p. p.closed) (silent start.closed start said middle (Line home line start said middle) closed one) ∙ closed)
+    closed_stays manner lines middle rest after others (ap (λ p. p.closed) (silent start.closed start said middle (Line manner line start said middle) closed one) ∙ closed)
 
 -- a line of an open run is read as one
 opened : (closed : Bool) (P Q : Type 0) → closed ≡ false → MatchBool closed P Q → Q
@@ -122,7 +122,7 @@ opened true P Q is one = absurd (false≢true (sym is))
 opened false P Q is one = one
 
 -- the last line of an open run
-record LastLine (home : List ℕ) (lines : List (List ℕ)) (start : Progress) (out : List ℕ) (after : Progress) : Type 0 where
+record LastLine (manner : Manner) (lines : List (List ℕ)) (start : Progress) (out : List ℕ) (after : Progress) : Type 0 where
   before : List (List ℕ)
   line : List ℕ
   split : before ++ line ∷ [] ≡ lines
@@ -130,22 +130,22 @@ record LastLine (home : List ℕ) (lines : List (List ℕ)) (start : Progress) (
   said : List ℕ
   parts : early ++ said ≡ out
   middle : Progress
-  told : Transcript home before start early middle
+  told : Transcript manner before start early middle
   open_run : middle.closed ≡ false
-  answered : Line home line middle said after
+  answered : Line manner line middle said after
 
-open_before : (home : List ℕ) (lines : List (List ℕ)) (start : Progress) (out : List ℕ) (after : Progress)
-    → Transcript home lines start out after → after.closed ≡ false → start.closed ≡ false
-open_before home lines start out after told is_open =
-    ⊎_elim (λ closed. absurd (false≢true (sym is_open ∙ closed_stays home lines start out after told closed))) (λ other. other) (cases_Bool start.closed)
+open_before : (manner : Manner) (lines : List (List ℕ)) (start : Progress) (out : List ℕ) (after : Progress)
+    → Transcript manner lines start out after → after.closed ≡ false → start.closed ≡ false
+open_before manner lines start out after told is_open =
+    ⊎_elim (λ closed. absurd (false≢true (sym is_open ∙ closed_stays manner lines start out after told closed))) (λ other. other) (cases_Bool start.closed)
 
-last_line : (home : List ℕ) (lines : List (List ℕ)) (start : Progress) (out : List ℕ) (after : Progress)
-    → 0 < length lines → Transcript home lines start out after → after.closed ≡ false → LastLine home lines start out after
+last_line : (manner : Manner) (lines : List (List ℕ)) (start : Progress) (out : List ℕ) (after : Progress)
+    → 0 < length lines → Transcript manner lines start out after → after.closed ≡ false → LastLine manner lines start out after
 unfolding Transcript
-last_line home [] start out after some told is_open = absurd (omega arith)
-last_line home (line ∷ []) start out after some told is_open =
+last_line manner [] start out after some told is_open = absurd (omega arith)
+last_line manner (line ∷ []) start out after some told is_open =
     let (said, rest, next, split, one, others) = told in
-    let at_start = open_before home (line ∷ []) start out after told is_open in
+    let at_start = open_before manner (line ∷ []) start out after told is_open in
     record {
       before = [];
       line = line;
@@ -156,11 +156,11 @@ last_line home (line ∷ []) start out after some told is_open =
       middle = start;
       told = (refl, refl);
       open_run = at_start;
-      answered = subst (λ p. Line home line start said p) (sym others.1) (opened start.closed (IsSilent start said next) (Line home line start said next) at_start one);
+      answered = subst (λ p. Line manner line start said p) (sym others.1) (opened start.closed (IsSilent start said next) (Line manner line start said next) at_start one);
     }
-last_line home (line ∷ second ∷ lines) start out after some told is_open =
+last_line manner (line ∷ second ∷ lines) start out after some told is_open =
     let (said, rest, next, split, one, others) = told in
-    let last = last_line home (second ∷ lines) next rest after (omega arith) others is_open in
+    let last = last_line manner (second ∷ lines) next rest after (omega arith) others is_open in
     record {
       before = line ∷ last.before;
       line = last.line;
@@ -175,18 +175,18 @@ last_line home (line ∷ second ∷ lines) start out after some told is_open =
     }
 
 -- where a line was answered, there is a line
-some_lines : (home : List ℕ) (first stand : Stand) (lines : List (List ℕ)) (after : Progress)
-    → RanLines home first stand lines after → 0 < after.accepted + after.refused → 0 < length lines
+some_lines : (manner : Manner) (first stand : Stand) (lines : List (List ℕ)) (after : Progress)
+    → RanLines manner first stand lines after → 0 < after.accepted + after.refused → 0 < length lines
 unfolding Transcript
-some_lines home first stand [] after ran some = absurd (omega (arith, some, ap (λ p. p.accepted + p.refused) ran.told.1))
-some_lines home first stand (line ∷ lines) after ran some = omega arith
+some_lines manner first stand [] after ran some = absurd (omega (arith, some, ap (λ p. p.accepted + p.refused) ran.told.1))
+some_lines manner first stand (line ∷ lines) after ran some = omega arith
 
 -- a flush failed after a line was answered: the last line is the one at which the run stopped, its answer written whole
-StoppedAt-flush : (home : List ℕ) (first stand : Stand) (lines : List (List ℕ)) (after : Progress) (flushed : Option (List ℕ))
-    → RanLines home first stand lines after → after.closed ≡ false → 0 < after.accepted + after.refused → Keeps stand.writer flushed
-    → StoppedAt home first (flushed_stand stand flushed) lines
-StoppedAt-flush home first stand lines after flushed ran is_open some kept =
-    let last = last_line home lines (begin first.world) ran.out after (some_lines home first stand lines after ran some) ran.told is_open in
+StoppedAt-flush : (manner : Manner) (first stand : Stand) (lines : List (List ℕ)) (after : Progress) (flushed : Option (List ℕ))
+    → RanLines manner first stand lines after → after.closed ≡ false → 0 < after.accepted + after.refused → Keeps stand.writer flushed
+    → StoppedAt manner first (flushed_stand stand flushed) lines
+StoppedAt-flush manner first stand lines after flushed ran is_open some kept =
+    let last = last_line manner lines (begin first.world) ran.out after (some_lines manner first stand lines after ran some) ran.told is_open in
     let P : List ℕ → Type 0 = λ out. Appends first.writer flushed out in
     record {
       before = last.before;
@@ -207,14 +207,14 @@ StoppedAt-flush home first stand lines after flushed ran is_open some kept =
       world = ran.world;
     }
 
-pub RanUpTo-flush : (home : List ℕ) (reader left : Option (List ℕ)) (first stand : Stand) (tally : Tally) (line : HeldLine) (bytes : List ℕ) (flushed : Option (List ℕ))
-    → Consumes reader left bytes → HasCome home first stand tally line bytes → Keeps stand.writer flushed
-    → 0 < tally.outcome.accepted + tally.outcome.refused → RanUpTo home reader first (flushed_stand stand flushed)
-RanUpTo-flush home reader left first stand tally line bytes flushed lost come kept some =
+pub RanUpTo-flush : (manner : Manner) (reader left : Option (List ℕ)) (first stand : Stand) (tally : Tally) (line : HeldLine) (bytes : List ℕ) (flushed : Option (List ℕ))
+    → Consumes reader left bytes → HasCome manner first stand tally line bytes → Keeps stand.writer flushed
+    → 0 < tally.outcome.accepted + tally.outcome.refused → RanUpTo manner reader first (flushed_stand stand flushed)
+RanUpTo-flush manner reader left first stand tally line bytes flushed lost come kept some =
     let after = flushed_stand stand flushed in
-    let stopped = StoppedAt-flush home first stand come.lines (progress_of tally stand.world) flushed come.ran come.open_run some kept in
-    RanUpTo-by home reader left first after bytes [] (subst (Consumes reader left) (sym (append-nil bytes)) lost)
-    (λ more. subst (λ l. StoppedAt home first after l) (sym (come.cut.goes_on more)) (StoppedAt-more home first after come.lines (lines_of (come.begun ++ more)) stopped))
+    let stopped = StoppedAt-flush manner first stand come.lines (progress_of tally stand.world) flushed come.ran come.open_run some kept in
+    RanUpTo-by manner reader left first after bytes [] (subst (Consumes reader left) (sym (append-nil bytes)) lost)
+    (λ more. subst (λ l. StoppedAt manner first after l) (sym (come.cut.goes_on more)) (StoppedAt-more manner first after come.lines (lines_of (come.begun ++ more)) stopped))
 
 -- a read that found the end consumed nothing
 pub Consumes-none : (a b c : Option (List ℕ)) (bytes more : List ℕ) (count : ℕ) → Consumes a b bytes → Consumes b c (take count more) → count ≡ 0 → Consumes a c bytes
@@ -254,8 +254,8 @@ length-read bytes more count least room full held fits is =
     omega (arith, full, held, fits, is, length-append bytes (take least more), length-take least more)
 
 -- a run that ends with its script has read it without a failure, and is a fault where a write has failed
-pub EndsWith-last : (home : List ℕ) (first stand : Stand) (script : List ℕ) (ended : Result Outcome ShellFault) (input : Reading) (old new : Bool)
-    → EndsRun home first stand script ended → input.has_failed ≡ false → old ≡ false → FailsWith ended old new → EndsWith ended input new
-EndsWith-last home first stand script (Ok outcome) input old new ends read written same = (read, same ∙ written)
-EndsWith-last home first stand script (Err fault) input old new ends read written failed =
+pub EndsWith-last : (manner : Manner) (first stand : Stand) (script : List ℕ) (ended : Result Outcome ShellFault) (input : Reading) (old new : Bool)
+    → EndsRun manner first stand script ended → input.has_failed ≡ false → old ≡ false → FailsWith ended old new → EndsWith ended input new
+EndsWith-last manner first stand script (Ok outcome) input old new ends read written same = (read, same ∙ written)
+EndsWith-last manner first stand script (Err fault) input old new ends read written failed =
     subst (λ (fault : ShellFault). EndsWith (Err fault) input new) (sym ends.0) (read, failed)

@@ -35,7 +35,8 @@ use Rattle.d64_line.specs.CommandWord.{command_word_of, counts}
 use Rattle.d64_line.specs.FoundFile.{found_name, is_file_name}
 use Rattle.d64_line.specs.Line.{allowed, leave, run, act_of, act_of_words, act_of_line, word_at, read_to, save_act, undo_act, redo_act}
 use Rattle.d64_runner.specs.ScriptLaws.{IsReachedIn, ScriptsAreRuns, IsBlockWrite, ScriptsKeepDisksSound}
-use Rattle.d64_runner.specs.Transcript.{Progress, Line, Transcript, IsSilent, counted}
+use Rattle.d64_runner.specs.declared.manners.Refusals.{Refusals}
+use Rattle.d64_runner.specs.Transcript.{Manner, Progress, Line, Transcript, IsSilent, counted}
 use Rattle.d64_script.specs.declared.status.Status.{Status}
 use Rattle.d64_script.specs.declared.status.Status.TheVariants.{LongLine}
 use Rattle.d64_line.specs.declared.command_word.CommandWord.{CommandWord}
@@ -237,12 +238,12 @@ asks_in : (line first : List ℕ) (more : List (List ℕ)) (command : CommandWor
 asks_in line first more command cut found request (inl is) = inl (record { first = first; words = more; cut = cut; command = found ∙ ap Some is })
 asks_in line first more command cut found request (inr keeps) = inr keeps
 
-line-leads : (home : List ℕ) (history : History) (line : List ℕ) → IfSome (act_of_line home history line) (Leads (AsksIn line) history)
+line-leads : (manner : Manner) (history : History) (line : List ℕ) → IfSome (act_of_line manner.home history line) (Leads (AsksIn line) history)
 unfolding act_of_line
-line-leads home history line =
+line-leads manner history line =
     one_of (AsksIn line) history (is_too_long line) (is_skipped (text_of line)) _
     (after_found (AsksIn line) history (words_of (text_of line)) _ _
-    (λ words cut. words-lead (AsksIn line) home history words
+    (λ words cut. words-lead (AsksIn line) manner.home history words
     (λ first more command is found. asks_in line first more command (cut ∙ ap Some is) found)))
 
 -- where a call may be refused, what follows it leads
@@ -270,28 +271,28 @@ done-leads IsOne history (Then call next) world answer left here leads (inl does
 done-leads IsOne history (Then call next) world answer left here leads (inr does) = inl (ap (λ (w : World). w.history) does.1 ∙ here)
 
 -- a line of an open run
-asked-leads : (IsOne : Asked → Type 0) (history : History) (asked : Option (Act Ending)) (progress : Progress) (out : List ℕ) (left : Progress)
+asked-leads : (refusals : Refusals) (IsOne : Asked → Type 0) (history : History) (asked : Option (Act Ending)) (progress : Progress) (out : List ℕ) (left : Progress)
     → progress.world.history ≡ history → IfSome asked (Leads IsOne history)
     → MatchOption asked
     (IsSilent progress out left)
     (λ act. (answer : LineAnswer) × (world : World)
-    × Does act progress.world answer world × (out ≡ printed answer) × (left ≡ counted progress answer world))
+    × Does act progress.world answer world × (out ≡ printed answer) × (left ≡ counted refusals progress answer world))
     → IsStepFrom IsOne history left.world.history
-asked-leads IsOne history None progress out left here leads silent = inl (ap (λ (p : Progress). p.world.history) silent.1 ∙ here)
-asked-leads IsOne history (Some act) progress out left here leads done =
+asked-leads refusals IsOne history None progress out left here leads silent = inl (ap (λ (p : Progress). p.world.history) silent.1 ∙ here)
+asked-leads refusals IsOne history (Some act) progress out left here leads done =
     let (answer, world, does, prints, counts) = done in
     subst (IsStepFrom IsOne history) (sym (ap (λ (p : Progress). p.world.history) counts))
     (done-leads IsOne history act progress.world answer world here leads does)
 
 -- a line of a run
-one_line : (home line : List ℕ) (closed : Bool) (progress : Progress) (out : List ℕ) (left : Progress)
-    → MatchBool closed (IsSilent progress out left) (Line home line progress out left)
+one_line : (manner : Manner) (line : List ℕ) (closed : Bool) (progress : Progress) (out : List ℕ) (left : Progress)
+    → MatchBool closed (IsSilent progress out left) (Line manner line progress out left)
     → IsStepFrom (AsksIn line) progress.world.history left.world.history
 unfolding Line
-one_line home line true progress out left silent = inl (ap (λ (p : Progress). p.world.history) silent.1)
-one_line home line false progress out left said =
+one_line manner line true progress out left silent = inl (ap (λ (p : Progress). p.world.history) silent.1)
+one_line manner line false progress out left said =
     let history = progress.world.history in
-    asked-leads (AsksIn line) history (act_of_line home history line) progress out left refl (line-leads home history line) said
+    asked-leads manner.refusals (AsksIn line) history (act_of_line manner.home history line) progress out left refl (line-leads manner history line) said
 
 -- ---- the laws
 
@@ -316,17 +317,17 @@ step_more IsOne count all before between left more (inr step) reached =
 -- what the lines of a script leave of the history is what a run of requests leaves
 pub scripts-are_runs : ScriptsAreRuns
 unfolding Transcript
-scripts-are_runs home [] progress out left silent = record {
+scripts-are_runs manner [] progress out left silent = record {
   requests = [];
   answers = [];
   few = omega arith;
   run = ap (λ (p : Progress). p.world.history) silent.1;
 }
-scripts-are_runs home (line ∷ lines) progress out left told =
+scripts-are_runs manner (line ∷ lines) progress out left told =
     let (said, more, middle, split, one, others) = told in
     step_more (AsksIn line) (length lines) (length (line ∷ lines)) progress.world.history middle.world.history left.world.history (omega arith)
-    (one_line home line progress.closed progress said middle one)
-    (scripts-are_runs home lines middle more left others)
+    (one_line manner line progress.closed progress said middle one)
+    (scripts-are_runs manner lines middle more left others)
 
 -- a line that is no block write leaves sound disks
 line-sound : (line : List ℕ) (before after : History) → ¬ (IsBlockWrite line) → IsStepFrom (AsksIn line) before after
@@ -338,10 +339,10 @@ line-sound line before after other (inr (request, answer, inr keeps, step)) hold
 -- and so do lines of which none is one
 pub scripts-keep_disks_sound : ScriptsKeepDisksSound
 unfolding Transcript
-scripts-keep_disks_sound home [] progress out left silent none holds =
+scripts-keep_disks_sound manner [] progress out left silent none holds =
     subst (λ (p : Progress). HoldsSoundDisks p.world.history) (sym silent.1) holds
-scripts-keep_disks_sound home (line ∷ lines) progress out left told none holds =
+scripts-keep_disks_sound manner (line ∷ lines) progress out left told none holds =
     let (said, more, middle, split, one, others) = told in
-    scripts-keep_disks_sound home lines middle more left others (All-tail (λ l. ¬ (IsBlockWrite l)) line lines none)
+    scripts-keep_disks_sound manner lines middle more left others (All-tail (λ l. ¬ (IsBlockWrite l)) line lines none)
     (line-sound line progress.world.history middle.world.history (All-head (λ l. ¬ (IsBlockWrite l)) line lines none)
-    (one_line home line progress.closed progress said middle one) holds)
+    (one_line manner line progress.closed progress said middle one) holds)

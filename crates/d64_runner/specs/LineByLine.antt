@@ -5,7 +5,7 @@ use Rattle.d64_script.specs.Output.{AppendsPart}
 use Rattle.std.specs.Io.KnownBytes.{Appends}
 use Rattle.d64_script.specs.RawLines.{is_ended, lines_of}
 use Rattle.d64_line.specs.Act.{World}
-use Rattle.d64_runner.specs.Transcript.{Progress, Line}
+use Rattle.d64_runner.specs.Transcript.{Manner, Progress, Line}
 use Rattle.d64_runner.specs.Runner.{Stand, RanLines, StoppedAt}
 use Rattle.d64_script.specs.declared.held_line.HeldLine.{HeldLine}
 use Rattle.d64_runner.specs.declared.runner.Tally.{Tally}
@@ -24,41 +24,41 @@ pub record AreCutInto (bytes : List ℕ) (lines : List (List ℕ)) (begun : List
   pub goes_on : (more : List ℕ) → lines_of (bytes ++ more) ≡ lines ++ lines_of (begun ++ more)
 
 -- an open run has come through the first bytes of a script: their ended lines have run, and what has come of the next is held
-pub record HasCome (home : List ℕ) (first stand : Stand) (tally : Tally) (line : HeldLine) (bytes : List ℕ) : Type 0 where
+pub record HasCome (manner : Manner) (first stand : Stand) (tally : Tally) (line : HeldLine) (bytes : List ℕ) : Type 0 where
   pub lines : List (List ℕ)
   pub begun : List ℕ
   pub cut : AreCutInto bytes lines begun
-  pub ran : RanLines home first stand lines (progress_of tally stand.world)
+  pub ran : RanLines manner first stand lines (progress_of tally stand.world)
   pub held : Holds line begun
   pub open_run : tally.closed ≡ false
 
--- a `quit` was accepted: whatever comes after the first bytes of the script, it has run
-pub record HasClosed (home : List ℕ) (first stand : Stand) (tally : Tally) (bytes : List ℕ) : Type 0 where
-  pub ran : (more : List ℕ) → RanLines home first stand (lines_of (bytes ++ more)) (progress_of tally stand.world)
+-- the run has ended: whatever comes after the first bytes of the script, it has run
+pub record HasClosed (manner : Manner) (first stand : Stand) (tally : Tally) (bytes : List ℕ) : Type 0 where
+  pub ran : (more : List ℕ) → RanLines manner first stand (lines_of (bytes ++ more)) (progress_of tally stand.world)
   pub closed_run : tally.closed ≡ true
 
--- a run has come through the first bytes of a script, or to an accepted `quit` among them
-abbrev pub ComesTo : List ℕ → Stand → Stand → Tally → HeldLine → List ℕ → Type 0
-ComesTo home first stand tally line bytes =
-    MatchBool tally.closed (HasClosed home first stand tally bytes) (HasCome home first stand tally line bytes)
+-- a run has come through the first bytes of a script, or has ended among them
+abbrev pub ComesTo : Manner → Stand → Stand → Tally → HeldLine → List ℕ → Type 0
+ComesTo manner first stand tally line bytes =
+    MatchBool tally.closed (HasClosed manner first stand tally bytes) (HasCome manner first stand tally line bytes)
 
 -- the run ends with its script: all lines have run, or a write failed at one of them
-abbrev pub EndsRun : List ℕ → Stand → Stand → List ℕ → Result Outcome ShellFault → Type 0
-EndsRun home first stand script ended =
+abbrev pub EndsRun : Manner → Stand → Stand → List ℕ → Result Outcome ShellFault → Type 0
+EndsRun manner first stand script ended =
     MatchResult ended
-    (λ outcome. (after : Progress) × RanLines home first stand (lines_of script) after × (outcome.accepted ≡ after.accepted) × (outcome.refused ≡ after.refused))
-    (λ fault. (fault ≡ Write) × StoppedAt home first stand (lines_of script))
+    (λ outcome. (after : Progress) × RanLines manner first stand (lines_of script) after × (outcome.accepted ≡ after.accepted) × (outcome.refused ≡ after.refused))
+    (λ fault. (fault ≡ Write) × StoppedAt manner first stand (lines_of script))
 
 -- a line of an open run has run, and what it prints was written
-pub record RunsLine (home line : List ℕ) (old new : Stand) (before after : Tally) : Type 0 where
+pub record RunsLine (manner : Manner) (line : List ℕ) (old new : Stand) (before after : Tally) : Type 0 where
   pub said : List ℕ
-  pub told : Line home line (progress_of before old.world) said (progress_of after new.world)
+  pub told : Line manner line (progress_of before old.world) said (progress_of after new.world)
   pub written : Appends old.writer new.writer said
 
 -- a write failed at a line of an open run: a part of what it prints was written, and the world is that after it
-pub record StopsInLine (home line : List ℕ) (old new : Stand) (before : Tally) : Type 0 where
+pub record StopsInLine (manner : Manner) (line : List ℕ) (old new : Stand) (before : Tally) : Type 0 where
   pub said : List ℕ
   pub after : Progress
-  pub told : Line home line (progress_of before old.world) said after
+  pub told : Line manner line (progress_of before old.world) said after
   pub part : AppendsPart old.writer new.writer said
   pub world : new.world ≡ after.world

@@ -4,12 +4,17 @@ use Rattle.std.specs.Io.KnownBytes.{Appends, Consumes}
 use Rattle.d64_script.specs.Input.{Reading, IsUnreadable}
 use Rattle.d64_script.specs.RawLines.{lines_of, ended_lines}
 use Rattle.d64_line.specs.Act.{World}
-use Rattle.d64_runner.specs.Transcript.{Progress, Line, Transcript}
+use Rattle.d64_runner.specs.Transcript.{Manner, Progress, Line, Transcript}
 use Rattle.d64_script.specs.Script.{script_limit}
 use Rattle.d64_runner.specs.declared.runner.Outcome.{Outcome}
 use Rattle.d64_runner.specs.declared.runner.ShellFault.{ShellFault}
 use Rattle.d64_runner.specs.declared.runner.ShellFault.TheVariants.{Read, Write, Memory}
 use Rattle.d64_runner.specs.declared.runner.Tally.{Tally}
+use Rattle.d64_runner.specs.declared.manners.Manner.{Manner as CodeManner}
+
+-- how the code runs a script
+abbrev pub manner_of : CodeManner → Manner
+manner_of manner = record { home = manner.home.now; refusals = manner.refusals }
 
 -- what a run writes to, and what it works on: the writer's bytes, where they are known, and the world
 pub record Stand : Type 0 where
@@ -24,9 +29,9 @@ abbrev pub begin : World → Progress
 begin world = record { world = world; closed = false; accepted = 0; refused = 0 }
 
 -- lines have run: what they print was written, and the world is that after them
-pub record RanLines (home : List ℕ) (old new : Stand) (lines : List (List ℕ)) (after : Progress) : Type 0 where
+pub record RanLines (manner : Manner) (old new : Stand) (lines : List (List ℕ)) (after : Progress) : Type 0 where
   pub out : List ℕ
-  pub told : Transcript home lines (begin old.world) out after
+  pub told : Transcript manner lines (begin old.world) out after
   pub written : Appends old.writer new.writer out
   pub world : new.world ≡ after.world
 
@@ -36,18 +41,18 @@ Counts tally after =
     (tally.outcome.accepted ≡ after.accepted) × (tally.outcome.refused ≡ after.refused) × (tally.closed ≡ after.closed)
 
 -- a write failed at a line: what was written is what the lines before it print, and a part of its answer; the world is that after it
-pub record StoppedAt (home : List ℕ) (old new : Stand) (lines : List (List ℕ)) : Type 0 where
+pub record StoppedAt (manner : Manner) (old new : Stand) (lines : List (List ℕ)) : Type 0 where
   pub before : List (List ℕ)
   pub line : List ℕ
   pub rest : List (List ℕ)
   pub split : before ++ line ∷ rest ≡ lines
   pub out : List ℕ
   pub middle : Progress
-  pub told : Transcript home before (begin old.world) out middle
+  pub told : Transcript manner before (begin old.world) out middle
   pub open_run : middle.closed ≡ false
   pub answer : List ℕ
   pub after : Progress
-  pub answered : Line home line middle answer after
+  pub answered : Line manner line middle answer after
   pub part : List ℕ
   pub unwritten : List ℕ
   pub parts : part ++ unwritten ≡ answer
@@ -55,34 +60,34 @@ pub record StoppedAt (home : List ℕ) (old new : Stand) (lines : List (List ℕ
   pub world : new.world ≡ after.world
 
 -- the whole script has run, and the outcome counts its lines
-pub record RanWhole (home : List ℕ) (reader : Option (List ℕ)) (old new : Stand) (outcome : Outcome) : Type 0 where
+pub record RanWhole (manner : Manner) (reader : Option (List ℕ)) (old new : Stand) (outcome : Outcome) : Type 0 where
   pub script : List ℕ
   pub all : IfSome reader (λ bytes. script ≡ bytes)
   pub after : Progress
-  pub ran : RanLines home old new (lines_of script) after
+  pub ran : RanLines manner old new (lines_of script) after
   pub accepted : outcome.accepted ≡ after.accepted
   pub refused : outcome.refused ≡ after.refused
 
--- reading failed: the lines that were ended before have run, and no accepted `quit` was among them
-pub record RanRead (home : List ℕ) (reader left : Option (List ℕ)) (old new : Stand) : Type 0 where
+-- reading failed: the lines that were ended before have run, and the run did not end among them
+pub record RanRead (manner : Manner) (reader left : Option (List ℕ)) (old new : Stand) : Type 0 where
   pub consumed : List ℕ
   pub lost : Consumes reader left consumed
   pub after : Progress
-  pub ran : RanLines home old new (ended_lines (take script_limit consumed)) after
+  pub ran : RanLines manner old new (ended_lines (take script_limit consumed)) after
   pub open_run : after.closed ≡ false
 
 -- writing failed at a line of the script
-pub record RanUpTo (home : List ℕ) (reader : Option (List ℕ)) (old new : Stand) : Type 0 where
+pub record RanUpTo (manner : Manner) (reader : Option (List ℕ)) (old new : Stand) : Type 0 where
   pub script : List ℕ
   pub all : IfSome reader (λ bytes. script ≡ bytes)
-  pub stopped : StoppedAt home old new (lines_of script)
+  pub stopped : StoppedAt manner old new (lines_of script)
 
 -- what a run leaves, by how it ends; it takes no memory but in commands, so it never wants any
-abbrev pub Ran : List ℕ → Option (List ℕ) → Option (List ℕ) → Stand → Stand → Result Outcome ShellFault → Type 0
-Ran home reader left old new (Ok outcome) = RanWhole home reader old new outcome
-Ran home reader left old new (Err Read) = RanRead home reader left old new
-Ran home reader left old new (Err Write) = RanUpTo home reader old new
-Ran home reader left old new (Err (Memory error)) = ⊥
+abbrev pub Ran : Manner → Option (List ℕ) → Option (List ℕ) → Stand → Stand → Result Outcome ShellFault → Type 0
+Ran manner reader left old new (Ok outcome) = RanWhole manner reader old new outcome
+Ran manner reader left old new (Err Read) = RanRead manner reader left old new
+Ran manner reader left old new (Err Write) = RanUpTo manner reader old new
+Ran manner reader left old new (Err (Memory error)) = ⊥
 
 -- how the streams of a run stand, by how it ends: well where no read, no write and no flush failed; as a fault of reading where a read
 -- failed or a limit was passed, and no write or flush failed; and as a fault of writing where a write or a flush failed, and no read

@@ -7,7 +7,7 @@ use Rattle.d64_undo.specs.declared.request.Answer.{Answer}
 use Rattle.d64_script.specs.RawLines.{text_of}
 use Rattle.d64_script.specs.Words.{words_of}
 use Rattle.d64_line.specs.CommandWord.{command_word_of}
-use Rattle.d64_runner.specs.Transcript.{Progress, Transcript}
+use Rattle.d64_runner.specs.Transcript.{Manner, Progress, Transcript}
 use Rattle.d64_line.specs.declared.command_word.CommandWord.TheVariants.{BlockWrite}
 
 -- a run of at most so many requests leads from one history to another
@@ -20,8 +20,8 @@ pub record IsReachedIn (most : ℕ) (before after : History) : Type 0 where
 -- what the lines of a script leave of the history is what a run of requests leaves, at most one a line
 abbrev pub ScriptsAreRuns : Type 0
 ScriptsAreRuns =
-    (home : List ℕ) (lines : List (List ℕ)) (progress : Progress) (out : List ℕ) (after : Progress)
-    → Transcript home lines progress out after
+    (manner : Manner) (lines : List (List ℕ)) (progress : Progress) (out : List ℕ) (after : Progress)
+    → Transcript manner lines progress out after
     → IsReachedIn (length lines) progress.world.history after.world.history
 
 -- the first word of a line is that of a block write
@@ -34,6 +34,6 @@ pub record IsBlockWrite (line : List ℕ) : Type 0 where
 -- lines of which none is a block write leave sound disks, whatever the host does
 abbrev pub ScriptsKeepDisksSound : Type 0
 ScriptsKeepDisksSound =
-    (home : List ℕ) (lines : List (List ℕ)) (progress : Progress) (out : List ℕ) (after : Progress)
-    → Transcript home lines progress out after → All (λ line. ¬ (IsBlockWrite line)) lines
+    (manner : Manner) (lines : List (List ℕ)) (progress : Progress) (out : List ℕ) (after : Progress)
+    → Transcript manner lines progress out after → All (λ line. ¬ (IsBlockWrite line)) lines
     → HoldsSoundDisks progress.world.history → HoldsSoundDisks after.world.history

@@ -1,10 +1,27 @@
 -- What a script prints and leaves: its lines, one after another.
-use Rattle.std.specs.Prelude.{◌≡◌, ℕ, ◌+◌, List, [], ◌∷◌, ◌++◌, Bool, MatchBool, MatchOption, if◌then◌else◌}
+use Rattle.std.specs.Prelude.{◌≡◌, ℕ, ◌+◌, List, [], ◌∷◌, ◌++◌, Bool, MatchBool, MatchOption, if◌then◌else◌, ◌||◌, false, not}
 use Rattle.d64_line.specs.Act.{Does, LineAnswer, World, printed}
 use Rattle.d64_line.specs.Line.{act_of_line}
 use Rattle.d64_script.specs.Status.{is_accepted}
+use Rattle.d64_script.specs.declared.status.Status.{Status}
+use Rattle.d64_runner.specs.declared.manners.Refusals.{Refusals}
+use Rattle.d64_runner.specs.declared.manners.Refusals.TheVariants.{GoOn, Stop}
 
--- how far a run has come: the world, whether a `quit` was accepted, and how many lines were accepted and refused
+-- how a script is run: with the name of the host file in which `save` stores by default, and with what a refused line does
+pub record Manner : Type 0 where
+  pub home : List ℕ
+  pub refusals : Refusals
+
+-- a script that goes on after refused lines
+abbrev pub going_on : List ℕ → Manner
+going_on home = record { home = home; refusals = GoOn }
+
+-- a line of this status ends its script, since it is refused
+abbrev pub ends_script : Refusals → Status → Bool
+ends_script GoOn status = false
+ends_script Stop status = not (is_accepted status)
+
+-- how far a run has come: the world, whether it has ended, by an accepted `quit` or a refused line, and how many lines were accepted and refused
 pub record Progress : Type 0 where
   pub world : World
   pub closed : Bool
@@ -12,10 +29,10 @@ pub record Progress : Type 0 where
   pub refused : ℕ
 
 -- the run after an answer
-abbrev pub counted : Progress → LineAnswer → World → Progress
-counted progress answer world = record {
+abbrev pub counted : Refusals → Progress → LineAnswer → World → Progress
+counted refusals progress answer world = record {
   world = world;
-  closed = answer.closes;
+  closed = answer.closes || ends_script refusals answer.status;
   accepted = progress.accepted + (if is_accepted answer.status then 1 else 0);
   refused = progress.refused + (if is_accepted answer.status then 0 else 1);
 }
@@ -24,19 +41,19 @@ counted progress answer world = record {
 abbrev pub IsSilent : Progress → List ℕ → Progress → Type 0
 IsSilent progress out after = (out ≡ []) × (after ≡ progress)
 
--- a line of an open run: it is skipped, or what it asks for is done and answered
-unfoldable pub Line : List ℕ → List ℕ → Progress → List ℕ → Progress → Type 0
-Line home line progress out after =
-    MatchOption (act_of_line home progress.world.history line)
+-- a line of a run that has not ended: it is skipped, or what it asks for is done and answered
+unfoldable pub Line : Manner → List ℕ → Progress → List ℕ → Progress → Type 0
+Line manner line progress out after =
+    MatchOption (act_of_line manner.home progress.world.history line)
     (IsSilent progress out after)
     (λ act. (answer : LineAnswer) × (world : World)
-    × Does act progress.world answer world × (out ≡ printed answer) × (after ≡ counted progress answer world))
+    × Does act progress.world answer world × (out ≡ printed answer) × (after ≡ counted manner.refusals progress answer world))
 
--- lines in turn, each with what it prints; after an accepted `quit` they are silent
-unfoldable pub Transcript : List ℕ → List (List ℕ) → Progress → List ℕ → Progress → Type 0
-Transcript home [] progress out after = IsSilent progress out after
-Transcript home (line ∷ lines) progress out after =
+-- lines in turn, each with what it prints; after the run's end they are silent
+unfoldable pub Transcript : Manner → List (List ℕ) → Progress → List ℕ → Progress → Type 0
+Transcript manner [] progress out after = IsSilent progress out after
+Transcript manner (line ∷ lines) progress out after =
     (said : List ℕ) × (more : List ℕ) × (middle : Progress)
     × (out ≡ said ++ more)
-    × MatchBool progress.closed (IsSilent progress said middle) (Line home line progress said middle)
-    × Transcript home lines middle more after
+    × MatchBool progress.closed (IsSilent progress said middle) (Line manner line progress said middle)
+    × Transcript manner lines middle more after

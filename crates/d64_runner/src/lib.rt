@@ -2,6 +2,8 @@
 #![tactic(auto)]
 
 pub mod laws;
+mod manners;
 mod runner;
 
-pub use runner::{Outcome, ShellFault, run, run_on};
+pub use manners::{Manner, Refusals};
+pub use runner::{Outcome, ShellFault, run, run_on, run_script};

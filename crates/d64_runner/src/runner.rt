@@ -9,9 +9,11 @@ ghost use Rattle.d64_undo.specs.History.{present};
 ghost use Rattle.d64_line.specs.Act.{world_of};
 ghost use Rattle.d64_line.specs.Line.{IsSkipped, IsAnswered};
 ghost use Rattle.d64_line.specs.Response.{shown};
-ghost use Rattle.d64_runner.specs.Runner.{Stand, stand_of, Ran, StoppedAt, EndsWith};
+ghost use Rattle.d64_runner.specs.Runner.{Stand, manner_of, stand_of, Ran, StoppedAt, EndsWith};
+ghost use Rattle.d64_runner.specs.Transcript.{going_on};
 ghost use Rattle.d64_runner.specs.LineByLine.{HasCome, ComesTo, EndsRun, RunsLine, StopsInLine};
 
+use crate::manners::{Manner, Refusals};
 use d64_host::Host;
 use d64_line::{Response, answer_line};
 use d64_script::held_line::HeldLine;
@@ -47,7 +49,7 @@ pub enum ShellFault {
     Memory(AllocError),
 }
 
-/// How far a run has come: its counts, and whether a `quit` was accepted.
+/// How far a run has come: its counts, and whether it has ended, by an accepted `quit` or a refused line.
 #[derive(Clone, Copy)]
 struct Tally {
     outcome: Outcome,
@@ -55,8 +57,9 @@ struct Tally {
 }
 
 impl Tally {
-    ghost use Rattle.std.specs.Prelude.{if◌then◌else◌};
+    ghost use Rattle.std.specs.Prelude.{if◌then◌else◌, ◌||◌};
     ghost use Rattle.d64_script.specs.Status.{is_accepted};
+    ghost use Rattle.d64_runner.specs.Transcript.{ends_script};
 
     /// No line was answered.
     fn new() -> Tally
@@ -72,19 +75,49 @@ impl Tally {
     }
 
     /// Counts an answer.
-    fn count(&mut self, response: &Response)
+    fn count(&mut self, response: &Response, refusals: Refusals)
         requires { self.old.outcome.accepted + self.old.outcome.refused < 2 ^ 63 }
         ensures accepted { self.new.outcome.accepted ≡ self.old.outcome.accepted + (if is_accepted response.now.status then 1 else 0) }
         ensures refused { self.new.outcome.refused ≡ self.old.outcome.refused + (if is_accepted response.now.status then 0 else 1) }
-        ensures closed { self.new.closed ≡ response.now.closes }
+        ensures closed { self.new.closed ≡ (response.now.closes || ends_script refusals response.now.status) }
     {
         if response.status.is_accepted() {
             self.outcome.accepted += 1;
         } else {
             self.outcome.refused += 1;
         }
-        self.closed = response.closes;
+        self.closed = response.closes || refusals.ends_script(&response.status);
     }
+}
+
+/// How far a run has come in its script: what came of the next line, and what the lines before it counted.
+#[derive(Drop)]
+struct RunState {
+    line: HeldLine,
+    tally: Tally,
+}
+
+impl RunState {
+    ghost use Rattle.std.specs.Prelude.{[]};
+    ghost use Rattle.d64_script.specs.HeldLine.{Holds};
+
+    /// Nothing has come.
+    fn new() -> RunState
+        ensures line { Holds result.line [] }
+        ensures tally { result.tally ≡ record { outcome = record { accepted = 0; refused = 0 }; closed = false } }
+    {
+        RunState {
+            line: HeldLine::new(),
+            tally: Tally::new(),
+        }
+    }
+}
+
+/// What runs the lines of a script: memory, and the manner of the run.
+#[derive(Clone, Copy)]
+struct LineRunner<'n> {
+    alloc: Global,
+    manner: Manner<'n>,
 }
 
 /// Runs a script. `home` is the name of the host file in which `save` stores by default, or empty.
@@ -100,7 +133,7 @@ pub fn run<R: Read, W: Write, H: Host>(
     home: &str,
     session: &mut Session,
 ) -> Result<Outcome, ShellFault>
-    ensures { Ran home.now (R.remaining reader.old) (R.remaining reader.new)
+    ensures { Ran (going_on home.now) (R.remaining reader.old) (R.remaining reader.new)
         (stand_of (W.contents writer.old) (world_of (H.state host.old) session.old))
         (stand_of (W.contents writer.new) (world_of (H.state host.new) session.new))
         result }
@@ -127,14 +160,45 @@ pub fn run_on<R: Read, W: Write, H: Host>(
     requires delivered { output.old.is_delivered ≡ true }
     ensures input { input.new.reader.ghost_name ≡ input.old.reader.ghost_name }
     ensures output { output.new.writer.ghost_name ≡ output.old.writer.ghost_name }
-    ensures ran { Ran home.now (R.remaining input.old.reader.now) (R.remaining input.new.reader.now)
+    ensures ran { Ran (going_on home.now) (R.remaining input.old.reader.now) (R.remaining input.new.reader.now)
         (stand_of (W.contents output.old.writer.now) (world_of (H.state host.old) session.old))
         (stand_of (W.contents output.new.writer.now) (world_of (H.state host.new) session.new))
         result }
     ensures streams { EndsWith result (reading_of input.new.reads input.new.came input.new.has_failed) output.new.has_failed }
 {
-    let mut tally = Tally::new();
-    let mut line = HeldLine::new();
+    let manner = Manner {
+        home,
+        refusals: Refusals::GoOn,
+    };
+    run_script(alloc, input, output, host, manner, session)
+}
+
+/// Runs the script of an input of which nothing was read yet in this manner, and prints on an output that has not failed.
+///
+/// `Read` comes where a read failed or a limit was reached, and `Write` where a write or a flush failed; no read is made
+/// while something printed has not been delivered, nor after a call that failed, an accepted `quit`, or
+/// a refused line that ends the script.
+pub fn run_script<R: Read, W: Write, H: Host>(
+    alloc: Global,
+    input: &mut InputStream<'_, R>,
+    output: &mut OutputStream<'_, W>,
+    host: &mut H,
+    manner: Manner<'_>,
+    session: &mut Session,
+) -> Result<Outcome, ShellFault>
+    requires unread { IsUnread (reading_of input.old.reads input.old.came input.old.has_failed) }
+    requires unfailed { output.old.has_failed ≡ false }
+    requires delivered { output.old.is_delivered ≡ true }
+    ensures input { input.new.reader.ghost_name ≡ input.old.reader.ghost_name }
+    ensures output { output.new.writer.ghost_name ≡ output.old.writer.ghost_name }
+    ensures ran { Ran (manner_of manner.entry) (R.remaining input.old.reader.now) (R.remaining input.new.reader.now)
+        (stand_of (W.contents output.old.writer.now) (world_of (H.state host.old) session.old))
+        (stand_of (W.contents output.new.writer.now) (world_of (H.state host.new) session.new))
+        result }
+    ensures streams { EndsWith result (reading_of input.new.reads input.new.came input.new.has_failed) output.new.has_failed }
+{
+    let runner = LineRunner { alloc, manner };
+    let mut state = RunState::new();
     let mut room = SCRIPT_BYTES;
     let mut buffer = [0; READ_BYTES];
     for _ in 0..SCRIPT_READS {
@@ -142,18 +206,16 @@ pub fn run_on<R: Read, W: Write, H: Host>(
             return Err(ShellFault::Write);
         };
         let count = match input.read_after(output, &mut buffer) {
-            Ok(0) => return run_last(alloc, output, host, home, session, &line, &mut tally),
+            Ok(0) => return runner.run_last(output, host, session, &mut state),
             Ok(count) => count,
             Err(_) => return Err(ShellFault::Read),
         };
         let piece = &buffer[..count.min(room)];
-        let Ok(()) = run_piece(
-            alloc, output, host, home, session, &mut line, &mut tally, piece,
-        ) else {
+        let Ok(()) = runner.run_piece(output, host, session, &mut state, piece) else {
             return Err(ShellFault::Write);
         };
-        if tally.closed {
-            return Ok(tally.outcome);
+        if state.tally.closed {
+            return Ok(state.tally.outcome);
         }
         if count > room {
             return Err(ShellFault::Read);
@@ -177,111 +239,108 @@ fn deliver<W: Write>(output: &mut OutputStream<'_, W>) -> Result<(), WriteFault>
     output.flush()
 }
 
-/// Runs the line that the script's end ends, if bytes of one have come.
-fn run_last<W: Write, H: Host>(
-    alloc: Global,
-    output: &mut OutputStream<'_, W>,
-    host: &mut H,
-    home: &str,
-    session: &mut Session,
-    line: &HeldLine,
-    tally: &mut Tally,
-) -> Result<Outcome, ShellFault>
-    requires { tally.old.outcome.accepted + tally.old.outcome.refused ≤ 2 ^ 32 }
-    ensures same { output.new.writer.ghost_name ≡ output.old.writer.ghost_name }
-    ensures failed { FailsWith result output.old.has_failed output.new.has_failed }
-    ensures ended { (first : Stand) (script : List ℕ)
-        → HasCome home.now first
-        (stand_of (W.contents output.old.writer.now) (world_of (H.state host.old) session.old))
-        tally.old line.now script
-        → EndsRun home.now first
-        (stand_of (W.contents output.new.writer.now) (world_of (H.state host.new) session.new))
-        script result }
-{
-    if line.is_empty() {
-        return Ok(tally.outcome);
-    }
-    line.end_with_script();
-    match run_line(alloc, output, host, home, session, line, tally) {
-        Ok(()) => Ok(tally.outcome),
-        Err(_) => Err(ShellFault::Write),
-    }
-}
-
-/// Runs the lines that end in the next piece of the script, up to an accepted `quit`, and holds what comes after the last.
-fn run_piece<W: Write, H: Host>(
-    alloc: Global,
-    output: &mut OutputStream<'_, W>,
-    host: &mut H,
-    home: &str,
-    session: &mut Session,
-    line: &mut HeldLine,
-    tally: &mut Tally,
-    piece: &[u8],
-) -> Result<(), WriteFault>
-    requires { tally.old.outcome.accepted + tally.old.outcome.refused + length piece.now ≤ 2 ^ 32 }
-    ensures same { output.new.writer.ghost_name ≡ output.old.writer.ghost_name }
-    ensures failed { FailsWith result output.old.has_failed output.new.has_failed }
-    ensures few { tally.new.outcome.accepted + tally.new.outcome.refused ≤ tally.old.outcome.accepted + tally.old.outcome.refused + length piece.now }
-    ensures heard { output.new.is_delivered ≡ false → output.old.is_delivered ≡ true → 0 < tally.new.outcome.accepted + tally.new.outcome.refused }
-    ensures came { (first : Stand) (before : List ℕ)
-        → HasCome home.now first
-        (stand_of (W.contents output.old.writer.now) (world_of (H.state host.old) session.old))
-        tally.old line.old before
-        → OnOk result (ComesTo home.now first
-        (stand_of (W.contents output.new.writer.now) (world_of (H.state host.new) session.new))
-        tally.new line.new (before ++ piece.now)) }
-    ensures stopped { (first : Stand) (before : List ℕ)
-        → HasCome home.now first
-        (stand_of (W.contents output.old.writer.now) (world_of (H.state host.old) session.old))
-        tally.old line.old before
-        → OnErr result ((more : List ℕ) → StoppedAt home.now first
-        (stand_of (W.contents output.new.writer.now) (world_of (H.state host.new) session.new))
-        (lines_of ((before ++ piece.now) ++ more))) }
-{
-    for part in RawLines(piece) {
-        line.push(before_end(part));
-        if !is_ended(part) {
-            continue;
+impl<'n> LineRunner<'n> {
+    /// Runs the line that the script's end ends, if bytes of one have come.
+    fn run_last<W: Write, H: Host>(
+        self,
+        output: &mut OutputStream<'_, W>,
+        host: &mut H,
+        session: &mut Session,
+        state: &mut RunState,
+    ) -> Result<Outcome, ShellFault>
+        requires { state.old.tally.outcome.accepted + state.old.tally.outcome.refused ≤ 2 ^ 32 }
+        ensures same { output.new.writer.ghost_name ≡ output.old.writer.ghost_name }
+        ensures failed { FailsWith result output.old.has_failed output.new.has_failed }
+        ensures ended { (first : Stand) (script : List ℕ)
+            → HasCome (manner_of self.entry.manner) first
+            (stand_of (W.contents output.old.writer.now) (world_of (H.state host.old) session.old))
+            state.old.tally state.old.line script
+            → EndsRun (manner_of self.entry.manner) first
+            (stand_of (W.contents output.new.writer.now) (world_of (H.state host.new) session.new))
+            script result }
+    {
+        if state.line.is_empty() {
+            return Ok(state.tally.outcome);
         }
-        line.end_with_line_feed();
-        run_line(alloc, output, host, home, session, line, tally)?;
-        if tally.closed {
+        state.line.end_with_script();
+        match self.run_line(output, host, session, state) {
+            Ok(()) => Ok(state.tally.outcome),
+            Err(_) => Err(ShellFault::Write),
+        }
+    }
+
+    /// Runs the lines that end in the next piece of the script, up to the run's end, and holds what comes after the last.
+    fn run_piece<W: Write, H: Host>(
+        self,
+        output: &mut OutputStream<'_, W>,
+        host: &mut H,
+        session: &mut Session,
+        state: &mut RunState,
+        piece: &[u8],
+    ) -> Result<(), WriteFault>
+        requires { state.old.tally.outcome.accepted + state.old.tally.outcome.refused + length piece.now ≤ 2 ^ 32 }
+        ensures same { output.new.writer.ghost_name ≡ output.old.writer.ghost_name }
+        ensures failed { FailsWith result output.old.has_failed output.new.has_failed }
+        ensures few { state.new.tally.outcome.accepted + state.new.tally.outcome.refused ≤ state.old.tally.outcome.accepted + state.old.tally.outcome.refused + length piece.now }
+        ensures heard { output.new.is_delivered ≡ false → output.old.is_delivered ≡ true → 0 < state.new.tally.outcome.accepted + state.new.tally.outcome.refused }
+        ensures came { (first : Stand) (before : List ℕ)
+            → HasCome (manner_of self.entry.manner) first
+            (stand_of (W.contents output.old.writer.now) (world_of (H.state host.old) session.old))
+            state.old.tally state.old.line before
+            → OnOk result (ComesTo (manner_of self.entry.manner) first
+            (stand_of (W.contents output.new.writer.now) (world_of (H.state host.new) session.new))
+            state.new.tally state.new.line (before ++ piece.now)) }
+        ensures stopped { (first : Stand) (before : List ℕ)
+            → HasCome (manner_of self.entry.manner) first
+            (stand_of (W.contents output.old.writer.now) (world_of (H.state host.old) session.old))
+            state.old.tally state.old.line before
+            → OnErr result ((more : List ℕ) → StoppedAt (manner_of self.entry.manner) first
+            (stand_of (W.contents output.new.writer.now) (world_of (H.state host.new) session.new))
+            (lines_of ((before ++ piece.now) ++ more))) }
+    {
+        for part in RawLines(piece) {
+            state.line.push(before_end(part));
+            if !is_ended(part) {
+                continue;
+            }
+            state.line.end_with_line_feed();
+            self.run_line(output, host, session, state)?;
+            if state.tally.closed {
+                return Ok(());
+            }
+            state.line.clear();
+        }
+        Ok(())
+    }
+
+    /// Runs a line that has come to its end, and writes its answer.
+    fn run_line<W: Write, H: Host>(
+        self,
+        output: &mut OutputStream<'_, W>,
+        host: &mut H,
+        session: &mut Session,
+        state: &mut RunState,
+    ) -> Result<(), WriteFault>
+        requires { state.old.tally.outcome.accepted + state.old.tally.outcome.refused < 2 ^ 63 }
+        ensures same { output.new.writer.ghost_name ≡ output.old.writer.ghost_name }
+        ensures failed { FailsWith result output.old.has_failed output.new.has_failed }
+        ensures few { state.new.tally.outcome.accepted + state.new.tally.outcome.refused ≤ state.old.tally.outcome.accepted + state.old.tally.outcome.refused + 1 }
+        ensures more { state.old.tally.outcome.accepted + state.old.tally.outcome.refused ≤ state.new.tally.outcome.accepted + state.new.tally.outcome.refused }
+        ensures heard { output.new.is_delivered ≡ false → output.old.is_delivered ≡ true → 0 < state.new.tally.outcome.accepted + state.new.tally.outcome.refused }
+        ensures ran { (raw : List ℕ) → Says state.old.line raw → state.old.tally.closed ≡ false → OnOk result (RunsLine (manner_of self.entry.manner) raw
+            (stand_of (W.contents output.old.writer.now) (world_of (H.state host.old) session.old))
+            (stand_of (W.contents output.new.writer.now) (world_of (H.state host.new) session.new))
+            state.old.tally state.new.tally) }
+        ensures stopped { (raw : List ℕ) → Says state.old.line raw → state.old.tally.closed ≡ false → OnErr result (StopsInLine (manner_of self.entry.manner) raw
+            (stand_of (W.contents output.old.writer.now) (world_of (H.state host.old) session.old))
+            (stand_of (W.contents output.new.writer.now) (world_of (H.state host.new) session.new))
+            state.old.tally) }
+    {
+        let Some(response) = answer_line(self.alloc, host, self.manner.home, session, &state.line)
+        else {
             return Ok(());
-        }
-        line.clear();
+        };
+        state.tally.count(&response, self.manner.refusals);
+        response.write(output, session.image())
     }
-    Ok(())
-}
-
-/// Runs a line that has come to its end, and writes its answer.
-fn run_line<W: Write, H: Host>(
-    alloc: Global,
-    output: &mut OutputStream<'_, W>,
-    host: &mut H,
-    home: &str,
-    session: &mut Session,
-    line: &HeldLine,
-    tally: &mut Tally,
-) -> Result<(), WriteFault>
-    requires { tally.old.outcome.accepted + tally.old.outcome.refused < 2 ^ 63 }
-    ensures same { output.new.writer.ghost_name ≡ output.old.writer.ghost_name }
-    ensures failed { FailsWith result output.old.has_failed output.new.has_failed }
-    ensures few { tally.new.outcome.accepted + tally.new.outcome.refused ≤ tally.old.outcome.accepted + tally.old.outcome.refused + 1 }
-    ensures more { tally.old.outcome.accepted + tally.old.outcome.refused ≤ tally.new.outcome.accepted + tally.new.outcome.refused }
-    ensures heard { output.new.is_delivered ≡ false → output.old.is_delivered ≡ true → 0 < tally.new.outcome.accepted + tally.new.outcome.refused }
-    ensures ran { (raw : List ℕ) → Says line.now raw → tally.old.closed ≡ false → OnOk result (RunsLine home.now raw
-        (stand_of (W.contents output.old.writer.now) (world_of (H.state host.old) session.old))
-        (stand_of (W.contents output.new.writer.now) (world_of (H.state host.new) session.new))
-        tally.old tally.new) }
-    ensures stopped { (raw : List ℕ) → Says line.now raw → tally.old.closed ≡ false → OnErr result (StopsInLine home.now raw
-        (stand_of (W.contents output.old.writer.now) (world_of (H.state host.old) session.old))
-        (stand_of (W.contents output.new.writer.now) (world_of (H.state host.new) session.new))
-        tally.old) }
-{
-    let Some(response) = answer_line(alloc, host, home, session, line) else {
-        return Ok(());
-    };
-    tally.count(&response);
-    response.write(output, session.image())
 }

@@ -2,3 +2,4 @@ pub mod ProgramRuns
 pub mod SurveyRuns
 mod JobEnds
 mod ComparisonRuns
+mod StoredRuns

@@ -8,11 +8,11 @@ use Rattle.d64_script.specs.RawLines.{lines_of, ended_lines}
 use Rattle.d64_script.specs.Script.{script_limit}
 use Rattle.d64_host.specs.Files.{HostState}
 use Rattle.d64_undo.specs.History.{History}
-use Rattle.d64_shell.specs.Jobs.{Beginning, home_of}
-use Rattle.d64_shell.specs.Program.{Ended, IsFirstHistory, Outside, outside_of, RanShell, IsToldOf}
+use Rattle.d64_shell.specs.Jobs.{Beginning, Source, Input, Given, home_of}
+use Rattle.d64_shell.specs.Program.{Ended, IsFirstHistory, Outside, outside_of, RanFrom, RanShell, IsToldOf}
 use Rattle.d64_shell.specs.declared.program_fault.ProgramFault.TheVariants as faults
 use Rattle.d64_runner.specs.Runner.{Stand, RanLines, StoppedAt, Ran}
-use Rattle.d64_runner.specs.Transcript.{Progress}
+use Rattle.d64_runner.specs.Transcript.{Manner, Progress}
 use Rattle.d64_runner.specs.declared.runner.Outcome.{Outcome}
 use Rattle.d64_runner.specs.declared.runner.ShellFault.{ShellFault}
 use Rattle.d64_runner.specs.declared.runner.ShellFault.TheVariants.{Read, Write, Memory}
@@ -28,9 +28,9 @@ IfErr-of_error (Ok value) error P is p = tt
 IfErr-of_error (Err told) error P is p = subst P (sym is) p
 
 -- lines have run also after the output was flushed
-RanLines-flushed : (home : List ℕ) (old new : Stand) (lines : List (List ℕ)) (after : Progress) (flushed : Option (List ℕ))
-    → RanLines home old new lines after → Keeps new.writer flushed → RanLines home old (record new { writer = flushed }) lines after
-RanLines-flushed home old new lines after flushed ran kept = record {
+RanLines-flushed : (manner : Manner) (old new : Stand) (lines : List (List ℕ)) (after : Progress) (flushed : Option (List ℕ))
+    → RanLines manner old new lines after → Keeps new.writer flushed → RanLines manner old (record new { writer = flushed }) lines after
+RanLines-flushed manner old new lines after flushed ran kept = record {
   out = ran.out;
   told = ran.told;
   written = Appends-kept old.writer new.writer flushed ran.out ran.written kept;
@@ -38,9 +38,9 @@ RanLines-flushed home old new lines after flushed ran kept = record {
 }
 
 -- so have those before a write that failed
-StoppedAt-flushed : (home : List ℕ) (old new : Stand) (lines : List (List ℕ)) (flushed : Option (List ℕ))
-    → StoppedAt home old new lines → Keeps new.writer flushed → StoppedAt home old (record new { writer = flushed }) lines
-StoppedAt-flushed home old new lines flushed stopped kept = record {
+StoppedAt-flushed : (manner : Manner) (old new : Stand) (lines : List (List ℕ)) (flushed : Option (List ℕ))
+    → StoppedAt manner old new lines → Keeps new.writer flushed → StoppedAt manner old (record new { writer = flushed }) lines
+StoppedAt-flushed manner old new lines flushed stopped kept = record {
   before = stopped.before;
   line = stopped.line;
   rest = stopped.rest;
@@ -60,47 +60,54 @@ StoppedAt-flushed home old new lines flushed stopped kept = record {
 }
 
 -- a script has run also after its output was flushed, however it ended
-pub Ran-flushed : (home : List ℕ) (reader left : Option (List ℕ)) (old new : Stand) (flushed : Option (List ℕ)) (ended : Result Outcome ShellFault)
-    → Ran home reader left old new ended → Keeps new.writer flushed → Ran home reader left old (record new { writer = flushed }) ended
-Ran-flushed home reader left old new flushed (Ok outcome) ran kept = record {
+pub Ran-flushed : (manner : Manner) (reader left : Option (List ℕ)) (old new : Stand) (flushed : Option (List ℕ)) (ended : Result Outcome ShellFault)
+    → Ran manner reader left old new ended → Keeps new.writer flushed → Ran manner reader left old (record new { writer = flushed }) ended
+Ran-flushed manner reader left old new flushed (Ok outcome) ran kept = record {
   script = ran.script;
   all = ran.all;
   after = ran.after;
-  ran = RanLines-flushed home old new (lines_of ran.script) ran.after flushed ran.ran kept;
+  ran = RanLines-flushed manner old new (lines_of ran.script) ran.after flushed ran.ran kept;
   accepted = ran.accepted;
   refused = ran.refused;
 }
-Ran-flushed home reader left old new flushed (Err Read) ran kept = record {
+Ran-flushed manner reader left old new flushed (Err Read) ran kept = record {
   consumed = ran.consumed;
   lost = ran.lost;
   after = ran.after;
-  ran = RanLines-flushed home old new (ended_lines (take script_limit ran.consumed)) ran.after flushed ran.ran kept;
+  ran = RanLines-flushed manner old new (ended_lines (take script_limit ran.consumed)) ran.after flushed ran.ran kept;
   open_run = ran.open_run;
 }
-Ran-flushed home reader left old new flushed (Err Write) ran kept = record {
+Ran-flushed manner reader left old new flushed (Err Write) ran kept = record {
   script = ran.script;
   all = ran.all;
-  stopped = StoppedAt-flushed home old new (lines_of ran.script) flushed ran.stopped kept;
+  stopped = StoppedAt-flushed manner old new (lines_of ran.script) flushed ran.stopped kept;
 }
-Ran-flushed home reader left old new flushed (Err (Memory error)) ran kept = ran
+Ran-flushed manner reader left old new flushed (Err (Memory error)) ran kept = ran
+
+-- a script of some source has run also after its output was flushed
+RanFrom-flushed : (source : Source) (manner : Manner) (reader left : Option (List ℕ)) (old new : Stand) (flushed : Option (List ℕ)) (ended : Result Outcome ShellFault)
+    → RanFrom source manner reader left old new ended → Keeps new.writer flushed → RanFrom source manner reader left old (record new { writer = flushed }) ended
+RanFrom-flushed Input manner reader left old new flushed ended ran kept = Ran-flushed manner reader left old new flushed ended ran kept
+RanFrom-flushed (Given text) manner reader left old new flushed ended ran kept =
+    let (same, rest, run) = ran in (same, rest, Ran-flushed manner (Some text) rest old new flushed ended run kept)
 
 -- a script has run from a beginning, and then its output was flushed
 pub RanShell-flushed : (old new : Outside) (ended : Result Outcome ShellFault)
-    (beginning : Beginning) (home at : List ℕ) (host : HostState) (first last : History) (writer : Option (List ℕ))
-    → IsFirstHistory old.host beginning first host → at ≡ home
-    → Ran at old.reader new.reader
+    (beginning : Beginning) (source from : Source) (manner at : Manner) (host : HostState) (first last : History) (writer : Option (List ℕ))
+    → IsFirstHistory old.host beginning first host → from ≡ source → at ≡ manner
+    → RanFrom from at old.reader new.reader
     (record { writer = old.writer; world = record { host = host; history = first } })
     (record { writer = writer; world = record { host = new.host; history = last } }) ended
-    → Keeps writer new.writer → RanShell beginning home old new ended
-RanShell-flushed old new ended beginning home at host first last writer begins at_home ran flushed = record {
+    → Keeps writer new.writer → RanShell beginning source manner old new ended
+RanShell-flushed old new ended beginning source from manner at host first last writer begins from_source at_manner ran flushed = record {
   first = first;
   host = host;
   begins = begins;
   last = last;
-  ran = Ran-flushed home old.reader new.reader
+  ran = RanFrom-flushed source manner old.reader new.reader
       (record { writer = old.writer; world = record { host = host; history = first } })
       (record { writer = writer; world = record { host = new.host; history = last } }) new.writer ended
-      (rw at_home at ran) flushed;
+      (rw (at_manner, from_source) at ran) flushed;
 }
 
 -- however a run ended, a flush that fails is told as a write fault

@@ -1,5 +1,5 @@
 -- What each job does.
-use Rattle.std.specs.Prelude.{ℕ, List, [], ◌∷◌, Option, Some, None, option_map, string_bytes, ⊤}
+use Rattle.std.specs.Prelude.{ℕ, Bool, if◌then◌else◌, List, [], ◌∷◌, ◌++◌, flat_map, map, Option, Some, None, option_map, string_bytes, ⊤}
 use Rattle.d64_words.specs.declared.asked.Job.{Job}
 use Rattle.d64_words.specs.declared.asked.Job.TheVariants.{Shell, Petcat, Crunch, Check, Files, Map, Catalogue, Diff}
 use Rattle.d64_collection.specs.Answers.{Rule}
@@ -9,6 +9,9 @@ use Rattle.d64_picture.specs.Pictures.{map_rule}
 use Rattle.d64_catalogue.specs.Catalogue.{catalogue_rule, catalogue_heading}
 use Rattle.d64_difference.specs.Differences.{difference_rule}
 use Rattle.d64_shell.specs.Comparisons.{PairRule}
+use Rattle.d64_runner.specs.Transcript.{Manner}
+use Rattle.d64_runner.specs.declared.manners.Refusals.{Refusals}
+use Rattle.d64_runner.specs.declared.manners.Refusals.TheVariants.{GoOn, Stop}
 use Rattle.d64_shell.specs.SurveyFiles.{SurveyFiles, Named, files_of}
 use Rattle.d64_shell.specs.declared.tools.Tool.{Tool}
 use Rattle.d64_shell.specs.declared.tools.Tool.TheVariants as tools
@@ -30,20 +33,44 @@ abbrev pub home_of : Option (List ℕ) → List ℕ
 home_of None = []
 home_of (Some name) = name
 
--- what a job does: it runs a script from a beginning, with the name where `save` stores by default; runs a tool on the input, or on the host
--- file of a name; surveys files, by a rule, with what stands before all answers; or compares the files of two names, by a rule
+-- where a script comes from: the input, or the words of the program, which give its text
+pub data Source : Type 0 where
+  Input : Source
+  Given : List ℕ → Source
+
+-- the text of lines, each with a line feed after it
+abbrev pub text_of_lines : List (List ℕ) → List ℕ
+text_of_lines lines = flat_map (λ line. line ++ 10 ∷ []) lines
+
+-- the script of these lines, or that of the input where there are none
+abbrev pub source_of : List (List ℕ) → Source
+source_of [] = Input
+source_of (line ∷ lines) = Given (text_of_lines (line ∷ lines))
+
+-- the script of this text, or that of the input where there is none
+abbrev pub source_by : Option (List ℕ) → Source
+source_by None = Input
+source_by (Some text) = Given text
+
+-- what a refused line does to its script
+abbrev pub refusals_of : Bool → Refusals
+refusals_of stops = if stops then Stop else GoOn
+
+-- what a job does: it runs a script of some source in a manner, from a beginning; runs a tool on the input, or on the host file of a name, to
+-- the output, or to the host file of a second name; surveys files, by a rule, with what stands before all answers; or compares the files of two names, by a rule
 pub data Work : Type 0 where
-  Script : Beginning → List ℕ → Work
-  Conversion : Tool → Option (List ℕ) → Work
+  Script : Beginning → Source → Manner → Work
+  Conversion : Tool → Option (List ℕ) → Option (List ℕ) → Work
   Survey : Rule → List ℕ → SurveyFiles → Work
   Comparison : PairRule → List ℕ → List ℕ → Work
 
 -- what each job does
 abbrev pub work_of : Job → Work
-work_of (Shell image tracks resume) =
-    Script (beginning_of (option_map string_bytes image) tracks (option_map string_bytes resume)) (home_of (option_map string_bytes image))
-work_of (Petcat file) = Conversion tools.Petcat (option_map string_bytes file)
-work_of (Crunch start file) = Conversion (tools.Crunch start) (option_map string_bytes file)
+work_of (Shell image tracks resume lines stops) =
+    Script (beginning_of (option_map string_bytes image) tracks (option_map string_bytes resume)) (source_of (map string_bytes lines.items))
+    (record { home = home_of (option_map string_bytes image); refusals = refusals_of stops })
+work_of (Petcat file output) = Conversion tools.Petcat (option_map string_bytes file) (option_map string_bytes output)
+work_of (Crunch start file output) = Conversion (tools.Crunch start) (option_map string_bytes file) (option_map string_bytes output)
 work_of (Check digest format names) = Survey (check_rule format digest) (check_heading format digest) (files_of names)
 work_of (Files format names) = Survey (files_rule format) (files_heading format) (files_of names)
 work_of (Map format file) = Survey (map_rule format) [] (Named (string_bytes file ∷ []))
@@ -52,7 +79,7 @@ work_of (Diff format old new) = Comparison (difference_rule format) (string_byte
 
 -- the work is a script, which tells nothing where it runs to its end
 abbrev pub IsScript : Work → Type 0
-IsScript (Script beginning home) = ⊤
-IsScript (Conversion tool name) = ⊥
+IsScript (Script beginning source manner) = ⊤
+IsScript (Conversion tool name target) = ⊥
 IsScript (Survey rule heading files) = ⊥
 IsScript (Comparison rule old_name new_name) = ⊥

@@ -7,5 +7,7 @@ pub mod SurveyFiles
 pub mod Surveys
 pub mod Comparisons
 pub mod Jobs
+pub mod Scripts
+pub mod RefusalLine
 pub mod Program
 pub mod Tools

@@ -19,13 +19,16 @@ use Rattle.d64_words.specs.declared.asked.JobFault.{JobFault}
 use Rattle.d64_words.specs.declared.asked.JobFault.TheVariants as words
 use Rattle.d64_line.specs.Act.{FetchesFile}
 use Rattle.d64_line.specs.BasicFiles.{status_of_basic, status_of_listing}
-use Rattle.d64_wording.specs.FaultLines.{unread_line}
+use Rattle.d64_wording.specs.FaultLines.{unread_line, unwritten_line}
+use Rattle.cbm_text.specs.BasicText.{fault_line as fault_line_of}
+use Rattle.d64_script.specs.declared.status.Status.{Status}
+use Rattle.d64_shell.specs.RefusalLine.{refusal_line}
 use Rattle.d64_collection.specs.Answers.{Rule, status_of as verdict_status}
 use Rattle.d64_collection.specs.Runs.{Stand, Told, stand_of, told_of}
 use Rattle.d64_collection.specs.declared.desk.RunFault.{RunFault}
 use Rattle.d64_collection.specs.declared.desk.RunFault.TheVariants as run_faults
 use Rattle.d64_collection.specs.declared.report.Verdict.TheVariants.{Clean}
-use Rattle.d64_shell.specs.Jobs.{Beginning, Blank, ImageFile, SessionFile, Work, Script, Conversion, Survey, Comparison, IsScript, work_of}
+use Rattle.d64_shell.specs.Jobs.{Beginning, Blank, ImageFile, SessionFile, Source, Input, Given, Work, Script, Conversion, Survey, Comparison, IsScript, work_of}
 use Rattle.d64_shell.specs.SurveyFiles.{SurveyFiles, list_name}
 use Rattle.d64_shell.specs.Surveys.{Surveys}
 use Rattle.d64_shell.specs.Comparisons.{PairRule, Compares}
@@ -36,8 +39,9 @@ use Rattle.d64_undo.specs.ResumeFault.{fault_number, first_fault}
 use Rattle.d64_undo.specs.SessionFile.{IsSession, file_of}
 use Rattle.d64_undo.specs.declared.resume_fault.ResumeFault.{ResumeFault}
 use Rattle.d64_undo.specs.declared.resume_fault.ResumeFault.TheVariants as resumes
-use Rattle.d64_runner.specs.Runner.{Ran}
-use Rattle.d64_shell.specs.Tools.{HasWritten, RanTool}
+use Rattle.d64_runner.specs.Runner.{Ran, Stand as RunStand}
+use Rattle.d64_runner.specs.Transcript.{Manner}
+use Rattle.d64_shell.specs.Tools.{HasRead, HasStored, HasWritten, RanTool, ReadsNot}
 use Rattle.d64_runner.specs.declared.runner.Outcome.{Outcome}
 use Rattle.d64_runner.specs.declared.runner.ShellFault.{ShellFault}
 use Rattle.d64_runner.specs.declared.runner.ShellFault.TheVariants as runs
@@ -79,13 +83,18 @@ IsFirstHistory old (ImageFile name) history new =
     (image : List (List ℕ)) × IsImage image × FetchesFile old name file_limit (Ok (bytes_of image)) new × (history ≡ begun image)
 IsFirstHistory old (SessionFile name) history new = IsSession history × FetchesFile old name session_limit (Ok (file_of history)) new
 
+-- a script has run that comes from the input, or from the words: then nothing of the input was read, and a reader of the text was
+abbrev pub RanFrom : Source → Manner → Option (List ℕ) → Option (List ℕ) → RunStand → RunStand → Result Outcome ShellFault → Type 0
+RanFrom Input manner reader left old new ended = Ran manner reader left old new ended
+RanFrom (Given text) manner reader left old new ended = (left ≡ reader) × (rest : Option (List ℕ)) × Ran manner (Some text) rest old new ended
+
 -- the script has run from this beginning, and ended so
-pub record RanShell (beginning : Beginning) (home : List ℕ) (old new : Outside) (ended : Result Outcome ShellFault) : Type 0 where
+pub record RanShell (beginning : Beginning) (source : Source) (manner : Manner) (old new : Outside) (ended : Result Outcome ShellFault) : Type 0 where
   pub first : History
   pub host : HostState
   pub begins : IsFirstHistory old.host beginning first host
   pub last : History
-  pub ran : Ran home old.reader new.reader
+  pub ran : RanFrom source manner old.reader new.reader
       (record { writer = old.writer; world = record { host = host; history = first } })
       (record { writer = new.writer; world = record { host = new.host; history = last } }) ended
 
@@ -162,30 +171,41 @@ HasNoHistory told old (SessionFile name) new = (fetched : Result (List ℕ) Host
 abbrev pub HasNotBegunFor : ProgramFault → Beginning → Outside → Outside → Type 0
 HasNotBegunFor fault beginning old new = HasNoHistory fault old.host beginning new.host × HasNotBegun old new
 
+-- no line has run, since there is no memory for the text that the words give
+abbrev pub HasNoText : ProgramFault → Source → Outside → Outside → Type 0
+HasNoText fault Input old new = ⊥
+HasNoText fault (Given text) old new = (fault ≡ Memory) × (new ≡ old)
+
 -- why a run that ended so is told as this fault: it was stopped by it, or the output takes no more bytes
 abbrev pub IsToldOf : Result Outcome ShellFault → ProgramFault → Type 0
 IsToldOf (Ok outcome) told = told ≡ Write
 IsToldOf (Err fault) told = (told ≡ fault_of_run fault) ⊎ (told ≡ Write)
 
--- what a fault says of the run: no line has run for want of a session; or the script has run to some end, and is told of by this fault
-abbrev pub StoppedBy : ProgramFault → Beginning → List ℕ → Outside → Outside → Type 0
-StoppedBy fault beginning home old new =
-    HasNotBegunFor fault beginning old new ⊎ ((ended : Result Outcome ShellFault) × RanShell beginning home old new ended × IsToldOf ended fault)
+-- what a fault says of the run: no line has run for want of a text or of a session; or the script has run to some end, and is told of by this fault
+abbrev pub StoppedBy : ProgramFault → Beginning → Source → Manner → Outside → Outside → Type 0
+StoppedBy fault beginning source manner old new =
+    HasNoText fault source old new ⊎ (HasNotBegunFor fault beginning old new
+    ⊎ ((ended : Result Outcome ShellFault) × RanShell beginning source manner old new ended × IsToldOf ended fault))
 
 -- the program answered with this fault: status 2, and its line, whole unless writing it failed
 abbrev pub Reports : ProgramFault → Account → Account → ℕ → Type 0
 Reports fault faults told status = (status ≡ 2) × Writes faults told (fault_line fault)
 
 -- how a shell ended: the script ran to its end, and no fault is told; or a fault stopped it
-abbrev pub EndedShell : Beginning → List ℕ → Outside → Outside → Account → Account → ℕ → Type 0
-EndedShell beginning home old new faults told status =
-    ((outcome : Outcome) × RanShell beginning home old new (Ok outcome) × (status ≡ status_of outcome) × (told ≡ faults))
-    ⊎ ((fault : ProgramFault) × StoppedBy fault beginning home old new × Reports fault faults told status)
+abbrev pub EndedShell : Beginning → Source → Manner → Outside → Outside → Account → Account → ℕ → Type 0
+EndedShell beginning source manner old new faults told status =
+    ((outcome : Outcome) × RanShell beginning source manner old new (Ok outcome) × (status ≡ status_of outcome) × (told ≡ faults))
+    ⊎ ((fault : ProgramFault) × StoppedBy fault beginning source manner old new × Reports fault faults told status)
 
 -- how the fault of a tool's file that cannot be fetched is told
 abbrev pub fault_of_fetch : HostFault → ToolFault
 fault_of_fetch (files.Memory error) = tool_faults.Memory error
 fault_of_fetch fault = tool_faults.Read
+
+-- the bytes of a host file that was fetched so, as a tool has them
+abbrev pub taken_of : Result (List ℕ) HostFault → Result (List ℕ) ToolFault
+taken_of (Ok bytes) = Ok bytes
+taken_of (Err fault) = Err (fault_of_fetch fault)
 
 -- what a tool has written of a host file that was fetched so, and what it answered
 abbrev pub WritesFetched : {A : Type 0} → Tool → Result (List ℕ) HostFault → Option (List ℕ) → Option (List ℕ) → Result A ToolFault → Type 0
@@ -209,7 +229,51 @@ TellsAnswer (Err tool_faults.Read) faults told status = Reports Read faults told
 TellsAnswer (Err tool_faults.Write) faults told status = Reports Write faults told status
 TellsAnswer (Err (tool_faults.Memory error)) faults told status = Reports Memory faults told status
 
--- how a tool ended
+-- a tool has had the bytes that it works on, of the input or of the host file of this name; or it has not, for this fault
+abbrev pub TakesInput : Option (List ℕ) → Outside → Outside → Result (List ℕ) ToolFault → Type 0
+TakesInput None old new (Ok bytes) = HasRead old.reader new.reader bytes × (new.host ≡ old.host) × (new.writer ≡ old.writer)
+TakesInput None old new (Err fault) = ReadsNot old.reader new.reader fault × (new.host ≡ old.host) × (new.writer ≡ old.writer)
+TakesInput (Some name) old new taken = (new.reader ≡ old.reader) × (new.writer ≡ old.writer)
+    × (fetched : Result (List ℕ) HostFault) × FetchesFile old.host name file_limit fetched new.host × (taken ≡ taken_of fetched)
+
+-- what a tool has stored of the bytes that it works on, which were had so; nothing is stored where they were not
+abbrev pub StoresTaken : Tool → Result (List ℕ) ToolFault → List ℕ → HostState → HostState → Result (Unit {0}) ToolFault → Type 0
+StoresTaken tool (Ok bytes) target old new answer = HasStored tool bytes target old new answer
+StoresTaken tool (Err fault) target old new answer = (answer ≡ Err fault) × (new ≡ old)
+
+-- a tool has run on the input, or on the host file of this name, to the host file of a second name; nothing was written
+pub record RanToolTo (tool : Tool) (name : Option (List ℕ)) (target : List ℕ) (old new : Outside) (answer : Result (Unit {0}) ToolFault) : Type 0 where
+  pub taken : Result (List ℕ) ToolFault
+  pub middle : Outside
+  pub takes : TakesInput name old middle taken
+  pub stores : StoresTaken tool taken target middle.host new.host answer
+  pub reader : new.reader ≡ middle.reader
+  pub writer : new.writer ≡ old.writer
+
+-- a refusal is told in the form of compilers, with status 1; or there is no memory for that
+abbrev pub TellsRefusal : Option (List ℕ) → Option ℕ → Status → Account → Account → ℕ → Type 0
+TellsRefusal name line refusal faults told status =
+    ((status ≡ 1) × (words : List ℕ) × Writes faults told (refusal_line name line refusal words)) ⊎ Reports Memory faults told status
+
+-- a result that cannot be stored is told with status 2; or there is no memory for that
+abbrev pub TellsUnwritten : List ℕ → Account → Account → ℕ → Type 0
+TellsUnwritten target faults told status = ((status ≡ 2) × Writes faults told (unwritten_line target)) ⊎ Reports Memory faults told status
+
+-- how the answer is told of a tool that stores its result
+abbrev pub TellsStored : {A : Type 0} → Option (List ℕ) → List ℕ → Result A ToolFault → Account → Account → ℕ → Type 0
+TellsStored name target (Ok done) faults told status = (status ≡ 0) × (told ≡ faults)
+TellsStored name target (Err (tool_faults.Text fault)) faults told status = TellsRefusal name (fault_line_of fault) (status_of_basic fault) faults told status
+TellsStored name target (Err (tool_faults.NotBasic fault)) faults told status = TellsRefusal name None (status_of_listing fault) faults told status
+TellsStored name target (Err tool_faults.Read) faults told status = Reports Read faults told status
+TellsStored name target (Err tool_faults.Write) faults told status = TellsUnwritten target faults told status
+TellsStored name target (Err (tool_faults.Memory error)) faults told status = Reports Memory faults told status
+
+-- how a tool ended that stores its result
+abbrev pub EndedToolTo : Tool → Option (List ℕ) → List ℕ → Outside → Outside → Account → Account → ℕ → Type 0
+EndedToolTo tool name target old new faults told status =
+    (answer : Result (Unit {0}) ToolFault) × RanToolTo tool name target old new answer × TellsStored name target answer faults told status
+
+-- how a tool ended that writes its result
 abbrev pub EndedTool : Tool → Option (List ℕ) → Outside → Outside → Account → Account → ℕ → Type 0
 EndedTool tool name old new faults told status =
     (answer : Result (Unit {0}) ToolFault) × RanToolOn tool name old new answer × TellsAnswer answer faults told status
@@ -256,8 +320,9 @@ pub record EndedComparison (rule : PairRule) (old_name new_name : List ℕ) (old
 
 -- how a job ended that does this work
 abbrev pub EndedWork : Work → Outside → Outside → Account → Account → ℕ → Type 0
-EndedWork (Script beginning home) old new faults told status = EndedShell beginning home old new faults told status
-EndedWork (Conversion tool name) old new faults told status = EndedTool tool name old new faults told status
+EndedWork (Script beginning source manner) old new faults told status = EndedShell beginning source manner old new faults told status
+EndedWork (Conversion tool name None) old new faults told status = EndedTool tool name old new faults told status
+EndedWork (Conversion tool name (Some target)) old new faults told status = EndedToolTo tool name target old new faults told status
 EndedWork (Survey rule heading files) old new faults told status = EndedSurvey rule heading files old new faults told status
 EndedWork (Comparison rule old_name new_name) old new faults told status = EndedComparison rule old_name new_name old new faults told status
 

@@ -1,5 +1,5 @@
 -- What the tools make of an input, and what they leave.
-use Rattle.std.specs.Prelude.{◌≡◌, ℕ, ◌<◌, ◌≤◌, ◌^◌, Bool, true, false, List, length, Option, IfSome, Result, Ok, Err, ⊤}
+use Rattle.std.specs.Prelude.{◌≡◌, ◌⊎◌, ℕ, ◌<◌, ◌≤◌, ◌^◌, Bool, true, false, List, length, Option, IfSome, Result, Ok, Err, ⊤}
 use Rattle.std.specs.Io.KnownBytes.{Appends, Consumes, IsAtEnd, Keeps}
 use Rattle.cbm_text.specs.BasicText.{IsFileOf, IsFirstFault, TellsLine, fault_line}
 use Rattle.cbm_text.specs.Listing.{Lists}
@@ -9,6 +9,10 @@ use Rattle.cbm_text.specs.declared.fault.ListFault.TheVariants as list_faults
 use Rattle.d64_script.specs.Input.{Reading, IsUnreadable}
 use Rattle.d64_script.specs.Output.{AppendsPart}
 use Rattle.d64_script.specs.Script.{script_limit}
+use Rattle.d64_host.specs.Files.{HostState}
+use Rattle.d64_host.specs.declared.host.HostFault.{HostFault}
+use Rattle.d64_host.specs.declared.host.HostFault.TheVariants as files
+use Rattle.d64_line.specs.Act.{StoresFile}
 use Rattle.d64_shell.specs.declared.tools.Tool.{Tool}
 use Rattle.d64_shell.specs.declared.tools.Tool.TheVariants.{Petcat, Crunch}
 use Rattle.d64_shell.specs.declared.tools.ToolFault.{ToolFault}
@@ -46,6 +50,22 @@ HasWritten tool input old new (Err Write) = (output : List ℕ) × Makes tool in
 HasWritten tool input old new (Err (Memory error)) = Keeps old new
 HasWritten tool input old new (Err (Text fault)) = Refuses tool input (Text fault) × Keeps old new
 HasWritten tool input old new (Err (NotBasic fault)) = Refuses tool input (NotBasic fault) × Keeps old new
+
+-- how the fault of a store is a tool's: a result that cannot be stored cannot be written
+abbrev pub fault_of_store : HostFault → ToolFault
+fault_of_store (files.Memory error) = Memory error
+fault_of_store fault = Write
+
+-- how the answer of a store is a tool's
+abbrev pub answer_of_store : {A : Type 0} → Result A HostFault → Result A ToolFault
+answer_of_store (Ok done) = Ok done
+answer_of_store (Err fault) = Err (fault_of_store fault)
+
+-- what the tool stores of an input under a name: all that it makes of it, as the host answers; or nothing, where it refuses the input
+abbrev pub HasStored : Tool → List ℕ → List ℕ → HostState → HostState → Result (Unit {0}) ToolFault → Type 0
+HasStored tool input name old new answer =
+    ((output : List ℕ) × Makes tool input output × (stored : Result (Unit {0}) HostFault) × StoresFile old name output stored new × (answer ≡ answer_of_store stored))
+    ⊎ ((fault : ToolFault) × Refuses tool input fault × (answer ≡ Err fault) × (new ≡ old))
 
 -- the input is all that the reader had, and no longer than a script may be
 pub record HasRead (reader left : Option (List ℕ)) (input : List ℕ) : Type 0 where

@@ -8,9 +8,9 @@ ghost use Rattle.d64_shell.specs.Program.{AsksForShell, Ended, EndedWork, outsid
 
 use crate::difference_job::DifferenceJob;
 use crate::file_names::FileNames;
-use crate::shell_job::{exit_status, shell};
+use crate::shell_job::{ShellJob, exit_status, refusals_of};
 use crate::survey_job::SurveyJob;
-use crate::tool_job::{run_tool, tell_answer};
+use crate::tool_job::ToolJob;
 use crate::tools::Tool;
 use crate::word_faults::{answer_words, asked};
 use d64_catalogue::CatalogueReport;
@@ -132,26 +132,43 @@ fn do_job<R: Read, W: Write, F: Write, H: Host>(
             image,
             tracks,
             resume,
-        } => match shell(
-            alloc,
-            image.as_deref(),
-            tracks,
-            resume.as_deref(),
-            input,
-            output,
-            host,
-        ) {
-            Ok(outcome) => exit_status(outcome),
-            Err(fault) => fault.report_on(faults),
-        },
-        Job::Petcat { file } => {
-            let answer = run_tool(alloc, Tool::Petcat, file.as_deref(), input, output, host);
-            tell_answer(answer, faults)
+            lines,
+            stops_at_refusal,
+        } => {
+            let job = ShellJob {
+                image: image.as_deref(),
+                tracks,
+                resume: resume.as_deref(),
+                lines: lines.as_slice(),
+                refusals: refusals_of(stops_at_refusal),
+            };
+            match job.run(alloc, input, output, host) {
+                Ok(outcome) => exit_status(outcome),
+                Err(fault) => fault.report_on(faults),
+            }
         }
-        Job::Crunch { start, file } => {
-            let tool = Tool::Crunch { start };
-            let answer = run_tool(alloc, tool, file.as_deref(), input, output, host);
-            tell_answer(answer, faults)
+        Job::Petcat {
+            file,
+            output: target,
+        } => {
+            let job = ToolJob {
+                tool: Tool::Petcat,
+                file: file.as_deref(),
+                target: target.as_deref(),
+            };
+            job.run(alloc, input, output, faults, host)
+        }
+        Job::Crunch {
+            start,
+            file,
+            output: target,
+        } => {
+            let job = ToolJob {
+                tool: Tool::Crunch { start },
+                file: file.as_deref(),
+                target: target.as_deref(),
+            };
+            job.run(alloc, input, output, faults, host)
         }
         Job::Check {
             digest,

@@ -6,6 +6,7 @@ mod entry;
 mod file_names;
 mod program_fault;
 mod shell_job;
+mod stored_tool;
 mod survey_job;
 mod tool_job;
 mod tools;

@@ -1,55 +1,138 @@
 //! The shell's job: a script on the image of a file, on a blank one, or on a session that was kept.
-ghost use Rattle.std.specs.Prelude.{◌≡◌, ℕ, List, Result, Ok, IfOk, IfErr, OnOk, option_copied, true, false};
+ghost use Rattle.std.specs.Prelude.{◌≡◌, ℕ, List, Result, Ok, IfOk, IfErr, OnOk, map, option_copied, option_map, string_bytes, true, false};
 ghost use Rattle.d64_host.specs.declared.host.HostFault.{HostFault};
 ghost use Rattle.d64_image.specs.Image.{IsImage, bytes_of};
 ghost use Rattle.d64_undo.specs.SessionFile.{IsSession, file_of};
 ghost use Rattle.d64_script.specs.Input.{IsUnread, reading_of};
-ghost use Rattle.d64_line.specs.Act.{FetchesFile};
-ghost use Rattle.d64_shell.specs.Jobs.{beginning_of, home_of};
-ghost use Rattle.d64_shell.specs.Program.{IsFirstHistory, HasNoHistory, GivesNoImage, GivesNoSession, RanShell, StoppedBy, blank, file_limit, outside_at, session_limit, status_of};
+ghost use Rattle.d64_line.specs.Act.{FetchesFile, world_of};
+ghost use Rattle.d64_runner.specs.Runner.{manner_of, stand_of};
+ghost use Rattle.d64_shell.specs.Jobs.{Given, beginning_of, refusals_of, source_by, source_of, text_of_lines};
+ghost use Rattle.d64_shell.specs.Scripts.{beginning_in, manner_in, source_in};
+ghost use Rattle.d64_shell.specs.Program.{IsFirstHistory, HasNoHistory, GivesNoImage, GivesNoSession, RanFrom, RanShell, StoppedBy, blank, file_limit, outside_at, session_limit, status_of};
 
 use crate::entry::{ALL_ACCEPTED, FILE_BYTES, SESSION_BYTES, SOME_REFUSED};
 use crate::program_fault::ProgramFault;
 use d64_host::Host;
 use d64_image::{BLOCKS, Image, blocks_of};
 use d64_line::host_file::fetch;
-use d64_runner::{Outcome, run_on};
+use d64_runner::{Manner, Outcome, Refusals, ShellFault, run_script};
 use d64_script::input::InputStream;
 use d64_script::output::OutputStream;
 use d64_undo::{Session, resume};
 use std::alloc::{AllocError, Global};
 use std::io::{Read, Write};
 
-/// Runs the script on the session that the host has in the file `resume`; where there is no such name, on the image that it has in
-/// the file `image`; and else on a blank image of so many tracks. Then flushes the output.
-pub(crate) fn shell<R: Read, W: Write, H: Host>(
-    alloc: Global,
-    image: Option<&str>,
-    tracks: u8,
-    resume: Option<&str>,
-    input: &mut InputStream<'_, R>,
-    output: &mut OutputStream<'_, W>,
-    host: &mut H,
-) -> Result<Outcome, ProgramFault>
-    requires unread { IsUnread (reading_of input.old.reads input.old.came input.old.has_failed) }
-    requires unfailed { output.old.has_failed ≡ false }
-    requires delivered { output.old.is_delivered ≡ true }
-    ensures input { input.new.reader.ghost_name ≡ input.old.reader.ghost_name }
-    ensures output { output.new.writer.ghost_name ≡ output.old.writer.ghost_name }
-    ensures delivered { OnOk result ((output.new.is_delivered ≡ true) × (output.new.has_failed ≡ false)) }
-    ensures ran { IfOk result (λ outcome. RanShell (beginning_of (option_copied image.entry) tracks (option_copied resume.entry)) (home_of (option_copied image.entry))
-        (outside_at R.remaining input.old W.contents output.old H.state host.old)
-        (outside_at R.remaining input.new W.contents output.new H.state host.new) (Ok outcome)) }
-    ensures stopped { IfErr result (λ fault. StoppedBy fault (beginning_of (option_copied image.entry) tracks (option_copied resume.entry)) (home_of (option_copied image.entry))
-        (outside_at R.remaining input.old W.contents output.old H.state host.old)
-        (outside_at R.remaining input.new W.contents output.new H.state host.new)) }
+/// What the words ask of the shell.
+#[derive(Clone, Copy, Debug)]
+pub(crate) struct ShellJob<'n> {
+    /// The image file on which the script runs, and where `save` stores by default.
+    pub(crate) image: Option<&'n str>,
+    /// The tracks of the blank image on which it runs without one.
+    pub(crate) tracks: u8,
+    /// The session file on whose session it runs instead.
+    pub(crate) resume: Option<&'n str>,
+    /// The lines of the script; where there are none, it is the input.
+    pub(crate) lines: &'n [String],
+    pub(crate) refusals: Refusals,
+}
+
+impl<'n> ShellJob<'n> {
+    /// Runs the script on its session, and then flushes the output. Where the words give the script, nothing of the input is read.
+    pub(crate) fn run<R: Read, W: Write, H: Host>(
+        self,
+        alloc: Global,
+        input: &mut InputStream<'_, R>,
+        output: &mut OutputStream<'_, W>,
+        host: &mut H,
+    ) -> Result<Outcome, ProgramFault>
+        requires unread { IsUnread (reading_of input.old.reads input.old.came input.old.has_failed) }
+        requires unfailed { output.old.has_failed ≡ false }
+        requires delivered { output.old.is_delivered ≡ true }
+        ensures input { input.new.reader.ghost_name ≡ input.old.reader.ghost_name }
+        ensures output { output.new.writer.ghost_name ≡ output.old.writer.ghost_name }
+        ensures delivered { OnOk result ((output.new.is_delivered ≡ true) × (output.new.has_failed ≡ false)) }
+        ensures ran { IfOk result (λ outcome. RanShell (beginning_in self.entry) (source_in self.entry) (manner_in self.entry)
+            (outside_at R.remaining input.old W.contents output.old H.state host.old)
+            (outside_at R.remaining input.new W.contents output.new H.state host.new) (Ok outcome)) }
+        ensures stopped { IfErr result (λ fault. StoppedBy fault (beginning_in self.entry) (source_in self.entry) (manner_in self.entry)
+            (outside_at R.remaining input.old W.contents output.old H.state host.old)
+            (outside_at R.remaining input.new W.contents output.new H.state host.new)) }
+    {
+        let text = given_text(alloc, self.lines)?;
+        let mut session = first_session(alloc, host, self.image, self.tracks, self.resume)?;
+        let script = Script {
+            text: text.as_deref(),
+            manner: Manner {
+                home: self.image.unwrap_or(""),
+                refusals: self.refusals,
+            },
+        };
+        let ran = script.run(alloc, input, output, host, &mut session);
+        match output.flush() {
+            Ok(()) => Ok(ran?),
+            Err(_) => Err(ProgramFault::Write),
+        }
+    }
+}
+
+/// The text of the lines, each with a line feed after it, where there are some.
+fn given_text(alloc: Global, lines: &[String]) -> Result<Option<Vec<u8>>, AllocError>
+    ensures text { IfOk result (λ text. source_by (option_map (λ bytes. bytes.items) text) ≡ source_of (map string_bytes lines.now)) }
+    ensures none { IfErr result (λ _. source_of (map string_bytes lines.now) ≡ Given (text_of_lines (map string_bytes lines.now))) }
 {
-    let mut session = first_session(alloc, host, image, tracks, resume)?;
-    let home = image.unwrap_or("");
-    let ran = run_on(alloc, input, output, host, home, &mut session);
-    match output.flush() {
-        Ok(()) => Ok(ran?),
-        Err(_) => Err(ProgramFault::Write),
+    if lines.is_empty() {
+        return Ok(None);
+    }
+    Ok(Some(text_of_lines(alloc, lines)?))
+}
+
+/// The text of the lines, each with a line feed after it.
+fn text_of_lines(alloc: Global, lines: &[String]) -> Result<Vec<u8>, AllocError>
+    ensures { IfOk result (λ text. text.items ≡ text_of_lines (map string_bytes lines.now)) }
+{
+    let mut text = Vec::new(alloc);
+    for line in lines {
+        text.extend_from_slice(line.as_bytes())?;
+        text.push(b'\n')?;
+    }
+    Ok(text)
+}
+
+/// A script, and how it is run.
+#[derive(Clone, Copy, Debug)]
+struct Script<'n> {
+    /// Its text; without one, it is the input.
+    text: Option<&'n [u8]>,
+    manner: Manner<'n>,
+}
+
+impl<'n> Script<'n> {
+    /// Runs it on a session. Where it has a text, nothing of the input is read.
+    fn run<R: Read, W: Write, H: Host>(
+        self,
+        alloc: Global,
+        input: &mut InputStream<'_, R>,
+        output: &mut OutputStream<'_, W>,
+        host: &mut H,
+        session: &mut Session,
+    ) -> Result<Outcome, ShellFault>
+        requires unread { IsUnread (reading_of input.old.reads input.old.came input.old.has_failed) }
+        requires unfailed { output.old.has_failed ≡ false }
+        requires delivered { output.old.is_delivered ≡ true }
+        ensures input { input.new.reader.ghost_name ≡ input.old.reader.ghost_name }
+        ensures output { output.new.writer.ghost_name ≡ output.old.writer.ghost_name }
+        ensures ran { RanFrom (source_by (option_copied self.entry.text)) (manner_of self.entry.manner) (R.remaining input.old.reader.now) (R.remaining input.new.reader.now)
+            (stand_of (W.contents output.old.writer.now) (world_of (H.state host.old) session.old))
+            (stand_of (W.contents output.new.writer.now) (world_of (H.state host.new) session.new))
+            result }
+        ensures unfailed { OnOk result (output.new.has_failed ≡ false) }
+    {
+        let Some(text) = self.text else {
+            return run_script(alloc, input, output, host, self.manner, session);
+        };
+        let mut reader = text;
+        let mut given = InputStream::new(&mut reader);
+        run_script(alloc, &mut given, output, host, self.manner, session)
     }
 }
 
@@ -127,6 +210,17 @@ fn image_of_file<H: Host>(alloc: Global, host: &mut H, name: &str) -> Result<Ima
     match fetch(alloc, host, name, FILE_BYTES) {
         Ok(bytes) => Ok(Image::from_bytes(alloc, bytes.as_slice())?),
         Err(fault) => Err(ProgramFault::of_file(fault, ProgramFault::UnreadableImage)),
+    }
+}
+
+/// What a refused line does.
+pub(crate) fn refusals_of(stops: bool) -> Refusals
+    ensures { result ≡ refusals_of stops }
+{
+    if stops {
+        Refusals::Stop
+    } else {
+        Refusals::GoOn
     }
 }
 

@@ -1,14 +1,16 @@
 //! The tools' job: a tool on the input or on a file, and how its answer is told.
-ghost use Rattle.std.specs.Prelude.{◌≡◌, IfErr, IsOk, None, OnOk, option_copied, true};
+ghost use Rattle.std.specs.Prelude.{◌≡◌, ◌≤◌, false, IfErr, IsOk, None, OnOk, option_copied, true};
 ghost use Rattle.d64_script.specs.Input.{IsUnread, reading_of};
 ghost use Rattle.d64_script.specs.Output.{Writes};
 ghost use Rattle.d64_collection.specs.Runs.{account_at};
 ghost use Rattle.d64_script.specs.Status.{status_line};
-ghost use Rattle.d64_shell.specs.Program.{RanToolOn, TellsAnswer, outside_at};
+ghost use Rattle.d64_shell.specs.Jobs.{Conversion};
+ghost use Rattle.d64_shell.specs.Program.{EndedWork, RanToolOn, TellsAnswer, outside_at};
 ghost use Rattle.d64_shell.specs.Tools.{ReadsWith, TellsSmallLine, WritesWith};
 
 use crate::entry::{ALL_ACCEPTED, FILE_BYTES, SOME_REFUSED};
 use crate::program_fault::ProgramFault;
+use crate::stored_tool::StoredTool;
 use crate::tools::{Tool, ToolFault};
 use d64_host::{Host, HostFault};
 use d64_line::host_file::fetch;
@@ -19,8 +21,56 @@ use d64_script::status::Status;
 use std::alloc::Global;
 use std::io::{Read, Write};
 
+/// What the words ask of a tool.
+#[derive(Clone, Copy, Debug)]
+pub(crate) struct ToolJob<'n> {
+    pub(crate) tool: Tool,
+    /// The host file that it works on; without one, it is the input.
+    pub(crate) file: Option<&'n str>,
+    /// The host file that its result goes to; without one, it is the output.
+    pub(crate) target: Option<&'n str>,
+}
+
+impl<'n> ToolJob<'n> {
+    /// Runs the tool, and answers the exit status.
+    pub(crate) fn run<R: Read, W: Write, F: Write, H: Host>(
+        self,
+        alloc: Global,
+        input: &mut InputStream<'_, R>,
+        output: &mut OutputStream<'_, W>,
+        faults: &mut OutputStream<'_, F>,
+        host: &mut H,
+    ) -> u8
+        requires unread { IsUnread (reading_of input.old.reads input.old.came input.old.has_failed) }
+        requires unfailed { output.old.has_failed ≡ false }
+        requires delivered { output.old.is_delivered ≡ true }
+        ensures input { input.new.reader.ghost_name ≡ input.old.reader.ghost_name }
+        ensures output { output.new.writer.ghost_name ≡ output.old.writer.ghost_name }
+        ensures faults { faults.new.writer.ghost_name ≡ faults.old.writer.ghost_name }
+        ensures ended { EndedWork (Conversion self.entry.tool (option_copied self.entry.file) (option_copied self.entry.target))
+            (outside_at R.remaining input.old W.contents output.old H.state host.old)
+            (outside_at R.remaining input.new W.contents output.new H.state host.new)
+            (account_at F.contents faults.old) (account_at F.contents faults.new) result }
+        ensures status { result ≤ 2 }
+        ensures delivered { result ≡ 0 → (output.new.is_delivered ≡ true) × (output.new.has_failed ≡ false) }
+        ensures silent { result ≡ 0 → faults.new ≡ faults.old }
+    {
+        let Some(target) = self.target else {
+            let answer = run_tool(alloc, self.tool, self.file, input, output, host);
+            return tell_answer(answer, faults);
+        };
+        let job = StoredTool {
+            tool: self.tool,
+            file: self.file,
+            target,
+        };
+        let answer = job.run(alloc, input, host);
+        job.tell(alloc, answer, faults)
+    }
+}
+
 /// Runs the tool on the file that the host has under this name, or on the input, and flushes the output.
-pub(crate) fn run_tool<R: Read, W: Write, H: Host>(
+fn run_tool<R: Read, W: Write, H: Host>(
     alloc: Global,
     tool: Tool,
     name: Option<&str>,
@@ -76,10 +126,7 @@ fn write_result<R: Read, W: Write, H: Host>(
 }
 
 /// Tells a tool's answer, and answers the exit status.
-pub(crate) fn tell_answer<F: Write>(
-    answer: Result<(), ToolFault>,
-    faults: &mut OutputStream<'_, F>,
-) -> u8
+fn tell_answer<F: Write>(answer: Result<(), ToolFault>, faults: &mut OutputStream<'_, F>) -> u8
     requires { IfErr answer TellsSmallLine }
     ensures faults { faults.new.writer.ghost_name ≡ faults.old.writer.ghost_name }
     ensures wrote { result ≡ 0 → IsOk answer }

@@ -111,7 +111,7 @@ impl Tool {
     }
 
     /// What the tool makes of an input. It answers no `Read` and no `Write`.
-    fn output(self, alloc: Global, input: &[u8]) -> Result<Vec<u8>, ToolFault>
+    pub(crate) fn output(self, alloc: Global, input: &[u8]) -> Result<Vec<u8>, ToolFault>
         ensures made { IfOk result (λ output. Makes self input.now output.items) }
         ensures refused { IfErr result (Refuses self input.now) }
     {
@@ -131,7 +131,10 @@ impl Tool {
 }
 
 /// All that the reader has, under the limits of a script. It answers `Read` or `Memory`.
-fn whole_input<R: Read>(alloc: Global, input: &mut InputStream<'_, R>) -> Result<Vec<u8>, ToolFault>
+pub(crate) fn whole_input<R: Read>(
+    alloc: Global,
+    input: &mut InputStream<'_, R>,
+) -> Result<Vec<u8>, ToolFault>
     requires unread { IsUnread (reading_of input.old.reads input.old.came input.old.has_failed) }
     ensures input { input.new.reader.ghost_name ≡ input.old.reader.ghost_name }
     ensures read { IfOk result (λ bytes. HasRead (R.remaining input.old.reader.now) (R.remaining input.new.reader.now) bytes.items) }

@@ -13,6 +13,10 @@ line_about name text = codes "d64sh: " ++ (shown name ++ (codes ": " ++ (text ++
 abbrev pub unread_line : List ℕ → List ℕ
 unread_line name = line_about name (codes "cannot be read")
 
+-- a file that cannot be written
+abbrev pub unwritten_line : List ℕ → List ℕ
+unwritten_line name = line_about name (codes "cannot be written")
+
 -- a guess in brackets
 abbrev pub in_brackets : Guess → List ℕ
 in_brackets guess = codes " (" ++ (guess_text guess ++ codes ")")

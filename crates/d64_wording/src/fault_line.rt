@@ -3,7 +3,7 @@ ghost use Rattle.std.specs.Prelude.{◌≡◌, ◌++◌, [], codes, OnOk};
 ghost use Rattle.std.specs.Option.{option_map_or};
 ghost use Rattle.d64_wording.specs.Shown.{shown};
 ghost use Rattle.d64_wording.specs.Guesses.{guess_of as guess_by_all};
-ghost use Rattle.d64_wording.specs.FaultLines.{line_about, unread_line, in_brackets, wrong_length_text, wrong_length_line};
+ghost use Rattle.d64_wording.specs.FaultLines.{line_about, unread_line, unwritten_line, in_brackets, wrong_length_text, wrong_length_line};
 
 use crate::guess::{guess_of, guess_text};
 use crate::number::push_number;
@@ -34,6 +34,13 @@ pub fn unread_line(out: &mut Vec<u8>, name: &[u8]) -> Result<(), AllocError>
     ensures { OnOk result (out.new.items ≡ out.old.items ++ unread_line name.now) }
 {
     push_line(out, name, b"cannot be read")
+}
+
+/// Adds the line of a file that cannot be written.
+pub fn unwritten_line(out: &mut Vec<u8>, name: &[u8]) -> Result<(), AllocError>
+    ensures { OnOk result (out.new.items ≡ out.old.items ++ unwritten_line name.now) }
+{
+    push_line(out, name, b"cannot be written")
 }
 
 /// Adds what a file seems to be, in brackets, where that is known.

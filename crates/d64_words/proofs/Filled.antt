@@ -33,7 +33,7 @@ filled_after [] y = tt
 filled_after (x ∷ xs) y = tt
 
 -- what is found passes the test
-found_passes : {X : Type 0} (p : X → Bool) (xs : List X) (x : X) → find p xs ≡ Some x → p x ≡ true
+pub found_passes : {X : Type 0} (p : X → Bool) (xs : List X) (x : X) → find p xs ≡ Some x → p x ≡ true
 found_passes p [] x e = absurd (none≢some x e)
 found_passes p (y ∷ ys) x e = go (found_passes p ys x) (p y) refl e
   where

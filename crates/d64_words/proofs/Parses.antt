@@ -13,7 +13,7 @@ use Rattle.clap.specs.declared.error.kind.ErrorKind.TheVariants.{OutOfMemory}
 use Rattle.clap.specs.declared.parser.matches.ArgMatches.{ArgMatches}
 use Rattle.clap.proofs.OnLiterals.{clap_on_literals}
 use Rattle.d64_words.specs.Commands.{d64sh}
-use Rattle.d64_words.specs.Asked.{IsFault, IsFaultOf, IsJob, IsJobOf, IsOneOf, IsToldAs, Met, subcommands}
+use Rattle.d64_words.specs.Asked.{IsFault, IsFaultOf, IsJob, IsJobOf, IsOneOf, IsToldAs, Met}
 use Rattle.d64_words.specs.declared.asked.Job.{Job}
 use Rattle.d64_words.specs.declared.asked.JobFault.{JobFault}
 use Rattle.d64_words.specs.declared.asked.JobFault.TheVariants.{Words, Start, Memory, Tracks, Both, Format, Names, Null, Picture, Difference}
@@ -62,15 +62,11 @@ named_by : (subs : List Shape) (stop : Option (Text × List Text)) (met : Met) �
 named_by subs None met e = absurd (none≢some met e)
 named_by subs (Some p) met e = one_of (λ v. answers_to p.0 (label_of v)) (λ v. rows_at v p.1) met subs (λ s. refl) e
 
-met_among : (a : App) (names : List Text) → map (λ (s : Shape). s.name) (built a).subs ≡ names → (words : List Text) (met : Met)
+pub met_among : (a : App) (names : List Text) → map (λ (s : Shape). s.name) (built a).subs ≡ names → (words : List Text) (met : Met)
     → subcommand_of a words ≡ Some met → IsOneOf names met.0
 met_among a names are words met e =
     let stop = stop_after (built a).top.rules (names_of (built a)) (argument_words a words) in
     subst (λ all. IsOneOf all met.0) are (named_by (built a).subs stop met e)
-
-pub met_is_subcommand : (words : List Text) (met : Met) → subcommand_of d64sh words ≡ Some met → IsOneOf subcommands met.0
-unfolding d64sh
-met_is_subcommand words met e = met_among d64sh _ refl words met e
 
 -- ---- what the clauses of the parse say of the program's words
 

@@ -6,7 +6,7 @@ use Rattle.std.specs.Option.{option_map_or}
 use Rattle.std.specs.Str.{bytes_eq}
 use Rattle.std.proofs.lemmas.Bool.{not-false, or_parts}
 use Rattle.std.proofs.lemmas.Slice.Eq.{bytes_eq-Decides}
-use Rattle.clap.specs.Kinds.{Kinds, check_kinds, or_else}
+use Rattle.clap.specs.Kinds.{check_kinds, or_else}
 use Rattle.clap.specs.Faults.{built_fault, check_fault, defaults_fault, entered_fault, fault_of, level_fault, settle_fault, walk_fault}
 use Rattle.clap.specs.Takes.{is_given}
 use Rattle.clap.specs.Simple.{App, Shape, argument_words, built, entered, label_of, names_of, rows_at, subcommand_of}
@@ -16,7 +16,8 @@ use Rattle.clap.proofs.OnLiterals.{clap_on_literals}
 use Rattle.d64_words.specs.Commands.{d64sh}
 use Rattle.d64_words.specs.Asked.{HasValues, IsWhole, Met, requirements}
 use Rattle.d64_words.proofs.Filled.{found_all, has_value, is_place, rows_full}
-use Rattle.d64_words.proofs.Parses.{met_is_subcommand, none≢some, same_Some}
+use Rattle.d64_words.proofs.Helps.{first_none, last_none, met_is_subcommand}
+use Rattle.d64_words.proofs.Parses.{none≢some, same_Some}
 
 -- the subcommand of this name has a value for this argument
 abbrev HasValue : Text → Text → Met → Type 0
@@ -41,14 +42,6 @@ given_where_required id rows (rule ∷ rules) some none =
         ap (λ name. is_given name rows) (sym same) ∙ not-false _ given
 
 -- ---- where there is no fault, all that is required is there
-
-first_none : (a b : Kinds) → or_else a b ≡ [] → a ≡ []
-first_none [] b e = refl
-first_none (k ∷ ks) b e = cc
-
-last_none : (a b : Kinds) → or_else a b ≡ [] → b ≡ []
-last_none [] b e = e
-last_none (k ∷ ks) b e = cc
 
 wants_none : (help sub missing : Bool) → check_kinds help sub missing ≡ [] → missing ≡ false
 wants_none true sub missing e = cc
@@ -129,4 +122,4 @@ all_wanted = refl
 -- the words that have no fault give a value to each argument that their subcommand requires
 pub met_is_whole : (words : List Text) (met : Met) → fault_of d64sh words ≡ [] → subcommand_of d64sh words ≡ Some met → IsWhole met
 met_is_whole words met none is =
-    (met_is_subcommand words met is, values_met (built d64sh) (argument_words d64sh words) requirements all_wanted met none is)
+    (met_is_subcommand words met none is, values_met (built d64sh) (argument_words d64sh words) requirements all_wanted met none is)

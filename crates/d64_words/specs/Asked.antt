@@ -1,5 +1,5 @@
 -- What the words of the program ask for.
-use Rattle.std.specs.Prelude.{◌≡◌, ◌≢◌, ◌⊎◌, ◌∷◌, ◌++◌, ℕ, List, [], codes, None, Option, Some, option_map, IsSome, IsSomeAnd, String, string_bytes, ⊤}
+use Rattle.std.specs.Prelude.{◌≡◌, ◌≢◌, ◌⊎◌, ◌∷◌, ◌++◌, ℕ, List, [], codes, None, Option, Some, option_map, IsSome, IsSomeAnd, String, map, string_bytes, ⊤}
 use Rattle.clap.specs.Words.{Row, Text, IsAmong, fault_of, first_of, kind_of, subcommand_of}
 use Rattle.clap.specs.declared.error.Error.{Error}
 use Rattle.clap.specs.declared.error.kind.ErrorKind.TheVariants.{DisplayHelp, DisplayVersion, OutOfMemory}
@@ -8,7 +8,7 @@ use Rattle.d64_words.specs.Start.{IsStartBy, HasNoAddress}
 use Rattle.d64_words.specs.Tracks.{IsTracksBy, HasNoTracks}
 use Rattle.d64_words.specs.Format.{diff_form_of, form_word, format_of, picture_form_of}
 use Rattle.d64_words.specs.Names.{HasNoNames, HasNullAlone, IsNamesBy}
-use Rattle.d64_words.specs.Values.{has_flag}
+use Rattle.d64_words.specs.Values.{all_given, has_flag}
 use Rattle.d64_words.specs.declared.asked.DiffForm.{DiffForm}
 use Rattle.d64_words.specs.declared.asked.Format.{Format as OutputFormat}
 use Rattle.d64_words.specs.declared.asked.PictureForm.{PictureForm}
@@ -73,12 +73,14 @@ diff_form_given met = diff_form_of (form_word met.1)
 
 -- the subcommand asks for this job
 abbrev pub IsJobOf : Met → Job → Type 0
-IsJobOf met (Shell image tracks resume) =
+IsJobOf met (Shell image tracks resume lines stops_at_refusal) =
     (met.0 ≡ codes "shell") × IsGiven met (codes "image") image × IsGiven met (codes "resume") resume
     × IsTracksBy (first_of (codes "tracks") met.1) (first_of (codes "image") met.1) tracks × (¬ HasBoth met)
-IsJobOf met (Petcat file) = (met.0 ≡ codes "petcat") × IsGiven met (codes "file") file
-IsJobOf met (Crunch start file) =
-    (met.0 ≡ codes "crunch") × IsGiven met (codes "file") file × IsStartBy (first_of (codes "start") met.1) start
+    × (map string_bytes lines.items ≡ all_given (codes "command") met.1) × (stops_at_refusal ≡ has_flag (codes "stop-at-refusal") met.1)
+IsJobOf met (Petcat file output) = (met.0 ≡ codes "petcat") × IsGiven met (codes "file") file × IsGiven met (codes "output") output
+IsJobOf met (Crunch start file output) =
+    (met.0 ≡ codes "crunch") × IsGiven met (codes "file") file × IsGiven met (codes "output") output
+    × IsStartBy (first_of (codes "start") met.1) start
 IsJobOf met (Check digest format names) =
     (met.0 ≡ codes "check") × (digest ≡ has_flag (codes "digest") met.1) × (format_given met ≡ Some format) × IsNamesBy met.1 names
 IsJobOf met (Files format names) = (met.0 ≡ codes "files") × (format_given met ≡ Some format) × IsNamesBy met.1 names

@@ -2,7 +2,7 @@
 use Rattle.std.specs.Prelude.{ℕ, List, codes, Some, true}
 use Rattle.clap.specs.Words.{App, Rule, new_app, new_rule, with_rule, with_subcommand}
 use Rattle.clap.specs.Lexer.{usize_max}
-use Rattle.clap.specs.declared.builder.action.ArgAction.TheVariants.{SetTrue}
+use Rattle.clap.specs.declared.builder.action.ArgAction.TheVariants.{Append, SetTrue}
 
 -- `image` and `file`: two places
 abbrev pub image_argument : Rule
@@ -23,22 +23,33 @@ valued_option name = record (new_rule name) { long = Some name; value_names = 1 
 abbrev pub flag : List ℕ → Rule
 flag name = record (new_rule name) { long = Some name; action = Some SetTrue }
 
+-- `-o FILE` and `--output FILE`
+abbrev pub output_option : Rule
+output_option = record (valued_option (codes "output")) { short = Some 111 }
+
 -- `file` as all the places that are left, one or more
 abbrev pub files_argument : Rule
 files_argument = record file_argument { range = Some (record { start_inclusive = 1; end_inclusive = usize_max }) }
 
--- `shell [--tracks N] [--resume FILE] [IMAGE]`
+-- a subcommand with the words for a script: `-c LINE` and `--command LINE`, any number of times, and `-e` and `--stop-at-refusal`
+abbrev pub with_script : App → App
+with_script app =
+    let line = record (valued_option (codes "command")) { short = Some 99; action = Some Append } in
+    with_rule (with_rule app line) (record (flag (codes "stop-at-refusal")) { short = Some 101 })
+
+-- `shell [--tracks N] [--resume FILE] [IMAGE]` with the words for a script
 abbrev pub shell : App
 shell =
-    with_rule (with_rule (with_rule (new_app (codes "shell")) (valued_option (codes "tracks"))) (valued_option (codes "resume"))) image_argument
+    let begun = with_rule (with_rule (new_app (codes "shell")) (valued_option (codes "tracks"))) (valued_option (codes "resume")) in
+    with_script (with_rule begun image_argument)
 
--- `petcat [FILE]`
+-- `petcat [-o FILE] [FILE]`
 abbrev pub petcat : App
-petcat = with_rule (new_app (codes "petcat")) file_argument
+petcat = with_rule (with_rule (new_app (codes "petcat")) output_option) file_argument
 
--- `crunch [--start HEX] [FILE]`
+-- `crunch [--start HEX] [-o FILE] [FILE]`
 abbrev pub crunch : App
-crunch = with_rule (with_rule (new_app (codes "crunch")) (valued_option (codes "start"))) file_argument
+crunch = with_rule (with_rule (with_rule (new_app (codes "crunch")) (valued_option (codes "start"))) output_option) file_argument
 
 -- a subcommand with the names of files: `--files-from LIST`, `--null` and `FILE..`
 abbrev pub with_names : App → App
@@ -70,12 +81,11 @@ diff =
 abbrev pub catalogue : App
 catalogue = with_names (with_rule (new_app (codes "catalogue")) (flag (codes "maps")))
 
--- `d64sh` alone: it has a version, wants a subcommand, has none of the name `help`, and tells its help where it is given nothing
+-- `d64sh` alone: it has a version, wants a subcommand, and tells its help where it is given nothing, and after `help`
 abbrev pub bare : App
 bare = let named = new_app (codes "d64sh") in record named {
   top = record named.top {
     has_version = true;
-    disable_help_subcommand = true;
     subcommand_required = true;
     arg_required_else_help = true;
   };

@@ -13,20 +13,26 @@ use thiserror::Error;
 #[derive(Debug, Drop)]
 pub enum Job {
     /// Run a script on an image, or on a blank one of so many tracks where there is no name: 35 or 40. Where `resume`
-    /// names a session file, the script runs on its session, and `image` is where `save` stores by default and no more.
+    /// names a session file, the script runs on its session, and `image` is where `save` stores by default and no more. The script is
+    /// `lines`, each with a line feed after it, or the standard input where there are none; it ends after the first line that is
+    /// refused where `stops_at_refusal` is set.
     Shell {
         image: Option<String>,
         tracks: u8,
         resume: Option<String>,
+        lines: Vec<String>,
+        stops_at_refusal: bool,
     },
-    /// List the BASIC program in a file, or in the standard input where there is no name.
+    /// List the BASIC program in a file, or in the standard input where there is no name, to the file `output`, or to the standard output.
     Petcat {
         file: Option<String>,
+        output: Option<String>,
     },
-    /// Make a BASIC program, loaded at `start`, of the text in a file, or in the standard input.
+    /// Make a BASIC program, loaded at `start`, of the text in a file, or in the standard input, and write it so.
     Crunch {
         start: u16,
         file: Option<String>,
+        output: Option<String>,
     },
     /// Survey dumps and say what is amiss, with the digest of each where `digest` is set.
     Check {

@@ -1,11 +1,13 @@
 //! The program's subcommands and their arguments, with their help.
 
 ghost use Rattle.std.specs.Prelude.{◌≡◌, IfOk, false};
-ghost use Rattle.clap.specs.Words.{app_of, rule_of};
+ghost use Rattle.clap.specs.Words.{app_of, kind_of, rule_of};
+ghost use Rattle.clap.specs.declared.error.kind.ErrorKind.TheVariants.{InvalidValue};
 ghost use Rattle.clap.specs.declared.builder.command.Command.TheViews.{out-Command as fields_of};
-ghost use Rattle.d64_words.specs.Commands.{bare, d64sh, shell, petcat, crunch, check, files, map, diff, catalogue, survey, with_names, file_argument, required_argument, files_argument, valued_option, flag};
+ghost use Rattle.d64_words.specs.Commands.{bare, d64sh, shell, petcat, crunch, check, files, map, diff, catalogue, survey, with_names, file_argument, required_argument, files_argument, valued_option, output_option, flag, with_script};
 
-use clap::{Arg, ArgAction, Command};
+use clap::error::ErrorKind;
+use clap::{Arg, ArgAction, Command, Error};
 use std::alloc::{AllocError, Global};
 
 /// The program's version.
@@ -14,36 +16,66 @@ const VERSION: &str = "0.1.0";
 const ABOUT: &str = "Looks at and changes D64 images of Commodore 1541 disks, with undo, and turns
 BASIC V2 programs into text and back.";
 
-const AFTER_HELP: &str = "`d64sh shell --help` and the like say what goes in and what comes out. The
+const AFTER_HELP: &str = "Examples:
+  d64sh shell -c list disk.d64       prints what is on a disk
+  d64sh crunch game.bas -o game.prg  makes a program of a text
+
+`d64sh shell --help` and the like say what goes in and what comes out. The
 manual has the commands of the shell, and what the exit status means:
 `man d64sh`, or docs/MANUAL.md beside the source.";
 
-const SHELL_USAGE: &str = "d64sh shell [--tracks N] [IMAGE]
-       d64sh shell --resume FILE [IMAGE]";
+const SHELL_USAGE: &str = "d64sh shell [-e] [-c LINE].. [--tracks N] [IMAGE]
+       d64sh shell [-e] [-c LINE].. --resume FILE [IMAGE]";
 
-const SHELL_AFTER_HELP: &str =
-    "In:      the script on the standard input, one command a line, such as `list`
+const SHELL_AFTER_HELP: &str = "In:      the script on the standard input, one line a command
 Out:     what each command shows, and a status line for each, `00, OK,00,00`
          where it was accepted
-Example: echo list | d64sh shell disk.d64
+Example: d64sh shell -c list disk.d64
+
+Lines:   format NAME,ID         make the disk empty
+         write HOST [NAME[,T]]  write a host file to the disk; T is p, s or u
+         crunch HOST [NAME]     write the BASIC program of a host file's text
+         read NAME [HOST]       store a file of the disk as a host file
+         petcat NAME            print the text of a BASIC program
+         delete PATTERN ..      delete the files whose names match
+         rename OLD NEW         give a file another name
+         list                   print the directory
+         validate               free the blocks that no closed file has
+         block T S              print the block of track T and sector S
+         bread HOST T S         store a block as a host file
+         bwrite HOST T S        write a block from a host file of 256 bytes
+         undo, redo             take a change back, and make it again
+         history                print the changes
+         save [HOST]            store the image, as IMAGE without a name
+         keep HOST              store the session, with its changes
+         quit                   end the script
 
 IMAGE itself changes by the command `save` alone. With --resume, it isn't read,
-and `save` without a name stores there. The manual has all commands:
-`man d64sh`, or docs/MANUAL.md beside the source.";
+and `save` without a name stores there. The manual says more: `man d64sh`, or
+docs/MANUAL.md beside the source.";
+
+const PETCAT_USAGE: &str = "d64sh petcat [-o FILE] [FILE]";
 
 const PETCAT_AFTER_HELP: &str =
     "In:      a program as the machine saves it, from FILE or the standard input
 Out:     its lines as text on the standard output, where codes that are no
          characters of a keyboard stand in braces, such as {clr}
-Example: d64sh petcat hello.prg >hello.bas
+Example: d64sh petcat hello.prg -o hello.bas
+
+With --output, FILE is written whole or not at all.
 
 The manual says more: `man d64sh`, or docs/MANUAL.md beside the source.";
+
+const CRUNCH_USAGE: &str = "d64sh crunch [--start HEX] [-o FILE] [FILE]";
 
 const CRUNCH_AFTER_HELP: &str =
     "In:      text as `petcat` writes it, each line with its number first, from FILE
          or the standard input
 Out:     the program as the machine loads it, on the standard output
-Example: d64sh crunch hello.bas >hello.prg
+Example: d64sh crunch hello.bas -o hello.prg
+
+With --output, FILE is written whole or not at all, and what is wrong with the
+text is told as NAME:LINE: and why.
 
 The manual says more: `man d64sh`, or docs/MANUAL.md beside the source.";
 
@@ -79,6 +111,8 @@ Example: d64sh files --format csv *.d64 >files.csv
 No image is ever written. The manual says more: `man d64sh`, or docs/MANUAL.md
 beside the source.";
 
+const MAP_USAGE: &str = "d64sh map [--format FORMAT] FILE";
+
 const MAP_AFTER_HELP: &str =
     "In:      an image of 35 or 40 tracks, with or without the read codes of its
          blocks: a file of 174,848, 175,531, 196,608 or 197,376 bytes
@@ -90,6 +124,8 @@ Example: d64sh map --format svg disk.d64 >disk.svg
 
 The image is never written. The manual says more: `man d64sh`, or docs/MANUAL.md
 beside the source.";
+
+const DIFF_USAGE: &str = "d64sh diff [--format FORMAT] OLD NEW";
 
 const DIFF_AFTER_HELP: &str =
     "In:      two images of 35 or 40 tracks, each with or without the read codes of
@@ -134,6 +170,30 @@ pub(crate) fn d64sh<'a>(alloc: Global) -> Result<Command<'a>, AllocError>
         .subcommand(catalogue(alloc)?)
 }
 
+/// The error that an option lacks its value, with the usage of the subcommand of this name, where there is one.
+pub(crate) fn lacks_value(alloc: Global, name: &str, message: &str) -> Result<Error, AllocError>
+    ensures { IfOk result (λ error. kind_of error ≡ InvalidValue) }
+{
+    bare(alloc)
+        .override_usage(usage(name))
+        .error(ErrorKind::InvalidValue, message)
+}
+
+/// The usage of the subcommand of this name, or of the program.
+fn usage(name: &str) -> &'static str {
+    match name {
+        "shell" => SHELL_USAGE,
+        "petcat" => PETCAT_USAGE,
+        "crunch" => CRUNCH_USAGE,
+        "check" => CHECK_USAGE,
+        "files" => FILES_USAGE,
+        "map" => MAP_USAGE,
+        "diff" => DIFF_USAGE,
+        "catalogue" => CATALOGUE_USAGE,
+        _ => "d64sh <COMMAND>",
+    }
+}
+
 /// The command `d64sh` without its subcommands.
 fn bare<'a>(alloc: Global) -> Command<'a>
     ensures app { app_of result ≡ bare }
@@ -143,12 +203,11 @@ fn bare<'a>(alloc: Global) -> Command<'a>
         .version(VERSION)
         .about(ABOUT)
         .after_help(AFTER_HELP)
-        .disable_help_subcommand(true)
         .subcommand_required(true)
         .arg_required_else_help(true)
 }
 
-/// `shell [--tracks N] [IMAGE]` and `shell --resume FILE [IMAGE]`.
+/// `shell [-e] [-c LINE].. [--tracks N] [IMAGE]` and `shell [-e] [-c LINE].. --resume FILE [IMAGE]`.
 fn shell<'a>(alloc: Global) -> Result<Command<'a>, AllocError>
     ensures app { IfOk result (λ command. app_of command ≡ shell) }
     ensures local { IfOk result (λ command. (fields_of command).has_globals ≡ false) }
@@ -168,28 +227,53 @@ fn shell<'a>(alloc: Global) -> Result<Command<'a>, AllocError>
     let image = Arg::new(alloc, "image")
         .value_name("IMAGE")
         .help("The D64 image to work on; without it, a blank image");
-    Command::new(alloc, "shell")
+    let command = Command::new(alloc, "shell")
         .about("Runs a script of commands on a disk image")
         .override_usage(SHELL_USAGE)
         .after_help(SHELL_AFTER_HELP)
         .arg(tracks)?
         .arg(resume)?
-        .arg(image)
+        .arg(image)?;
+    with_script(alloc, command)
 }
 
-/// `petcat [FILE]`.
+/// The subcommand with the words for a script: `[-c LINE]..` and `[-e]`.
+fn with_script<'a>(alloc: Global, command: Command<'a>) -> Result<Command<'a>, AllocError>
+    ensures app { IfOk result (λ with. app_of with ≡ with_script (app_of command.entry)) }
+    ensures local { IfOk result (λ with. (fields_of with).has_globals ≡ (fields_of command.entry).has_globals) }
+{
+    let line = valued_option(
+        alloc,
+        "command",
+        "LINE",
+        "A line of the script, which isn't read then; each one more is the next line",
+    );
+    let stop = flag(
+        alloc,
+        "stop-at-refusal",
+        "End the script after the first line that is refused",
+    );
+    command
+        .arg(line.short('c').action(ArgAction::Append))?
+        .arg(stop.short('e'))
+}
+
+/// `petcat [-o FILE] [FILE]`.
 fn petcat<'a>(alloc: Global) -> Result<Command<'a>, AllocError>
     ensures app { IfOk result (λ command. app_of command ≡ petcat) }
     ensures local { IfOk result (λ command. (fields_of command).has_globals ≡ false) }
 {
+    let output = output_option(alloc, "The text's file; without it, the standard output");
     let file = file_argument(alloc, "The program file; without it, the standard input");
     Command::new(alloc, "petcat")
         .about("Lists a BASIC program as text")
+        .override_usage(PETCAT_USAGE)
         .after_help(PETCAT_AFTER_HELP)
+        .arg(output)?
         .arg(file)
 }
 
-/// `crunch [--start HEX] [FILE]`.
+/// `crunch [--start HEX] [-o FILE] [FILE]`.
 fn crunch<'a>(alloc: Global) -> Result<Command<'a>, AllocError>
     ensures app { IfOk result (λ command. app_of command ≡ crunch) }
     ensures local { IfOk result (λ command. (fields_of command).has_globals ≡ false) }
@@ -200,12 +284,14 @@ fn crunch<'a>(alloc: Global) -> Result<Command<'a>, AllocError>
         "HEX",
         "Load address: one to four hexadecimal digits; without it, 0801",
     );
+    let output = output_option(alloc, "The program file; without it, the standard output");
     let file = file_argument(alloc, "The text; without it, the standard input");
     Command::new(alloc, "crunch")
         .about("Makes a BASIC program of a text")
-        .override_usage("d64sh crunch [--start HEX] [FILE]")
+        .override_usage(CRUNCH_USAGE)
         .after_help(CRUNCH_AFTER_HELP)
         .arg(start)?
+        .arg(output)?
         .arg(file)
 }
 
@@ -253,7 +339,7 @@ fn map<'a>(alloc: Global) -> Result<Command<'a>, AllocError>
     let file = required_argument(alloc, "file", "FILE", "The image to draw");
     Command::new(alloc, "map")
         .about("Draws a map of the blocks of a disk image")
-        .override_usage("d64sh map [--format FORMAT] FILE")
+        .override_usage(MAP_USAGE)
         .after_help(MAP_AFTER_HELP)
         .arg(format)?
         .arg(file)
@@ -274,7 +360,7 @@ fn diff<'a>(alloc: Global) -> Result<Command<'a>, AllocError>
     let new = required_argument(alloc, "new", "NEW", "The image as it is now");
     Command::new(alloc, "diff")
         .about("Says what changed from one disk image to another")
-        .override_usage("d64sh diff [--format FORMAT] OLD NEW")
+        .override_usage(DIFF_USAGE)
         .after_help(DIFF_AFTER_HELP)
         .arg(format)?
         .arg(old)?
@@ -345,6 +431,14 @@ fn file_argument<'a>(alloc: Global, help: &'a str) -> Arg<'a>
     ensures local { result.global ≡ false }
 {
     Arg::new(alloc, "file").value_name("FILE").help(help)
+}
+
+/// `-o FILE` and `--output FILE`.
+fn output_option<'a>(alloc: Global, help: &'a str) -> Arg<'a>
+    ensures rule { rule_of result ≡ output_option }
+    ensures local { result.global ≡ false }
+{
+    valued_option(alloc, "output", "FILE", help).short('o')
 }
 
 /// `NAME`, which must be given.

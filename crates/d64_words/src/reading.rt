@@ -3,7 +3,7 @@
 ghost use Rattle.std.specs.Prelude.{◌≡◌, IfOk, IfErr, MatchOption, codes, map};
 ghost use Rattle.std.specs.Char.{is_ascii_hexdigit};
 ghost use Rattle.std.specs.List.{list_all};
-ghost use Rattle.clap.specs.Words.{found_of, first_of, rows_of};
+ghost use Rattle.clap.specs.Words.{found_of, first_of, kind_of, rows_of};
 ghost use Rattle.d64_words.specs.Asked.{IsWhole, IsJob, IsJobOf, IsFault, IsFaultOf};
 ghost use Rattle.d64_words.specs.Start.{IsAddress, address_of, IsStartBy, HasNoAddress};
 ghost use Rattle.d64_words.specs.Tracks.{track_count, IsTracksBy, HasNoTracks};
@@ -13,9 +13,10 @@ use crate::asked::{Job, JobFault};
 use crate::command;
 use crate::dumps::{diff_job, map_job};
 use crate::surveys::{catalogue_job, check_job, files_job};
-use crate::values::{given, value};
-use clap::ArgMatches;
-use std::alloc::Global;
+use crate::values::{given, has_flag, value, values};
+use clap::error::ErrorKind;
+use clap::{ArgMatches, Error};
+use std::alloc::{AllocError, Global};
 
 /// The address at which programs are loaded, where the words say no other.
 const DEFAULT_START: u16 = 0x0801;
@@ -39,11 +40,27 @@ pub fn job(alloc: Global, words: &[&str]) -> Result<Job, JobFault>
     ensures job { IfOk result (IsJob (map (λ word. word.now) words.now)) }
     ensures fault { IfErr result (IsFault (map (λ word. word.now) words.now)) }
 {
-    let matches = command::d64sh(alloc)?.try_get_matches_from(words)?;
+    let matches = match command::d64sh(alloc)?.try_get_matches_from(words) {
+        Ok(matches) => matches,
+        Err(error) => return Err(JobFault::from(with_usage(alloc, words, error)?)),
+    };
     let Some((name, arguments)) = matches.subcommand() else {
         unreachable!()
     };
     job_of(alloc, name, arguments)
+}
+
+/// The error, with the usage of the subcommand where it is that an option lacks its value: `clap` tells no usage of that one.
+fn with_usage(alloc: Global, words: &[&str], error: Error) -> Result<Error, AllocError>
+    ensures { IfOk result (λ told. kind_of told ≡ kind_of error) }
+{
+    if error.kind() != ErrorKind::InvalidValue {
+        return Ok(error);
+    }
+    let text = format!(in alloc; "{error}")?;
+    let line = text.as_str().lines().next().unwrap_or("");
+    let message = line.strip_prefix("error: ").unwrap_or(line);
+    command::lacks_value(alloc, words.get(1).copied().unwrap_or(""), message)
 }
 
 /// The job that a subcommand with these matches asks for.
@@ -56,10 +73,12 @@ fn job_of(alloc: Global, name: &str, arguments: &ArgMatches) -> Result<Job, JobF
         "shell" => shell_job(alloc, arguments),
         "petcat" => Ok(Job::Petcat {
             file: value(alloc, arguments, "file")?,
+            output: value(alloc, arguments, "output")?,
         }),
         "crunch" => Ok(Job::Crunch {
             start: start(arguments)?,
             file: value(alloc, arguments, "file")?,
+            output: value(alloc, arguments, "output")?,
         }),
         "check" => check_job(alloc, arguments),
         "files" => files_job(alloc, arguments),
@@ -83,6 +102,8 @@ fn shell_job(alloc: Global, arguments: &ArgMatches) -> Result<Job, JobFault>
         image: value(alloc, arguments, "image")?,
         tracks,
         resume,
+        lines: values(alloc, arguments, "command")?,
+        stops_at_refusal: has_flag(arguments, "stop-at-refusal"),
     })
 }
 

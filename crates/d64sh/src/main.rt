@@ -2,6 +2,7 @@
 #![tactic(auto)]
 
 mod progress;
+mod prompt;
 mod retrying;
 mod within_limit;
 
@@ -10,6 +11,7 @@ use d64_script::input::InputStream;
 use d64_script::output::OutputStream;
 use d64_shell::{FolderHost, ProgramFault, program_on};
 use progress::{ProgressLine, WatchedHost, WipingWriter};
+use prompt::PromptingReader;
 use retrying::Retrying;
 use std::env;
 use std::io::{self, BufWriter, ErrorKind, IsTerminal, Write};
@@ -45,7 +47,9 @@ fn start<E: Write>(
         .collect(rt.alloc())?;
     let output = WithinLimit::new(rt, limit, StandardStream::Output, rt.stdout());
     let mut output = BufWriter::new(rt.alloc(), output).map_err(|_| ProgramFault::Memory)?;
-    let mut input = Retrying(rt.stdin());
+    let is_typed_at = rt.stdin().is_terminal() && rt.stderr().is_terminal();
+    let is_shell = matches!(words.first(), Some(&"shell"));
+    let mut input = PromptingReader::new(rt, is_typed_at && is_shell, Retrying(rt.stdin()));
     Ok(program_on(
         rt.alloc(),
         words.as_slice(),

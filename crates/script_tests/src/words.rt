@@ -18,42 +18,42 @@ fn takes_each_subcommand(rt: HostRuntime) -> Result<(), Fail> {
         asks_for(
             rt,
             &["d64sh", "shell"],
-            "Shell { image: None, tracks: 35, resume: None }"
+            "Shell { image: None, tracks: 35, resume: None, lines: [], stops_at_refusal: false }"
         )?
     );
     assert!(rt;
         asks_for(
             rt,
             &["d64sh", "shell", "my disk"],
-            "Shell { image: Some(\"my disk\"), tracks: 35, resume: None }"
+            "Shell { image: Some(\"my disk\"), tracks: 35, resume: None, lines: [], stops_at_refusal: false }"
         )?
     );
     assert!(rt;
         asks_for(
             rt,
             &["d64sh", "petcat", "h"],
-            "Petcat { file: Some(\"h\") }"
+            "Petcat { file: Some(\"h\"), output: None }"
         )?
     );
     assert!(rt;
         asks_for(
             rt,
             &["d64sh", "petcat", "--", "--help"],
-            "Petcat { file: Some(\"--help\") }"
+            "Petcat { file: Some(\"--help\"), output: None }"
         )?
     );
     assert!(rt;
         asks_for(
             rt,
             &["d64sh", "crunch"],
-            "Crunch { start: 2049, file: None }"
+            "Crunch { start: 2049, file: None, output: None }"
         )?
     );
     assert!(rt;
         asks_for(
             rt,
             &["d64sh", "crunch", "h", "--start=1C01"],
-            "Crunch { start: 7169, file: Some(\"h\") }"
+            "Crunch { start: 7169, file: Some(\"h\"), output: None }"
         )?
     );
     Ok(())
@@ -62,12 +62,57 @@ fn takes_each_subcommand(rt: HostRuntime) -> Result<(), Fail> {
 #[test]
 fn takes_the_options_of_the_shell(rt: HostRuntime) -> Result<(), Fail> {
     let rt = &rt;
-    let tracks = "Shell { image: None, tracks: 40, resume: None }";
+    let tracks =
+        "Shell { image: None, tracks: 40, resume: None, lines: [], stops_at_refusal: false }";
     assert!(rt; asks_for(rt, &["d64sh", "shell", "--tracks", "40"], tracks)?);
-    let resume = "Shell { image: None, tracks: 35, resume: Some(\"s\") }";
+    let resume =
+        "Shell { image: None, tracks: 35, resume: Some(\"s\"), lines: [], stops_at_refusal: false }";
     assert!(rt; asks_for(rt, &["d64sh", "shell", "--resume=s"], resume)?);
-    let both = "Shell { image: Some(\"disk\"), tracks: 35, resume: Some(\"s\") }";
+    let both =
+        "Shell { image: Some(\"disk\"), tracks: 35, resume: Some(\"s\"), lines: [], stops_at_refusal: false }";
     assert!(rt; asks_for(rt, &["d64sh", "shell", "disk", "--resume", "s"], both)?);
+    Ok(())
+}
+
+#[test]
+fn takes_the_words_for_a_script(rt: HostRuntime) -> Result<(), Fail> {
+    let rt = &rt;
+    let one =
+        "Shell { image: Some(\"disk\"), tracks: 35, resume: None, lines: [\"list\"], stops_at_refusal: false }";
+    assert!(rt; asks_for(rt, &["d64sh", "shell", "-c", "list", "disk"], one)?);
+    assert!(rt; asks_for(rt, &["d64sh", "shell", "disk", "--command=list"], one)?);
+    let more =
+        "Shell { image: None, tracks: 40, resume: None, lines: [\"format d,01\", \"\", \"list\"], stops_at_refusal: true }";
+    assert!(rt;
+        asks_for(
+            rt,
+            &[
+                "d64sh",
+                "shell",
+                "-ec",
+                "format d,01",
+                "-c",
+                "",
+                "--tracks=40",
+                "--command",
+                "list"
+            ],
+            more
+        )?
+    );
+    let stop = "Shell { image: None, tracks: 35, resume: None, lines: [], stops_at_refusal: true }";
+    assert!(rt; asks_for(rt, &["d64sh", "shell", "--stop-at-refusal"], stop)?);
+    Ok(())
+}
+
+#[test]
+fn takes_the_file_for_a_result(rt: HostRuntime) -> Result<(), Fail> {
+    let rt = &rt;
+    let petcat = "Petcat { file: Some(\"h\"), output: Some(\"t\") }";
+    assert!(rt; asks_for(rt, &["d64sh", "petcat", "-o", "t", "h"], petcat)?);
+    assert!(rt; asks_for(rt, &["d64sh", "petcat", "h", "--output=t"], petcat)?);
+    let crunch = "Crunch { start: 4097, file: None, output: Some(\"-\") }";
+    assert!(rt; asks_for(rt, &["d64sh", "crunch", "--start", "1001", "-o-"], crunch)?);
     Ok(())
 }
 
@@ -317,7 +362,16 @@ fn tells_what_is_wrong(rt: HostRuntime) -> Result<(), Fail> {
     let usage = "Usage: d64sh <COMMAND>";
     assert!(rt; is_told(rt, &[], usage, false)?);
     assert!(rt; is_told(rt, &["d64sh"], usage, false)?);
-    assert!(rt; is_told(rt, &["d64sh", "help"], usage, false)?);
+    let tip = "  tip: a similar subcommand exists: 'check'";
+    assert!(rt; is_told(rt, &["d64sh", "chek"], tip, false)?);
+    assert!(rt;
+        is_told(
+            rt,
+            &["d64sh", "help", "frob"],
+            "error: unrecognized subcommand 'frob'",
+            false
+        )?
+    );
     assert!(rt;
         is_told(
             rt,
@@ -330,7 +384,7 @@ fn tells_what_is_wrong(rt: HostRuntime) -> Result<(), Fail> {
         is_told(
             rt,
             &["d64sh", "shell", "a", "b"],
-            "Usage: d64sh shell [--tracks N] [IMAGE]",
+            "Usage: d64sh shell [-e] [-c LINE].. [--tracks N] [IMAGE]",
             false
         )?
     );
@@ -338,11 +392,11 @@ fn tells_what_is_wrong(rt: HostRuntime) -> Result<(), Fail> {
         is_told(
             rt,
             &["d64sh", "petcat", "--start", "c000"],
-            "Usage: d64sh petcat [FILE]",
+            "Usage: d64sh petcat [-o FILE] [FILE]",
             false
         )?
     );
-    let usage = "Usage: d64sh crunch [--start HEX] [FILE]";
+    let usage = "Usage: d64sh crunch [--start HEX] [-o FILE] [FILE]";
     assert!(rt; is_told(rt, &["d64sh", "crunch", "a", "b"], usage, false)?);
     assert!(rt;
         is_told(
@@ -385,9 +439,38 @@ fn tells_what_is_wrong(rt: HostRuntime) -> Result<(), Fail> {
 }
 
 #[test]
+fn says_the_usage_where_an_option_lacks_its_value(rt: HostRuntime) -> Result<(), Fail> {
+    let rt = &rt;
+    let shell = "       d64sh shell [-e] [-c LINE].. --resume FILE [IMAGE]";
+    assert!(rt; is_told(rt, &["d64sh", "shell", "--tracks"], shell, false)?);
+    assert!(rt; is_told(rt, &["d64sh", "shell", "disk", "--resume"], shell, false)?);
+    let wrong = "error: a value is required for '--tracks <N>' but none was supplied";
+    assert!(rt; is_told(rt, &["d64sh", "shell", "--tracks"], wrong, false)?);
+    let map = "Usage: d64sh map [--format FORMAT] FILE";
+    assert!(rt; is_told(rt, &["d64sh", "map", "disk", "--format"], map, false)?);
+    Ok(())
+}
+
+#[test]
+fn shows_help_by_the_word_for_it(rt: HostRuntime) -> Result<(), Fail> {
+    let rt = &rt;
+    let row = "  shell      Runs a script of commands on a disk image";
+    assert!(rt; is_told(rt, &["d64sh", "help"], row, true)?);
+    assert!(rt;
+        is_told(
+            rt,
+            &["d64sh", "help", "shell"],
+            "         keep HOST              store the session, with its changes",
+            true
+        )?
+    );
+    Ok(())
+}
+
+#[test]
 fn shows_help_and_version(rt: HostRuntime) -> Result<(), Fail> {
     let rt = &rt;
-    let petcat = "Example: d64sh petcat hello.prg >hello.bas";
+    let petcat = "Example: d64sh petcat hello.prg -o hello.bas";
     assert!(rt;
         is_told(
             rt,

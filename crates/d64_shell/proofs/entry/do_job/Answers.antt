@@ -1,25 +1,47 @@
--- A survey has ended as the work of its job says.
-use Rattle.std.proofs.Common.{rules, ap}
+-- A script and a survey have ended as the work of their job says.
+use Rattle.std.proofs.Common.{◌≡◌, ℕ, List, Option, inr, map, option_copied, option_map, rules, ap, ap₂}
 use Rattle.d64_collection.specs.Runs.{account_at}
 use Rattle.d64_check.specs.Check.{check_rule, heading_of as check_heading}
 use Rattle.d64_listing.specs.Files.{files_rule, heading_of as files_heading}
 use Rattle.d64_picture.specs.Pictures.{map_rule}
 use Rattle.d64_catalogue.specs.Catalogue.{catalogue_rule, catalogue_heading}
 use Rattle.std.specs.Prelude.{[], ◌∷◌, string_bytes}
-use Rattle.d64_shell.specs.Jobs.{work_of}
+use Rattle.d64_runner.specs.Transcript.{Manner}
+use Rattle.d64_runner.specs.declared.manners.Refusals.{Refusals}
+use Rattle.d64_shell.specs.Jobs.{beginning_of, home_of, refusals_of, source_of, work_of}
 use Rattle.d64_shell.specs.SurveyFiles.{Named, files_in, files_of}
 use Rattle.d64_shell.specs.Program.{outside_at}
-use Rattle.d64_shell.proofs.JobEnds.{survey_ended}
+use Rattle.d64_shell.proofs.JobEnds.{script_ended, survey_ended}
 use Rattle.d64_shell.proofs.entry.do_job.Goals as goal
+
+-- a fault stopped the script
+pub returns-in-Shell-clause-ended : goal.returns-in-Shell-clause-ended
+returns-in-Shell-clause-ended g c =
+    let image : option_copied c.as_deref.result ≡ option_map string_bytes c.in-Shell.image = search rules in
+    let resume : option_copied c.as_deref-in-Shell.result ≡ option_map string_bytes c.in-Shell.resume = search rules in
+    script_ended c.args.job
+    (beginning_of (option_map string_bytes c.in-Shell.image) c.in-Shell.tracks (option_map string_bytes c.in-Shell.resume))
+    (beginning_of (option_copied c.as_deref.result) c.in-Shell.tracks (option_copied c.as_deref-in-Shell.result))
+    (source_of (map string_bytes c.in-Shell.lines.items)) (source_of (map string_bytes c.as_slice.result.now))
+    (record { home = home_of (option_map string_bytes c.in-Shell.image); refusals = refusals_of c.in-Shell.stops_at_refusal })
+    (record { home = home_of (option_copied c.as_deref.result); refusals = c.refusals_of.result })
+    (outside_at g.R.Read.remaining c.args.input.now g.W.Write.contents c.args.output.now g.H.Host.state c.args.host.now)
+    (outside_at g.R.Read.remaining c.run.new.input g.W.Write.contents c.run.new.output g.H.Host.state c.run.new.host)
+    (account_at g.F.Write.contents c.args.faults.now) (account_at g.F.Write.contents c.report_on.new.faults) c.report_on.result
+    (ap work_of c.in-Shell.is)
+    (ap₂ (λ (i : Option (List ℕ)) (r : Option (List ℕ)). beginning_of i c.in-Shell.tracks r) image resume)
+    (ap source_of (ap (map string_bytes) c.as_slice.ensures.value))
+    (let manner : (h : List ℕ) → Refusals → Manner = λ h r. record { home = h; refusals = r } in ap₂ manner (ap home_of image) c.refusals_of.ensures)
+    (inr (c.in-Err.fault, c.in-Err.ensures.stopped, c.report_on.ensures.reported))
 
 pub returns-in-Check-clause-ended : goal.returns-in-Check-clause-ended
 returns-in-Check-clause-ended g c =
     survey_ended c.args.job (check_rule c.in-Check.format c.in-Check.digest) (check_heading c.in-Check.format c.in-Check.digest) (files_of c.in-Check.names) (files_in c.new.result.names)
     (outside_at g.R.Read.remaining c.args.input.now g.W.Write.contents c.args.output.now g.H.Host.state c.args.host.now)
-    (outside_at g.R.Read.remaining c.run.new.input g.W.Write.contents c.run.new.output g.H.Host.state c.run.new.host)
-    (account_at g.F.Write.contents c.args.faults.now) (account_at g.F.Write.contents c.run.new.faults) c.run.result
+    (outside_at g.R.Read.remaining c.run-in-Check.new.input g.W.Write.contents c.run-in-Check.new.output g.H.Host.state c.run-in-Check.new.host)
+    (account_at g.F.Write.contents c.args.faults.now) (account_at g.F.Write.contents c.run-in-Check.new.faults) c.run-in-Check.result
     (ap work_of c.in-Check.is) (search rules)
-    (c.run.ensures.ended (check_rule c.in-Check.format c.in-Check.digest) (check_heading c.in-Check.format c.in-Check.digest) (search rules))
+    (c.run-in-Check.ensures.ended (check_rule c.in-Check.format c.in-Check.digest) (check_heading c.in-Check.format c.in-Check.digest) (search rules))
 
 pub returns-in-Files-clause-ended : goal.returns-in-Files-clause-ended
 returns-in-Files-clause-ended g c =

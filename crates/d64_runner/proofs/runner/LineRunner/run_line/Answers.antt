@@ -1,18 +1,19 @@
 use Rattle.d64_undo.specs.History.{present}
 use Rattle.d64_line.specs.Response.{shown}
+use Rattle.d64_runner.specs.Runner.{manner_of}
 use Rattle.d64_runner.proofs.LinesSoFar.{RunsLine-skipped, RunsLine-answered, StopsInLine-answered}
-use Rattle.d64_runner.proofs.runner.run_line.Goals as goal
+use Rattle.d64_runner.proofs.runner.LineRunner.run_line.Goals as goal
 
 pub returns-in_default-clause-ran : goal.returns-in_default-clause-ran
 returns-in_default-clause-ran g c raw says open_run =
-    RunsLine-skipped c.args.home.now raw (g.W.Write.contents c.args.output.now.writer.now) _ _ c.args.tally.now (c.in_default.ensures raw says)
+    RunsLine-skipped (manner_of c.args.self.manner) raw (g.W.Write.contents c.args.output.now.writer.now) _ _ c.args.state.now.tally (c.in_default.ensures raw says)
 
 pub returns-clause-ran : goal.returns-clause-ran
 returns-clause-ran g c raw says open_run =
-    RunsLine-answered c.args.home.now raw _ _ _ _ c.args.tally.now c.count.new.self (shown (present c.answer_line.new.session) c.in-Some.response) c.write.result
+    RunsLine-answered (manner_of c.args.self.manner) raw _ _ _ _ c.args.state.now.tally c.count.new.self (shown (present c.answer_line.new.session) c.in-Some.response) c.write.result
     (c.in-Some.ensures raw says) c.count.ensures.closed c.count.ensures.accepted c.count.ensures.refused (rw c.image.ensures.present at c.write.ensures.ok)
 
 pub returns-clause-stopped : goal.returns-clause-stopped
 returns-clause-stopped g c raw says open_run =
-    StopsInLine-answered c.args.home.now raw _ _ _ _ c.args.tally.now (shown (present c.answer_line.new.session) c.in-Some.response) c.write.result
+    StopsInLine-answered (manner_of c.args.self.manner) raw _ _ _ _ c.args.state.now.tally (shown (present c.answer_line.new.session) c.in-Some.response) c.write.result
     (c.in-Some.ensures raw says) (rw c.image.ensures.present at c.write.ensures.err)

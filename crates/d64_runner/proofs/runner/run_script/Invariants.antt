@@ -3,8 +3,8 @@ use Rattle.std.specs.Io.KnownBytes.{Consumes}
 use Rattle.d64_script.specs.Script.{script_limit}
 use Rattle.d64_line.specs.Act.{world_of}
 use Rattle.d64_runner.specs.LineByLine.{HasCome}
-use Rattle.d64_runner.specs.Runner.{stand_of}
-use Rattle.d64_runner.proofs.runner.run_on.Given as goal
+use Rattle.d64_runner.specs.Runner.{manner_of, stand_of}
+use Rattle.d64_runner.proofs.runner.run_script.Given as goal
 
 -- the bytes so far are all that the reader lost, and the run has come through them
 abbrev pub invariant-loop : goal.invariant-loop
@@ -12,16 +12,16 @@ invariant-loop g l = record {
   bytes : List ℕ;
   lost : Consumes (g.R.Read.remaining l.initial.input.reader.now) (g.R.Read.remaining l.input.reader.now) bytes;
   within : length bytes + l.room ≡ script_limit;
-  came : HasCome l.home
+  came : HasCome (manner_of l.manner)
       (stand_of (g.W.Write.contents l.initial.output.writer.now) (world_of (g.H.Host.state l.initial.host) l.initial.session))
       (stand_of (g.W.Write.contents l.output.writer.now) (world_of (g.H.Host.state l.host) l.session))
-      l.tally l.line bytes;
-  few : l.tally.outcome.accepted + l.tally.outcome.refused ≤ length bytes;
+      l.state.tally l.state.line bytes;
+  few : l.state.tally.outcome.accepted + l.state.tally.outcome.refused ≤ length bytes;
   same_input : l.input.reader.ghost_name ≡ l.initial.input.reader.ghost_name;
   same_output : l.output.writer.ghost_name ≡ l.initial.output.writer.ghost_name;
   counted : l.input.reads ≡ l.counter;
   came_bytes : l.input.came ≡ length bytes;
   read : l.input.has_failed ≡ false;
   written : l.output.has_failed ≡ false;
-  heard : l.output.is_delivered ≡ false → 0 < l.tally.outcome.accepted + l.tally.outcome.refused;
+  heard : l.output.is_delivered ≡ false → 0 < l.state.tally.outcome.accepted + l.state.tally.outcome.refused;
 }

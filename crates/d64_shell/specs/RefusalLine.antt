@@ -1,0 +1,20 @@
+-- How a refused input is told in the form of compilers.
+use Rattle.std.specs.Prelude.{ℕ, ◌-◌, List, [], ◌++◌, length, take, codes, decimal, Option, Some, None, unwrap_or}
+use Rattle.std.specs.Option.{option_map_or}
+use Rattle.d64_script.specs.Status.{status_line}
+use Rattle.d64_script.specs.declared.status.Status.{Status}
+use Rattle.d64_wording.specs.Shown.{shown}
+
+-- the name of the input: that of its file, or `-` for the standard input
+abbrev pub input_name : Option (List ℕ) → List ℕ
+input_name name = unwrap_or name (codes "-")
+
+-- the text of a status: its line without the line feed
+abbrev pub status_text : Status → List ℕ
+status_text status = take (length (status_line status) - 1) (status_line status)
+
+-- the line of a refusal: the input, the line of it that is refused, where it is one, the status, and words for people
+unfoldable pub refusal_line : Option (List ℕ) → Option ℕ → Status → List ℕ → List ℕ
+refusal_line name line status words =
+    shown (input_name name) ++ (option_map_or (λ number. codes ":" ++ decimal number) line []
+    ++ (codes ": " ++ (status_text status ++ (codes ": " ++ (words ++ codes "\n")))))
