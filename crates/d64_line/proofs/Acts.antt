@@ -1,7 +1,5 @@
 -- Acts, done step by step.
-use Rattle.std.proofs.Common.{◌≡◌, ℕ, ◌≤◌, List, length, map, Bor, Option, Some, None, Ok, Err, inl, inr, refl, ap, subst, arith}
-use Rattle.std.proofs.lemmas.List.{length-map}
-use Rattle.std.proofs.lemmas.Bool.{le-leb}
+use Rattle.std.proofs.Common.{◌≡◌, ℕ, List, Option, Some, None, Ok, Err, inl, inr, refl, subst}
 use Rattle.d64_dos.specs.Refusal.{cause_of}
 use Rattle.d64_dos.specs.declared.refusal.Refusal.{Refusal}
 use Rattle.d64_dos.specs.declared.refusal.Refusal.TheVariants.{NotClosed, NotFound, Exists, WrongType, Directory, DiskFull, Memory}
@@ -10,9 +8,7 @@ use Rattle.d64_script.specs.declared.status.Status.TheVariants.{OutOfMemory}
 use Rattle.d64_line.specs.Act.{Act, Give, Refuse, Then, ◌>>=◌, Call, Gives, Does, Ending, LineAnswer, World, plain}
 use Rattle.d64_host.specs.Files.{HostState}
 use Rattle.d64_undo.specs.History.{History}
-use Rattle.d64_line.specs.Line.{allowed, act_of, act_of_command, status_of_refusal}
-use Rattle.d64_line.specs.CommandWord.{counts}
-use Rattle.d64_line.specs.declared.command_word.CommandWord.{CommandWord}
+use Rattle.d64_line.specs.Line.{allowed, status_of_refusal}
 
 -- a call gave bytes, and what follows them was done
 pub Does-given : (call : Call) (next : List ℕ → Act Ending) (bytes : List ℕ) (old new : HostState) (history : History) (answer : LineAnswer) (after : World)
@@ -71,16 +67,3 @@ Does-not_allowed WrongType cause call next world is = by_cause WrongType cause (
 Does-not_allowed (Directory fault) cause call next world is = by_cause (Directory fault) cause (Then call next) world is
 Does-not_allowed DiskFull cause call next world is = by_cause DiskFull cause (Then call next) world is
 Does-not_allowed Memory cause call next world is = Does-allowed cause (Then call next) world (plain OutOfMemory) world is (Does-no_memory call next world)
-
--- as many words follow as the command takes
-pub Does-counted : (home : List ℕ) (history : History) (command : CommandWord) (words : List (Bor (List ℕ))) (found : ℕ × ℕ)
-    (world : World) (answer : LineAnswer) (after : World)
-    → found ≡ counts home command → found.0 ≤ length words → length words ≤ found.1
-    → Does (act_of home history command (map (λ word. word.now) words)) world answer after
-    → Does (act_of_command home history command (map (λ word. word.now) words)) world answer after
-Does-counted home history command words found world answer after is enough within done =
-    let count = length-map words (λ (word : Bor (List ℕ)). word.now) in
-    let lists = map (λ (word : Bor (List ℕ)). word.now) words in
-    let least = ap (λ (pair : ℕ × ℕ). pair.0) is in
-    let greatest = ap (λ (pair : ℕ × ℕ). pair.1) is in
-    rw (le-leb (counts home command).0 (length lists) (omega arith), le-leb (length lists) (counts home command).1 (omega arith)) done

@@ -1,7 +1,6 @@
 pub mod Acts
 pub mod BasicActs
 pub mod TextArguments
-pub mod WordRows
 pub mod LastParts
 pub mod AsciiTexts
 pub mod FoundFiles

@@ -1,5 +1,6 @@
 -- What a line asks for, as an act of one step after another, and how an act is done.
 use Rattle.std.specs.Prelude.{◌≡◌, ℕ, List, [], ◌∷◌, ◌++◌, Bool, true, false, if◌then◌else◌, Result, MatchResult, Ok, Err, IfOk, ◌⊎◌}
+use Rattle.d64_image.specs.Disk.{Bytes}
 use Rattle.d64_effects.specs.Laws.{AreBytes}
 use Rattle.petscii.specs.TextForm.{IsTextOf}
 use Rattle.d64_host.specs.Files.{HostState}
@@ -14,7 +15,7 @@ use Rattle.d64_script.specs.declared.status.Status.TheVariants.{BadName, HostFil
 
 -- what a line is answered: its output, its status, and whether it ends the run
 pub record LineAnswer : Type 0 where
-  pub output : List ℕ
+  pub output : Bytes
   pub status : Status
   pub closes : Bool
 
@@ -23,7 +24,7 @@ abbrev pub plain : Status → LineAnswer
 plain status = record { output = []; status = status; closes = false }
 
 -- what an answer prints: its output, and then its status line
-abbrev pub printed : LineAnswer → List ℕ
+abbrev pub printed : LineAnswer → Bytes
 printed answer = answer.output ++ status_line answer.status
 
 -- what the script works on: the host and the history
@@ -37,15 +38,15 @@ world_of host history = record { host = host; history = history }
 -- a call of what may refuse, whatever the session is; it gives bytes
 pub data Call : Type 0 where
   -- the bytes that a word stands for in text form, where they pass a test
-  Text : (List ℕ → Bool) → List ℕ → Call
+  Text : (Bytes → Bool) → Bytes → Call
   -- a host file of at most so many bytes
-  Fetch : List ℕ → ℕ → Call
+  Fetch : Bytes → ℕ → Call
   -- bytes stored under a name of the host; what it gives is no matter
-  Store : List ℕ → List ℕ → Call
+  Store : Bytes → Bytes → Call
   -- the program file of a BASIC text
-  Crunch : List ℕ → Call
+  Crunch : Bytes → Call
   -- the text of a program file
-  Expand : List ℕ → Call
+  Expand : Bytes → Call
   -- room for what comes next; it gives no bytes
   Room : Call
 
@@ -53,7 +54,7 @@ pub data Call : Type 0 where
 pub data Act (A : Type 0) : Type 0 where
   Give : A → Act A
   Refuse : Status → Act A
-  Then : Call → (List ℕ → Act A) → Act A
+  Then : Call → (Bytes → Act A) → Act A
 
 -- one act, and then what its value asks for
 infixl 10 ◌>>=◌
@@ -76,31 +77,17 @@ valid (Err status) = Refuse status
 abbrev pub need : Bool → Status → Act (Unit {0})
 need test status = if test then Give tt else Refuse status
 
-abbrev pub text : (List ℕ → Bool) → List ℕ → Act (List ℕ)
-text test word = Then (Text test word) Give
+-- a call alone, and what it gives
+abbrev pub ask : Call → Act Bytes
+ask what = Then what Give
 
 -- the bytes that words stand for in text form, from left to right
-abbrev pub each_text : (List ℕ → Bool) → List (List ℕ) → Act (List (List ℕ))
+abbrev pub each_text : (Bytes → Bool) → List Bytes → Act (List Bytes)
 each_text test [] = Give []
 each_text test (word ∷ words) = do
-  bytes ← text test word
+  bytes ← ask (Text test word)
   more ← each_text test words
   Give (bytes ∷ more)
-
-abbrev pub fetch : List ℕ → ℕ → Act (List ℕ)
-fetch name limit = Then (Fetch name limit) Give
-
-abbrev pub store : List ℕ → List ℕ → Act (List ℕ)
-store name bytes = Then (Store name bytes) Give
-
-abbrev pub crunch : List ℕ → Act (List ℕ)
-crunch text = Then (Crunch text) Give
-
-abbrev pub expand : List ℕ → Act (List ℕ)
-expand file = Then (Expand file) Give
-
-abbrev pub room : Act (List ℕ)
-room = Then Room Give
 
 -- what an accepted line comes to: its answer, and the history after it
 pub record Ending : Type 0 where
@@ -108,18 +95,18 @@ pub record Ending : Type 0 where
   pub history : History
 
 -- a word stands for bytes in text form, and they pass a test
-abbrev pub IsSpelled : (List ℕ → Bool) → List ℕ → List ℕ → Type 0
+abbrev pub IsSpelled : (Bytes → Bool) → Bytes → Bytes → Type 0
 IsSpelled test word bytes = IsTextOf bytes word × (test bytes ≡ true)
 
 -- what a host may answer to a fetch, and what it shows then; whatever it tells of its files, a file is made of bytes
-pub record FetchesFile (old : HostState) (name : List ℕ) (limit : ℕ) (fetched : Result (List ℕ) HostFault) (new : HostState) : Type 0 where
+pub record FetchesFile (old : HostState) (name : Bytes) (limit : ℕ) (fetched : Result Bytes HostFault) (new : HostState) : Type 0 where
   pub answer : Fetches old.files name limit fetched
   pub bytes : IfOk fetched AreBytes
   pub counted : CountsDevice old.failures new.failures fetched
   pub kept : new.files ≡ old.files
 
 -- what a host may answer to a store, and what it shows then
-pub record StoresFile (old : HostState) (name bytes : List ℕ) (stored : Result (Unit {0}) HostFault) (new : HostState) : Type 0 where
+pub record StoresFile (old : HostState) (name bytes : Bytes) (stored : Result (Unit {0}) HostFault) (new : HostState) : Type 0 where
   pub answer : Stores old.files name bytes stored new.files
   pub counted : CountsDevice old.failures new.failures stored
 
@@ -129,16 +116,16 @@ status_of_fault (Memory error) = OutOfMemory
 status_of_fault fault = HostFile (fault_number fault)
 
 -- what the host gave, or how its fault is answered
-abbrev pub given_by : {A : Type 0} → (A → List ℕ) → Result A HostFault → Result (List ℕ) Status
+abbrev pub given_by : {A : Type 0} → (A → Bytes) → Result A HostFault → Result Bytes Status
 given_by bytes (Ok value) = Ok (bytes value)
 given_by bytes (Err fault) = Err (status_of_fault fault)
 
 -- what a call may give, and what the host shows then
-abbrev pub Gives : Call → HostState → Result (List ℕ) Status → HostState → Type 0
+abbrev pub Gives : Call → HostState → Result Bytes Status → HostState → Type 0
 Gives (Text test word) old (Ok bytes) new = IsSpelled test word bytes × (new ≡ old)
-Gives (Text test word) old (Err status) new = (status ≡ BadName) × ((bytes : List ℕ) → IsSpelled test word bytes → ⊥) × (new ≡ old)
+Gives (Text test word) old (Err status) new = (status ≡ BadName) × ((bytes : Bytes) → IsSpelled test word bytes → ⊥) × (new ≡ old)
 Gives (Fetch name limit) old given new =
-    (fetched : Result (List ℕ) HostFault) × FetchesFile old name limit fetched new × (given ≡ given_by (λ bytes. bytes) fetched)
+    (fetched : Result Bytes HostFault) × FetchesFile old name limit fetched new × (given ≡ given_by (λ bytes. bytes) fetched)
 Gives (Store name bytes) old given new =
     (stored : Result (Unit {0}) HostFault) × StoresFile old name bytes stored new × (given ≡ given_by (λ _. []) stored)
 Gives (Crunch text) old given new = Crunches text given × (new ≡ old)
@@ -150,7 +137,7 @@ unfoldable pub Does : Act Ending → World → LineAnswer → World → Type 0
 Does (Give ending) world answer after = (answer ≡ ending.answer) × (after ≡ record world { history = ending.history })
 Does (Refuse status) world answer after = (answer ≡ plain status) × (after ≡ world)
 Does (Then call next) world answer after =
-    ((given : Result (List ℕ) Status) × (host : HostState) × Gives call world.host given host
+    ((given : Result Bytes Status) × (host : HostState) × Gives call world.host given host
     × MatchResult given
     (λ bytes. Does (next bytes) (record world { host = host }) answer after)
     (λ status. (answer ≡ plain status) × (after ≡ record world { host = host })))

@@ -1,5 +1,6 @@
 -- What a BASIC text of the host and a program of the disk are turned into, or the status that refuses them.
 use Rattle.std.specs.Prelude.{◌≡◌, ℕ, List, Result, Ok, Err}
+use Rattle.d64_image.specs.Disk.{Bytes}
 use Rattle.std.specs.Option.{option_map_or}
 use Rattle.cbm_text.specs.BasicText as texts
 use Rattle.cbm_text.specs.ListFault.{ListsNot, list_fault_number}
@@ -24,11 +25,11 @@ status_of_listing (Memory error) = OutOfMemory
 status_of_listing fault = NotBasic (list_fault_number fault)
 
 -- a BASIC text is turned into its program file, or refused for its first fault
-abbrev pub Crunches : List ℕ → Result (List ℕ) Status → Type 0
+abbrev pub Crunches : Bytes → Result Bytes Status → Type 0
 Crunches text (Ok file) = texts.IsFileOf program_start text file
 Crunches text (Err status) = (fault : BasicFault) × texts.IsFirstFault program_start text fault × (status ≡ status_of_basic fault)
 
 -- a program file is turned into its text, or refused for its fault
-abbrev pub Expands : List ℕ → Result (List ℕ) Status → Type 0
+abbrev pub Expands : Bytes → Result Bytes Status → Type 0
 Expands file (Ok text) = Lists file text
 Expands file (Err status) = (fault : ListFault) × ListsNot file fault × (status ≡ status_of_listing fault)

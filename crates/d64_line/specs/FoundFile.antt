@@ -1,5 +1,6 @@
 -- The file that a pattern finds, and whether its name can be that of a host file.
 use Rattle.std.specs.Prelude.{ℕ, nat_lt, ◌==◌, ◌&&◌, not, Bool, List, [], length, codes, bytes_eq}
+use Rattle.d64_image.specs.Disk.{Bytes, Disk}
 use Rattle.std.specs.List.{list_any}
 use Rattle.std.specs.Option.{option_map_or}
 use Rattle.d64_files.specs.Directory.{slots, first_named}
@@ -7,11 +8,11 @@ use Rattle.d64_files.specs.Reading.{content_at}
 use Rattle.d64_dos.specs.Reading.{name_at}
 
 -- the name of the first used slot whose name the pattern matches; nothing where there is none
-abbrev pub found_name : List (List ℕ) → List ℕ → List ℕ
+abbrev pub found_name : Disk → Bytes → Bytes
 found_name image pattern = option_map_or (name_at image) (first_named pattern (slots image)) []
 
 -- its content
-abbrev pub found_content : List (List ℕ) → List ℕ → List ℕ
+abbrev pub found_content : Disk → Bytes → Bytes
 found_content image pattern = option_map_or (content_at image) (first_named pattern (slots image)) []
 
 -- `/`
@@ -19,6 +20,6 @@ abbrev pub slash : ℕ
 slash = 47
 
 -- a text that can name a host file: not empty, neither `.` nor `..`, and without a `/`
-unfoldable pub is_file_name : List ℕ → Bool
+unfoldable pub is_file_name : Bytes → Bool
 is_file_name text =
     nat_lt 0 (length text) && not (bytes_eq text (codes ".")) && not (bytes_eq text (codes "..")) && not (list_any (λ byte. byte == slash) text)

@@ -17,7 +17,6 @@ pub use Rattle.d64_host.specs.MemoryHost
 pub use Rattle.d64_script.specs.Dump
 pub use Rattle.d64_script.specs.RawLines
 pub use Rattle.d64_script.specs.Status
-pub mod CommandWord
 pub mod Arguments
 pub mod ArgumentTexts
 pub mod ListingText
@@ -25,5 +24,7 @@ pub mod HistoryText
 pub mod FoundFile
 pub mod BasicFiles
 pub mod Act
+pub mod WordCounts
 pub mod Response
 pub mod Line
+pub mod LineValue

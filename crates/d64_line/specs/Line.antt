@@ -1,5 +1,8 @@
 -- What each line of a script asks for.
-use Rattle.std.specs.Prelude.{◌≡◌, ℕ, nat_lt, nat_le, List, [], ◌∷◌, length, true, ◌+◌, ◌==◌, if◌then◌else◌, Option, None, Some, MatchOption, ok_or, slice_index_or, drop}
+use Rattle.std.specs.Prelude.{◌≡◌, ℕ, nat_lt, List, [], ◌∷◌, length, true, ◌+◌, ◌==◌, if◌then◌else◌, Option, None, Some, MatchOption, ok_or, find, codes}
+use Rattle.d64_image.specs.Disk.{Bytes}
+use Rattle.std.specs.Option.{option_map_or}
+use Rattle.std.specs.Str.{bytes_eq}
 use Rattle.d64_files.specs.Name.{is_name}
 use Rattle.d64_image.specs.Image.{sector_at, bytes_of}
 use Rattle.d64_undo.specs.History.{History, present, added, undone, redone}
@@ -18,8 +21,8 @@ use Rattle.d64_line.specs.HistoryText.{history_text}
 use Rattle.d64_line.specs.ListingText.{listing_text}
 use Rattle.d64_script.specs.RawLines.{text_of, is_too_long, is_skipped}
 use Rattle.d64_script.specs.Dump.{dump}
-use Rattle.d64_line.specs.CommandWord.{command_word_of, counts}
-use Rattle.d64_line.specs.Act.{Act, Give, Refuse, ◌>>=◌, ◌>>◌, valid, need, text, each_text, fetch, store, crunch, expand, room, Ending, plain, World, LineAnswer, Does}
+use Rattle.d64_line.specs.WordCounts.{no_word, one_word, at_most_one, word_and, some_words}
+use Rattle.d64_line.specs.Act.{Act, Give, Refuse, ◌>>=◌, ◌>>◌, valid, need, Call, Text, Fetch, Store, Crunch, Expand, Room, ask, each_text, Ending, plain, World, LineAnswer, Does}
 use Rattle.d64_dos.specs.Change.{Change}
 use Rattle.d64_dos.specs.Change as changes
 use Rattle.d64_dos.specs.declared.command.Reply.{Reply}
@@ -28,12 +31,6 @@ use Rattle.d64_dos.specs.declared.refusal.Refusal.{Refusal}
 use Rattle.d64_dos.specs.declared.refusal.Refusal.TheVariants as refusals
 use Rattle.d64_script.specs.declared.status.Status.{Status}
 use Rattle.d64_script.specs.declared.status.Status.TheVariants.{Done, FilesScratched, SyntaxError, UnknownCommand, LongLine, BadName, MissingWord, WriteFileOpen, FileNotFound, FileExists, FileTypeMismatch, DirectoryError, DiskFull, NothingToUndo, NothingToRedo, NotOneBlock, OutOfMemory}
-use Rattle.d64_line.specs.declared.command_word.CommandWord.{CommandWord}
-use Rattle.d64_line.specs.declared.command_word.CommandWord.TheVariants.{Block, BlockRead, BlockWrite, Crunch, Delete, Format, ListHistory, Keep, ListDirectory, Petcat, Quit, Read, Redo, Rename, Save, Undo, Validate, Write}
-
--- one of the words that follow the first
-abbrev pub word_at : List (List ℕ) → ℕ → List ℕ
-word_at words place = slice_index_or words place []
 
 -- how a refusal of a command is answered
 abbrev pub status_of_refusal : Refusal → Status
@@ -56,7 +53,7 @@ allowed None = Give tt
 allowed (Some refusal) = Refuse (status_of_refusal refusal)
 
 -- the line is accepted: it shows an output, and the history stays
-abbrev pub show : List ℕ → History → Act Ending
+abbrev pub show : Bytes → History → Act Ending
 show output history = Give (record { answer = record (plain Done) { output = output }; history = history })
 
 -- the line is accepted: it shows nothing, and leaves a history
@@ -64,27 +61,27 @@ abbrev pub leave : History → Act Ending
 leave history = Give (record { answer = plain Done; history = history })
 
 -- the line is accepted once bytes are stored under a name of the host, and the history stays
-abbrev pub put : History → List ℕ → List ℕ → Act Ending
+abbrev pub put : History → Bytes → Bytes → Act Ending
 put history name bytes = do
-  store name bytes
+  ask (Store name bytes)
   leave history
 
 -- a command given to the session: its first refusal, or its reply and one image more
 abbrev pub run : History → Change → Act Ending
 run history change = do
   allowed (refusal_of (present history) change)
-  room
+  ask Room
   Give (record { answer = plain (status_of_reply (reply_to (present history) change)); history = added history (after (present history) change) })
 
 -- `block`: a block is shown
-abbrev pub block_act : History → List ℕ → List ℕ → Act Ending
-block_act history track sector = do
+abbrev pub block_act : History → Bytes × Bytes → Act Ending
+block_act history (track, sector) = do
   block ← valid (block_in (present history) track sector)
   show (dump (sector_at (present history) block)) history
 
 -- `bread`: a block is stored in a host file
-abbrev pub block_read_act : History → List ℕ → List ℕ → List ℕ → Act Ending
-block_read_act history host track sector = do
+abbrev pub block_read_act : History → Bytes × (Bytes × Bytes) → Act Ending
+block_read_act history (host, (track, sector)) = do
   name ← valid (host_in host)
   block ← valid (block_in (present history) track sector)
   put history name (sector_at (present history) block)
@@ -94,78 +91,78 @@ abbrev pub host_file_limit : ℕ
 host_file_limit = 1048576
 
 -- a host file of one block replaces a block
-abbrev pub write_one_block : History → ℕ → List ℕ → Act Ending
+abbrev pub write_one_block : History → ℕ → Bytes → Act Ending
 write_one_block history block bytes = do
   need (length bytes == 256) NotOneBlock
   run history (changes.BlockWrite block bytes)
 
 -- `bwrite`: a block is replaced by a host file
-abbrev pub block_write_act : History → List ℕ → List ℕ → List ℕ → Act Ending
-block_write_act history host track sector = do
+abbrev pub block_write_act : History → Bytes × (Bytes × Bytes) → Act Ending
+block_write_act history (host, (track, sector)) = do
   name ← valid (host_in host)
   block ← valid (block_in (present history) track sector)
-  bytes ← fetch name host_file_limit
+  bytes ← ask (Fetch name host_file_limit)
   write_one_block history block bytes
 
 -- the program that a BASIC text stands for is written to the disk, as PRG
-abbrev pub write_program : History → List ℕ → List ℕ → Act Ending
+abbrev pub write_program : History → Bytes → Bytes → Act Ending
 write_program history name text = do
-  file ← crunch text
+  file ← ask (Crunch text)
   run history (changes.Write name Prg file)
 
 -- `crunch`: a BASIC text of the host is written to the disk as a program, under the name of a word, or by default under its own
-abbrev pub crunch_act : History → List ℕ → List (List ℕ) → Act Ending
-crunch_act history host words = do
+abbrev pub crunch_act : History → Bytes × Option Bytes → Act Ending
+crunch_act history (host, word) = do
   source ← valid (host_in host)
-  name ← text is_name (name_word host words)
-  basic ← fetch source host_file_limit
+  name ← ask (Text is_name (name_word host word))
+  basic ← ask (Fetch source host_file_limit)
   write_program history name basic
 
 -- `delete`: the files that patterns match are deleted
-abbrev pub delete_act : History → List (List ℕ) → Act Ending
+abbrev pub delete_act : History → List Bytes → Act Ending
 delete_act history words = do
   patterns ← each_text is_pattern words
   run history (changes.Delete patterns)
 
 -- `format`: the disk is made an empty one, with the name and the id in one word
-abbrev pub format_act : History → List ℕ → Act Ending
+abbrev pub format_act : History → Bytes → Act Ending
 format_act history word = do
   parts ← valid (ok_or (at_comma word) SyntaxError)
-  name ← text is_name parts.0
-  id ← text can_be_id parts.1
+  name ← ask (Text is_name parts.0)
+  id ← ask (Text can_be_id parts.1)
   run history (changes.Format name id)
 
 -- `history`: the records are shown
 abbrev pub history_act : History → Act Ending
 history_act history = do
-  room
+  ask Room
   show (history_text history) history
 
 -- `keep`: the session, the history with its cursor, is stored in a host file
-abbrev pub keep_act : History → List ℕ → Act Ending
+abbrev pub keep_act : History → Bytes → Act Ending
 keep_act history host = do
   name ← valid (host_in host)
-  room
+  ask Room
   put history name (file_of history)
 
 -- `list`: the directory is shown
 abbrev pub list_act : History → Act Ending
 list_act history = do
   allowed (directory_refusal (present history))
-  room
+  ask Room
   show (listing_text (listing_of (present history))) history
 
 -- the file that a pattern finds is shown as a BASIC program
-abbrev pub show_program : History → List ℕ → Act Ending
+abbrev pub show_program : History → Bytes → Act Ending
 show_program history pattern = do
   allowed (read_refusal (present history) pattern)
-  listing ← expand (found_content (present history) pattern)
+  listing ← ask (Expand (found_content (present history) pattern))
   show listing history
 
 -- `petcat`: a BASIC program of the disk is shown as text
-abbrev pub petcat_act : History → List ℕ → Act Ending
+abbrev pub petcat_act : History → Bytes → Act Ending
 petcat_act history name = do
-  pattern ← text is_pattern name
+  pattern ← ask (Text is_pattern name)
   show_program history pattern
 
 -- `quit`: the run ends
@@ -173,22 +170,22 @@ abbrev pub quit_act : History → Act Ending
 quit_act history = Give (record { answer = record (plain Done) { closes = true }; history = history })
 
 -- the file that a pattern finds is stored in the host file of a word, or by default, in text form, in that of its own name
-abbrev pub read_to : History → List ℕ → List (List ℕ) → Act Ending
-read_to history pattern [] = do
+abbrev pub read_to : History → Bytes → Option Bytes → Act Ending
+read_to history pattern None = do
   allowed (read_refusal (present history) pattern)
-  room
+  ask Room
   need (is_file_name (spelling (found_name (present history) pattern))) BadName
   put history (spelling (found_name (present history) pattern)) (found_content (present history) pattern)
-read_to history pattern (host ∷ more) = do
+read_to history pattern (Some host) = do
   name ← valid (host_in host)
   allowed (read_refusal (present history) pattern)
   put history name (found_content (present history) pattern)
 
 -- `read`: a file of the disk is stored in a host file
-abbrev pub read_act : History → List ℕ → List (List ℕ) → Act Ending
-read_act history name words = do
-  pattern ← text is_pattern name
-  read_to history pattern words
+abbrev pub read_act : History → Bytes × Option Bytes → Act Ending
+read_act history (name, host) = do
+  pattern ← ask (Text is_pattern name)
+  read_to history pattern host
 
 -- `redo`
 abbrev pub redo_act : History → Act Ending
@@ -197,16 +194,17 @@ redo_act history = do
   leave (redone history)
 
 -- `rename`: a file of one name is given another
-abbrev pub rename_act : History → List ℕ → List ℕ → Act Ending
-rename_act history old_word new_word = do
-  old ← text is_name old_word
-  new ← text is_name new_word
+abbrev pub rename_act : History → Bytes × Bytes → Act Ending
+rename_act history (old_word, new_word) = do
+  old ← ask (Text is_name old_word)
+  new ← ask (Text is_name new_word)
   run history (changes.Rename old new)
 
--- `save`: the image is stored in a host file, by default in the one that it has
-abbrev pub save_act : List ℕ → History → List (List ℕ) → Act Ending
-save_act home history [] = put history home (bytes_of (present history))
-save_act home history (host ∷ more) = do
+-- `save`: the image is stored in a host file, by default in its own, where it has one
+abbrev pub save_act : Bytes → History → Option Bytes → Act Ending
+save_act [] history None = Refuse MissingWord
+save_act home history None = put history home (bytes_of (present history))
+save_act home history (Some host) = do
   name ← valid (host_in host)
   put history name (bytes_of (present history))
 
@@ -221,66 +219,60 @@ abbrev pub validate_act : History → Act Ending
 validate_act history = run history changes.Validate
 
 -- `write`: a host file is written to the disk, under the name and with the kind of a word, or by default under its own name and as PRG
-abbrev pub write_act : History → List ℕ → List (List ℕ) → Act Ending
-write_act history host words = do
+abbrev pub write_act : History → Bytes × Option Bytes → Act Ending
+write_act history (host, word) = do
   source ← valid (host_in host)
-  file ← valid (name_and_kind_of host words)
-  name ← text is_name file.0
-  bytes ← fetch source host_file_limit
+  file ← valid (name_and_kind_of host word)
+  name ← ask (Text is_name file.0)
+  bytes ← ask (Fetch source host_file_limit)
   run history (changes.Write name file.1 bytes)
 
--- what a command word and the words after it ask for, where they are as many as it takes
-abbrev pub act_of : List ℕ → History → CommandWord → List (List ℕ) → Act Ending
-act_of home history Block words = block_act history (word_at words 0) (word_at words 1)
-act_of home history BlockRead words = block_read_act history (word_at words 0) (word_at words 1) (word_at words 2)
-act_of home history BlockWrite words = block_write_act history (word_at words 0) (word_at words 1) (word_at words 2)
-act_of home history Crunch words = crunch_act history (word_at words 0) (drop 1 words)
-act_of home history Delete words = delete_act history words
-act_of home history Format words = format_act history (word_at words 0)
-act_of home history ListHistory words = history_act history
-act_of home history Keep words = keep_act history (word_at words 0)
-act_of home history ListDirectory words = list_act history
-act_of home history Petcat words = petcat_act history (word_at words 0)
-act_of home history Quit words = quit_act history
-act_of home history Read words = read_act history (word_at words 0) (drop 1 words)
-act_of home history Redo words = redo_act history
-act_of home history Rename words = rename_act history (word_at words 0) (word_at words 1)
-act_of home history Save words = save_act home history words
-act_of home history Undo words = undo_act history
-act_of home history Validate words = validate_act history
-act_of home history Write words = write_act history (word_at words 0) (drop 1 words)
-
--- what a command word and the words after it ask for: too few words first, then too many
-abbrev pub act_of_command : List ℕ → History → CommandWord → List (List ℕ) → Act Ending
-act_of_command home history command words = do
-  need (nat_le (counts home command).0 (length words)) MissingWord
-  need (nat_le (length words) (counts home command).1) SyntaxError
-  act_of home history command words
+-- the commands: of each its word, how many words follow it, and what they ask for
+abbrev pub commands : Bytes → History → List Bytes → List (Bytes × Act Ending)
+commands home history words =
+    (codes "block", word_and one_word words >>= block_act history)
+    ∷ (codes "bread", word_and (word_and one_word) words >>= block_read_act history)
+    ∷ (codes "bwrite", word_and (word_and one_word) words >>= block_write_act history)
+    ∷ (codes "crunch", word_and at_most_one words >>= crunch_act history)
+    ∷ (codes "delete", some_words words >>= delete_act history)
+    ∷ (codes "format", one_word words >>= format_act history)
+    ∷ (codes "history", no_word words >> history_act history)
+    ∷ (codes "keep", one_word words >>= keep_act history)
+    ∷ (codes "list", no_word words >> list_act history)
+    ∷ (codes "petcat", one_word words >>= petcat_act history)
+    ∷ (codes "quit", no_word words >> quit_act history)
+    ∷ (codes "read", word_and at_most_one words >>= read_act history)
+    ∷ (codes "redo", no_word words >> redo_act history)
+    ∷ (codes "rename", word_and one_word words >>= rename_act history)
+    ∷ (codes "save", at_most_one words >>= save_act home history)
+    ∷ (codes "undo", no_word words >> undo_act history)
+    ∷ (codes "validate", no_word words >> validate_act history)
+    ∷ (codes "write", word_and at_most_one words >>= write_act history)
+    ∷ []
 
 -- what a line's words ask for
-abbrev pub act_of_words : List ℕ → History → List (List ℕ) → Act Ending
+abbrev pub act_of_words : Bytes → History → List Bytes → Act Ending
 act_of_words home history [] = Refuse UnknownCommand
-act_of_words home history (first ∷ words) = do
-  command ← valid (ok_or (command_word_of first) UnknownCommand)
-  act_of_command home history command words
+act_of_words home history (first ∷ words) =
+    option_map_or (λ row. row.1) (find (λ row. bytes_eq first row.0) (commands home history words)) (Refuse UnknownCommand)
 
 -- what the text of a line asks for
-abbrev pub act_of_text : List ℕ → History → List ℕ → Act Ending
+abbrev pub act_of_text : Bytes → History → Bytes → Act Ending
 act_of_text home history line = do
   words ← valid (ok_or (words_of line) SyntaxError)
   act_of_words home history words
 
 -- what a line of the script asks for; None where it is skipped
-unfoldable pub act_of_line : List ℕ → History → List ℕ → Option (Act Ending)
+unfoldable pub act_of_line : Bytes → History → Bytes → Option (Act Ending)
 act_of_line home history line =
     if is_too_long line then Some (Refuse LongLine)
     else (if is_skipped (text_of line) then None else Some (act_of_text home history (text_of line)))
 
 -- a line is skipped: it asks for nothing, and nothing changes
-abbrev pub IsSkipped : List ℕ → History → List ℕ → World → World → Type 0
+abbrev pub IsSkipped : Bytes → History → Bytes → World → World → Type 0
 IsSkipped home history line world after = (act_of_line home history line ≡ None) × (after ≡ world)
 
 -- a line asks for an act, which is done and answered
-abbrev pub IsAnswered : List ℕ → History → List ℕ → World → LineAnswer → World → Type 0
+abbrev pub IsAnswered : Bytes → History → Bytes → World → LineAnswer → World → Type 0
 IsAnswered home history line world answer after =
     MatchOption (act_of_line home history line) ⊥ (λ act. Does act world answer after)

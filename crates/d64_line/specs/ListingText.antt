@@ -1,5 +1,6 @@
 -- The lines of a directory.
 use Rattle.std.specs.Prelude.{ℕ, ◌-◌, if◌then◌else◌, List, [], ◌++◌, length, replicate, codes}
+use Rattle.d64_image.specs.Disk.{Bytes}
 use Rattle.std.specs.Fmt.{decimal}
 use Rattle.std.specs.List.{flat_map}
 use Rattle.petscii.specs.Spelling.{spelling}
@@ -8,11 +9,11 @@ use Rattle.d64_files.specs.declared.kind.Kind.{Kind}
 use Rattle.d64_files.specs.declared.kind.Kind.TheVariants.{Del, Seq, Prg, Usr, Rel}
 
 -- a text filled with spaces up to a number of places; a longer one stays as it is
-abbrev pub padded : ℕ → List ℕ → List ℕ
+abbrev pub padded : ℕ → Bytes → Bytes
 padded places text = text ++ replicate (places - length text) 32
 
 -- the three letters of a kind
-abbrev pub kind_text : Kind → List ℕ
+abbrev pub kind_text : Kind → Bytes
 kind_text Del = codes "del"
 kind_text Seq = codes "seq"
 kind_text Prg = codes "prg"
@@ -20,20 +21,20 @@ kind_text Usr = codes "usr"
 kind_text Rel = codes "rel"
 
 -- the first line: the disk's name, its id and its DOS version
-unfoldable pub header_line : ListingView → List ℕ
+unfoldable pub header_line : ListingView → Bytes
 header_line listing =
     codes "0 \"" ++ padded 16 (spelling listing.name) ++ codes "\" " ++ spelling listing.id ++ codes " " ++ spelling listing.dos ++ codes "\n"
 
 -- the line of a file: its size in blocks, its name between quotes, whether it is closed, its kind, and whether it is locked
-unfoldable pub row_line : RowView → List ℕ
+unfoldable pub row_line : RowView → Bytes
 row_line row =
     padded 5 (decimal row.blocks) ++ codes " " ++ padded 18 (codes "\"" ++ spelling row.name ++ codes "\"")
     ++ (if row.closed then codes " " else codes "*") ++ kind_text row.kind ++ (if row.locked then codes "<" else []) ++ codes "\n"
 
 -- the last line: the number of free blocks
-unfoldable pub free_line : ListingView → List ℕ
+unfoldable pub free_line : ListingView → Bytes
 free_line listing = decimal listing.free ++ codes " blocks free.\n"
 
 -- the lines that show a directory
-unfoldable pub listing_text : ListingView → List ℕ
+unfoldable pub listing_text : ListingView → Bytes
 listing_text listing = header_line listing ++ flat_map row_line listing.rows ++ free_line listing

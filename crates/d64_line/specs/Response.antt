@@ -1,5 +1,6 @@
 -- What a line prints, as the code holds it, and that it responds as an act asks.
 use Rattle.std.specs.Prelude.{ℕ, nat_lt, if◌then◌else◌, List, [], length, Result, Ok, Err}
+use Rattle.d64_image.specs.Disk.{Bytes, Disk}
 use Rattle.d64_image.specs.Image.{sector_at}
 use Rattle.d64_script.specs.Dump.{dump}
 use Rattle.d64_line.specs.Act.{Act, Ending, World, world_of, Does, LineAnswer, plain}
@@ -11,17 +12,17 @@ use Rattle.d64_line.specs.declared.response.Output.TheVariants.{Nothing, Block, 
 use Rattle.d64_script.specs.declared.status.Status.{Status}
 
 -- the bytes of an output, where this is the image: a block that the image hasn't is shown by none
-abbrev pub output_bytes : List (List ℕ) → Output → List ℕ
+abbrev pub output_bytes : Disk → Output → Bytes
 output_bytes image Nothing = []
 output_bytes image (Block at) = if nat_lt at (length image) then dump (sector_at image at) else []
 output_bytes image (Text text) = text.items
 
 -- a response as the answer that it prints, where this is the image
-abbrev pub shown : List (List ℕ) → Response → LineAnswer
+abbrev pub shown : Disk → Response → LineAnswer
 shown image response = record { output = output_bytes image response.output; status = response.status; closes = response.closes }
 
 -- the answer to a line: of an accepted one, or the status that refuses it, with no output
-abbrev pub answer_of : List (List ℕ) → Result Response Status → LineAnswer
+abbrev pub answer_of : Disk → Result Response Status → LineAnswer
 answer_of image (Ok response) = shown image response
 answer_of image (Err status) = plain status
 

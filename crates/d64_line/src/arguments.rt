@@ -1,9 +1,8 @@
 //! What the words of a line stand for.
 #![tactic(auto, unfolding(crate::specs::Arguments::host_in, crate::specs::Arguments::number_in, crate::specs::Arguments::block_in, crate::specs::Arguments::at_comma, crate::specs::Arguments::after_slash))]
 
-ghost use Rattle.std.specs.Prelude.{◌≡◌, ◌<◌, All, IfOk, Result, ◌==◌, true, length, map, option_map, position};
+ghost use Rattle.std.specs.Prelude.{◌≡◌, ◌<◌, IfOk, Result, ◌==◌, true, length, map, option_map, position};
 ghost use Rattle.d64_line.specs.Arguments.{host_in, number_in, block_in, can_be_id, at_comma, kind_of_letter, name_and_kind_in, after_slash, name_word, name_and_kind_of};
-ghost use Rattle.d64_script.specs.Words.{IsPrintable};
 ghost use Rattle.d64_line.specs.ArgumentTexts.{texts, named, items, Reads, ReadsEach};
 ghost use Rattle.petscii.specs.TextForm.{HasOneReading};
 ghost use Rattle.d64_files.specs.Name.{is_name};
@@ -16,32 +15,30 @@ use d64_image::{BlockNo, Image};
 use d64_script::number::number;
 use d64_script::status::Status;
 use std::alloc::Global;
-use std::str;
 
 /// The most bytes of the name of a host file.
 pub const HOST_NAME_BYTES: usize = 255;
 
 /// The name of a host file, of 1 to 255 bytes.
-pub(crate) fn host_in(word: &[u8]) -> Result<&str, Status>
-    requires { All IsPrintable word.now }
+pub(crate) fn host_in(word: &str) -> Result<&str, Status>
     ensures { texts result ≡ host_in word.now }
 {
     if word.is_empty() || word.len() > HOST_NAME_BYTES {
         return Err(Status::BadName);
     }
-    Ok(str::from_utf8(word).unwrap())
+    Ok(word)
 }
 
 /// A number of one to three digits, of value at most 255.
-pub(crate) fn number_in(word: &[u8]) -> Result<u8, Status>
+pub(crate) fn number_in(word: &str) -> Result<u8, Status>
     ensures { result ≡ number_in word.now }
 {
-    number(word).ok_or(Status::SyntaxError)
+    number(word.as_bytes()).ok_or(Status::SyntaxError)
 }
 
 /// The block of an image at a track and a sector. Both words are read before the image is looked at.
 #[tactic(auto, unfolding(crate::specs::Arguments::block_in, d64_files::specs::Chain::block_in))]
-pub(crate) fn block_in(image: &Image, track: &[u8], sector: &[u8]) -> Result<BlockNo, Status>
+pub(crate) fn block_in(image: &Image, track: &str, sector: &str) -> Result<BlockNo, Status>
     ensures block { result ≡ block_in image.now track.now sector.now }
     ensures held { IfOk result (λ block. block < length image.now) }
 {
@@ -74,10 +71,10 @@ pub(crate) fn name_in(alloc: Global, word: &[u8]) -> Result<Name, Status>
 }
 
 /// The pattern that a word stands for, with which the names of files are compared.
-pub(crate) fn pattern_in(alloc: Global, word: &[u8]) -> Result<Pattern, Status>
+pub(crate) fn pattern_in(alloc: Global, word: &str) -> Result<Pattern, Status>
     ensures { Reads is_pattern word.now result }
 {
-    let bytes = bytes_in(alloc, word)?;
+    let bytes = bytes_in(alloc, word.as_bytes())?;
     match Pattern::new(bytes.as_slice()) {
         Ok(pattern) => Ok(pattern),
         Err(_) => Err(Status::BadName),
@@ -85,7 +82,7 @@ pub(crate) fn pattern_in(alloc: Global, word: &[u8]) -> Result<Pattern, Status>
 }
 
 /// The patterns that words stand for, from left to right. The first word that stands for none is refused.
-pub(crate) fn patterns_in(alloc: Global, words: &[&[u8]]) -> Result<Vec<Pattern>, Status>
+pub(crate) fn patterns_in(alloc: Global, words: &[&str]) -> Result<Vec<Pattern>, Status>
     ensures { ReadsEach is_pattern (map (λ word. word.now) words.now) (items result) }
 {
     let mut patterns = Vec::new(alloc);
@@ -165,27 +162,26 @@ fn after_slash(word: &[u8]) -> &[u8]
     }
 }
 
-/// The word that names a new file, among those that follow the one of its host file. Where there is none, it is the name
-/// of the host file without its folders.
-pub(crate) fn name_word<'a>(host: &'a [u8], words: &[&'a [u8]]) -> &'a [u8]
-    ensures { result.now ≡ name_word host.now (map (λ word. word.now) words.now) }
+/// What names a new file: a word, or the name of its host file without the folders.
+pub(crate) fn name_word<'a>(host: &'a str, word: Option<&'a str>) -> &'a [u8]
+    ensures { result.now ≡ name_word host.now (option_map (λ word. word.now) word.entry) }
 {
-    match words.first() {
-        Some(word) => word,
-        None => after_slash(host),
+    match word {
+        Some(word) => word.as_bytes(),
+        None => after_slash(host.as_bytes()),
     }
 }
 
-/// The name and the kind of a new file, from the words that follow the one of its host file. Where there is none, the
-/// name is that of the host file without its folders, and the kind is PRG.
+/// The name and the kind of a new file, from a word. Where there is none, the name is that of its host file without the
+/// folders, and the kind is PRG.
 pub(crate) fn name_and_kind_of<'a>(
-    host: &'a [u8],
-    words: &[&'a [u8]],
+    host: &'a str,
+    word: Option<&'a str>,
 ) -> Result<(&'a [u8], Kind), Status>
-    ensures { named result ≡ name_and_kind_of host.now (map (λ word. word.now) words.now) }
+    ensures { named result ≡ name_and_kind_of host.now (option_map (λ word. word.now) word.entry) }
 {
-    match words.first() {
-        Some(word) => name_and_kind_in(word),
-        None => Ok((after_slash(host), Kind::Prg)),
+    match word {
+        Some(word) => name_and_kind_in(word.as_bytes()),
+        None => Ok((after_slash(host.as_bytes()), Kind::Prg)),
     }
 }

@@ -1,8 +1,7 @@
 //! What each command word does: a handler a word.
 #![tactic(auto, unfolding(crate::specs::Act::Does))]
 
-ghost use Rattle.std.specs.Prelude.{◌≡◌, ◌<◌, ◌≤◌, [], ◌∷◌, All, map, length};
-ghost use Rattle.d64_script.specs.Words.{IsPrintable};
+ghost use Rattle.std.specs.Prelude.{◌≡◌, ◌<◌, ◌≤◌, All, Some, None, map, option_map, length};
 ghost use Rattle.d64_dos.specs.Change.{said};
 ghost use Rattle.d64_dos.specs.Command.{IsWithin};
 ghost use Rattle.d64_line.specs.Act.{world_of};
@@ -41,8 +40,8 @@ pub const HOST_FILE_BYTES: usize = 1_048_576;
 const PROGRAM_START: u16 = 0x0801;
 
 /// `block`: the sixteen lines that show a block.
-pub(crate) fn block(session: &Session, track: &[u8], sector: &[u8]) -> Result<Response, Status>
-    ensures { RespondsAlone (block_act session.now track.now sector.now) session.now result session.now }
+pub(crate) fn block(session: &Session, track: &str, sector: &str) -> Result<Response, Status>
+    ensures { RespondsAlone (block_act session.now (track.now, sector.now)) session.now result session.now }
 {
     let block = block_in(session.image(), track, sector)?;
     Ok(Response {
@@ -57,12 +56,11 @@ pub(crate) fn block_read<H: Host>(
     alloc: Global,
     host: &mut H,
     session: &Session,
-    name: &[u8],
-    track: &[u8],
-    sector: &[u8],
+    name: &str,
+    track: &str,
+    sector: &str,
 ) -> Result<Response, Status>
-    requires { All IsPrintable name.now }
-    ensures { Responds (block_read_act session.now name.now track.now sector.now)
+    ensures { Responds (block_read_act session.now (name.now, (track.now, sector.now)))
         (world_of (H.state host.old) session.now)
         result
         (world_of (H.state host.new) session.now) }
@@ -78,12 +76,11 @@ pub(crate) fn block_write<H: Host>(
     alloc: Global,
     host: &mut H,
     session: &mut Session,
-    name: &[u8],
-    track: &[u8],
-    sector: &[u8],
+    name: &str,
+    track: &str,
+    sector: &str,
 ) -> Result<Response, Status>
-    requires { All IsPrintable name.now }
-    ensures { Responds (block_write_act session.old name.now track.now sector.now)
+    ensures { Responds (block_write_act session.old (name.now, (track.now, sector.now)))
         (world_of (H.state host.old) session.old)
         result
         (world_of (H.state host.new) session.new) }
@@ -123,18 +120,17 @@ pub(crate) fn crunch<H: Host>(
     alloc: Global,
     host: &mut H,
     session: &mut Session,
-    name: &[u8],
-    words: &[&[u8]],
+    source: &str,
+    name: Option<&str>,
 ) -> Result<Response, Status>
-    requires { All IsPrintable name.now }
-    ensures { Responds (crunch_act session.old name.now (map (λ word. word.now) words.now))
+    ensures { Responds (crunch_act session.old (source.now, option_map (λ word. word.now) name.entry))
         (world_of (H.state host.old) session.old)
         result
         (world_of (H.state host.new) session.new) }
 {
-    let source = host_in(name)?;
-    let name = name_in(alloc, name_word(name, words))?;
-    match fetch(alloc, host, source, HOST_FILE_BYTES) {
+    let file = host_in(source)?;
+    let name = name_in(alloc, name_word(source, name))?;
+    match fetch(alloc, host, file, HOST_FILE_BYTES) {
         Ok(text) => write_program(alloc, session, name, text.as_slice()),
         Err(fault) => Err(of_fault(fault)),
     }
@@ -167,19 +163,19 @@ fn write_program(
 pub(crate) fn delete(
     alloc: Global,
     session: &mut Session,
-    words: &[&[u8]],
+    patterns: &[&str],
 ) -> Result<Response, Status>
-    ensures { RespondsAlone (delete_act session.old (map (λ word. word.now) words.now)) session.old result session.new }
+    ensures { RespondsAlone (delete_act session.old (map (λ word. word.now) patterns.now)) session.old result session.new }
 {
-    let patterns = patterns_in(alloc, words)?;
+    let patterns = patterns_in(alloc, patterns)?;
     run_command(session, &Command::Delete { patterns })
 }
 
 /// `format`: the disk made an empty one. The word is cut at its first comma, into the name and the id.
-pub(crate) fn format(alloc: Global, session: &mut Session, word: &[u8]) -> Result<Response, Status>
+pub(crate) fn format(alloc: Global, session: &mut Session, word: &str) -> Result<Response, Status>
     ensures { RespondsAlone (format_act session.old word.now) session.old result session.new }
 {
-    let Some((name, id)) = at_comma(word) else {
+    let Some((name, id)) = at_comma(word.as_bytes()) else {
         return Err(Status::SyntaxError);
     };
     let name = name_in(alloc, name)?;
@@ -200,9 +196,8 @@ pub(crate) fn keep<H: Host>(
     alloc: Global,
     host: &mut H,
     session: &Session,
-    name: &[u8],
+    name: &str,
 ) -> Result<Response, Status>
-    requires { All IsPrintable name.now }
     ensures { Responds (keep_act session.now name.now)
         (world_of (H.state host.old) session.now)
         result
@@ -223,7 +218,7 @@ pub(crate) fn list(alloc: Global, session: &Session) -> Result<Response, Status>
 }
 
 /// `petcat`: the text of a BASIC program of the disk.
-pub(crate) fn petcat(alloc: Global, session: &Session, name: &[u8]) -> Result<Response, Status>
+pub(crate) fn petcat(alloc: Global, session: &Session, name: &str) -> Result<Response, Status>
     ensures { RespondsAlone (petcat_act session.now name.now) session.now result session.now }
 {
     let pattern = pattern_in(alloc, name)?;
@@ -258,17 +253,16 @@ pub(crate) fn read<H: Host>(
     alloc: Global,
     host: &mut H,
     session: &Session,
-    name: &[u8],
-    words: &[&[u8]],
+    name: &str,
+    target: Option<&str>,
 ) -> Result<Response, Status>
-    requires { All (λ word. All IsPrintable word.now) words.now }
-    ensures { Responds (read_act session.now name.now (map (λ word. word.now) words.now))
+    ensures { Responds (read_act session.now (name.now, option_map (λ word. word.now) target.entry))
         (world_of (H.state host.old) session.now)
         result
         (world_of (H.state host.new) session.now) }
 {
     let pattern = pattern_in(alloc, name)?;
-    match words.first() {
+    match target {
         Some(word) => read_to(alloc, host, session, &pattern, word),
         None => read_as_found(alloc, host, session, &pattern),
     }
@@ -280,10 +274,9 @@ fn read_to<H: Host>(
     host: &mut H,
     session: &Session,
     pattern: &Pattern,
-    word: &[u8],
+    word: &str,
 ) -> Result<Response, Status>
-    requires { All IsPrintable word.now }
-    ensures { Responds (read_to session.now pattern.now (word.now ∷ []))
+    ensures { Responds (read_to session.now pattern.now (Some word.now))
         (world_of (H.state host.old) session.now)
         result
         (world_of (H.state host.new) session.now) }
@@ -302,7 +295,7 @@ fn read_as_found<H: Host>(
     session: &Session,
     pattern: &Pattern,
 ) -> Result<Response, Status>
-    ensures { Responds (read_to session.now pattern.now [])
+    ensures { Responds (read_to session.now pattern.now None)
         (world_of (H.state host.old) session.now)
         result
         (world_of (H.state host.new) session.now) }
@@ -329,32 +322,32 @@ pub(crate) fn redo(session: &mut Session) -> Result<Response, Status>
 pub(crate) fn rename(
     alloc: Global,
     session: &mut Session,
-    old: &[u8],
-    new: &[u8],
+    old: &str,
+    new: &str,
 ) -> Result<Response, Status>
-    ensures { RespondsAlone (rename_act session.old old.now new.now) session.old result session.new }
+    ensures { RespondsAlone (rename_act session.old (old.now, new.now)) session.old result session.new }
 {
-    let old = name_in(alloc, old)?;
-    let new = name_in(alloc, new)?;
+    let old = name_in(alloc, old.as_bytes())?;
+    let new = name_in(alloc, new.as_bytes())?;
     run_command(session, &Command::Rename { old, new })
 }
 
-/// `save`: the image stored in a host file, by default its own.
+/// `save`: the image stored in a host file, by default its own. Where it has none, a word is missed.
 pub(crate) fn save<H: Host>(
     alloc: Global,
     host: &mut H,
     home: &str,
     session: &Session,
-    words: &[&[u8]],
+    name: Option<&str>,
 ) -> Result<Response, Status>
-    requires { All (λ word. All IsPrintable word.now) words.now }
-    ensures { Responds (save_act home.now session.now (map (λ word. word.now) words.now))
+    ensures { Responds (save_act home.now session.now (option_map (λ word. word.now) name.entry))
         (world_of (H.state host.old) session.now)
         result
         (world_of (H.state host.new) session.now) }
 {
-    let name = match words.first() {
+    let name = match name {
         Some(word) => host_in(word)?,
+        None if home.is_empty() => return Err(Status::MissingWord),
         None => home,
     };
     store(alloc, host, name, session.image().bytes())
@@ -380,19 +373,18 @@ pub(crate) fn write<H: Host>(
     alloc: Global,
     host: &mut H,
     session: &mut Session,
-    name: &[u8],
-    words: &[&[u8]],
+    source: &str,
+    name: Option<&str>,
 ) -> Result<Response, Status>
-    requires { All IsPrintable name.now }
-    ensures { Responds (write_act session.old name.now (map (λ word. word.now) words.now))
+    ensures { Responds (write_act session.old (source.now, option_map (λ word. word.now) name.entry))
         (world_of (H.state host.old) session.old)
         result
         (world_of (H.state host.new) session.new) }
 {
-    let source = host_in(name)?;
-    let (name, kind) = name_and_kind_of(name, words)?;
+    let file = host_in(source)?;
+    let (name, kind) = name_and_kind_of(source, name)?;
     let name = name_in(alloc, name)?;
-    match fetch(alloc, host, source, HOST_FILE_BYTES) {
+    match fetch(alloc, host, file, HOST_FILE_BYTES) {
         Ok(bytes) => run_command(session, &Command::Write { name, kind, bytes }),
         Err(fault) => Err(of_fault(fault)),
     }

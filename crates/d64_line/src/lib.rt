@@ -1,8 +1,8 @@
-//! A line of a script over a disk image: the words that it may begin with, what it does, and what it answers.
+//! A line of a script over a disk image: what it asks for, what it does, and what it answers.
 #![tactic(auto)]
 
+mod answer;
 mod arguments;
-mod command_word;
 mod handlers;
 mod history_text;
 pub mod host_file;
@@ -11,6 +11,5 @@ mod listing_text;
 mod response;
 pub mod status_from;
 
-pub use command_word::CommandWord;
-pub use line::answer_line;
+pub use answer::answer_line;
 pub use response::{Output, Response};

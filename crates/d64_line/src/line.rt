@@ -1,185 +1,204 @@
-//! One line of a script.
-#![tactic(auto, unfolding(crate::specs::Act::Does, crate::specs::Line::act_of_line))]
+//! A line of a script as a value, made from its words.
+ghost use Rattle.std.specs.Prelude.{◌≡◌, map, option_map};
+ghost use Rattle.d64_image.specs.Disk.{Bytes};
+ghost use Rattle.d64_undo.specs.History.{History};
+ghost use Rattle.d64_line.specs.LineValue.{taken};
+ghost use Rattle.d64_line.specs.WordCounts.{no_word, one_word, at_most_one, word_and, some_words};
 
-ghost use Rattle.std.specs.Prelude.{◌≡◌, ◌≤◌, ℕ, List, All, map, length, MatchOption};
-ghost use Rattle.d64_script.specs.HeldLine.{Says};
-ghost use Rattle.d64_script.specs.Words.{IsPrintable};
-ghost use Rattle.d64_undo.specs.History.{present};
-ghost use Rattle.d64_line.specs.Act.{world_of};
-ghost use Rattle.d64_line.specs.Response.{shown, Responds};
-ghost use Rattle.d64_line.specs.Line.{act_of_command, act_of_words, act_of_text, act_of_line, IsSkipped, IsAnswered};
-
-use crate::command_word::CommandWord;
-use crate::handlers;
-use crate::response::Response;
-use arrayvec::ArrayVec;
-use d64_host::Host;
-use d64_script::held_line::HeldLine;
-use d64_script::raw_lines;
 use d64_script::status::Status;
-use d64_script::words::{MAX_WORDS, Words};
-use d64_undo::Session;
-use std::alloc::Global;
+use d64_script::words::MAX_WORDS;
 
-/// The most words that a command takes, its own counted, but for `delete`. A room for so many is made sooner than one for
-/// all that a line may have.
-const FEW_WORDS: usize = 4;
-
-/// The response to a line that has come to its end, or None where it is skipped: an empty line, or a comment.
-///
-/// `home` is the name of the host file in which `save` stores by default, or empty.
-pub fn answer_line<H: Host>(
-    alloc: Global,
-    host: &mut H,
-    home: &str,
-    session: &mut Session,
-    line: &HeldLine,
-) -> Option<Response>
-    ensures { (raw : List ℕ) → Says line.now raw → MatchOption result
-        (IsSkipped home.now session.old raw
-        (world_of (H.state host.old) session.old)
-        (world_of (H.state host.new) session.new))
-        (λ response. IsAnswered home.now session.old raw
-        (world_of (H.state host.old) session.old)
-        (shown (present session.new) response)
-        (world_of (H.state host.new) session.new)) }
-{
-    let Some(text) = line.text() else {
-        return Some(Response::plain(Status::LongLine));
-    };
-    if raw_lines::is_skipped(text) {
-        return None;
-    }
-    let answer = answer_text(alloc, host, home, session, text);
-    Some(Response::of(answer))
+/// What a line asks for: its command, and the words after that one as they were written.
+#[derive(Clone, Copy)]
+pub(crate) enum Line<'a> {
+    /// `block t s`: shows a block.
+    Block {
+        track: &'a str,
+        sector: &'a str,
+    },
+    /// `bread host t s`: stores a block in a host file.
+    BlockRead {
+        host: &'a str,
+        track: &'a str,
+        sector: &'a str,
+    },
+    /// `bwrite host t s`: replaces a block by a host file.
+    BlockWrite {
+        host: &'a str,
+        track: &'a str,
+        sector: &'a str,
+    },
+    /// `crunch host [name]`: writes the program that a BASIC text of the host stands for.
+    Crunch {
+        host: &'a str,
+        name: Option<&'a str>,
+    },
+    /// `delete pattern ..`: deletes the files that the patterns match.
+    Delete {
+        patterns: &'a [&'a str],
+    },
+    /// `format name,id`: makes the disk an empty one.
+    Format {
+        name_and_id: &'a str,
+    },
+    /// `history`: shows the records of what was done and undone.
+    ListHistory,
+    /// `keep host`: stores the session.
+    Keep {
+        host: &'a str,
+    },
+    /// `list`: shows the directory.
+    ListDirectory,
+    /// `petcat name`: shows a BASIC program of the disk as text.
+    Petcat {
+        name: &'a str,
+    },
+    /// `quit`: ends the run.
+    Quit,
+    /// `read name [host]`: stores a file in a host file.
+    Read {
+        name: &'a str,
+        host: Option<&'a str>,
+    },
+    /// `redo`: takes an undo back.
+    Redo,
+    /// `rename old new`: gives a file another name.
+    Rename {
+        old: &'a str,
+        new: &'a str,
+    },
+    /// `save [host]`: stores the image.
+    Save {
+        host: Option<&'a str>,
+    },
+    /// `undo`: takes the last command back.
+    Undo,
+    /// `validate`: drops the files that were never closed, and writes the map anew.
+    Validate,
+    /// `write host [name[,t]]`: writes a host file to the disk.
+    Write {
+        host: &'a str,
+        name: Option<&'a str>,
+    },
 }
 
-/// The response to the text of a line that is not skipped.
-fn answer_text<H: Host>(
-    alloc: Global,
-    host: &mut H,
-    home: &str,
-    session: &mut Session,
-    text: &[u8],
-) -> Result<Response, Status>
-    requires { length text.now ≤ 1024 }
-    ensures { Responds (act_of_text home.now session.old text.now)
-        (world_of (H.state host.old) session.old)
-        result
-        (world_of (H.state host.new) session.new) }
-{
-    let Ok(words) = Words::of(text) else {
-        return Err(Status::SyntaxError);
-    };
-    if words.len() <= FEW_WORDS {
-        let few = held::<FEW_WORDS>(words);
-        answer_words(alloc, host, home, session, few.as_slice())
-    } else {
-        answer_many(alloc, host, home, session, words)
+impl<'a> Line<'a> {
+    ghost use Rattle.d64_line.specs.Line.{act_of_words};
+    ghost use Rattle.d64_line.specs.LineValue.{asked};
+
+    /// What the words of a line ask for. The first stands for a command, in small letters, and then so many follow as that
+    /// takes.
+    pub(crate) fn of(words: &'a [&'a str]) -> Result<Line<'a>, Status>
+        ensures { (home : Bytes) (history : History) → asked home history result ≡ act_of_words home history (map (λ word. word.now) words.now) }
+    {
+        let Some((command, words)) = words.split_first() else {
+            return Err(Status::UnknownCommand);
+        };
+        match *command {
+            "block" => two_words(words).map(|(track, sector)| Line::Block { track, sector }),
+            "bread" => three_words(words).map(|(host, track, sector)| Line::BlockRead {
+                host,
+                track,
+                sector,
+            }),
+            "bwrite" => three_words(words).map(|(host, track, sector)| Line::BlockWrite {
+                host,
+                track,
+                sector,
+            }),
+            "crunch" => one_or_two(words).map(|(host, name)| Line::Crunch { host, name }),
+            "delete" => some_words(words).map(|patterns| Line::Delete { patterns }),
+            "format" => one_word(words).map(|name_and_id| Line::Format { name_and_id }),
+            "history" => no_word(words).map(|()| Line::ListHistory),
+            "keep" => one_word(words).map(|host| Line::Keep { host }),
+            "list" => no_word(words).map(|()| Line::ListDirectory),
+            "petcat" => one_word(words).map(|name| Line::Petcat { name }),
+            "quit" => no_word(words).map(|()| Line::Quit),
+            "read" => one_or_two(words).map(|(name, host)| Line::Read { name, host }),
+            "redo" => no_word(words).map(|()| Line::Redo),
+            "rename" => two_words(words).map(|(old, new)| Line::Rename { old, new }),
+            "save" => at_most_one(words).map(|host| Line::Save { host }),
+            "undo" => no_word(words).map(|()| Line::Undo),
+            "validate" => no_word(words).map(|()| Line::Validate),
+            "write" => one_or_two(words).map(|(host, name)| Line::Write { host, name }),
+            _ => Err(Status::UnknownCommand),
+        }
     }
 }
 
-/// The response to the words of a line, as many as it may have.
-///
-/// It is a call of its own: room for so many words would else be cleared for each line.
-#[inline(never)]
-fn answer_many<H: Host>(
-    alloc: Global,
-    host: &mut H,
-    home: &str,
-    session: &mut Session,
-    words: Words,
-) -> Result<Response, Status>
-    requires len { length words ≤ 512 }
-    requires printable { All (All IsPrintable) words }
-    ensures { Responds (act_of_words home.now session.old words.entry)
-        (world_of (H.state host.old) session.old)
-        result
-        (world_of (H.state host.new) session.new) }
+/// No word.
+fn no_word(words: &[&str]) -> Result<(), Status>
+    ensures { taken (λ _. tt) result ≡ no_word (map (λ word. word.now) words.now) }
 {
-    let many = held::<MAX_WORDS>(words);
-    answer_words(alloc, host, home, session, many.as_slice())
+    match words {
+        [] => Ok(()),
+        _ => Err(Status::SyntaxError),
+    }
 }
 
-/// The words in a row, in a room that is large enough.
-fn held<'a, const ROOM: usize>(words: Words<'a>) -> ArrayVec<&'a [u8], ROOM>
-    requires { length words ≤ ROOM }
-    ensures { map (λ word. word.now) result.items ≡ words.entry }
+/// Exactly one word.
+fn one_word<'a>(words: &[&'a str]) -> Result<&'a str, Status>
+    ensures { taken (λ word. word.now) result ≡ one_word (map (λ word. word.now) words.now) }
 {
-    let mut found = ArrayVec::new();
-    for word in words {
-        found.push(word);
+    match words {
+        [] => Err(Status::MissingWord),
+        [word] => Ok(word),
+        _ => Err(Status::SyntaxError),
     }
-    found
 }
 
-/// The response to the words of a line.
-fn answer_words<H: Host>(
-    alloc: Global,
-    host: &mut H,
-    home: &str,
-    session: &mut Session,
-    words: &[&[u8]],
-) -> Result<Response, Status>
-    requires { All (λ word. All IsPrintable word.now) words.now }
-    ensures { Responds (act_of_words home.now session.old (map (λ word. word.now) words.now))
-        (world_of (H.state host.old) session.old)
-        result
-        (world_of (H.state host.new) session.new) }
+/// Exactly two words.
+fn two_words<'a>(words: &[&'a str]) -> Result<(&'a str, &'a str), Status>
+    ensures { taken (λ pair. (pair.0.now, pair.1.now)) result ≡ word_and one_word (map (λ word. word.now) words.now) }
 {
-    let Some((first, arguments)) = words.split_first() else {
-        return Err(Status::UnknownCommand);
-    };
-    let Some(command) = CommandWord::of(first) else {
-        return Err(Status::UnknownCommand);
-    };
-    answer_command(alloc, host, home, session, command, arguments)
+    match words {
+        [] | [_] => Err(Status::MissingWord),
+        [first, second] => Ok((first, second)),
+        _ => Err(Status::SyntaxError),
+    }
 }
 
-/// The response to a command and the words after it.
-fn answer_command<H: Host>(
-    alloc: Global,
-    host: &mut H,
-    home: &str,
-    session: &mut Session,
-    command: CommandWord,
-    words: &[&[u8]],
-) -> Result<Response, Status>
-    requires { All (λ word. All IsPrintable word.now) words.now }
-    ensures { Responds (act_of_command home.now session.old command (map (λ word. word.now) words.now))
-        (world_of (H.state host.old) session.old)
-        result
-        (world_of (H.state host.new) session.new) }
+/// Exactly three words.
+fn three_words<'a>(words: &[&'a str]) -> Result<(&'a str, &'a str, &'a str), Status>
+    ensures { taken (λ three. (three.0.now, (three.1.now, three.2.now))) result ≡ word_and (word_and one_word) (map (λ word. word.now) words.now) }
 {
-    let (fewest, most) = command.counts(home);
-    if words.len() < fewest {
-        return Err(Status::MissingWord);
+    match words {
+        [] | [_] | [_, _] => Err(Status::MissingWord),
+        [first, second, third] => Ok((first, second, third)),
+        _ => Err(Status::SyntaxError),
     }
-    if most < words.len() {
-        return Err(Status::SyntaxError);
+}
+
+/// One word or none.
+fn at_most_one<'a>(words: &[&'a str]) -> Result<Option<&'a str>, Status>
+    ensures { taken (option_map (λ word. word.now)) result ≡ at_most_one (map (λ word. word.now) words.now) }
+{
+    match words {
+        [] => Ok(None),
+        [word] => Ok(Some(word)),
+        _ => Err(Status::SyntaxError),
     }
-    match command {
-        CommandWord::Block => handlers::block(session, words[0], words[1]),
-        CommandWord::BlockRead => handlers::block_read(
-            alloc, host, session, words[0], words[1], words[2],
-        ),
-        CommandWord::BlockWrite => handlers::block_write(
-            alloc, host, session, words[0], words[1], words[2],
-        ),
-        CommandWord::Crunch => handlers::crunch(alloc, host, session, words[0], &words[1..]),
-        CommandWord::Delete => handlers::delete(alloc, session, words),
-        CommandWord::Format => handlers::format(alloc, session, words[0]),
-        CommandWord::ListHistory => handlers::history(alloc, session),
-        CommandWord::Keep => handlers::keep(alloc, host, session, words[0]),
-        CommandWord::ListDirectory => handlers::list(alloc, session),
-        CommandWord::Petcat => handlers::petcat(alloc, session, words[0]),
-        CommandWord::Quit => handlers::quit(session),
-        CommandWord::Read => handlers::read(alloc, host, session, words[0], &words[1..]),
-        CommandWord::Redo => handlers::redo(session),
-        CommandWord::Rename => handlers::rename(alloc, session, words[0], words[1]),
-        CommandWord::Save => handlers::save(alloc, host, home, session, words),
-        CommandWord::Undo => handlers::undo(session),
-        CommandWord::Validate => handlers::validate(session),
-        CommandWord::Write => handlers::write(alloc, host, session, words[0], &words[1..]),
+}
+
+/// One word, and perhaps another.
+fn one_or_two<'a>(words: &[&'a str]) -> Result<(&'a str, Option<&'a str>), Status>
+    ensures { taken (λ pair. (pair.0.now, option_map (λ word. word.now) pair.1)) result ≡ word_and at_most_one (map (λ word. word.now) words.now) }
+{
+    match words {
+        [] => Err(Status::MissingWord),
+        [first] => Ok((first, None)),
+        [first, second] => Ok((first, Some(second))),
+        _ => Err(Status::SyntaxError),
+    }
+}
+
+/// One word or more, up to as many as a line holds.
+fn some_words<'a>(words: &'a [&'a str]) -> Result<&'a [&'a str], Status>
+    ensures { taken (λ some. map (λ word. word.now) some.now) result ≡ some_words (map (λ word. word.now) words.now) }
+{
+    match words.len() {
+        0 => Err(Status::MissingWord),
+        1..=MAX_WORDS => Ok(words),
+        _ => Err(Status::SyntaxError),
     }
 }

@@ -1,7 +1,10 @@
 -- what the lines of a script leave of the history
 use Rattle.std.proofs.Common.{◌≡◌, ℕ, ◌<◌, List, [], ◌∷◌, ◌+◌, ◌==◌, length, Bool, true, false, Option, None, Some, Result, Ok, Err, refl, sym, ap, ◌∙◌, subst, ◌⊎◌, inl, inr, arith, if◌then◌else◌}
-use Rattle.std.specs.Prelude.{zero, suc, ◌&&◌, not, All, Contains, IfOk, MatchBool, MatchOption, MatchResult, IfSome, nat_lt, nat_le, ok_or, drop}
+use Rattle.std.specs.Prelude.{zero, suc, ◌&&◌, not, All, Contains, IfOk, MatchBool, MatchOption, MatchResult, IfSome, nat_lt, nat_le, ok_or, find, codes}
 use Rattle.std.specs.List.{list_any}
+use Rattle.std.specs.Option.{option_map_or}
+use Rattle.std.specs.Str.{bytes_eq}
+use Rattle.std.proofs.lemmas.Slice.Eq.{bytes_eq-Decides}
 use Rattle.std.proofs.lemmas.Bool.{eqb-true, eqb-false, or_parts, and_parts}
 use Rattle.std.proofs.lemmas.Bool.Decides.{nat_tests}
 use Rattle.std.proofs.lemmas.List.Elements.{All-nil, All-cons, All-head, All-tail}
@@ -31,16 +34,14 @@ use Rattle.petscii.specs.Spelling.{spelling}
 use Rattle.d64_line.specs.Act.{printed, Act, Give, Refuse, Then, Call, Text, Fetch, Store, Crunch, Expand, Room, Gives, given_by, Ending, Does, LineAnswer, World, ◌>>=◌, valid, need, each_text, plain}
 use Rattle.d64_host.specs.Files.{HostState}
 use Rattle.d64_line.specs.Arguments.{host_in, block_in, at_comma, can_be_id, name_and_kind_of}
-use Rattle.d64_line.specs.CommandWord.{command_word_of, counts}
+use Rattle.d64_line.specs.WordCounts.{no_word, one_word, at_most_one, word_and, some_words}
 use Rattle.d64_line.specs.FoundFile.{found_name, is_file_name}
-use Rattle.d64_line.specs.Line.{allowed, leave, run, act_of, act_of_words, act_of_line, word_at, read_to, save_act, undo_act, redo_act}
+use Rattle.d64_line.specs.Line.{allowed, leave, run, commands, act_of_words, act_of_line, read_to, save_act, undo_act, redo_act}
 use Rattle.d64_runner.specs.ScriptLaws.{IsReachedIn, ScriptsAreRuns, IsBlockWrite, ScriptsKeepDisksSound}
 use Rattle.d64_runner.specs.declared.manners.Refusals.{Refusals}
 use Rattle.d64_runner.specs.Transcript.{Manner, Progress, Line, Transcript, IsSilent, counted}
 use Rattle.d64_script.specs.declared.status.Status.{Status}
-use Rattle.d64_script.specs.declared.status.Status.TheVariants.{LongLine}
-use Rattle.d64_line.specs.declared.command_word.CommandWord.{CommandWord}
-use Rattle.d64_line.specs.declared.command_word.CommandWord.TheVariants.{Block, BlockRead, BlockWrite, Crunch as CrunchWord, Delete, Format, ListHistory, Keep, ListDirectory, Petcat, Quit, Read, Redo as RedoWord, Rename, Save, Undo as UndoWord, Validate, Write}
+use Rattle.d64_script.specs.declared.status.Status.TheVariants.{LongLine, UnknownCommand}
 
 -- what is known of the bytes that a call gives, whatever the host does
 abbrev Known : Call → List ℕ → Type 0
@@ -153,73 +154,101 @@ redo-leads IsOne history one =
     (λ passed. let some : history.cursor + 1 < length history.images = grind (arith, nat_tests) in inr (Redo, Redone, one, (some, refl)))
 
 -- a file that is read leaves the history
-read-leads : (IsOne : Asked → Type 0) (history : History) (pattern : List ℕ) (words : List (List ℕ)) → Leads IsOne history (read_to history pattern words)
-read-leads IsOne history pattern [] =
+read-leads : (IsOne : Asked → Type 0) (history : History) (pattern : List ℕ) (host : Option (List ℕ)) → Leads IsOne history (read_to history pattern host)
+read-leads IsOne history pattern None =
     after_any IsOne history (allowed (read_refusal (present history) pattern)) _
     (λ _ bytes known. after_any IsOne history (need (is_file_name (spelling (found_name (present history) pattern))) _) _ (λ _ stored known. inl refl))
-read-leads IsOne history pattern (host ∷ more) =
+read-leads IsOne history pattern (Some host) =
     after_any IsOne history (valid (host_in host)) _
     (λ name. after_any IsOne history (allowed (read_refusal (present history) pattern)) _ (λ _ stored known. inl refl))
 
 -- an image that is saved leaves it too
-save-leads : (IsOne : Asked → Type 0) (home : List ℕ) (history : History) (words : List (List ℕ)) → Leads IsOne history (save_act home history words)
-save-leads IsOne home history [] = λ stored known. inl refl
-save-leads IsOne home history (host ∷ more) = after_any IsOne history (valid (host_in host)) _ (λ name stored known. inl refl)
+save-leads : (IsOne : Asked → Type 0) (home : List ℕ) (history : History) (host : Option (List ℕ)) → Leads IsOne history (save_act home history host)
+save-leads IsOne [] history None = tt
+save-leads IsOne (byte ∷ home) history None = λ stored known. inl refl
+save-leads IsOne home history (Some host) = after_any IsOne history (valid (host_in host)) _ (λ name stored known. inl refl)
 
--- a request that a command word may ask for: one that keeps disks sound, except for block writes
-abbrev AsksFor : CommandWord → Asked → Type 0
-AsksFor command request = (command ≡ BlockWrite) ⊎ KeepsDisksSound request
+-- each row of a table that has this word leads
+abbrev EachLeads : (Asked → Type 0) → History → List ℕ → List (List ℕ × Act Ending) → Type 0
+EachLeads IsOne history first [] = Unit {0}
+EachLeads IsOne history first (row ∷ rows) = (first ≡ row.0 → Leads IsOne history row.1) × EachLeads IsOne history first rows
 
--- each command word asks for one request at most
-act-leads : (IsOne : Asked → Type 0) (home : List ℕ) (history : History) (command : CommandWord) (words : List (List ℕ))
-    → ((request : Asked) → AsksFor command request → IsOne request) → Leads IsOne history (act_of home history command words)
-act-leads IsOne home history Block words is = after_any IsOne history (valid (block_in (present history) (word_at words 0) (word_at words 1))) _ (λ block. inl refl)
-act-leads IsOne home history BlockRead words is =
-    after_any IsOne history (valid (host_in (word_at words 0))) _
-    (λ name. after_any IsOne history (valid (block_in (present history) (word_at words 1) (word_at words 2))) _ (λ block stored known. inl refl))
-act-leads IsOne home history BlockWrite words is =
-    after_any IsOne history (valid (host_in (word_at words 0))) _
-    (λ name. after_any IsOne history (valid (block_in (present history) (word_at words 1) (word_at words 2))) _
-    (λ block bytes known. after_any IsOne history (need (length bytes == 256) _) _
-    (λ _. run-leads IsOne history (changes.BlockWrite block bytes) (is _ (inl refl)))))
-act-leads IsOne home history CrunchWord words is =
-    after_any IsOne history (valid (host_in (word_at words 0))) _
-    (λ source name named text fetched file crunched. run-leads IsOne history (changes.Write name Prg file) (is _ (inr (refl, (name-made name named, crunched)))))
-act-leads IsOne home history Delete words is =
-    after_any IsOne history (each_text is_pattern words) _ (λ patterns. run-leads IsOne history (changes.Delete patterns) (is _ (inr (refl, tt))))
-act-leads IsOne home history Format words is =
-    after_any IsOne history (valid (ok_or (at_comma (word_at words 0)) _)) _
-    (λ parts name named id known. run-leads IsOne history (changes.Format name id) (is _ (inr (refl, (name-made name named, id-made id known)))))
-act-leads IsOne home history ListHistory words is = λ bytes known. inl refl
-act-leads IsOne home history Keep words is = after_any IsOne history (valid (host_in (word_at words 0))) _ (λ name made known stored kept. inl refl)
-act-leads IsOne home history ListDirectory words is =
-    after_any IsOne history (allowed (directory_refusal (present history))) _ (λ _ bytes known. inl refl)
-act-leads IsOne home history Petcat words is =
-    λ pattern known. after_any IsOne history (allowed (read_refusal (present history) pattern)) _ (λ _ listing known. inl refl)
-act-leads IsOne home history Quit words is = inl refl
-act-leads IsOne home history Read words is = λ pattern known. read-leads IsOne history pattern (drop 1 words)
-act-leads IsOne home history RedoWord words is = redo-leads IsOne history (is _ (inr tt))
-act-leads IsOne home history Rename words is =
-    λ old named new renamed. run-leads IsOne history (changes.Rename old new) (is _ (inr (refl, (name-made old named, name-made new renamed))))
-act-leads IsOne home history Save words is = save-leads IsOne home history words
-act-leads IsOne home history UndoWord words is = undo-leads IsOne history (is _ (inr tt))
-act-leads IsOne home history Validate words is = run-leads IsOne history changes.Validate (is _ (inr (refl, tt)))
-act-leads IsOne home history Write words is =
-    after_any IsOne history (valid (host_in (word_at words 0))) _
-    (λ source. after_any IsOne history (valid (name_and_kind_of (word_at words 0) (drop 1 words))) _
-    (λ file name named bytes fetched. run-leads IsOne history (changes.Write name file.1 bytes) (is _ (inr (refl, (name-made name named, fetched))))))
+-- a row of a table, and those after it
+infixr 4 ◌⨾◌
+abbrev ◌⨾◌ : {A B : Type 0} → A → B → A × B
+row ⨾ rows = (row, rows)
+
+-- each command asks for one request at most: one that keeps disks sound, except for a block write
+commands-lead : (IsOne : Asked → Type 0) (home : List ℕ) (history : History) (first : List ℕ) (words : List (List ℕ))
+    → ((request : Asked) → KeepsDisksSound request → IsOne request) → (first ≡ codes "bwrite" → (request : Asked) → IsOne request)
+    → EachLeads IsOne history first (commands home history words)
+commands-lead IsOne home history first words keeps writes =
+    (λ block. after_any IsOne history (word_and one_word words) _
+    (λ place. after_any IsOne history (valid (block_in (present history) place.0 place.1)) _ (λ at. inl refl)))
+    ⨾ (λ bread. after_any IsOne history (word_and (word_and one_word) words) _
+    (λ w. after_any IsOne history (valid (host_in w.0)) _
+    (λ name. after_any IsOne history (valid (block_in (present history) w.1.0 w.1.1)) _ (λ at stored known. inl refl))))
+    ⨾ (λ bwrite. after_any IsOne history (word_and (word_and one_word) words) _
+    (λ w. after_any IsOne history (valid (host_in w.0)) _
+    (λ name. after_any IsOne history (valid (block_in (present history) w.1.0 w.1.1)) _
+    (λ at bytes known. after_any IsOne history (need (length bytes == 256) _) _
+    (λ _. run-leads IsOne history (changes.BlockWrite at bytes) (writes bwrite _))))))
+    ⨾ (λ crunch. after_any IsOne history (word_and at_most_one words) _
+    (λ w. after_any IsOne history (valid (host_in w.0)) _
+    (λ source name named text fetched file crunched.
+    run-leads IsOne history (changes.Write name Prg file) (keeps _ (refl, (name-made name named, crunched))))))
+    ⨾ (λ delete. after_any IsOne history (some_words words) _
+    (λ w. after_any IsOne history (each_text is_pattern w) _
+    (λ patterns. run-leads IsOne history (changes.Delete patterns) (keeps _ (refl, tt)))))
+    ⨾ (λ format. after_any IsOne history (one_word words) _
+    (λ w. after_any IsOne history (valid (ok_or (at_comma w) _)) _
+    (λ parts name named id known. run-leads IsOne history (changes.Format name id) (keeps _ (refl, (name-made name named, id-made id known))))))
+    ⨾ (λ list_history. after_any IsOne history (no_word words) _ (λ _ bytes known. inl refl))
+    ⨾ (λ keep. after_any IsOne history (one_word words) _
+    (λ w. after_any IsOne history (valid (host_in w)) _ (λ name made known stored kept. inl refl)))
+    ⨾ (λ list. after_any IsOne history (no_word words) _
+    (λ _. after_any IsOne history (allowed (directory_refusal (present history))) _ (λ _ bytes known. inl refl)))
+    ⨾ (λ petcat. after_any IsOne history (one_word words) _
+    (λ w pattern known. after_any IsOne history (allowed (read_refusal (present history) pattern)) _ (λ _ listing given. inl refl)))
+    ⨾ (λ quit. after_any IsOne history (no_word words) _ (λ _. inl refl))
+    ⨾ (λ read. after_any IsOne history (word_and at_most_one words) _ (λ w pattern known. read-leads IsOne history pattern w.1))
+    ⨾ (λ redo. after_any IsOne history (no_word words) _ (λ _. redo-leads IsOne history (keeps _ tt)))
+    ⨾ (λ rename. after_any IsOne history (word_and one_word words) _
+    (λ w old named new renamed. run-leads IsOne history (changes.Rename old new) (keeps _ (refl, (name-made old named, name-made new renamed)))))
+    ⨾ (λ save. after_any IsOne history (at_most_one words) _ (λ w. save-leads IsOne home history w))
+    ⨾ (λ undo. after_any IsOne history (no_word words) _ (λ _. undo-leads IsOne history (keeps _ tt)))
+    ⨾ (λ validate. after_any IsOne history (no_word words) _ (λ _. run-leads IsOne history changes.Validate (keeps _ (refl, tt))))
+    ⨾ (λ write. after_any IsOne history (word_and at_most_one words) _
+    (λ w. after_any IsOne history (valid (host_in w.0)) _
+    (λ source. after_any IsOne history (valid (name_and_kind_of w.0 w.1)) _
+    (λ file name named bytes fetched.
+    run-leads IsOne history (changes.Write name file.1 bytes) (keeps _ (refl, (name-made name named, fetched)))))))
+    ⨾ tt
+
+-- a row that has the word, or what comes of those after it
+row_or : (IsOne : Asked → Type 0) (history : History) (has : Bool) (row : List ℕ × Act Ending) (rest : Option (List ℕ × Act Ending))
+    → (has ≡ true → Leads IsOne history row.1) → Leads IsOne history (option_map_or (λ (r : List ℕ × Act Ending). r.1) rest (Refuse UnknownCommand))
+    → Leads IsOne history (option_map_or (λ (r : List ℕ × Act Ending). r.1) (if has then Some row else rest) (Refuse UnknownCommand))
+row_or IsOne history true row rest here after = here refl
+row_or IsOne history false row rest here after = after
+
+-- the row that is found leads
+found-leads : (IsOne : Asked → Type 0) (history : History) (first : List ℕ) (rows : List (List ℕ × Act Ending)) → EachLeads IsOne history first rows
+    → Leads IsOne history (option_map_or (λ (r : List ℕ × Act Ending). r.1) (find (λ r. bytes_eq first r.0) rows) (Refuse UnknownCommand))
+found-leads IsOne history first [] each = tt
+found-leads IsOne history first (row ∷ rows) each =
+    row_or IsOne history (bytes_eq first row.0) row (find (λ r. bytes_eq first r.0) rows)
+    (λ has. each.0 ((bytes_eq-Decides first row.0).0 has)) (found-leads IsOne history first rows each.1)
 
 -- and so do the words of a line
 words-lead : (IsOne : Asked → Type 0) (home : List ℕ) (history : History) (words : List (List ℕ))
-    → ((first : List ℕ) (more : List (List ℕ)) (command : CommandWord) → words ≡ first ∷ more → command_word_of first ≡ Some command
-    → (request : Asked) → AsksFor command request → IsOne request)
+    → ((request : Asked) → KeepsDisksSound request → IsOne request)
+    → ((more : List (List ℕ)) → words ≡ codes "bwrite" ∷ more → (request : Asked) → IsOne request)
     → Leads IsOne history (act_of_words home history words)
-words-lead IsOne home history [] is = tt
-words-lead IsOne home history (first ∷ words) is =
-    after_found IsOne history (command_word_of first) _ _
-    (λ command found. after_any IsOne history (need (nat_le (counts home command).0 (length words)) _) _
-    (λ _. after_any IsOne history (need (nat_le (length words) (counts home command).1) _) _
-    (λ _. act-leads IsOne home history command words (is first words command refl found))))
+words-lead IsOne home history [] keeps writes = tt
+words-lead IsOne home history (first ∷ words) keeps writes =
+    found-leads IsOne history first (commands home history words)
+    (commands-lead IsOne home history first words keeps (λ is. writes words (ap (λ (word : List ℕ). word ∷ words) is)))
 
 -- a line that is too long, one that is skipped, or one that asks for an act
 one_of : (IsOne : Asked → Type 0) (history : History) (long skipped : Bool) (act : Act Ending) → Leads IsOne history act
@@ -232,19 +261,13 @@ one_of IsOne history false false act leads = leads
 abbrev AsksIn : List ℕ → Asked → Type 0
 AsksIn line request = IsBlockWrite line ⊎ KeepsDisksSound request
 
--- what a command word asks for in a line
-asks_in : (line first : List ℕ) (more : List (List ℕ)) (command : CommandWord) → words_of (text_of line) ≡ Some (first ∷ more)
-    → command_word_of first ≡ Some command → (request : Asked) → AsksFor command request → AsksIn line request
-asks_in line first more command cut found request (inl is) = inl (record { first = first; words = more; cut = cut; command = found ∙ ap Some is })
-asks_in line first more command cut found request (inr keeps) = inr keeps
-
 line-leads : (manner : Manner) (history : History) (line : List ℕ) → IfSome (act_of_line manner.home history line) (Leads (AsksIn line) history)
 unfolding act_of_line
 line-leads manner history line =
     one_of (AsksIn line) history (is_too_long line) (is_skipped (text_of line)) _
     (after_found (AsksIn line) history (words_of (text_of line)) _ _
-    (λ words cut. words-lead (AsksIn line) manner.home history words
-    (λ first more command is found. asks_in line first more command (cut ∙ ap Some is) found)))
+    (λ words cut. words-lead (AsksIn line) manner.home history words (λ request keeps. inr keeps)
+    (λ more is request. inl (record { words = more; cut = cut ∙ ap Some is }))))
 
 -- where a call may be refused, what follows it leads
 given-leads : (IsOne : Asked → Type 0) (history : History) (call : Call) (next : List ℕ → Act Ending) (given : Result (List ℕ) Status) (host : HostState) (world : World) (answer : LineAnswer) (left : World)

@@ -1,14 +1,12 @@
 -- What follows from the definition of a transcript.
-use Rattle.std.specs.Prelude.{◌≡◌, ℕ, ◌≤◌, List, ◌∷◌, length, All, Some}
+use Rattle.std.specs.Prelude.{◌≡◌, ℕ, ◌≤◌, List, ◌∷◌, length, All, Some, codes}
 use Rattle.d64_undo.specs.History.{History}
 use Rattle.d64_undo.specs.Request.{Asked, Run}
 use Rattle.d64_undo.specs.SoundHistory.{HoldsSoundDisks}
 use Rattle.d64_undo.specs.declared.request.Answer.{Answer}
 use Rattle.d64_script.specs.RawLines.{text_of}
 use Rattle.d64_script.specs.Words.{words_of}
-use Rattle.d64_line.specs.CommandWord.{command_word_of}
 use Rattle.d64_runner.specs.Transcript.{Manner, Progress, Transcript}
-use Rattle.d64_line.specs.declared.command_word.CommandWord.TheVariants.{BlockWrite}
 
 -- a run of at most so many requests leads from one history to another
 pub record IsReachedIn (most : ℕ) (before after : History) : Type 0 where
@@ -26,10 +24,8 @@ ScriptsAreRuns =
 
 -- the first word of a line is that of a block write
 pub record IsBlockWrite (line : List ℕ) : Type 0 where
-  pub first : List ℕ
   pub words : List (List ℕ)
-  pub cut : words_of (text_of line) ≡ Some (first ∷ words)
-  pub command : command_word_of first ≡ Some BlockWrite
+  pub cut : words_of (text_of line) ≡ Some (codes "bwrite" ∷ words)
 
 -- lines of which none is a block write leave sound disks, whatever the host does
 abbrev pub ScriptsKeepDisksSound : Type 0

@@ -14,7 +14,6 @@ mod word_faults;
 
 pub use d64_dos::{Command, Refusal, Reply};
 pub use d64_host::{FolderHost, Host, HostFault, MemoryHost};
-pub use d64_line::CommandWord;
 pub use d64_runner::{Outcome, ShellFault, laws, run, run_on};
 pub use d64_undo::laws::{
     memory_alone_is_free, memory_for_acceptance, redo_after_undo, retraced, undo_after_command,

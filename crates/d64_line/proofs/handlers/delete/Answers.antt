@@ -7,7 +7,7 @@ use Rattle.d64_line.proofs.handlers.delete.Goals as goal
 pub returns-in_err-patterns : goal.returns-in_err-patterns
 returns-in_err-patterns c =
     let status = c.in_err-patterns.field-0.0 in
-    let stopped : RespondsAlone (delete_act c.args.session.now (map (λ word. word.now) c.args.words.now)) c.args.session.now (Err status) c.args.session.now =
+    let stopped : RespondsAlone (delete_act c.args.session.now (map (λ word. word.now) c.args.patterns.now)) c.args.session.now (Err status) c.args.session.now =
     λ host. Does-unread_each _ _ _ status host _ c.in_err-patterns.ensures in
     let same : c.from_residual.result ≡ Err status = search rules in
     rw same stopped

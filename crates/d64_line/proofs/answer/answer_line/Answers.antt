@@ -1,6 +1,6 @@
 use Rattle.std.proofs.Common.{sym, ◌∙◌}
 use Rattle.d64_line.proofs.HeldAnswers.{IsAnswered-text}
-use Rattle.d64_line.proofs.line.answer_line.Goals as goal
+use Rattle.d64_line.proofs.answer.answer_line.Goals as goal
 
 pub returns : goal.returns
 returns g c raw says =
