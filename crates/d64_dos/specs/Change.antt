@@ -1,7 +1,6 @@
 -- Commands as definitions see them: names and bytes are lists, so that a definition can say a command that no code has made.
 use Rattle.std.specs.Prelude.{ℕ, List}
 use Rattle.d64_image.specs.Disk.{Bytes}
-use Rattle.d64_image.specs.Disk.{Bytes}
 use Rattle.d64_files.specs.declared.kind.Kind.{Kind}
 use Rattle.d64_dos.specs.declared.command.Command.{Command}
 use Rattle.d64_dos.specs.declared.command.Command.TheVariants as commands

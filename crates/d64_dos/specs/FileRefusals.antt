@@ -2,7 +2,6 @@
 use Rattle.std.specs.Prelude.{if◌then◌else◌, Option, Some, None, option_map}
 use Rattle.std.specs.Option.{option_or}
 use Rattle.d64_image.specs.Disk.{Disk, Bytes}
-use Rattle.d64_image.specs.Disk.{Disk, Bytes}
 use Rattle.d64_files.specs.Directory.{slots, is_name_taken}
 use Rattle.d64_files.specs.FirstFault.{first_fault, sound_conditions, owning_conditions}
 use Rattle.d64_dos.specs.declared.refusal.Refusal.{Refusal}

@@ -1,7 +1,6 @@
 -- What the directory of a disk lists.
 use Rattle.std.specs.Prelude.{◌≡◌, ℕ, Bool, List, [], ◌∷◌, map, filter, slice_range}
 use Rattle.d64_image.specs.Disk.{Disk, Bytes}
-use Rattle.d64_image.specs.Disk.{Disk, Bytes}
 use Rattle.d64_image.specs.Image.{IsSize, sector_at}
 use Rattle.d64_map.specs.Map.{map_block, blocks_free}
 use Rattle.d64_files.specs.Directory.{slots}

@@ -1,7 +1,6 @@
 -- The order in which the blocks of a new file are looked for.
 use Rattle.std.specs.Prelude.{ℕ, Option, Some, None}
 use Rattle.d64_image.specs.Disk.{Blocks}
-use Rattle.d64_image.specs.Disk.{Blocks}
 use Rattle.d64_map.specs.Search.{first_order, next_order}
 
 -- the order after the block that was taken last, or at first

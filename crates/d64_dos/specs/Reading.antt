@@ -2,7 +2,6 @@
 use Rattle.std.specs.Prelude.{◌≡◌, ℕ, [], slice_get, Option, Some, None, option_map}
 use Rattle.std.specs.Option.{option_or, option_map_or}
 use Rattle.d64_image.specs.Disk.{Disk, Bytes}
-use Rattle.d64_image.specs.Disk.{Disk, Bytes}
 use Rattle.d64_files.specs.Directory.{slots, first_named}
 use Rattle.d64_files.specs.FirstFault.{first_fault, reading_conditions}
 use Rattle.d64_files.specs.Reading.{slot_refusal, content_at}

@@ -1,7 +1,6 @@
 -- What an accepted command makes of a sound disk and of what it shows.
 use Rattle.std.specs.Prelude.{◌≡◌, None}
 use Rattle.d64_image.specs.Disk.{Disk}
-use Rattle.d64_image.specs.Disk.{Disk}
 use Rattle.d64_files.specs.Name.{IsName}
 use Rattle.d64_image.specs.Image.{IsImage}
 use Rattle.d64_effects.specs.Laws.{AreTwoBytes, AreBytes}

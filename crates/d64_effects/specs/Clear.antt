@@ -3,8 +3,6 @@ use Rattle.std.specs.Prelude.{ℕ, Bool, List, map, filter, fold}
 use Rattle.std.specs.FinSet as set
 use Rattle.d64_image.specs.Disk.{Disk, Bytes, Blocks}
 use Rattle.d64_image.specs.BlockSet.{BlockSet}
-use Rattle.d64_image.specs.Disk.{Disk, Bytes, Blocks}
-use Rattle.d64_image.specs.BlockSet.{BlockSet}
 use Rattle.d64_files.specs.Clearing.{with_cleared_slot}
 use Rattle.d64_files.specs.Directory.{numbered}
 

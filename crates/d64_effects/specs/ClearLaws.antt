@@ -1,7 +1,6 @@
 -- What stays while slots of the directory are cleared one after another.
 use Rattle.std.specs.Prelude.{◌≡◌, ℕ, ◌<◌, if◌then◌else◌, List, [], ◌∷◌, ◌++◌, length, All, Bool}
 use Rattle.d64_image.specs.Disk.{Disk, Bytes}
-use Rattle.d64_image.specs.Disk.{Disk, Bytes}
 use Rattle.d64_image.specs.Image.{IsImage}
 use Rattle.d64_files.specs.Directory.{directory, slots}
 use Rattle.d64_effects.specs.Clear.{slots_where, with_cleared}

@@ -2,7 +2,6 @@
 use Rattle.std.specs.Prelude.{ℕ, Bool, List, option_map}
 use Rattle.std.specs.List.{filter_map}
 use Rattle.d64_image.specs.Disk.{Bytes}
-use Rattle.d64_image.specs.Disk.{Bytes}
 use Rattle.d64_effects.specs.View.{View, FileView}
 use Rattle.d64_files.specs.Name.{name_in}
 use Rattle.d64_files.specs.declared.kind.Kind.{Kind}

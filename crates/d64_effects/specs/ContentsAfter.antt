@@ -1,7 +1,6 @@
 -- What commands make of the directory's list of names and contents: what a case does not name stays as it was, in its order.
 use Rattle.std.specs.Prelude.{ℕ, true, false, if◌then◌else◌, List, [], ◌∷◌, ◌++◌, take, drop, bytes_eq, Bool, Option, Some, None}
 use Rattle.d64_image.specs.Disk.{Bytes}
-use Rattle.d64_image.specs.Disk.{Bytes}
 use Rattle.d64_effects.specs.Contents.{ListedFile}
 use Rattle.d64_effects.specs.Delete.{is_scratched}
 use Rattle.d64_files.specs.declared.kind.Kind.{Kind}

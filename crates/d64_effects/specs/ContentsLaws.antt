@@ -1,7 +1,6 @@
 -- What the commands make of the directory's list of names and contents: on disks, and on views, whose steps are these steps on that list.
 use Rattle.std.specs.Prelude.{◌≡◌, ℕ, not, List, [], length, filter}
 use Rattle.d64_image.specs.Disk.{Disk, Bytes}
-use Rattle.d64_image.specs.Disk.{Disk, Bytes}
 use Rattle.d64_image.specs.Image.{IsSize, IsImage}
 use Rattle.d64_files.specs.Directory.{AllHold}
 use Rattle.d64_files.specs.Name.{IsName}

@@ -2,7 +2,6 @@
 use Rattle.std.specs.Prelude.{ℕ, ◌&&◌, Bool, not, List, [], ◌∷◌, length}
 use Rattle.std.specs.List.{list_any, flat_map}
 use Rattle.d64_image.specs.Disk.{Disk, Bytes, Blocks}
-use Rattle.d64_image.specs.Disk.{Disk, Bytes, Blocks}
 use Rattle.d64_map.specs.Map.{free_blocks, with_map}
 use Rattle.d64_files.specs.Directory.{slots, slot_owns}
 use Rattle.d64_files.specs.Pattern.{matches}

@@ -3,8 +3,6 @@ use Rattle.std.specs.Prelude.{ℕ, [], ◌∷◌, ◌++◌, replicate}
 use Rattle.std.specs.FinSet as set
 use Rattle.d64_image.specs.Disk.{Disk, Bytes}
 use Rattle.d64_image.specs.BlockSet.{BlockSet}
-use Rattle.d64_image.specs.Disk.{Disk, Bytes}
-use Rattle.d64_image.specs.BlockSet.{BlockSet}
 use Rattle.d64_image.specs.declared.image.TheConstants.{BLOCK_BYTES}
 use Rattle.d64_image.specs.Image.{with_sector}
 use Rattle.d64_map.specs.Map.{map_block, all_of, with_map}

@@ -1,7 +1,6 @@
 -- Files that a command doesn't name keep their slot, their chain and their content.
 use Rattle.std.specs.Prelude.{◌≡◌, ◌≢◌, ℕ, true, false, List, length, slice_get, Some}
 use Rattle.d64_image.specs.Disk.{Disk, Bytes}
-use Rattle.d64_image.specs.Disk.{Disk, Bytes}
 use Rattle.d64_files.specs.Name.{IsName, name_in}
 use Rattle.d64_files.specs.Directory.{AllHold}
 use Rattle.d64_image.specs.Image.{IsImage}

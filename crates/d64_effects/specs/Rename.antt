@@ -1,7 +1,6 @@
 -- The image that the renaming of a file leaves, byte for byte.
 use Rattle.std.specs.Prelude.{ℕ, List, position, Option, Some, None}
 use Rattle.d64_image.specs.Disk.{Disk, Bytes}
-use Rattle.d64_image.specs.Disk.{Disk, Bytes}
 use Rattle.d64_files.specs.Clearing.{with_name}
 use Rattle.d64_files.specs.Directory.{slots, has_name}
 

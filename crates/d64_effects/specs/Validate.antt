@@ -2,8 +2,6 @@
 use Rattle.std.specs.Prelude.{ℕ, ◌&&◌, Bool, not, List, length}
 use Rattle.d64_image.specs.Disk.{Disk, Bytes, Blocks}
 use Rattle.d64_image.specs.BlockSet.{BlockSet}
-use Rattle.d64_image.specs.Disk.{Disk, Bytes, Blocks}
-use Rattle.d64_image.specs.BlockSet.{BlockSet}
 use Rattle.d64_map.specs.Map.{all_of, with_map}
 use Rattle.d64_files.specs.Directory.{slots, owned_blocks}
 use Rattle.d64_files.specs.Slot.{is_used, is_closed}

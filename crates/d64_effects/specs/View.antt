@@ -4,8 +4,6 @@ use Rattle.std.specs.List.{slice_get}
 use Rattle.std.specs.Option.{option_map_or}
 use Rattle.d64_image.specs.Disk.{Disk, Bytes, Blocks}
 use Rattle.d64_image.specs.BlockSet.{BlockSet}
-use Rattle.d64_image.specs.Disk.{Disk, Bytes, Blocks}
-use Rattle.d64_image.specs.BlockSet.{BlockSet}
 use Rattle.d64_image.specs.Image.{sector_at}
 use Rattle.d64_map.specs.Map.{map_block, free_blocks}
 use Rattle.d64_files.specs.Directory.{directory, slots, AllHold}

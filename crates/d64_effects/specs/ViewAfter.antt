@@ -2,7 +2,6 @@
 use Rattle.std.specs.Prelude.{ℕ, ◌-◌, true, false, not, if◌then◌else◌, List, [], ◌∷◌, ◌++◌, map, length, replicate, position, slice_index, slice_set, bytes_eq, Bool, Option, Some, None}
 use Rattle.std.specs.List.{flat_map}
 use Rattle.d64_image.specs.Disk.{Bytes, Blocks}
-use Rattle.d64_image.specs.Disk.{Bytes, Blocks}
 use Rattle.d64_map.specs.Map.{map_block}
 use Rattle.d64_files.specs.Name.{filled, name_in}
 use Rattle.d64_effects.specs.Clear.{with_freed}

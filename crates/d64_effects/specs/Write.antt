@@ -4,8 +4,6 @@ use Rattle.std.specs.Option.{option_map_or, option_to_list}
 use Rattle.std.specs.FinSet as set
 use Rattle.d64_image.specs.Disk.{Disk, Bytes, Blocks}
 use Rattle.d64_image.specs.BlockSet.{BlockSet}
-use Rattle.d64_image.specs.Disk.{Disk, Bytes, Blocks}
-use Rattle.d64_image.specs.BlockSet.{BlockSet}
 use Rattle.d64_map.specs.Map.{free_blocks, with_map}
 use Rattle.d64_map.specs.Plan.{plan}
 use Rattle.d64_map.specs.Search.{dir_order}

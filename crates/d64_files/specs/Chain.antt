@@ -3,7 +3,6 @@ use Rattle.std.specs.Prelude.{◌≡◌, ℕ, zero, suc, ◌<◌, ◌==◌, nat_
 use Rattle.std.specs.List.{list_any}
 use Rattle.std.specs.Option.{option_and_then, option_map_or}
 use Rattle.d64_image.specs.Disk.{Disk, Blocks}
-use Rattle.d64_image.specs.Disk.{Disk, Blocks}
 use Rattle.d64_image.specs.Block.{block_of}
 use Rattle.d64_image.specs.Image.{sector_at}
 use Rattle.d64_files.specs.declared.chain.Link.{Link}

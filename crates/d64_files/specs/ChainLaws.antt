@@ -2,7 +2,6 @@
 use Rattle.std.specs.Prelude.{◌≡◌, ◌≢◌, ◌↔◌, ℕ, ◌<◌, ◌≤◌, nat_eq, [], ◌∷◌, length, All, Contains}
 use Rattle.std.specs.List.{IsDistinct}
 use Rattle.d64_image.specs.Disk.{Disk, Blocks}
-use Rattle.d64_image.specs.Disk.{Disk, Blocks}
 use Rattle.d64_files.specs.Chain.{Chain, chain, link_at}
 
 -- there is at most one chain from a block

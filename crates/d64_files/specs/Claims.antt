@@ -3,7 +3,6 @@ use Rattle.std.specs.Prelude.{◌||◌, nat_eq, Bool, false, [], ◌∷◌}
 use Rattle.std.specs.List.{list_any}
 use Rattle.std.specs.FinSet as set
 use Rattle.d64_image.specs.Disk.{Blocks}
-use Rattle.d64_image.specs.Disk.{Blocks}
 use Rattle.d64_files.specs.declared.claims.Claims.{Claims}
 
 -- whether a block comes twice among blocks

@@ -1,7 +1,6 @@
 -- What the writers that change a slot of the directory in place leave.
 use Rattle.std.specs.Prelude.{ℕ, ◌+◌, [], ◌∷◌}
 use Rattle.d64_image.specs.Disk.{Disk, Bytes}
-use Rattle.d64_image.specs.Disk.{Disk, Bytes}
 use Rattle.d64_files.specs.Name.{filled}
 use Rattle.d64_files.specs.Writing.{with_bytes, slot_block, slot_start}
 

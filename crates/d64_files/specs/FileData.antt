@@ -2,7 +2,6 @@
 use Rattle.std.specs.Prelude.{◌+◌, ◌==◌, if◌then◌else◌, slice_index, slice_range}
 use Rattle.std.specs.List.{flat_map}
 use Rattle.d64_image.specs.Disk.{Disk, Bytes, Blocks}
-use Rattle.d64_image.specs.Disk.{Disk, Bytes, Blocks}
 use Rattle.d64_image.specs.Image.{sector_at}
 
 -- a block's data: bytes 2 to 255, or up to the last byte used, whose index is byte 1, where the link's track is 0

@@ -3,7 +3,6 @@ use Rattle.std.specs.Prelude.{nat_eq, not, Bool, true, false, List, [], ◌∷�
 use Rattle.std.specs.List.{range_with_len, list_any, list_all}
 use Rattle.std.specs.FinSet as set
 use Rattle.d64_image.specs.Disk.{Disk, Blocks}
-use Rattle.d64_image.specs.Disk.{Disk, Blocks}
 use Rattle.d64_image.specs.Image.{tracks_of}
 use Rattle.d64_map.specs.Map.{free_blocks, count_of}
 use Rattle.d64_map.specs.Track.{members_on}

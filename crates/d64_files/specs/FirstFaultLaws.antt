@@ -1,7 +1,6 @@
 -- The tests of the conditions of a sound image and the relations agree.
 use Rattle.std.specs.Prelude.{◌≡◌, ◌↔◌, ℕ, List, Some, None}
 use Rattle.d64_image.specs.Disk.{Disk}
-use Rattle.d64_image.specs.Disk.{Disk}
 use Rattle.d64_files.specs.Directory.{AllHold, IsFirstFault}
 use Rattle.d64_files.specs.FirstFault.{first_fault}
 use Rattle.d64_files.specs.declared.dir_fault.DirFault.{DirFault}

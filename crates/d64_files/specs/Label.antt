@@ -2,7 +2,6 @@
 use Rattle.std.specs.Prelude.{◌≡◌, ◌==◌, ◌&&◌, ℕ, ◌<◌, ◌≤◌, nat_lt, nat_le, Bool, not, [], ◌∷◌, length, All, Any, Contains}
 use Rattle.std.specs.List.{list_any}
 use Rattle.d64_image.specs.Disk.{Bytes}
-use Rattle.d64_image.specs.Disk.{Bytes}
 use Rattle.d64_files.specs.declared.label.BadName.{BadName}
 use Rattle.d64_files.specs.declared.label.BadName.TheVariants.{Empty, TooLong, Forbidden}
 

@@ -1,7 +1,6 @@
 -- Which bytes are a name.
 use Rattle.std.specs.Prelude.{◌-◌, ◌==◌, Bool, not, ◌∷◌, ◌++◌, length, replicate, take_while}
 use Rattle.d64_image.specs.Disk.{Bytes}
-use Rattle.d64_image.specs.Disk.{Bytes}
 use Rattle.d64_files.specs.Label.{IsLabel, is_label, star, question_mark, separators}
 
 -- the bytes that no name holds

@@ -4,7 +4,6 @@ use Rattle.std.specs.List.{flat_map}
 use Rattle.std.specs.Option.{option_to_list}
 use Rattle.std.specs.FinSet as set
 use Rattle.d64_image.specs.Disk.{Disk, Bytes, Blocks}
-use Rattle.d64_image.specs.Disk.{Disk, Bytes, Blocks}
 use Rattle.d64_map.specs.Map.{free_blocks}
 use Rattle.d64_files.specs.Chain.{chain_from}
 use Rattle.d64_files.specs.Slot.{is_closed, kind_of, first_pair, side_pair}

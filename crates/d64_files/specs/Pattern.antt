@@ -1,7 +1,6 @@
 -- Which bytes are a pattern, and which names it matches.
 use Rattle.std.specs.Prelude.{ℕ, Bool, true, false, ◌==◌, ◌&&◌, ◌||◌, ◌≢◌, [], ◌∷◌}
 use Rattle.d64_image.specs.Disk.{Bytes}
-use Rattle.d64_image.specs.Disk.{Bytes}
 use Rattle.d64_files.specs.Label.{IsLabel, is_label, star, question_mark, separators}
 
 -- a pattern that the names of files are compared with

@@ -2,7 +2,6 @@
 use Rattle.std.specs.Prelude.{ℕ, not, Bool, true, false, if◌then◌else◌, [], slice_get, Option, Some, None, Result, Ok, Err, option_map}
 use Rattle.std.specs.Option.{option_or, option_map_or}
 use Rattle.d64_image.specs.Disk.{Disk, Bytes}
-use Rattle.d64_image.specs.Disk.{Disk, Bytes}
 use Rattle.d64_files.specs.Slot.{is_used, is_closed, kind_of, first_pair}
 use Rattle.d64_files.specs.Ownership.{chain_at}
 use Rattle.d64_files.specs.Directory.{slots}

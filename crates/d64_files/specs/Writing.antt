@@ -1,7 +1,6 @@
 -- What the writers of files and entries leave.
 use Rattle.std.specs.Prelude.{ℕ, ◌+◌, ◌-◌, ◌*◌, ◌/◌, ◌%◌, ◌==◌, not, if◌then◌else◌, List, [], ◌∷◌, ◌++◌, length, take, drop, replicate, position, slice_index, Option}
 use Rattle.d64_image.specs.Disk.{Disk, Bytes, Blocks}
-use Rattle.d64_image.specs.Disk.{Disk, Bytes, Blocks}
 use Rattle.d64_image.specs.Block.{pair_at}
 use Rattle.d64_image.specs.Image.{sector_at, with_sector}
 use Rattle.d64_files.specs.Directory.{directory}

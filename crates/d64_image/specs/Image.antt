@@ -3,7 +3,6 @@ use Rattle.std.specs.Prelude.{◌≡◌, ℕ, ◌<◌, ◌==◌, ◌||◌, ◌�
 use Rattle.std.specs.List.{flat_map, range_with_len}
 use Rattle.std.specs.Cmp.Lexicographic.{pointwise}
 use Rattle.d64_image.specs.Disk.{Disk, Bytes, Blocks}
-use Rattle.d64_image.specs.Disk.{Disk, Bytes, Blocks}
 use Rattle.d64_image.specs.declared.image.TheConstants.{BLOCK_BYTES}
 
 -- a block's content: 256 bytes, and a byte is a number below 256

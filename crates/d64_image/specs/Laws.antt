@@ -2,12 +2,9 @@
 use Rattle.std.specs.Prelude.{◌≡◌, ◌≢◌, ◌↔◌, ℕ, ◌+◌, ◌<◌, [], Some, length, Contains, IsTrue}
 use Rattle.std.specs.FinSet as set
 use Rattle.d64_image.specs.Disk.{Disk}
-use Rattle.d64_image.specs.BlockSet.{BlockSet}
-use Rattle.d64_image.specs.Disk.{Disk}
-use Rattle.d64_image.specs.BlockSet.{BlockSet}
+use Rattle.d64_image.specs.BlockSet.{BlockSet, same_members}
 use Rattle.d64_image.specs.declared.block.TheConstants.{BLOCKS}
 use Rattle.d64_image.specs.Block.{IsLegal, first_block, pair_at, block_of}
-use Rattle.d64_image.specs.BlockSet.{same_members}
 use Rattle.d64_image.specs.Image.{IsSize, tracks_of, sector_at, differences}
 use Rattle.d64_image.specs.Patch.{back, changed}
 

@@ -8,10 +8,8 @@ use Rattle.std.specs.FinSet as set
 use Rattle.std.specs.FinSet.{contains-empty, contains-insert, same_set, is_subset-contains, contains-is_subset, nat_cmp-IsAntisymmetric}
 use Rattle.std.proofs.lemmas.Bool.Decides.{nat_tests}
 use Rattle.std.proofs.lemmas.List.FromFn.{fill_by_all}
-use Rattle.d64_image.specs.BlockSet.{BlockSet}
-use Rattle.d64_image.specs.BlockSet.{BlockSet}
+use Rattle.d64_image.specs.BlockSet.{BlockSet, marked, marks_of, same_members}
 use Rattle.d64_image.specs.declared.block.TheConstants.{BLOCKS}
-use Rattle.d64_image.specs.BlockSet.{marked, marks_of, same_members}
 
 -- where both of two tests pass, each does
 pub both_true : (a b : Bool) → (a && b) ≡ true → (a ≡ true) × (b ≡ true)

@@ -3,7 +3,6 @@ use Rattle.std.specs.Prelude.{ℕ, ◌+◌, ◌<◌, ◌≤◌, ◌==◌, not, n
 use Rattle.std.specs.Cmp.Lexicographic.{pointwise}
 use Rattle.std.specs.List.{list_any, insert}
 use Rattle.d64_image.specs.Disk.{Disk, Bytes}
-use Rattle.d64_image.specs.Disk.{Disk, Bytes}
 use Rattle.d64_image.specs.declared.block.TheConstants.{BLOCKS}
 use Rattle.d64_image.specs.Image.{IsBlock, sector_at, with_sector, differences}
 

@@ -3,11 +3,8 @@ use Rattle.std.specs.Prelude.{◌≡◌, ◌≢◌, ℕ, ◌<◌, ◌&&◌, nat_
 use Rattle.std.specs.List.{IsDistinct}
 use Rattle.std.specs.FinSet as set
 use Rattle.d64_image.specs.Disk.{Disk, Blocks}
-use Rattle.d64_image.specs.BlockSet.{BlockSet}
-use Rattle.d64_image.specs.Disk.{Disk, Blocks}
-use Rattle.d64_image.specs.BlockSet.{BlockSet}
+use Rattle.d64_image.specs.BlockSet.{BlockSet, MembersAreBelow}
 use Rattle.d64_image.specs.declared.block.TheConstants.{BLOCKS}
-use Rattle.d64_image.specs.BlockSet.{MembersAreBelow}
 use Rattle.d64_image.specs.Image.{IsImage, tracks_of, sector_at}
 use Rattle.d64_image.specs.Block.{pair_at}
 use Rattle.d64_map.specs.Map.{map_block, is_free, free_blocks, CountsFit, is_entry, with_map}

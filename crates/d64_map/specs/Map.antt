@@ -5,8 +5,6 @@ use Rattle.std.specs.Int.{bit_at}
 use Rattle.std.specs.FinSet as set
 use Rattle.d64_image.specs.Disk.{Disk, Bytes, Blocks}
 use Rattle.d64_image.specs.BlockSet.{BlockSet}
-use Rattle.d64_image.specs.Disk.{Disk, Bytes, Blocks}
-use Rattle.d64_image.specs.BlockSet.{BlockSet}
 use Rattle.d64_image.specs.Block.{pair_at}
 use Rattle.d64_image.specs.Image.{tracks_of, sector_at, with_sector}
 use Rattle.d64_image.specs.declared.block.TheConstants.{BLOCKS}

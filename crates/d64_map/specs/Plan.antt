@@ -4,8 +4,6 @@ use Rattle.std.specs.Option.{option_map, option_and_then}
 use Rattle.std.specs.FinSet as set
 use Rattle.d64_image.specs.Disk.{Blocks}
 use Rattle.d64_image.specs.BlockSet.{BlockSet}
-use Rattle.d64_image.specs.Disk.{Blocks}
-use Rattle.d64_image.specs.BlockSet.{BlockSet}
 use Rattle.d64_image.specs.Block.{pair_at}
 use Rattle.d64_map.specs.Map.{blocks}
 use Rattle.d64_map.specs.Search.{first_order, next_order}

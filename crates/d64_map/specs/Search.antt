@@ -2,7 +2,6 @@
 use Rattle.std.specs.Prelude.{ℕ, ◌+◌, ◌-◌, ◌==◌, nat_lt, if◌then◌else◌, List, ◌++◌, map, take, drop}
 use Rattle.std.specs.List.{range_with_len, flat_map}
 use Rattle.d64_image.specs.Disk.{Blocks}
-use Rattle.d64_image.specs.Disk.{Blocks}
 use Rattle.d64_image.specs.Block.{sectors_on, pair_at}
 use Rattle.d64_map.specs.Track.{blocks_on}
 

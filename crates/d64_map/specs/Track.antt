@@ -5,8 +5,6 @@ use Rattle.std.specs.Option.{option_map_or}
 use Rattle.std.specs.FinSet as set
 use Rattle.d64_image.specs.Disk.{Blocks}
 use Rattle.d64_image.specs.BlockSet.{BlockSet}
-use Rattle.d64_image.specs.Disk.{Blocks}
-use Rattle.d64_image.specs.BlockSet.{BlockSet}
 use Rattle.d64_image.specs.Block.{sectors_on, first_block, block_of}
 
 -- the blocks of a track, by sectors rising from 0

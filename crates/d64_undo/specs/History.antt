@@ -1,7 +1,6 @@
 -- Histories: whole images in a list with a cursor, and what commands, undo and redo make of them.
 use Rattle.std.specs.Prelude.{ℕ, ◌+◌, ◌-◌, ◌<◌, nat_lt, if◌then◌else◌, Option, Some, None, List, [], ◌∷◌, ◌++◌, length, take, slice_index_or}
 use Rattle.d64_image.specs.Disk.{Disk}
-use Rattle.d64_image.specs.Disk.{Disk}
 use Rattle.d64_image.specs.Image.{differences}
 use Rattle.d64_image.specs.Patch.{Kept, changed}
 

@@ -2,7 +2,6 @@
 use Rattle.std.specs.Prelude.{◌≡◌, ℕ, ◌+◌, ◌-◌, ◌<◌, ◌≤◌, List, ◌∷◌, [], length, fold, slice_index_or}
 use Rattle.std.specs.Fn.{iterate}
 use Rattle.d64_image.specs.Disk.{Disk}
-use Rattle.d64_image.specs.Disk.{Disk}
 use Rattle.d64_undo.specs.History.{History, IsHistory, present, added, undone, redone}
 
 -- undo after an accepted command gives the image from before it

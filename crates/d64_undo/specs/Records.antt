@@ -1,7 +1,6 @@
 -- What a session holds of a history: the present image, and for each record a patch that leads away from it.
 use Rattle.std.specs.Prelude.{◌≡◌, ℕ, List, [], ◌∷◌, ◌++◌, reverse, take, drop}
 use Rattle.d64_image.specs.Disk.{Disk}
-use Rattle.d64_image.specs.Disk.{Disk}
 use Rattle.d64_image.specs.Patch.{Kept, back, changed}
 
 -- the images that come one after another as the patches are put back in turn

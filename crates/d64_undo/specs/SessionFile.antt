@@ -3,7 +3,6 @@ use Rattle.std.specs.Prelude.{◌≡◌, ℕ, ◌-◌, ◌≤◌, ◌^◌, All, 
 use Rattle.std.specs.Int.{w16, w64, to_le_bytes}
 use Rattle.std.specs.List.{flat_map, range_with_len}
 use Rattle.d64_image.specs.Disk.{Disk, Bytes}
-use Rattle.d64_image.specs.Disk.{Disk, Bytes}
 use Rattle.d64_image.specs.Image.{IsImage, tracks_of, bytes_of}
 use Rattle.d64_image.specs.Patch.{Kept}
 use Rattle.d64_undo.specs.History.{History, IsHistory, present, record_blocks}

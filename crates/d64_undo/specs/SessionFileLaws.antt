@@ -1,7 +1,6 @@
 -- What follows from the definitions of session files and of their faults.
 use Rattle.std.specs.Prelude.{◌≡◌, ◌<◌, All, None, Result, Ok, Err, IfOk}
 use Rattle.d64_image.specs.Disk.{Bytes}
-use Rattle.d64_image.specs.Disk.{Bytes}
 use Rattle.d64_undo.specs.History.{History}
 use Rattle.d64_undo.specs.SessionFile.{file_of, IsSession}
 use Rattle.d64_undo.specs.ResumeFault.{first_fault, fault_number, refused_by}
