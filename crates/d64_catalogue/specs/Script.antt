@@ -4,15 +4,15 @@ use Rattle.d64_markup.specs.Markup.{element}
 
 -- what is on the page: each section, with its names and files
 unfoldable pub gathering : List ℕ
-gathering = codes "addEventListener(\"DOMContentLoaded\", () => {\n  const all = (words, within = document) => [...within.querySelectorAll(words)];\n  const lower = (part) => part.textContent.toLowerCase();\n  const [field] = all(\"input\"), [count] = all(\"output\"), [tools] = all(\".tools\"), buttons = all(\"button\");\n  const disks = all(\"details, section\").map((box) => ({\n    box,\n    names: all(\".name, .host\", box).map(lower),\n    files: all(\"tbody th\", box).map((head) => ({ row: head.parentNode, name: lower(head), hidden: false })),\n  }));\n"
+gathering = codes "document.documentElement.className = \"opening\";\naddEventListener(\"DOMContentLoaded\", () => {\n  const all = (words, within = document) => [...within.querySelectorAll(words)];\n  const lower = (part) => part.textContent.toLowerCase();\n  const [field] = all(\"input\"), [count] = all(\"output\"), [tools] = all(\".tools\"), buttons = all(\"button\");\n  const disks = all(\"details, section\").map((box, place) => ({ box, hidden: box.hidden = place >= 100 }));\n  const known = (disk) => disk.files ? disk : Object.assign(disk, {\n    names: all(\".name, .host\", disk.box).map(lower),\n    files: all(\"tbody th\", disk.box).map((head) => ({ row: head.parentNode, name: lower(head), hidden: false })),\n  });\n  document.documentElement.className = \"\";\n"
 
 -- what is shown: the sections and files whose name holds what is typed, of the state that is asked for
 unfoldable pub showing : List ℕ
-showing = codes "  let state = \"\", last = \"\";\n  const show = () => {\n    const text = field.value.toLowerCase();\n    const kept = disks.filter((disk) => {\n      const whole = disk.names.some((name) => name.includes(text));\n      let found = whole;\n      for (const file of disk.files) {\n        const holds = whole || file.name.includes(text);\n        if (file.hidden === holds) file.row.hidden = !holds;\n        file.hidden = !holds;\n        found ||= holds;\n      }\n      return !(disk.box.hidden = !found || (state && disk.box.className !== state));\n    });\n    if (text !== last) for (const disk of disks) disk.box.open = text && kept.length <= 20;\n    last = text;\n    count.value = `${kept.length} of ${disks.length} disks`;\n  };\n"
+showing = codes "  let state = \"\", last = \"\", rest = [], frame;\n  const more = (most = 100) => {\n    for (const disk of rest.splice(0, most)) known(disk).box.hidden = disk.hidden = false;\n    frame = rest.length && requestAnimationFrame(() => more());\n  };\n  const show = () => {\n    const text = field.value.toLowerCase();\n    const kept = disks.filter((disk) => {\n      const whole = !text || known(disk).names.some((name) => name.includes(text)), files = disk.files || [];\n      for (const file of files) file.holds = whole || file.name.includes(text);\n      const found = (whole || files.some((file) => file.holds)) && (!state || disk.box.className === state);\n      if (!found && !disk.hidden) disk.box.hidden = disk.hidden = true;\n      if (found) for (const file of files) if (file.hidden === file.holds) file.row.hidden = file.hidden = !file.holds;\n      return found;\n    });\n    if (text !== last) for (const disk of disks) disk.box.open = text && kept.length <= 20;\n    last = text;\n    count.value = `${kept.length} of ${disks.length} disks`;\n    cancelAnimationFrame(frame);\n    rest = kept.filter((disk) => disk.hidden);\n    more();\n  };\n"
 
 -- when that is asked: as the page opens, by its address, and by the reader
 unfoldable pub listening : List ℕ
-listening = codes "  const search = () => {\n    const [, text = \"\"] = location.hash.match(/^#q=(.*)/) || [];\n    try { field.value = decodeURIComponent(text); } catch { field.value = text; }\n    show();\n  };\n  field.addEventListener(\"input\", () => {\n    show();\n    history.replaceState(null, \"\", \"#\" + (field.value && \"q=\" + encodeURIComponent(field.value)));\n  });\n  for (const button of buttons) button.addEventListener(\"click\", () => {\n    state = button.value;\n    for (const other of buttons) other.setAttribute(\"aria-pressed\", other === button);\n    show();\n  });\n  addEventListener(\"hashchange\", search);\n  tools.hidden = false;\n  search();\n});\n"
+listening = codes "  const search = () => {\n    const [, text = \"\"] = location.hash.match(/^#q=(.*)/) || [];\n    try { field.value = decodeURIComponent(text); } catch { field.value = text; }\n    show();\n  };\n  field.addEventListener(\"input\", () => {\n    show();\n    history.replaceState(null, \"\", \"#\" + (field.value && \"q=\" + encodeURIComponent(field.value)));\n  });\n  for (const button of buttons) button.addEventListener(\"click\", () => {\n    state = button.value;\n    for (const other of buttons) other.setAttribute(\"aria-pressed\", other === button);\n    show();\n  });\n  addEventListener(\"hashchange\", search);\n  addEventListener(\"beforeprint\", () => more(Infinity));\n  tools.hidden = false;\n  search();\n});\n"
 
 -- all steps
 unfoldable pub steps : List ℕ

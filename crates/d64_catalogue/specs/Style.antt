@@ -4,7 +4,7 @@ use Rattle.d64_markup.specs.Markup.{element}
 
 -- the colours, light and dark, and the page
 unfoldable pub page_rules : List ℕ
-page_rules = codes ":root{color-scheme:light dark;--ink:#1d1f24;--soft:#5b606a;--line:#dcd9d0;--paper:#f6f4ee;--card:#fff;--good:#1c7547;--bad:#b3261e;--odd:#855500;--mono:ui-monospace,\"Cascadia Mono\",\"SF Mono\",Menlo,Consolas,\"DejaVu Sans Mono\",monospace}\n@media screen and (prefers-color-scheme:dark){:root{--ink:#e9e7e1;--soft:#a3a7b0;--line:#35373e;--paper:#141519;--card:#1c1e23;--good:#6fce9b;--bad:#ff8f85;--odd:#e2b457}}\n*{box-sizing:border-box}\nhtml{scroll-padding-top:9rem}\n[hidden]{display:none!important}\nbody{max-width:60rem;margin:0 auto;padding:0 1rem 4rem;background:var(--paper);color:var(--ink);font:1rem/1.5 system-ui,sans-serif}\nheader{position:sticky;top:0;z-index:1;margin-bottom:1rem;padding:1rem 0 .75rem;background:var(--paper);border-bottom:1px solid var(--line)}\nh1{margin:0;font-size:1.3rem}\n"
+page_rules = codes ":root{color-scheme:light dark;--ink:#1d1f24;--soft:#5b606a;--line:#dcd9d0;--paper:#f6f4ee;--card:#fff;--good:#1c7547;--bad:#b3261e;--odd:#855500;--mono:ui-monospace,\"Cascadia Mono\",\"SF Mono\",Menlo,Consolas,\"DejaVu Sans Mono\",monospace}\n@media screen and (prefers-color-scheme:dark){:root{--ink:#e9e7e1;--soft:#a3a7b0;--line:#35373e;--paper:#141519;--card:#1c1e23;--good:#6fce9b;--bad:#ff8f85;--odd:#e2b457}}\n*{box-sizing:border-box}\nhtml{scroll-padding-top:9rem}\n[hidden],.opening>body>:nth-child(n+102){display:none!important}\nbody{max-width:60rem;margin:0 auto;padding:0 1rem 4rem;background:var(--paper);color:var(--ink);font:1rem/1.5 system-ui,sans-serif}\nheader{position:sticky;top:0;z-index:1;margin-bottom:1rem;padding:1rem 0 .75rem;background:var(--paper);border-bottom:1px solid var(--line)}\nh1{margin:0;font-size:1.3rem}\n"
 
 -- the search field and its buttons
 unfoldable pub search_rules : List ℕ

@@ -5,34 +5,40 @@ ghost use Rattle.d64_catalogue.specs.Script.{gathering, showing, listening, step
 use std::alloc::AllocError;
 
 /// What is on the page: each section, with its names and files.
-const GATHERING: &[u8] = b"addEventListener(\"DOMContentLoaded\", () => {\n\
+const GATHERING: &[u8] = b"document.documentElement.className = \"opening\";\n\
+addEventListener(\"DOMContentLoaded\", () => {\n\
 \x20 const all = (words, within = document) => [...within.querySelectorAll(words)];\n\
 \x20 const lower = (part) => part.textContent.toLowerCase();\n\
 \x20 const [field] = all(\"input\"), [count] = all(\"output\"), [tools] = all(\".tools\"), buttons = all(\"button\");\n\
-\x20 const disks = all(\"details, section\").map((box) => ({\n\
-\x20   box,\n\
-\x20   names: all(\".name, .host\", box).map(lower),\n\
-\x20   files: all(\"tbody th\", box).map((head) => ({ row: head.parentNode, name: lower(head), hidden: false })),\n\
-\x20 }));\n";
+\x20 const disks = all(\"details, section\").map((box, place) => ({ box, hidden: box.hidden = place >= 100 }));\n\
+\x20 const known = (disk) => disk.files ? disk : Object.assign(disk, {\n\
+\x20   names: all(\".name, .host\", disk.box).map(lower),\n\
+\x20   files: all(\"tbody th\", disk.box).map((head) => ({ row: head.parentNode, name: lower(head), hidden: false })),\n\
+\x20 });\n\
+\x20 document.documentElement.className = \"\";\n";
 
 /// What is shown: the sections and files whose name holds what is typed, of the state that is asked for.
-const SHOWING: &[u8] = b"  let state = \"\", last = \"\";\n\
+const SHOWING: &[u8] = b"  let state = \"\", last = \"\", rest = [], frame;\n\
+\x20 const more = (most = 100) => {\n\
+\x20   for (const disk of rest.splice(0, most)) known(disk).box.hidden = disk.hidden = false;\n\
+\x20   frame = rest.length && requestAnimationFrame(() => more());\n\
+\x20 };\n\
 \x20 const show = () => {\n\
 \x20   const text = field.value.toLowerCase();\n\
 \x20   const kept = disks.filter((disk) => {\n\
-\x20     const whole = disk.names.some((name) => name.includes(text));\n\
-\x20     let found = whole;\n\
-\x20     for (const file of disk.files) {\n\
-\x20       const holds = whole || file.name.includes(text);\n\
-\x20       if (file.hidden === holds) file.row.hidden = !holds;\n\
-\x20       file.hidden = !holds;\n\
-\x20       found ||= holds;\n\
-\x20     }\n\
-\x20     return !(disk.box.hidden = !found || (state && disk.box.className !== state));\n\
+\x20     const whole = !text || known(disk).names.some((name) => name.includes(text)), files = disk.files || [];\n\
+\x20     for (const file of files) file.holds = whole || file.name.includes(text);\n\
+\x20     const found = (whole || files.some((file) => file.holds)) && (!state || disk.box.className === state);\n\
+\x20     if (!found && !disk.hidden) disk.box.hidden = disk.hidden = true;\n\
+\x20     if (found) for (const file of files) if (file.hidden === file.holds) file.row.hidden = file.hidden = !file.holds;\n\
+\x20     return found;\n\
 \x20   });\n\
 \x20   if (text !== last) for (const disk of disks) disk.box.open = text && kept.length <= 20;\n\
 \x20   last = text;\n\
 \x20   count.value = `${kept.length} of ${disks.length} disks`;\n\
+\x20   cancelAnimationFrame(frame);\n\
+\x20   rest = kept.filter((disk) => disk.hidden);\n\
+\x20   more();\n\
 \x20 };\n";
 
 /// When that is asked: as the page opens, by its address, and by the reader.
@@ -51,6 +57,7 @@ const LISTENING: &[u8] = b"  const search = () => {\n\
 \x20   show();\n\
 \x20 });\n\
 \x20 addEventListener(\"hashchange\", search);\n\
+\x20 addEventListener(\"beforeprint\", () => more(Infinity));\n\
 \x20 tools.hidden = false;\n\
 \x20 search();\n\
 });\n";

@@ -10,7 +10,7 @@ const PAGE_RULES: &[u8] =
 @media screen and (prefers-color-scheme:dark){:root{--ink:#e9e7e1;--soft:#a3a7b0;--line:#35373e;--paper:#141519;--card:#1c1e23;--good:#6fce9b;--bad:#ff8f85;--odd:#e2b457}}\n\
 *{box-sizing:border-box}\n\
 html{scroll-padding-top:9rem}\n\
-[hidden]{display:none!important}\n\
+[hidden],.opening>body>:nth-child(n+102){display:none!important}\n\
 body{max-width:60rem;margin:0 auto;padding:0 1rem 4rem;background:var(--paper);color:var(--ink);font:1rem/1.5 system-ui,sans-serif}\n\
 header{position:sticky;top:0;z-index:1;margin-bottom:1rem;padding:1rem 0 .75rem;background:var(--paper);border-bottom:1px solid var(--line)}\n\
 h1{margin:0;font-size:1.3rem}\n";
