@@ -1,5 +1,5 @@
-//! Tests of the text of scripts and of the program's words, through the public calls of `d64_script` and `d64_words`: what no
-//! contract says, such as texts, and examples whose values come from outside.
+//! Tests of the text of scripts through the public calls of `d64_script`: what no contract says, such as texts, and examples whose
+//! values come from outside.
 //!
 //! They stand in a crate of their own, since a crate with tests is proved twice. What a script can reach is a worked
 //! example instead.
@@ -7,5 +7,3 @@
 
 #[cfg(test)]
 mod script;
-#[cfg(test)]
-mod words;
