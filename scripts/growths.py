@@ -1,11 +1,13 @@
 """Programs that are refused memory: what scripts/refused_growths.c is told, and what it tells."""
 import os
+import shutil
 import struct
 import subprocess
 from collections import namedtuple
 
 HERE = os.path.dirname(os.path.abspath(__file__))
 NUMBERS = "=4Q"
+LEAST_ROOM = 1 << 30
 
 # How many growths a run asked for, and how many were refused, and whether the first of those was asked for again, for no more.
 Growths = namedtuple("Growths", "asked refused asked_again")
@@ -16,6 +18,11 @@ def compiled(name, work):
     library = os.path.join(work, f"{name}.so")
     subprocess.run(["cc", "-O1", "-shared", "-fPIC", "-o", library, os.path.join(HERE, f"{name}.c"), "-ldl"], check=True)
     return library
+
+
+def room_in_memory():
+    """A folder in memory, where the system has one: files there are stored without waiting for a disk that others keep busy. None where it has none."""
+    return "/dev/shm" if os.access("/dev/shm", os.W_OK | os.X_OK) and shutil.disk_usage("/dev/shm").free > LEAST_ROOM else None
 
 
 def refusing(library, file, at, goes_on=False):
