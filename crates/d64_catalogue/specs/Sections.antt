@@ -1,5 +1,5 @@
 -- The section of an image.
-use Rattle.std.specs.Prelude.{ℕ, if◌then◌else◌, Bool, List, [], ◌++◌, length, codes, decimal}
+use Rattle.std.specs.Prelude.{ℕ, if◌then◌else◌, Bool, List, [], ◌++◌, codes}
 use Rattle.std.specs.List.{flat_map}
 use Rattle.d64_image.specs.Disk.{Disk, Bytes}
 use Rattle.d64_effects.specs.View.{disk_id}
@@ -87,7 +87,3 @@ section maps name dump = element (codes "details") (amiss_class (is_amiss dump))
 unfoldable pub unanswered : Bytes → List ℕ → List ℕ
 unanswered name wrong =
     element (codes "section") (codes " class=\"amiss\"") (codes "\n" ++ (host_line (codes "h2") name ++ text_line (codes "p") [] wrong)) ++ codes "\n"
-
--- a length that no dump has
-unfoldable pub wrong_length : Bytes → List ℕ
-wrong_length bytes = codes "wrong length " ++ decimal (length bytes)

@@ -4,12 +4,12 @@ ghost use Rattle.d64_catalogue.specs.Catalogue.{answer_of, catalogue_rule, catal
 ghost use Rattle.d64_catalogue.specs.Quiet.{catalogue_rule-is_quiet};
 
 use crate::head::push_head;
-use crate::section::{push_section, push_unanswered, push_wrong_length};
+use crate::section::{push_section, push_unanswered};
 use d64_collection::{AnswerRoom, Report, Verdict};
 use d64_image::Image;
 use d64_inventory::is_amiss;
 use d64_survey::{Dump, DumpFault, Fault, Inspection, ReadError};
-use d64_wording::{unread_line, wrong_length_line};
+use d64_wording::{push_wrong_length, unread_line, wrong_length_line};
 use std::alloc::{AllocError, Global};
 
 /// The report of `catalogue`, with the memory that it keeps from file to file.

@@ -2,7 +2,7 @@
 ghost use Rattle.std.specs.Prelude.{◌≡◌, [], ◌++◌, codes, OnOk};
 ghost use Rattle.std.specs.List.{flat_map};
 ghost use Rattle.d64_catalogue.specs.Elements.{text_line};
-ghost use Rattle.d64_catalogue.specs.Sections.{disk_line, id_line, host_line, contents_line, state_line, label_lines, summary, fault_item, error_item, fault_items, error_items, wrongs, picture_where, content, amiss_class, section, unanswered, wrong_length};
+ghost use Rattle.d64_catalogue.specs.Sections.{disk_line, id_line, host_line, contents_line, state_line, label_lines, summary, fault_item, error_item, fault_items, error_items, wrongs, picture_where, content, amiss_class, section, unanswered};
 
 use crate::element::push_text_line;
 use crate::files::push_table;
@@ -278,15 +278,5 @@ pub(crate) fn push_unanswered(
     out.extend_from_slice(b"<section class=\"amiss\">\n")?;
     push_wrong_lines(out, name, wrong)?;
     out.extend_from_slice(b"</section>\n")?;
-    Ok(())
-}
-
-/// Adds a length that no dump has.
-#[tactic(auto, unfolding(crate::specs::Sections::wrong_length))]
-pub(crate) fn push_wrong_length(out: &mut Vec<u8>, bytes: &[u8]) -> Result<(), AllocError>
-    ensures { OnOk result (out.new.items ≡ out.old.items ++ wrong_length bytes.now) }
-{
-    out.extend_from_slice(b"wrong length ")?;
-    push_number(out, bytes.len())?;
     Ok(())
 }

@@ -57,14 +57,22 @@ fn push_brackets(out: &mut Vec<u8>, bytes: &[u8]) -> Result<(), AllocError>
     }
 }
 
+/// Adds the number of bytes of a file, which no dump has, and what the file seems to be, where that is known.
+pub fn push_wrong_length(out: &mut Vec<u8>, bytes: &[u8]) -> Result<(), AllocError>
+    ensures { OnOk result (out.new.items ≡ out.old.items ++ wrong_length_text bytes.now) }
+{
+    out.extend_from_slice(b"wrong length ")?;
+    push_number(out, bytes.len())?;
+    push_brackets(out, bytes)?;
+    Ok(())
+}
+
 /// Adds the line of a file with these bytes, of which there are as many as no dump has.
 #[tactic(auto, unfolding(crate::specs::FaultLines::line_about))]
 pub fn wrong_length_line(out: &mut Vec<u8>, name: &[u8], bytes: &[u8]) -> Result<(), AllocError>
     ensures { OnOk result (out.new.items ≡ out.old.items ++ wrong_length_line name.now bytes.now) }
 {
     push_start(out, name)?;
-    out.extend_from_slice(b"wrong length ")?;
-    push_number(out, bytes.len())?;
-    push_brackets(out, bytes)?;
+    push_wrong_length(out, bytes)?;
     out.extend_from_slice(b"\n")
 }
