@@ -2,8 +2,10 @@
 #![tactic(auto)]
 
 pub mod laws;
+mod listener;
 mod manners;
 mod runner;
 
+pub use listener::{Listener, Nobody};
 pub use manners::{Manner, Refusals};
-pub use runner::{Outcome, ShellFault, run, run_on, run_script};
+pub use runner::{Outcome, ScriptRunner, ShellFault, run, run_on, run_script};

@@ -1,7 +1,7 @@
 //! A script, from its bytes to the bytes of its answers, line by line.
-ghost use Rattle.std.specs.Prelude.{◌≡◌, ◌≤◌, ◌<◌, ◌^◌, ◌+◌, ◌++◌, true, false, ℕ, List, length, MatchOption, OnOk, OnErr};
+ghost use Rattle.std.specs.Prelude.{◌≡◌, ◌≤◌, ◌<◌, ◌^◌, ◌+◌, ◌++◌, [], true, false, ℕ, List, length, MatchOption, OnOk, OnErr};
 ghost use Rattle.std.specs.Io.KnownBytes.{Keeps};
-ghost use Rattle.d64_script.specs.HeldLine.{Says};
+ghost use Rattle.d64_script.specs.HeldLine.{Holds, Says};
 ghost use Rattle.d64_script.specs.Input.{IsUnread, reading_of};
 ghost use Rattle.d64_script.specs.Output.{FailsWith};
 ghost use Rattle.d64_script.specs.RawLines.{lines_of};
@@ -13,8 +13,10 @@ ghost use Rattle.d64_runner.specs.Runner.{Stand, manner_of, stand_of, Ran, Stopp
 ghost use Rattle.d64_runner.specs.Transcript.{going_on};
 ghost use Rattle.d64_runner.specs.LineByLine.{HasCome, ComesTo, EndsRun, RunsLine, StopsInLine};
 
+use crate::listener::{Listener, Nobody};
 use crate::manners::{Manner, Refusals};
 use d64_host::Host;
+use d64_image::Image;
 use d64_line::{Response, answer_line};
 use d64_script::held_line::HeldLine;
 use d64_script::input::InputStream;
@@ -90,26 +92,58 @@ impl Tally {
     }
 }
 
-/// How far a run has come in its script: what came of the next line, and what the lines before it counted.
+/// How far a run has come in its script: what came of the next line, and what the lines before it counted; and who is told of it.
 #[derive(Drop)]
-struct RunState {
+struct RunState<'l, L: Listener> {
     line: HeldLine,
     tally: Tally,
+    listener: &'l mut L,
 }
 
-impl RunState {
+impl<'l, L: Listener> RunState<'l, L> {
     ghost use Rattle.std.specs.Prelude.{[]};
     ghost use Rattle.d64_script.specs.HeldLine.{Holds};
+    ghost use Rattle.d64_script.specs.Output.{AppendsPart};
+    ghost use Rattle.d64_line.specs.Act.{printed};
+    ghost use Rattle.std.specs.Io.KnownBytes.{Appends};
 
     /// Nothing has come.
-    fn new() -> RunState
+    fn new(listener: &'l mut L) -> RunState<'l, L>
+        ensures lent { result.listener.ghost_name ≡ listener.entry.ghost_name }
         ensures line { Holds result.line [] }
         ensures tally { result.tally ≡ record { outcome = record { accepted = 0; refused = 0 }; closed = false } }
     {
         RunState {
             line: HeldLine::new(),
             tally: Tally::new(),
+            listener,
         }
+    }
+
+    /// Writes the answer to the line, where this is the present image, and tells it to a listener once it is delivered.
+    fn write_answer<W: Write>(
+        &mut self,
+        home: &str,
+        response: &Response,
+        output: &mut OutputStream<'_, W>,
+        image: &Image,
+    ) -> Result<(), WriteFault>
+        ensures lent { self.new.listener.ghost_name ≡ self.old.listener.ghost_name }
+        ensures line { self.new.line ≡ self.old.line }
+        ensures tally { self.new.tally ≡ self.old.tally }
+        ensures same { output.new.writer.ghost_name ≡ output.old.writer.ghost_name }
+        ensures ok { OnOk result (Appends (W.contents output.old.writer.now) (W.contents output.new.writer.now) (printed (shown image.now response.now))) }
+        ensures err { OnErr result (AppendsPart (W.contents output.old.writer.now) (W.contents output.new.writer.now) (printed (shown image.now response.now))) }
+        ensures failed { FailsWith result output.old.has_failed output.new.has_failed }
+    {
+        response.write(output, image)?;
+        if !self.listener.is_listening() {
+            return Ok(());
+        }
+        deliver(output)?;
+        self.listener
+            .hear(home, &self.line, &response.status, image);
+        Ok(())
     }
 }
 
@@ -173,11 +207,8 @@ pub fn run_on<R: Read, W: Write, H: Host>(
     run_script(alloc, input, output, host, manner, session)
 }
 
-/// Runs the script of an input of which nothing was read yet in this manner, and prints on an output that has not failed.
-///
-/// `Read` comes where a read failed or a limit was reached, and `Write` where a write or a flush failed; no read is made
-/// while something printed has not been delivered, nor after a call that failed, an accepted `quit`, or
-/// a refused line that ends the script.
+/// Runs the script of an input of which nothing was read yet in this manner, and prints on an output that has not failed. Nobody
+/// listens to it.
 pub fn run_script<R: Read, W: Write, H: Host>(
     alloc: Global,
     input: &mut InputStream<'_, R>,
@@ -197,32 +228,58 @@ pub fn run_script<R: Read, W: Write, H: Host>(
         result }
     ensures streams { EndsWith result (reading_of input.new.reads input.new.came input.new.has_failed) output.new.has_failed }
 {
-    let runner = LineRunner { alloc, manner };
-    let mut state = RunState::new();
-    let mut room = SCRIPT_BYTES;
-    let mut buffer = [0; READ_BYTES];
-    for _ in 0..SCRIPT_READS {
-        let Ok(()) = deliver(output) else {
-            return Err(ShellFault::Write);
+    let mut nobody = Nobody;
+    let runner = ScriptRunner {
+        alloc,
+        manner,
+        listener: &mut nobody,
+    };
+    runner.run(input, output, host, session)
+}
+
+/// What runs a script: memory, the manner of the run, and who is told of it.
+#[derive(Drop)]
+pub struct ScriptRunner<'n, 'l, L: Listener> {
+    pub alloc: Global,
+    pub manner: Manner<'n>,
+    pub listener: &'l mut L,
+}
+
+impl<'n, 'l, L: Listener> ScriptRunner<'n, 'l, L> {
+    /// Runs the script of an input of which nothing was read yet, and prints on an output that has not failed.
+    ///
+    /// `Read` comes where a read failed or a limit was reached, and `Write` where a write or a flush failed; no read is made
+    /// while something printed has not been delivered, nor after a call that failed, an accepted `quit`, or
+    /// a refused line that ends the script. All this is the same with every listener, which is told of the session's begin, of each
+    /// answer, and of the session's end, however that comes.
+    pub fn run<R: Read, W: Write, H: Host>(
+        self,
+        input: &mut InputStream<'_, R>,
+        output: &mut OutputStream<'_, W>,
+        host: &mut H,
+        session: &mut Session,
+    ) -> Result<Outcome, ShellFault>
+        requires unread { IsUnread (reading_of input.old.reads input.old.came input.old.has_failed) }
+        requires unfailed { output.old.has_failed ≡ false }
+        requires delivered { output.old.is_delivered ≡ true }
+        ensures input { input.new.reader.ghost_name ≡ input.old.reader.ghost_name }
+        ensures output { output.new.writer.ghost_name ≡ output.old.writer.ghost_name }
+        ensures ran { Ran (manner_of self.entry.manner) (R.remaining input.old.reader.now) (R.remaining input.new.reader.now)
+            (stand_of (W.contents output.old.writer.now) (world_of (H.state host.old) session.old))
+            (stand_of (W.contents output.new.writer.now) (world_of (H.state host.new) session.new))
+            result }
+        ensures streams { EndsWith result (reading_of input.new.reads input.new.came input.new.has_failed) output.new.has_failed }
+    {
+        let runner = LineRunner {
+            alloc: self.alloc,
+            manner: self.manner,
         };
-        let count = match input.read_after(output, &mut buffer) {
-            Ok(0) => return runner.run_last(output, host, session, &mut state),
-            Ok(count) => count,
-            Err(_) => return Err(ShellFault::Read),
-        };
-        let piece = &buffer[..count.min(room)];
-        let Ok(()) = runner.run_piece(output, host, session, &mut state, piece) else {
-            return Err(ShellFault::Write);
-        };
-        if state.tally.closed {
-            return Ok(state.tally.outcome);
-        }
-        if count > room {
-            return Err(ShellFault::Read);
-        }
-        room -= count;
+        let mut state = RunState::new(self.listener);
+        state.listener.begin(session.image());
+        let ended = runner.run_all(input, output, host, session, &mut state);
+        state.listener.end(session.image());
+        ended
     }
-    Err(ShellFault::Read)
 }
 
 /// Delivers what was printed, where something was since the last time.
@@ -240,15 +297,65 @@ fn deliver<W: Write>(output: &mut OutputStream<'_, W>) -> Result<(), WriteFault>
 }
 
 impl<'n> LineRunner<'n> {
+    /// Runs the script of an input of which nothing was read yet.
+    fn run_all<R: Read, W: Write, H: Host, L: Listener>(
+        self,
+        input: &mut InputStream<'_, R>,
+        output: &mut OutputStream<'_, W>,
+        host: &mut H,
+        session: &mut Session,
+        state: &mut RunState<'_, L>,
+    ) -> Result<Outcome, ShellFault>
+        requires unread { IsUnread (reading_of input.old.reads input.old.came input.old.has_failed) }
+        requires unfailed { output.old.has_failed ≡ false }
+        requires delivered { output.old.is_delivered ≡ true }
+        requires line { Holds state.old.line [] }
+        requires tally { state.old.tally ≡ record { outcome = record { accepted = 0; refused = 0 }; closed = false } }
+        ensures lent { state.new.listener.ghost_name ≡ state.old.listener.ghost_name }
+        ensures input { input.new.reader.ghost_name ≡ input.old.reader.ghost_name }
+        ensures output { output.new.writer.ghost_name ≡ output.old.writer.ghost_name }
+        ensures ran { Ran (manner_of self.entry.manner) (R.remaining input.old.reader.now) (R.remaining input.new.reader.now)
+            (stand_of (W.contents output.old.writer.now) (world_of (H.state host.old) session.old))
+            (stand_of (W.contents output.new.writer.now) (world_of (H.state host.new) session.new))
+            result }
+        ensures streams { EndsWith result (reading_of input.new.reads input.new.came input.new.has_failed) output.new.has_failed }
+    {
+        let mut room = SCRIPT_BYTES;
+        let mut buffer = [0; READ_BYTES];
+        for _ in 0..SCRIPT_READS {
+            let Ok(()) = deliver(output) else {
+                return Err(ShellFault::Write);
+            };
+            let count = match input.read_after(output, &mut buffer) {
+                Ok(0) => return self.run_last(output, host, session, state),
+                Ok(count) => count,
+                Err(_) => return Err(ShellFault::Read),
+            };
+            let piece = &buffer[..count.min(room)];
+            let Ok(()) = self.run_piece(output, host, session, state, piece) else {
+                return Err(ShellFault::Write);
+            };
+            if state.tally.closed {
+                return Ok(state.tally.outcome);
+            }
+            if count > room {
+                return Err(ShellFault::Read);
+            }
+            room -= count;
+        }
+        Err(ShellFault::Read)
+    }
+
     /// Runs the line that the script's end ends, if bytes of one have come.
-    fn run_last<W: Write, H: Host>(
+    fn run_last<W: Write, H: Host, L: Listener>(
         self,
         output: &mut OutputStream<'_, W>,
         host: &mut H,
         session: &mut Session,
-        state: &mut RunState,
+        state: &mut RunState<'_, L>,
     ) -> Result<Outcome, ShellFault>
         requires { state.old.tally.outcome.accepted + state.old.tally.outcome.refused ≤ 2 ^ 32 }
+        ensures lent { state.new.listener.ghost_name ≡ state.old.listener.ghost_name }
         ensures same { output.new.writer.ghost_name ≡ output.old.writer.ghost_name }
         ensures failed { FailsWith result output.old.has_failed output.new.has_failed }
         ensures ended { (first : Stand) (script : List ℕ)
@@ -270,15 +377,16 @@ impl<'n> LineRunner<'n> {
     }
 
     /// Runs the lines that end in the next piece of the script, up to the run's end, and holds what comes after the last.
-    fn run_piece<W: Write, H: Host>(
+    fn run_piece<W: Write, H: Host, L: Listener>(
         self,
         output: &mut OutputStream<'_, W>,
         host: &mut H,
         session: &mut Session,
-        state: &mut RunState,
+        state: &mut RunState<'_, L>,
         piece: &[u8],
     ) -> Result<(), WriteFault>
         requires { state.old.tally.outcome.accepted + state.old.tally.outcome.refused + length piece.now ≤ 2 ^ 32 }
+        ensures lent { state.new.listener.ghost_name ≡ state.old.listener.ghost_name }
         ensures same { output.new.writer.ghost_name ≡ output.old.writer.ghost_name }
         ensures failed { FailsWith result output.old.has_failed output.new.has_failed }
         ensures few { state.new.tally.outcome.accepted + state.new.tally.outcome.refused ≤ state.old.tally.outcome.accepted + state.old.tally.outcome.refused + length piece.now }
@@ -314,14 +422,15 @@ impl<'n> LineRunner<'n> {
     }
 
     /// Runs a line that has come to its end, and writes its answer.
-    fn run_line<W: Write, H: Host>(
+    fn run_line<W: Write, H: Host, L: Listener>(
         self,
         output: &mut OutputStream<'_, W>,
         host: &mut H,
         session: &mut Session,
-        state: &mut RunState,
+        state: &mut RunState<'_, L>,
     ) -> Result<(), WriteFault>
         requires { state.old.tally.outcome.accepted + state.old.tally.outcome.refused < 2 ^ 63 }
+        ensures lent { state.new.listener.ghost_name ≡ state.old.listener.ghost_name }
         ensures same { output.new.writer.ghost_name ≡ output.old.writer.ghost_name }
         ensures failed { FailsWith result output.old.has_failed output.new.has_failed }
         ensures few { state.new.tally.outcome.accepted + state.new.tally.outcome.refused ≤ state.old.tally.outcome.accepted + state.old.tally.outcome.refused + 1 }
@@ -341,6 +450,6 @@ impl<'n> LineRunner<'n> {
             return Ok(());
         };
         state.tally.count(&response, self.manner.refusals);
-        response.write(output, session.image())
+        state.write_answer(self.manner.home, &response, output, session.image())
     }
 }

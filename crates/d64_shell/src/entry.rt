@@ -18,6 +18,7 @@ use d64_check::CheckReport;
 use d64_host::Host;
 use d64_listing::FilesReport;
 use d64_picture::MapReport;
+use d64_runner::{Listener, Nobody};
 use d64_script::input::InputStream;
 use d64_script::output::OutputStream;
 use d64_words::Job;
@@ -97,102 +98,154 @@ pub fn program_on<R: Read, W: Write, F: Write, H: Host>(
     ensures silent { result ≡ 0 → faults.new ≡ faults.old }
     ensures script { AsksForShell (map (λ word. word.now) words.now) → result ≢ 2 → faults.new ≡ faults.old }
 {
-    match asked(alloc, words) {
-        Ok(job) => do_job(alloc, job, input, output, faults, host),
-        Err(fault) => answer_words(alloc, fault, output, faults),
-    }
+    let mut nobody = Nobody;
+    let program = HeardProgram {
+        alloc,
+        listener: &mut nobody,
+    };
+    program.run(words, input, output, faults, host)
 }
 
-/// Does a job, and answers the exit status.
-fn do_job<R: Read, W: Write, F: Write, H: Host>(
-    alloc: Global,
-    job: Job,
-    input: &mut InputStream<'_, R>,
-    output: &mut OutputStream<'_, W>,
-    faults: &mut OutputStream<'_, F>,
-    host: &mut H,
-) -> u8
-    requires unread { IsUnread (reading_of input.old.reads input.old.came input.old.has_failed) }
-    requires unfailed { output.old.has_failed ≡ false }
-    requires delivered { output.old.is_delivered ≡ true }
-    ensures input { input.new.reader.ghost_name ≡ input.old.reader.ghost_name }
-    ensures output { output.new.writer.ghost_name ≡ output.old.writer.ghost_name }
-    ensures faults { faults.new.writer.ghost_name ≡ faults.old.writer.ghost_name }
-    ensures ended { EndedWork (work_of job)
-        (outside_at R.remaining input.old W.contents output.old H.state host.old)
-        (outside_at R.remaining input.new W.contents output.new H.state host.new)
-        (account_at F.contents faults.old) (account_at F.contents faults.new) result }
-    ensures status { result ≤ 2 }
-    ensures delivered { result ≡ 0 → (output.new.is_delivered ≡ true) × (output.new.has_failed ≡ false) }
-    ensures silent { result ≡ 0 → faults.new ≡ faults.old }
-    ensures script { IsScript (work_of job) → result ≢ 2 → faults.new ≡ faults.old }
-{
-    match job {
-        Job::Shell {
-            image,
-            tracks,
-            resume,
-            lines,
-            stops_at_refusal,
-        } => {
-            let job = ShellJob {
-                image: image.as_deref(),
+/// The program with memory, and who is told what its shell answers where the script is the input.
+#[derive(Drop)]
+pub struct HeardProgram<'l, L: Listener> {
+    pub alloc: Global,
+    pub listener: &'l mut L,
+}
+
+impl<'l, L: Listener> HeardProgram<'l, L> {
+    /// Does what `program_on` does. All this is the same with every listener.
+    pub fn run<R: Read, W: Write, F: Write, H: Host>(
+        self,
+        words: &[&str],
+        input: &mut InputStream<'_, R>,
+        output: &mut OutputStream<'_, W>,
+        faults: &mut OutputStream<'_, F>,
+        host: &mut H,
+    ) -> u8
+        requires unread { IsUnread (reading_of input.old.reads input.old.came input.old.has_failed) }
+        requires unfailed { output.old.has_failed ≡ false }
+        requires delivered { output.old.is_delivered ≡ true }
+        ensures input { input.new.reader.ghost_name ≡ input.old.reader.ghost_name }
+        ensures output { output.new.writer.ghost_name ≡ output.old.writer.ghost_name }
+        ensures faults { faults.new.writer.ghost_name ≡ faults.old.writer.ghost_name }
+        ensures status { result ≤ 2 }
+        ensures delivered { result ≡ 0 → (output.new.is_delivered ≡ true) × (output.new.has_failed ≡ false) }
+        ensures ended { Ended (map (λ word. word.now) words.now)
+            (outside_at R.remaining input.old W.contents output.old H.state host.old)
+            (outside_at R.remaining input.new W.contents output.new H.state host.new)
+            (account_at F.contents faults.old) (account_at F.contents faults.new) result }
+        ensures silent { result ≡ 0 → faults.new ≡ faults.old }
+        ensures script { AsksForShell (map (λ word. word.now) words.now) → result ≢ 2 → faults.new ≡ faults.old }
+    {
+        match asked(self.alloc, words) {
+            Ok(job) => self.do_job(job, input, output, faults, host),
+            Err(fault) => answer_words(self.alloc, fault, output, faults),
+        }
+    }
+
+    /// Does a job, and answers the exit status.
+    fn do_job<R: Read, W: Write, F: Write, H: Host>(
+        self,
+        job: Job,
+        input: &mut InputStream<'_, R>,
+        output: &mut OutputStream<'_, W>,
+        faults: &mut OutputStream<'_, F>,
+        host: &mut H,
+    ) -> u8
+        requires unread { IsUnread (reading_of input.old.reads input.old.came input.old.has_failed) }
+        requires unfailed { output.old.has_failed ≡ false }
+        requires delivered { output.old.is_delivered ≡ true }
+        ensures input { input.new.reader.ghost_name ≡ input.old.reader.ghost_name }
+        ensures output { output.new.writer.ghost_name ≡ output.old.writer.ghost_name }
+        ensures faults { faults.new.writer.ghost_name ≡ faults.old.writer.ghost_name }
+        ensures ended { EndedWork (work_of job)
+            (outside_at R.remaining input.old W.contents output.old H.state host.old)
+            (outside_at R.remaining input.new W.contents output.new H.state host.new)
+            (account_at F.contents faults.old) (account_at F.contents faults.new) result }
+        ensures status { result ≤ 2 }
+        ensures delivered { result ≡ 0 → (output.new.is_delivered ≡ true) × (output.new.has_failed ≡ false) }
+        ensures silent { result ≡ 0 → faults.new ≡ faults.old }
+        ensures script { IsScript (work_of job) → result ≢ 2 → faults.new ≡ faults.old }
+    {
+        let alloc = self.alloc;
+        match job {
+            Job::Shell {
+                image,
                 tracks,
-                resume: resume.as_deref(),
-                lines: lines.as_slice(),
-                refusals: refusals_of(stops_at_refusal),
-            };
-            match job.run(alloc, input, output, host) {
-                Ok(outcome) => exit_status(outcome),
-                Err(fault) => fault.report_on(faults),
+                resume,
+                lines,
+                stops_at_refusal,
+            } => {
+                let job = ShellJob {
+                    image: image.as_deref(),
+                    tracks,
+                    resume: resume.as_deref(),
+                    lines: lines.as_slice(),
+                    refusals: refusals_of(stops_at_refusal),
+                };
+                match job.run(alloc, input, output, host, self.listener) {
+                    Ok(outcome) => exit_status(outcome),
+                    Err(fault) => fault.report_on(faults),
+                }
             }
-        }
-        Job::Petcat {
-            file,
-            output: target,
-        } => {
-            let job = ToolJob {
-                tool: Tool::Petcat,
-                file: file.as_deref(),
-                target: target.as_deref(),
-            };
-            job.run(alloc, input, output, faults, host)
-        }
-        Job::Crunch {
-            start,
-            file,
-            output: target,
-        } => {
-            let job = ToolJob {
-                tool: Tool::Crunch { start },
-                file: file.as_deref(),
-                target: target.as_deref(),
-            };
-            job.run(alloc, input, output, faults, host)
-        }
-        Job::Check {
-            digest,
-            format,
-            names,
-        } => {
-            let report = CheckReport::new(alloc, format, digest);
-            SurveyJob::new(alloc, FileNames::of(&names)).run(report, input, output, faults, host)
-        }
-        Job::Files { format, names } => {
-            let report = FilesReport::new(alloc, format);
-            SurveyJob::new(alloc, FileNames::of(&names)).run(report, input, output, faults, host)
-        }
-        Job::Map { format, file } => {
-            let report = MapReport::new(alloc, format);
-            let files = [file];
-            SurveyJob::new(alloc, FileNames::Given(&files)).run(report, input, output, faults, host)
-        }
-        Job::Catalogue { maps, names } => {
-            let report = CatalogueReport::new(alloc, maps);
-            SurveyJob::new(alloc, FileNames::of(&names)).run(report, input, output, faults, host)
-        }
-        Job::Diff { format, old, new } => {
-            DifferenceJob::new(alloc, format, old.as_str(), new.as_str()).run(output, faults, host)
+            Job::Petcat {
+                file,
+                output: target,
+            } => {
+                let job = ToolJob {
+                    tool: Tool::Petcat,
+                    file: file.as_deref(),
+                    target: target.as_deref(),
+                };
+                job.run(alloc, input, output, faults, host)
+            }
+            Job::Crunch {
+                start,
+                file,
+                output: target,
+            } => {
+                let job = ToolJob {
+                    tool: Tool::Crunch { start },
+                    file: file.as_deref(),
+                    target: target.as_deref(),
+                };
+                job.run(alloc, input, output, faults, host)
+            }
+            Job::Check {
+                digest,
+                format,
+                names,
+            } => {
+                let report = CheckReport::new(alloc, format, digest);
+                SurveyJob::new(alloc, FileNames::of(&names)).run(
+                    report, input, output, faults, host,
+                )
+            }
+            Job::Files { format, names } => {
+                let report = FilesReport::new(alloc, format);
+                SurveyJob::new(alloc, FileNames::of(&names)).run(
+                    report, input, output, faults, host,
+                )
+            }
+            Job::Map { format, file } => {
+                let report = MapReport::new(alloc, format);
+                let files = [file];
+                SurveyJob::new(alloc, FileNames::Given(&files)).run(
+                    report, input, output, faults, host,
+                )
+            }
+            Job::Catalogue { maps, names } => {
+                let report = CatalogueReport::new(alloc, maps);
+                SurveyJob::new(alloc, FileNames::of(&names)).run(
+                    report, input, output, faults, host,
+                )
+            }
+            Job::Diff { format, old, new } => {
+                DifferenceJob::new(alloc, format, old.as_str(), new.as_str()).run(
+                    output, faults, host,
+                )
+            }
         }
     }
 }

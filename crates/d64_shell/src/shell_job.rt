@@ -15,7 +15,7 @@ use crate::program_fault::ProgramFault;
 use d64_host::Host;
 use d64_image::{BLOCKS, Image, blocks_of};
 use d64_line::host_file::fetch;
-use d64_runner::{Manner, Outcome, Refusals, ShellFault, run_script};
+use d64_runner::{Listener, Manner, Outcome, Refusals, ScriptRunner, ShellFault, run_script};
 use d64_script::input::InputStream;
 use d64_script::output::OutputStream;
 use d64_undo::{Session, resume};
@@ -37,13 +37,15 @@ pub(crate) struct ShellJob<'n> {
 }
 
 impl<'n> ShellJob<'n> {
-    /// Runs the script on its session, and then flushes the output. Where the words give the script, nothing of the input is read.
-    pub(crate) fn run<R: Read, W: Write, H: Host>(
+    /// Runs the script on its session, and then flushes the output. Where the words give the script, nothing of the input is read, and
+    /// the listener hears nothing.
+    pub(crate) fn run<R: Read, W: Write, H: Host, L: Listener>(
         self,
         alloc: Global,
         input: &mut InputStream<'_, R>,
         output: &mut OutputStream<'_, W>,
         host: &mut H,
+        listener: &mut L,
     ) -> Result<Outcome, ProgramFault>
         requires unread { IsUnread (reading_of input.old.reads input.old.came input.old.has_failed) }
         requires unfailed { output.old.has_failed ≡ false }
@@ -61,13 +63,14 @@ impl<'n> ShellJob<'n> {
         let text = given_text(alloc, self.lines)?;
         let mut session = first_session(alloc, host, self.image, self.tracks, self.resume)?;
         let script = Script {
+            alloc,
             text: text.as_deref(),
             manner: Manner {
                 home: self.image.unwrap_or(""),
                 refusals: self.refusals,
             },
         };
-        let ran = script.run(alloc, input, output, host, &mut session);
+        let ran = script.run(input, output, host, &mut session, listener);
         match output.flush() {
             Ok(()) => Ok(ran?),
             Err(_) => Err(ProgramFault::Write),
@@ -101,20 +104,21 @@ fn text_of_lines(alloc: Global, lines: &[String]) -> Result<Vec<u8>, AllocError>
 /// A script, and how it is run.
 #[derive(Clone, Copy, Debug)]
 struct Script<'n> {
+    alloc: Global,
     /// Its text; without one, it is the input.
     text: Option<&'n [u8]>,
     manner: Manner<'n>,
 }
 
 impl<'n> Script<'n> {
-    /// Runs it on a session. Where it has a text, nothing of the input is read.
-    fn run<R: Read, W: Write, H: Host>(
+    /// Runs it on a session. Where it has a text, nothing of the input is read, and the listener hears nothing.
+    fn run<R: Read, W: Write, H: Host, L: Listener>(
         self,
-        alloc: Global,
         input: &mut InputStream<'_, R>,
         output: &mut OutputStream<'_, W>,
         host: &mut H,
         session: &mut Session,
+        listener: &mut L,
     ) -> Result<Outcome, ShellFault>
         requires unread { IsUnread (reading_of input.old.reads input.old.came input.old.has_failed) }
         requires unfailed { output.old.has_failed ≡ false }
@@ -128,11 +132,16 @@ impl<'n> Script<'n> {
         ensures unfailed { OnOk result (output.new.has_failed ≡ false) }
     {
         let Some(text) = self.text else {
-            return run_script(alloc, input, output, host, self.manner, session);
+            let runner = ScriptRunner {
+                alloc: self.alloc,
+                manner: self.manner,
+                listener,
+            };
+            return runner.run(input, output, host, session);
         };
         let mut reader = text;
         let mut given = InputStream::new(&mut reader);
-        run_script(alloc, &mut given, output, host, self.manner, session)
+        run_script(self.alloc, &mut given, output, host, self.manner, session)
     }
 }
 

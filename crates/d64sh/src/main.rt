@@ -6,10 +6,11 @@ mod prompt;
 mod retrying;
 mod within_limit;
 
+use d64_advice::Advisor;
 use d64_host::{SizeLimit, StandardStream};
 use d64_script::input::InputStream;
 use d64_script::output::OutputStream;
-use d64_shell::{FolderHost, ProgramFault, program_on};
+use d64_shell::{FolderHost, HeardProgram, ProgramFault};
 use progress::{ProgressLine, WatchedHost, WipingWriter};
 use prompt::PromptingReader;
 use retrying::Retrying;
@@ -50,8 +51,13 @@ fn start<E: Write>(
     let is_typed_at = rt.stdin().is_terminal() && rt.stderr().is_terminal();
     let is_shell = matches!(words.first(), Some(&"shell"));
     let mut input = PromptingReader::new(rt, is_typed_at && is_shell, Retrying(rt.stdin()));
-    Ok(program_on(
-        rt.alloc(),
+    let errors = WithinLimit::new(rt, limit, StandardStream::Error, rt.stderr());
+    let mut errors = Retrying(errors);
+    let program = HeardProgram {
+        alloc: rt.alloc(),
+        listener: &mut Advisor::new(is_typed_at && is_shell, &mut errors),
+    };
+    Ok(program.run(
         words.as_slice(),
         &mut InputStream::new(&mut input),
         &mut OutputStream::new(&mut output),

@@ -18,6 +18,7 @@ loop-part-preserved-then-not-is_ended g c =
           came_more (manner_of c.args.self.manner) first _ c.loop-part.state.tally c.loop-part.state.line c.push.new.self before i.done part c.before_end.result.now
           (i.came first before come) one.raw unended c.before_end.ensures c.push.ensures;
       few = omega (arith, i.few, length-append i.done part);
+      lent = i.lent;
       same = i.same;
       unfailed = i.unfailed;
       heard = i.heard;
@@ -79,6 +80,7 @@ loop-part-preserved g c =
           before i.done part c.before_end.result.now
           (i.came first before come) one.raw ended c.before_end.ensures c.push.ensures c.end_with_line_feed.ensures c.in_ok-run_line.ensures.ran c.if-state.false c.clear.ensures;
       few = omega (arith, i.few, c.run_line.ensures.few, has_byte part one.raw ended, length-append i.done part);
+      lent = c.run_line.ensures.lent ∙ i.lent;
       same = c.run_line.ensures.same ∙ i.same;
       unfailed = c.in_ok-run_line.ensures.failed ∙ i.unfailed;
       heard = search rules;

@@ -17,6 +17,7 @@ invariant-loop-part g l = record {
       (stand_of (g.W.Write.contents l.output.writer.now) (world_of (g.H.Host.state l.host) l.session))
       l.state.tally l.state.line (before ++ done);
   few : l.state.tally.outcome.accepted + l.state.tally.outcome.refused ≤ l.initial.state.tally.outcome.accepted + l.initial.state.tally.outcome.refused + length done;
+  lent : l.state.listener.ghost_name ≡ l.initial.state.listener.ghost_name;
   same : l.output.writer.ghost_name ≡ l.initial.output.writer.ghost_name;
   unfailed : l.output.has_failed ≡ l.initial.output.has_failed;
   heard : l.output.is_delivered ≡ false → l.initial.output.is_delivered ≡ true → 0 < l.state.tally.outcome.accepted + l.state.tally.outcome.refused;

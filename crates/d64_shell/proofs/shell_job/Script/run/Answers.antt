@@ -4,4 +4,4 @@ use Rattle.d64_shell.proofs.shell_job.Script.run.Goals as goal
 -- the text's own reader was read, and nothing of the input
 pub returns-clause-ran : goal.returns-clause-ran
 returns-clause-ran g c =
-    rw (c.in-Some.is) (refl, Some c.run_script-2.new.input.reader.now.now, rw c.new-given.ensures.kept at c.run_script-2.ensures.ran)
+    rw (c.in-Some.is) (refl, Some c.run_script.new.input.reader.now.now, rw c.new-given.ensures.kept at c.run_script.ensures.ran)

@@ -4,7 +4,7 @@ use Rattle.d64_script.specs.Script.{script_limit}
 use Rattle.d64_line.specs.Act.{world_of}
 use Rattle.d64_runner.specs.LineByLine.{HasCome}
 use Rattle.d64_runner.specs.Runner.{manner_of, stand_of}
-use Rattle.d64_runner.proofs.runner.run_script.Given as goal
+use Rattle.d64_runner.proofs.runner.LineRunner.run_all.Given as goal
 
 -- the bytes so far are all that the reader lost, and the run has come through them
 abbrev pub invariant-loop : goal.invariant-loop
@@ -12,11 +12,12 @@ invariant-loop g l = record {
   bytes : List ℕ;
   lost : Consumes (g.R.Read.remaining l.initial.input.reader.now) (g.R.Read.remaining l.input.reader.now) bytes;
   within : length bytes + l.room ≡ script_limit;
-  came : HasCome (manner_of l.manner)
+  came : HasCome (manner_of l.self.manner)
       (stand_of (g.W.Write.contents l.initial.output.writer.now) (world_of (g.H.Host.state l.initial.host) l.initial.session))
       (stand_of (g.W.Write.contents l.output.writer.now) (world_of (g.H.Host.state l.host) l.session))
       l.state.tally l.state.line bytes;
   few : l.state.tally.outcome.accepted + l.state.tally.outcome.refused ≤ length bytes;
+  lent : l.state.listener.ghost_name ≡ l.initial.state.listener.ghost_name;
   same_input : l.input.reader.ghost_name ≡ l.initial.input.reader.ghost_name;
   same_output : l.output.writer.ghost_name ≡ l.initial.output.writer.ghost_name;
   counted : l.input.reads ≡ l.counter;

@@ -12,7 +12,7 @@ use Rattle.d64_shell.specs.Jobs.{beginning_of, home_of, refusals_of, source_of, 
 use Rattle.d64_shell.specs.SurveyFiles.{Named, files_in, files_of}
 use Rattle.d64_shell.specs.Program.{outside_at}
 use Rattle.d64_shell.proofs.JobEnds.{script_ended, survey_ended}
-use Rattle.d64_shell.proofs.entry.do_job.Goals as goal
+use Rattle.d64_shell.proofs.entry.HeardProgram.do_job.Goals as goal
 
 -- a fault stopped the script
 pub returns-in-Shell-clause-ended : goal.returns-in-Shell-clause-ended
