@@ -21,7 +21,8 @@ use std::io::Write;
 /// The line that tells that the last image is held by no file.
 const UNSAVED: &[u8] = b"d64sh: changes are not saved\n";
 
-/// Tells on an output, where it listens, what is wrong with each refused line, and at the end whether changes are not saved.
+/// Tells on an output, where it listens, what is wrong with each refused line, and at the end whether changes are not
+/// saved.
 #[derive(Drop)]
 pub struct Advisor<'w, W: Write> {
     output: OutputStream<'w, W>,

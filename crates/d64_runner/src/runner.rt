@@ -92,7 +92,8 @@ impl Tally {
     }
 }
 
-/// How far a run has come in its script: what came of the next line, and what the lines before it counted; and who is told of it.
+/// How far a run has come in its script: what came of the next line, and what the lines before it counted; and who is told
+/// of it.
 #[derive(Drop)]
 struct RunState<'l, L: Listener> {
     line: HeldLine,
@@ -207,8 +208,8 @@ pub fn run_on<R: Read, W: Write, H: Host>(
     run_script(alloc, input, output, host, manner, session)
 }
 
-/// Runs the script of an input of which nothing was read yet in this manner, and prints on an output that has not failed. Nobody
-/// listens to it.
+/// Runs the script of an input of which nothing was read yet in this manner, and prints on an output that has not failed.
+/// Nobody listens to it.
 pub fn run_script<R: Read, W: Write, H: Host>(
     alloc: Global,
     input: &mut InputStream<'_, R>,
@@ -250,8 +251,8 @@ impl<'n, 'l, L: Listener> ScriptRunner<'n, 'l, L> {
     ///
     /// `Read` comes where a read failed or a limit was reached, and `Write` where a write or a flush failed; no read is made
     /// while something printed has not been delivered, nor after a call that failed, an accepted `quit`, or
-    /// a refused line that ends the script. All this is the same with every listener, which is told of the session's begin, of each
-    /// answer, and of the session's end, however that comes.
+    /// a refused line that ends the script. All this is the same with every listener, which is told of the session's begin,
+    /// of each answer, and of the session's end, however that comes.
     pub fn run<R: Read, W: Write, H: Host>(
         self,
         input: &mut InputStream<'_, R>,

@@ -37,8 +37,8 @@ pub(crate) struct ShellJob<'n> {
 }
 
 impl<'n> ShellJob<'n> {
-    /// Runs the script on its session, and then flushes the output. Where the words give the script, nothing of the input is read, and
-    /// the listener hears nothing.
+    /// Runs the script on its session, and then flushes the output. Where the words give the script, nothing of the input
+    /// is read, and the listener hears nothing.
     pub(crate) fn run<R: Read, W: Write, H: Host, L: Listener>(
         self,
         alloc: Global,
