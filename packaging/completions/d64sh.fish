@@ -13,7 +13,7 @@ complete -c d64sh -n __fish_use_subcommand -a catalogue -d 'Makes one page of wh
 complete -c d64sh -n __fish_use_subcommand -a help -d 'Print this message or the help of the given subcommand(s)'
 complete -c d64sh -n '__fish_seen_subcommand_from shell' -l tracks -x -a '35 40' -d 'Tracks of the blank image: 35 or 40; without it, 35. Not with IMAGE'
 complete -c d64sh -n '__fish_seen_subcommand_from shell' -l resume -r -F -d 'The session to go on with, as `keep` stored it. Not with --tracks'
-complete -c d64sh -n '__fish_seen_subcommand_from shell' -s c -l command -x -d 'A line of the script, which isn\'t read then; each one more is the next line'
+complete -c d64sh -n '__fish_seen_subcommand_from shell' -s c -l command -x -d 'A line to run, in place of the standard input; more of them run in turn'
 complete -c d64sh -n '__fish_seen_subcommand_from shell' -s e -l stop-at-refusal -d 'End the script after the first line that is refused'
 complete -c d64sh -n '__fish_seen_subcommand_from shell' -s h -l help -d 'Print help'
 complete -c d64sh -n '__fish_seen_subcommand_from shell' -k -a '(__fish_complete_suffix .d64)'

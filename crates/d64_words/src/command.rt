@@ -246,7 +246,7 @@ fn with_script<'a>(alloc: Global, command: Command<'a>) -> Result<Command<'a>, A
         alloc,
         "command",
         "LINE",
-        "A line of the script, which isn't read then; each one more is the next line",
+        "A line to run, in place of the standard input; more of them run in turn",
     );
     let stop = flag(
         alloc,
