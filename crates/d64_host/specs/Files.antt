@@ -4,7 +4,8 @@ use Rattle.std.specs.Ordering.{nat_cmp}
 use Rattle.std.specs.Cmp.Lexicographic.{slice_cmp}
 use Rattle.std.specs.FinMap.{FinMap}
 
--- a host's files: from names, as the bytes of their texts, to the files' bytes
+-- a host's files: from names, as the bytes of their texts, to the files' bytes; a folder stands among them as in archives, as a file
+-- of no bytes whose name ends with a slash
 abbrev pub Files : Type 0
 Files = FinMap (slice_cmp nat_cmp) (List ℕ)
 

@@ -1,5 +1,6 @@
 pub mod Access
 pub mod Files
+pub mod Folders
 pub mod Host
 pub mod MemoryHost
 pub mod Replacement

@@ -1,15 +1,18 @@
 //! A host over the files of the system, as they lie in the current folder.
 
 ghost use Rattle.std.specs.Prelude.{◌≡◌, ◌≢◌, ◌+◌, ◌<◌, ◌≤◌, ◌↔◌, ◌++◌, length, vec_len, None, IfOk, IfErr, IfSome, OnOk, OnErr};
+ghost use Rattle.d64_host.specs.Folders.{failures_after_making};
 ghost use Rattle.d64_host.specs.Host.{failures_after};
 
-use crate::host::{Host, HostFault};
+use crate::host::{FolderFault, Host, HostFault};
+use crate::new_entry;
 use crate::whole_store::store_file;
 use std::alloc::Global;
 use std::fs::File;
 use std::io::{ErrorKind, Read};
 use std::marker::Model;
 use std::os::fd::AsFd;
+use std::path::Path;
 use std::rt::Files;
 
 /// How many bytes one read asks for.
@@ -18,7 +21,7 @@ const READ_BYTES: usize = 65_536;
 /// The files of the system, by their paths from the current folder.
 ///
 /// It tells a proof nothing of its files, since others write to them too. A store replaces a file that is
-/// there in one step, or leaves it as it was; a new file is removed again where its writing fails.
+/// there in one step, or leaves it as it was; a new file is removed again where its writing fails. What is made new waits for no disk.
 #[derive(Drop)]
 pub struct FolderHost<R> {
     rt: R,
@@ -66,6 +69,28 @@ where
         outcome
     }
 
+    fn is_there(&self, path: &str) -> bool {
+        new_entry::is_there(&self.rt, path)
+    }
+
+    fn make_folder(&mut self, path: &str) -> Result<(), FolderFault> {
+        let outcome = new_entry::make_folder(&self.rt, path);
+        count_refusal(&mut self.failures, &outcome);
+        outcome
+    }
+
+    fn make_file(&mut self, path: &str, bytes: &[u8]) -> Result<(), FolderFault> {
+        let outcome = new_entry::make_file(&self.rt, Path::new(path), bytes);
+        count_refusal(&mut self.failures, &outcome);
+        outcome
+    }
+
+    fn rename_folder(&mut self, from: &str, to: &str) -> Result<(), FolderFault> {
+        let outcome = new_entry::rename_folder(&self.rt, from, to);
+        count_refusal(&mut self.failures, &outcome);
+        outcome
+    }
+
     fn failures(&self) -> u64 {
         self.failures
     }
@@ -76,6 +101,15 @@ fn count_failure<T>(failures: &mut u64, outcome: &Result<T, HostFault>)
     ensures { failures.new ≡ failures_after failures.old outcome.now }
 {
     if let Err(HostFault::Device) = outcome {
+        *failures = failures.saturating_add(1);
+    }
+}
+
+/// Counts an outcome of a call that makes something new, where it is the device's fault.
+fn count_refusal(failures: &mut u64, outcome: &Result<(), FolderFault>)
+    ensures { failures.new ≡ failures_after_making failures.old outcome.now }
+{
+    if let Err(FolderFault::Device) = outcome {
         *failures = failures.saturating_add(1);
     }
 }
@@ -144,6 +178,7 @@ fn add_piece(bytes: &mut Vec<u8>, piece: &[u8], limit: usize) -> Result<(), Host
 #[cfg(test)]
 mod tests {
     use super::*;
+    use std::os::unix::fs::symlink;
     use std::test::Fail;
     use std::{fs, io};
 
@@ -214,6 +249,57 @@ mod tests {
         assert!(rt; host.store(rt.alloc(), folder, &[1]) == Err(HostFault::Device));
         fs::remove_dir(&rt, folder)?;
         assert_eq!(rt; host.failures(), 3);
+        Ok(())
+    }
+
+    #[test]
+    fn makes_files_and_folders_of_the_system(rt: HostRuntime) -> Result<(), Fail> {
+        let folder = "d64-shell-new-folder-test";
+        let file = "d64-shell-new-folder-test/one";
+        let renamed = "d64-shell-new-folder-test-2";
+        let missing = "d64-shell-new-folder-test-3";
+        let mut host = FolderHost::new(rt.clone()?);
+        assert!(rt; !host.is_there(folder));
+        host.make_folder(folder)?;
+        host.make_file(file, &[1, 2])?;
+        assert!(rt; host.is_there(folder) && host.is_there(file));
+        assert!(rt; host.make_folder(folder) == Err(FolderFault::Exists));
+        assert!(rt; host.make_file(folder, &[3]) == Err(FolderFault::Exists));
+        assert!(rt; host.make_folder(file) == Err(FolderFault::Exists));
+        assert!(rt; host.make_file(file, &[3]) == Err(FolderFault::Exists));
+        assert!(rt; host.rename_folder(folder, file) == Err(FolderFault::Exists));
+        assert_eq!(rt;
+            host.fetch(rt.alloc(), file, 2)?.as_slice(),
+            [1, 2].as_slice()
+        );
+        assert_eq!(rt; host.failures(), 0);
+        assert!(rt;
+            host.make_folder("d64-shell-new-folder-test-3/one") == Err(FolderFault::Device)
+        );
+        assert!(rt;
+            host.make_file("d64-shell-new-folder-test-3/one", &[]) == Err(FolderFault::Device)
+        );
+        assert!(rt; host.rename_folder(missing, renamed) == Err(FolderFault::Device));
+        assert_eq!(rt; host.failures(), 3);
+        host.rename_folder(folder, renamed)?;
+        assert!(rt; !host.is_there(folder));
+        assert!(rt; host.is_there("d64-shell-new-folder-test-2/one"));
+        fs::remove_file(&rt, "d64-shell-new-folder-test-2/one")?;
+        fs::remove_dir(&rt, renamed)?;
+        Ok(())
+    }
+
+    #[test]
+    fn makes_nothing_through_a_link(rt: HostRuntime) -> Result<(), Fail> {
+        let link = "d64-shell-dangling-link-test";
+        let mut host = FolderHost::new(rt.clone()?);
+        symlink(&rt, "d64-shell-no-such-file", link)?;
+        assert!(rt; host.is_there(link) && !host.is_there("d64-shell-no-such-file"));
+        assert!(rt; host.make_folder(link) == Err(FolderFault::Exists));
+        assert!(rt; host.make_file(link, &[1]) == Err(FolderFault::Exists));
+        assert!(rt; host.rename_folder(link, link) == Err(FolderFault::Exists));
+        assert!(rt; !host.is_there("d64-shell-no-such-file"));
+        fs::remove_file(&rt, link)?;
         Ok(())
     }
 }

@@ -1,7 +1,9 @@
 //! Where the shell's files lie, and why a host refuses them.
 
-ghost use Rattle.std.specs.Prelude.{◌≡◌};
+ghost use Rattle.std.specs.Prelude.{◌≡◌, true, IfSome, OnOk};
+ghost use Rattle.std.specs.FinMap.{contains_key};
 ghost use Rattle.d64_host.specs.Files.{HostState};
+ghost use Rattle.d64_host.specs.Folders.{folder_name, with_folder, with_file, with_moved, Looks, Makes, CountsMaking};
 ghost use Rattle.d64_host.specs.Host.{fault_number, fetched, filled, Fetches, Stores, CountsDevice};
 
 use std::alloc::{AllocError, Global};
@@ -38,6 +40,17 @@ impl HostFault {
     }
 }
 
+/// Why a host makes no new file or folder.
+#[derive(Clone, Copy, Debug, PartialEq, Eq, Error)]
+pub enum FolderFault {
+    /// Something is at the path already: a file, a folder, or a link, also one that leads to nothing.
+    #[error("is there already")]
+    Exists,
+    /// The system beneath the host failed, as where the folder of the new one is missing, or a disk is full.
+    #[error("cannot be written")]
+    Device,
+}
+
 /// Where files lie: a name stands for some bytes, or for no file.
 ///
 /// A host may tell its files to a proof, as one in memory does, or tell nothing, as one over a disk
@@ -65,6 +78,30 @@ pub trait Host {
     fn store(&mut self, alloc: Global, name: &str, bytes: &[u8]) -> Result<(), HostFault>
         ensures stored { Stores (state self.old).files name.now bytes.now result (state self.new).files }
         ensures counted { CountsDevice (state self.old).failures (state self.new).failures result };
+
+    /// Whether something is at this path: a file, a folder, or a link, also one that leads to nothing. Where the system does not
+    /// say, nothing is.
+    fn is_there(&self, path: &str) -> bool
+        ensures answer { Looks (state self.now).files path.now result };
+
+    /// Makes a folder. It is refused where something is at the path already, and by the device, as where the folder around it is
+    /// missing.
+    fn make_folder(&mut self, path: &str) -> Result<(), FolderFault>
+        ensures made { Makes (with_folder path.now) (state self.old).files path.now result (state self.new).files }
+        ensures counted { CountsMaking (state self.old).failures (state self.new).failures result };
+
+    /// Makes a file of these bytes. It is refused as `make_folder` is; where its writing fails, it is taken away again, as far as
+    /// the system lets it.
+    fn make_file(&mut self, path: &str, bytes: &[u8]) -> Result<(), FolderFault>
+        ensures made { Makes (with_file path.now bytes.now) (state self.old).files path.now result (state self.new).files }
+        ensures counted { CountsMaking (state self.old).failures (state self.new).failures result };
+
+    /// Gives a folder, with all that is in it, another path, in one step. It is refused as `make_folder` is. On a system an empty
+    /// folder that others make at the new path at that very moment is replaced.
+    fn rename_folder(&mut self, from: &str, to: &str) -> Result<(), FolderFault>
+        ensures was { OnOk result (IfSome (state self.old).files (λ all. contains_key all (folder_name from.now) ≡ true)) }
+        ensures made { Makes (with_moved from.now to.now) (state self.old).files to.now result (state self.new).files }
+        ensures counted { CountsMaking (state self.old).failures (state self.new).failures result };
 
     /// How many calls answered `Device`; it stays at `u64::MAX` once it is there.
     fn failures(&self) -> u64
@@ -96,6 +133,10 @@ mod tests {
         for (fault, text) in faults {
             assert_eq!(rt; format!(in rt.alloc(); "{fault}")?.as_str(), text);
         }
+        let exists = format!(in rt.alloc(); "{}", FolderFault::Exists)?;
+        let device = format!(in rt.alloc(); "{}", FolderFault::Device)?;
+        assert_eq!(rt; exists.as_str(), "is there already");
+        assert_eq!(rt; device.as_str(), "cannot be written");
         Ok(())
     }
 }

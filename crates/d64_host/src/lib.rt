@@ -8,6 +8,7 @@ mod draft;
 mod folder_host;
 mod host;
 mod memory_host;
+mod new_entry;
 mod new_file;
 mod process_status;
 mod size_limit;
@@ -15,7 +16,7 @@ mod standard_streams;
 mod whole_store;
 
 pub use folder_host::FolderHost;
-pub use host::{Host, HostFault};
+pub use host::{FolderFault, Host, HostFault};
 pub use memory_host::MemoryHost;
 pub use size_limit::SizeLimit;
 pub use standard_streams::StandardStream;

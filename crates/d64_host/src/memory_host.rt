@@ -1,16 +1,18 @@
 //! A host in memory, for tests and for what needs no disk.
 
-ghost use Rattle.std.specs.Prelude.{◌≡◌, ℕ, ◌+◌, ◌↔◌, Some, OnOk, OnErr, IsTrue, option_copied};
-ghost use Rattle.std.specs.FinMap.{empty, get, insert};
-ghost use Rattle.d64_host.specs.Host.{fetched, filled, Fetches, Stores, CountsDevice, answered_fault};
-ghost use Rattle.d64_host.specs.MemoryHost.{after_call, countdown_after, fetch_refusal, store_refusal};
+ghost use Rattle.std.specs.Prelude.{◌≡◌, ℕ, ◌+◌, ◌-◌, ◌↔◌, Some, Err, true, OnOk, OnErr, IfOk, IfErr, IfSome, IsTrue, option_copied, string_bytes};
+ghost use Rattle.std.specs.FinMap.{contains_key, empty, get, insert};
+ghost use Rattle.d64_host.specs.Folders.{folder_name, is_at, moved_name, with_file, with_folder, with_moved, Looks, Makes, CountsMaking};
+ghost use Rattle.d64_host.specs.Host.{fetched, filled, Fetches, Stores, CountsDevice, answered_fault, one_more_failure};
+ghost use Rattle.d64_host.specs.MemoryHost.{after_call, countdown_after, fetch_refusal, files_of, store_refusal};
 
-use crate::host::{Host, HostFault};
+use crate::host::{FolderFault, Host, HostFault};
 use std::alloc::{AllocError, Global};
 use std::collections::BTreeMap;
 use std::marker::Model;
 
-/// Files in memory, by name. One of its calls can be made to fail, as a disk would.
+/// Files in memory, by name. One of its calls can be made to fail, as a disk would. A folder is a file of no bytes whose name ends with a
+/// slash; a file needs none around it.
 #[derive(Drop)]
 pub struct MemoryHost {
     alloc: Global,
@@ -60,7 +62,7 @@ impl MemoryHost {
         self.entries.get(name).map(|bytes| bytes.as_slice())
     }
 
-    /// Makes the `k`-th fetch or store from now on answer `Device` and change no file, where 1 is the
+    /// Makes the `k`-th call from now on, but for those that look, answer `Device` and change no file, where 1 is the
     /// next; none where `k` is 0. It takes the place of what an earlier call of this asked for.
     pub fn fail_at(&mut self, k: u64)
         ensures countdown { self.new ≡ record self.old { countdown = k } }
@@ -82,6 +84,105 @@ impl MemoryHost {
             self.failures = self.failures.saturating_add(1);
         }
         fails
+    }
+
+    /// Counts a call that makes something new at this path, and refuses it where it is the one to fail, or something is there.
+    fn begin_making(&mut self, path: &str) -> Result<(), FolderFault>
+        ensures due { self.old.countdown ≡ 1 → result ≡ Err FolderFault.Device }
+        ensures countdown { self.new.countdown ≡ self.old.countdown - 1 }
+        ensures begun { Makes (λ all. all) (Some self.old.files) path.now result (Some self.new.files) }
+        ensures counted { CountsMaking self.old.failures self.new.failures result }
+    {
+        if self.count_call() {
+            return Err(FolderFault::Device);
+        }
+        if self.is_there(path) {
+            return Err(FolderFault::Exists);
+        }
+        Ok(())
+    }
+
+    /// Puts a file that is new. Want of memory is the device's fault, as a full disk is.
+    fn put_new(&mut self, name: &str, bytes: &[u8]) -> Result<(), FolderFault>
+        ensures countdown { self.new.countdown ≡ self.old.countdown }
+        ensures accepted { OnOk result (self.new.files ≡ with_file name.now bytes.now self.old.files) }
+        ensures refused { OnErr result (self.new.files ≡ self.old.files) }
+        ensures fault { IfErr result (λ fault. fault ≡ FolderFault.Device) }
+        ensures counted { CountsMaking self.old.failures self.new.failures result }
+    {
+        match self.put(name, bytes) {
+            Ok(()) => Ok(()),
+            Err(AllocError) => Err(self.refuse()),
+        }
+    }
+
+    /// Counts a failure of the device.
+    fn refuse(&mut self) -> FolderFault
+        ensures fault { result ≡ FolderFault.Device }
+        ensures counted { self.new ≡ record self.old { failures = one_more_failure self.old.failures } }
+    {
+        self.failures = self.failures.saturating_add(1);
+        FolderFault::Device
+    }
+
+    /// Whether a folder is at this path.
+    fn has_folder(&self, path: &str) -> bool
+        ensures { result ≡ contains_key self.now.files (folder_name path.now) }
+    {
+        for (name, _) in &self.entries {
+            if is_folder_name(name.as_str(), path) {
+                return true;
+            }
+        }
+        false
+    }
+
+    /// The entries once a folder has another path.
+    fn moved(&self, from: &str, to: &str) -> Result<BTreeMap<String, Vec<u8>>, AllocError>
+        ensures { IfOk result (λ entries. files_of entries.entries ≡ with_moved from.now to.now self.now.files) }
+    {
+        let old = folder_name(self.alloc, from)?;
+        let new = folder_name(self.alloc, to)?;
+        let mut entries = BTreeMap::new(self.alloc);
+        for (name, bytes) in &self.entries {
+            let key = moved_name(self.alloc, name.as_str(), old.as_str(), new.as_str())?;
+            let value = Vec::from_slice(self.alloc, bytes.as_slice())?;
+            entries.insert(key, value)?;
+        }
+        Ok(entries)
+    }
+}
+
+/// The name that stands for the folder at this path: the path and a slash.
+fn folder_name(alloc: Global, path: &str) -> Result<String, AllocError>
+    ensures { IfOk result (λ name. string_bytes name ≡ folder_name path.now) }
+{
+    let mut name = String::from_str(alloc, path)?;
+    name.push_str("/")?;
+    Ok(name)
+}
+
+/// Whether a name stands for the folder at this path.
+fn is_folder_name(name: &str, path: &str) -> bool
+    ensures { IsTrue result ↔ (name.now ≡ folder_name path.now) }
+{
+    match name.strip_suffix('/') {
+        Some(folder) => folder == path,
+        None => false,
+    }
+}
+
+/// The name of a file once what began with the one text begins with the other.
+fn moved_name(alloc: Global, name: &str, from: &str, to: &str) -> Result<String, AllocError>
+    ensures { IfOk result (λ moved. string_bytes moved ≡ moved_name from.now to.now name.now) }
+{
+    match name.strip_prefix(from) {
+        Some(rest) => {
+            let mut moved = String::from_str(alloc, to)?;
+            moved.push_str(rest)?;
+            Ok(moved)
+        }
+        None => String::from_str(alloc, name),
     }
 }
 
@@ -134,6 +235,56 @@ impl Host for MemoryHost {
         }
     }
 
+    fn is_there(&self, path: &str) -> bool
+        ensures exactly { result ≡ is_at self.now.files path.now }
+        ensures answer { Looks (Some self.now.files) path.now result }
+    {
+        self.file(path).is_some() || self.has_folder(path)
+    }
+
+    fn make_folder(&mut self, path: &str) -> Result<(), FolderFault>
+        ensures due { self.old.countdown ≡ 1 → result ≡ Err FolderFault.Device }
+        ensures countdown { self.new.countdown ≡ self.old.countdown - 1 }
+        ensures made { Makes (with_folder path.now) (Some self.old.files) path.now result (Some self.new.files) }
+        ensures counted { CountsMaking self.old.failures self.new.failures result }
+    {
+        self.begin_making(path)?;
+        match folder_name(self.alloc, path) {
+            Ok(name) => self.put_new(name.as_str(), &[]),
+            Err(AllocError) => Err(self.refuse()),
+        }
+    }
+
+    fn make_file(&mut self, path: &str, bytes: &[u8]) -> Result<(), FolderFault>
+        ensures due { self.old.countdown ≡ 1 → result ≡ Err FolderFault.Device }
+        ensures countdown { self.new.countdown ≡ self.old.countdown - 1 }
+        ensures made { Makes (with_file path.now bytes.now) (Some self.old.files) path.now result (Some self.new.files) }
+        ensures counted { CountsMaking self.old.failures self.new.failures result }
+    {
+        self.begin_making(path)?;
+        self.put_new(path, bytes)
+    }
+
+    fn rename_folder(&mut self, from: &str, to: &str) -> Result<(), FolderFault>
+        ensures due { self.old.countdown ≡ 1 → result ≡ Err FolderFault.Device }
+        ensures countdown { self.new.countdown ≡ self.old.countdown - 1 }
+        ensures was { OnOk result (IfSome (Some self.old.files) (λ all. contains_key all (folder_name from.now) ≡ true)) }
+        ensures made { Makes (with_moved from.now to.now) (Some self.old.files) to.now result (Some self.new.files) }
+        ensures counted { CountsMaking self.old.failures self.new.failures result }
+    {
+        self.begin_making(to)?;
+        if !self.has_folder(from) {
+            return Err(self.refuse());
+        }
+        match self.moved(from, to) {
+            Ok(entries) => {
+                self.entries = entries;
+                Ok(())
+            }
+            Err(AllocError) => Err(self.refuse()),
+        }
+    }
+
     fn failures(&self) -> u64
         ensures { result ≡ self.now.failures }
     {
@@ -180,6 +331,29 @@ mod tests {
         assert!(rt; host.store(rt.alloc(), "one", &[]) == Err(HostFault::Device));
         assert_eq!(rt; host.file("one"), Some([51].as_slice()));
         host.store(rt.alloc(), "one", &[])?;
+        assert_eq!(rt; host.failures(), 2);
+        Ok(())
+    }
+
+    #[test]
+    fn keeps_folders(rt: HostRuntime) -> Result<(), Fail> {
+        let mut host = MemoryHost::new(rt.alloc());
+        host.make_folder("new")?;
+        host.make_file("new/one", &[1])?;
+        host.make_file("newer", &[2])?;
+        assert!(rt; host.is_there("new") && host.is_there("newer") && !host.is_there("ne"));
+        assert!(rt; host.make_folder("new") == Err(FolderFault::Exists));
+        assert!(rt; host.make_folder("newer") == Err(FolderFault::Exists));
+        assert!(rt; host.make_file("new", &[]) == Err(FolderFault::Exists));
+        assert!(rt; host.rename_folder("new", "newer") == Err(FolderFault::Exists));
+        assert!(rt; host.rename_folder("newer", "other") == Err(FolderFault::Device));
+        host.rename_folder("new", "old")?;
+        assert!(rt; !host.is_there("new") && host.is_there("old"));
+        assert_eq!(rt; host.file("old/one"), Some([1].as_slice()));
+        assert_eq!(rt; host.file("newer"), Some([2].as_slice()));
+        host.fail_at(1);
+        assert!(rt; host.make_folder("new") == Err(FolderFault::Device));
+        assert!(rt; !host.is_there("new"));
         assert_eq!(rt; host.failures(), 2);
         Ok(())
     }

@@ -8,11 +8,12 @@ ghost use Rattle.d64_host.specs.Host.{IsOfDeviceOrMemory};
 
 use crate::draft::replace_by;
 use crate::host::HostFault;
+use crate::new_entry::make_file;
 use crate::new_file::{NewFile, write_to_end};
 use crate::size_limit::SizeLimit;
 use crate::standard_streams::{is_same_file, may_be_standard_stream};
 use std::alloc::{AllocError, Global};
-use std::fs::{self, File, Metadata, OpenFile, OpenOptions};
+use std::fs::{self, Metadata, OpenFile, OpenOptions};
 use std::io::{ErrorKind, Write};
 use std::os::fd::AsFd;
 use std::path::{AsPath, Path, PathBuf};
@@ -55,7 +56,7 @@ where
             None => Err(HostFault::Device),
         },
         Err(error) if error.kind() == ErrorKind::NotFound && end.found.is_none() => {
-            make(rt, end.path.as_path(), bytes)
+            make_file(rt, end.path.as_path(), bytes).map_err(|_| HostFault::Device)
         }
         Err(_) => Err(HostFault::Device),
     }
@@ -88,24 +89,6 @@ where
     }
     let mut file = NewFile::beside(rt, alloc, old, path)?;
     replace_by(&mut file, bytes)
-}
-
-/// Makes a new file. It waits for no disk.
-fn make<R: Files>(rt: &R, path: Path<'_>, bytes: &[u8]) -> Result<(), HostFault>
-    ensures { IfErr result (λ fault. fault ≡ HostFault.Device) }
-{
-    if !SizeLimit::of_process(rt).holds(bytes.len()) {
-        return Err(HostFault::Device);
-    }
-    let Ok(mut file) = File::create_new(rt, path) else {
-        return Err(HostFault::Device);
-    };
-    let outcome = write_to_end(&mut file, bytes);
-    if outcome.is_err() {
-        // The store is refused already, and no more can be done where the file cannot be removed.
-        let _ = fs::remove_file(rt, path);
-    }
-    outcome
 }
 
 /// Writes to what no new file can stand for: a pipe, a device, or a file that is open already.

@@ -3,7 +3,7 @@
 ghost use Rattle.std.specs.Io.{WritesAtMost};
 ghost use Rattle.std.specs.Io.KnownBytes.{WriteAppends, Keeps};
 
-use d64_host::{Host, HostFault};
+use d64_host::{FolderFault, Host, HostFault};
 use std::alloc::Global;
 use std::cell::Cell;
 use std::io::{self, Eprint, Write};
@@ -101,6 +101,22 @@ impl<'a, R: Clock + Eprint, H: Host> Host for WatchedHost<'a, R, H> {
 
     fn store(&mut self, alloc: Global, name: &str, bytes: &[u8]) -> Result<(), HostFault> {
         self.host.store(alloc, name, bytes)
+    }
+
+    fn is_there(&self, path: &str) -> bool {
+        self.host.is_there(path)
+    }
+
+    fn make_folder(&mut self, path: &str) -> Result<(), FolderFault> {
+        self.host.make_folder(path)
+    }
+
+    fn make_file(&mut self, path: &str, bytes: &[u8]) -> Result<(), FolderFault> {
+        self.host.make_file(path, bytes)
+    }
+
+    fn rename_folder(&mut self, from: &str, to: &str) -> Result<(), FolderFault> {
+        self.host.rename_folder(from, to)
     }
 
     fn failures(&self) -> u64 {
