@@ -4,7 +4,7 @@ use Rattle.std.specs.Prelude.{All, IfErr}
 use Rattle.std.proofs.lemmas.List.{map-append, take_more, take-append-drop}
 use Rattle.std.proofs.lemmas.List.Elements.{All-append, All-cons}
 use Rattle.d64_collection.specs.Names.{Asked, File, NoFile, kept, is_name, is_file_name, shortened, names_in, listed, asked_by}
-use Rattle.d64_collection.specs.Answers.{Rule}
+use Rattle.d64_collection.specs.Answers.{Conduct}
 use Rattle.d64_collection.specs.Runs.{Stand, Steps, Runs, StopsIn, EndsAt}
 use Rattle.d64_collection.specs.Lists.{HasCome, IsEnded, StopsInList}
 use Rattle.d64_collection.specs.declared.desk.RunFault.{RunFault}
@@ -34,21 +34,21 @@ asks_ended separator came more =
     ap (map listed) (names_in-append separator came more) ∙ map-append listed (names_in separator came) (names_in separator more)
 
 -- nothing has come
-pub HasCome-none : (rule : Rule) (separator : ℕ) (a : Stand) (held : List ℕ) → held ≡ [] → HasCome rule separator a a held []
-HasCome-none rule separator a held is_nil = record {
+pub HasCome-none : (conduct : Conduct) (separator : ℕ) (a : Stand) (held : List ℕ) → held ≡ [] → HasCome conduct separator a a held []
+HasCome-none conduct separator a held is_nil = record {
   ended = [];
   raw = [];
   parts = refl;
   is_ended = inl refl;
   unended = λ k d within. absurd (no_element k within);
   keeps = is_nil;
-  answered = subst (λ (l : List (List ℕ)). Steps rule (map listed l) a a) (sym (names_in-nil separator)) (Steps-none rule a);
+  answered = subst (λ (l : List (List ℕ)). Steps conduct (map listed l) a a) (sym (names_in-nil separator)) (Steps-none conduct a);
 }
 
 -- a byte of a name has come
-pub HasCome-byte : (rule : Rule) (separator byte : ℕ) (a b : Stand) (held new came : List ℕ)
-    → HasCome rule separator a b held came → byte ≢ separator → new ≡ take 4097 (held ++ byte ∷ []) → HasCome rule separator a b new (came ++ byte ∷ [])
-HasCome-byte rule separator byte a b held new came come other pushed = record {
+pub HasCome-byte : (conduct : Conduct) (separator byte : ℕ) (a b : Stand) (held new came : List ℕ)
+    → HasCome conduct separator a b held came → byte ≢ separator → new ≡ take 4097 (held ++ byte ∷ []) → HasCome conduct separator a b new (came ++ byte ∷ [])
+HasCome-byte conduct separator byte a b held new came come other pushed = record {
   ended = come.ended;
   raw = come.raw ++ byte ∷ [];
   parts = sym (append_assoc come.ended come.raw (byte ∷ [])) ∙ ap (λ (l : List ℕ). l ++ byte ∷ []) come.parts;
@@ -59,64 +59,64 @@ HasCome-byte rule separator byte a b held new came come other pushed = record {
 }
 
 -- all that has come asks for what was answered, and for what is held
-asks_came : (rule : Rule) (separator : ℕ) (a b : Stand) (held came : List ℕ) (come : HasCome rule separator a b held came)
+asks_came : (conduct : Conduct) (separator : ℕ) (a b : Stand) (held came : List ℕ) (come : HasCome conduct separator a b held came)
     → map listed (names_in separator came) ≡ map listed (names_in separator come.ended) ++ asked_by held
-asks_came rule separator a b held came come =
+asks_came conduct separator a b held came come =
     ap (λ (l : List ℕ). map listed (names_in separator l)) (sym come.parts)
     ∙ asks_last separator come.ended come.raw come.is_ended come.unended
     ∙ ap (λ (l : List ℕ). map listed (names_in separator come.ended) ++ asked_by l) (sym come.keeps)
 
 -- what is held is answered too
-pub Runs-came : {A : Type 0} (rule same : Rule) (separator : ℕ) (a b c : Stand) (held came : List ℕ) (result : Result A RunFault)
-    → HasCome rule separator a b held came → same ≡ rule → Runs same (asked_by held) b c result → Runs rule (map listed (names_in separator came)) a c result
-Runs-came {A} rule same separator a b c held came result come is_same ran =
-    subst (λ (l : List Asked). Runs rule l a c result) (sym (asks_came rule separator a b held came come))
-    (Runs-append rule (map listed (names_in separator come.ended)) (asked_by held) a b c result come.answered
-    (subst (λ (r : Rule). Runs r (asked_by held) b c result) is_same ran))
+pub Runs-came : {A : Type 0} (conduct same : Conduct) (separator : ℕ) (a b c : Stand) (held came : List ℕ) (result : Result A RunFault)
+    → HasCome conduct separator a b held came → same ≡ conduct → Runs same (asked_by held) b c result → Runs conduct (map listed (names_in separator came)) a c result
+Runs-came {A} conduct same separator a b c held came result come is_same ran =
+    subst (λ (l : List Asked). Runs conduct l a c result) (sym (asks_came conduct separator a b held came come))
+    (Runs-append conduct (map listed (names_in separator come.ended)) (asked_by held) a b c result come.answered
+    (subst (λ (r : Conduct). Runs r (asked_by held) b c result) is_same ran))
 
 -- a separator has come, and the name before it is answered
-pub HasCome-separator : {A : Type 0} (rule : Rule) (separator byte : ℕ) (a b c : Stand) (held new came : List ℕ) (result : Result A RunFault) (done : A)
-    → HasCome rule separator a b held came → byte ≡ separator → Runs rule (asked_by held) b c result → result ≡ Ok done → new ≡ []
-    → HasCome rule separator a c new (came ++ byte ∷ [])
-HasCome-separator {A} rule separator byte a b c held new came result done come is ran is_ok cleared =
-    let whole = Runs-came rule rule separator a b c held came result come refl ran in
-    let steps : Steps rule (map listed (names_in separator came)) a c = subst (λ (r : Result A RunFault). Runs rule (map listed (names_in separator came)) a c r) is_ok whole in
-    subst (λ (y : ℕ). HasCome rule separator a c new (came ++ y ∷ [])) (sym is) record {
+pub HasCome-separator : {A : Type 0} (conduct : Conduct) (separator byte : ℕ) (a b c : Stand) (held new came : List ℕ) (result : Result A RunFault) (done : A)
+    → HasCome conduct separator a b held came → byte ≡ separator → Runs conduct (asked_by held) b c result → result ≡ Ok done → new ≡ []
+    → HasCome conduct separator a c new (came ++ byte ∷ [])
+HasCome-separator {A} conduct separator byte a b c held new came result done come is ran is_ok cleared =
+    let whole = Runs-came conduct conduct separator a b c held came result come refl ran in
+    let steps : Steps conduct (map listed (names_in separator came)) a c = subst (λ (r : Result A RunFault). Runs conduct (map listed (names_in separator came)) a c r) is_ok whole in
+    subst (λ (y : ℕ). HasCome conduct separator a c new (came ++ y ∷ [])) (sym is) record {
       ended = came ++ separator ∷ [];
       raw = [];
       parts = append-nil (came ++ separator ∷ []);
       is_ended = inr (came, refl);
       unended = λ k d within. absurd (no_element k within);
       keeps = cleared;
-      answered = subst (λ (l : List Asked). Steps rule l a c)
+      answered = subst (λ (l : List Asked). Steps conduct l a c)
           (sym (asks_ended separator came [] ∙ ap (λ (l : List (List ℕ)). map listed (names_in separator came) ++ map listed l) (names_in-nil separator)
           ∙ append-nil (map listed (names_in separator came))))
           steps;
     }
 
 -- the run stops at the name before a separator, whatever would come after it
-pub Stops-separator : {A B : Type 0} (rule : Rule) (separator byte : ℕ) (a b c : Stand) (held came : List ℕ) (result : Result A RunFault) (answer : Result B RunFault) (fault : RunFault)
-    → HasCome rule separator a b held came → byte ≡ separator → Runs rule (asked_by held) b c result → result ≡ Err fault → answer ≡ Err fault
-    → IfErr answer (λ fault. (more : List ℕ) → StopsInList rule separator ((came ++ byte ∷ []) ++ more) fault a c)
-Stops-separator {A} {B} rule separator byte a b c held came result answer fault come is ran is_err answers =
-    let whole = Runs-came rule rule separator a b c held came result come refl ran in
-    let stops : StopsIn rule (map listed (names_in separator came)) fault a c =
-    subst (λ (r : Result A RunFault). Runs rule (map listed (names_in separator came)) a c r) is_err whole in
-    subst (λ (r : Result B RunFault). IfErr r (λ fault. (more : List ℕ) → StopsInList rule separator ((came ++ byte ∷ []) ++ more) fault a c)) (sym answers)
-    (λ more. subst (λ (l : List Asked). StopsIn rule l fault a c)
+pub Stops-separator : {A B : Type 0} (conduct : Conduct) (separator byte : ℕ) (a b c : Stand) (held came : List ℕ) (result : Result A RunFault) (answer : Result B RunFault) (fault : RunFault)
+    → HasCome conduct separator a b held came → byte ≡ separator → Runs conduct (asked_by held) b c result → result ≡ Err fault → answer ≡ Err fault
+    → IfErr answer (λ fault. (more : List ℕ) → StopsInList conduct separator ((came ++ byte ∷ []) ++ more) fault a c)
+Stops-separator {A} {B} conduct separator byte a b c held came result answer fault come is ran is_err answers =
+    let whole = Runs-came conduct conduct separator a b c held came result come refl ran in
+    let stops : StopsIn conduct (map listed (names_in separator came)) fault a c =
+    subst (λ (r : Result A RunFault). Runs conduct (map listed (names_in separator came)) a c r) is_err whole in
+    subst (λ (r : Result B RunFault). IfErr r (λ fault. (more : List ℕ) → StopsInList conduct separator ((came ++ byte ∷ []) ++ more) fault a c)) (sym answers)
+    (λ more. subst (λ (l : List Asked). StopsIn conduct l fault a c)
     (sym (ap (λ (l : List ℕ). map listed (names_in separator l)) (append_assoc came (byte ∷ []) more ∙ ap (λ (y : ℕ). came ++ y ∷ more) is) ∙ asks_ended separator came more))
-    (StopsIn-more rule (map listed (names_in separator came)) (map listed (names_in separator more)) fault a c stops))
+    (StopsIn-more conduct (map listed (names_in separator came)) (map listed (names_in separator more)) fault a c stops))
 
 -- what is no name asks for nothing
-pub Runs-no_name : (rule : Rule) (a : Stand) (held : List ℕ) → is_name held ≡ false → Steps rule (asked_by held) a a
-Runs-no_name rule a held none = subst (λ (t : Bool). Steps rule (if t then listed held ∷ [] else []) a a) (sym none) (Steps-none rule a)
+pub Runs-no_name : (conduct : Conduct) (a : Stand) (held : List ℕ) → is_name held ≡ false → Steps conduct (asked_by held) a a
+Runs-no_name conduct a held none = subst (λ (t : Bool). Steps conduct (if t then listed held ∷ [] else []) a a) (sym none) (Steps-none conduct a)
 
 -- a name asks for one file
-pub Runs-name : {A : Type 0} (rule : Rule) (asked : Asked) (a b : Stand) (held : List ℕ) (result : Result A RunFault)
-    → is_name held ≡ true → listed held ≡ asked → EndsAt rule asked a b result → Runs rule (asked_by held) a b result
-Runs-name rule asked a b held result named is ends =
-    subst (λ (l : List Asked). Runs rule l a b result) (sym (ap (λ (t : Bool). if t then listed held ∷ [] else []) named ∙ ap (λ (y : Asked). y ∷ []) is))
-    (Runs-one rule asked a b result ends)
+pub Runs-name : {A : Type 0} (conduct : Conduct) (asked : Asked) (a b : Stand) (held : List ℕ) (result : Result A RunFault)
+    → is_name held ≡ true → listed held ≡ asked → EndsAt conduct asked a b result → Runs conduct (asked_by held) a b result
+Runs-name conduct asked a b held result named is ends =
+    subst (λ (l : List Asked). Runs conduct l a b result) (sym (ap (λ (t : Bool). if t then listed held ∷ [] else []) named ∙ ap (λ (y : Asked). y ∷ []) is))
+    (Runs-one conduct asked a b result ends)
 
 -- what a name asks for that can be a file's
 pub listed-file : (held name : List ℕ) → is_file_name held ≡ true → name ≡ held → listed held ≡ File name
@@ -143,19 +143,19 @@ came_all came bytes more i byte within is =
     ∙ sym (append_assoc came bytes more)
 
 -- the run stops in one of the bytes, whatever would come after them
-pub Stops-next : {B : Type 0} (rule same : Rule) (separator other : ℕ) (a c : Stand) (came bytes : List ℕ) (i byte : ℕ) (answer : Result B RunFault) (fault : RunFault)
-    → i < length bytes → byte ≡ get_or bytes i 0 → same ≡ rule → other ≡ separator
+pub Stops-next : {B : Type 0} (conduct same : Conduct) (separator other : ℕ) (a c : Stand) (came bytes : List ℕ) (i byte : ℕ) (answer : Result B RunFault) (fault : RunFault)
+    → i < length bytes → byte ≡ get_or bytes i 0 → same ≡ conduct → other ≡ separator
     → ((more : List ℕ) → StopsInList same other (((came ++ take i bytes) ++ byte ∷ []) ++ more) fault a c) → answer ≡ Err fault
-    → IfErr answer (λ fault. (more : List ℕ) → StopsInList rule separator ((came ++ bytes) ++ more) fault a c)
-Stops-next {B} rule same separator other a c came bytes i byte answer fault within is is_same is_other stops answers =
-    subst (λ (r : Result B RunFault). IfErr r (λ fault. (more : List ℕ) → StopsInList rule separator ((came ++ bytes) ++ more) fault a c)) (sym answers)
-    (λ more. subst (λ (l : List ℕ). StopsInList rule separator l fault a c) (came_all came bytes more i byte within is)
-    (subst (λ (s : ℕ). StopsInList rule s (((came ++ take i bytes) ++ byte ∷ []) ++ (drop (i + 1) bytes ++ more)) fault a c) is_other
-    (subst (λ (r : Rule). StopsInList r other (((came ++ take i bytes) ++ byte ∷ []) ++ (drop (i + 1) bytes ++ more)) fault a c) is_same (stops (drop (i + 1) bytes ++ more)))))
+    → IfErr answer (λ fault. (more : List ℕ) → StopsInList conduct separator ((came ++ bytes) ++ more) fault a c)
+Stops-next {B} conduct same separator other a c came bytes i byte answer fault within is is_same is_other stops answers =
+    subst (λ (r : Result B RunFault). IfErr r (λ fault. (more : List ℕ) → StopsInList conduct separator ((came ++ bytes) ++ more) fault a c)) (sym answers)
+    (λ more. subst (λ (l : List ℕ). StopsInList conduct separator l fault a c) (came_all came bytes more i byte within is)
+    (subst (λ (s : ℕ). StopsInList conduct s (((came ++ take i bytes) ++ byte ∷ []) ++ (drop (i + 1) bytes ++ more)) fault a c) is_other
+    (subst (λ (r : Conduct). StopsInList r other (((came ++ take i bytes) ++ byte ∷ []) ++ (drop (i + 1) bytes ++ more)) fault a c) is_same (stops (drop (i + 1) bytes ++ more)))))
 
 -- a run over a list stops in its bytes
-pub Runs-stopped_in : {A : Type 0} (rule : Rule) (separator : ℕ) (a c : Stand) (list : List ℕ) (result : Result A RunFault) (fault : RunFault)
-    → ((more : List ℕ) → StopsInList rule separator (list ++ more) fault a c) → result ≡ Err fault → Runs rule (map listed (names_in separator list)) a c result
-Runs-stopped_in {A} rule separator a c list result fault stops is =
-    subst (λ (r : Result A RunFault). Runs rule (map listed (names_in separator list)) a c r) (sym is)
-    (subst (λ (l : List ℕ). StopsInList rule separator l fault a c) (append-nil list) (stops []))
+pub Runs-stopped_in : {A : Type 0} (conduct : Conduct) (separator : ℕ) (a c : Stand) (list : List ℕ) (result : Result A RunFault) (fault : RunFault)
+    → ((more : List ℕ) → StopsInList conduct separator (list ++ more) fault a c) → result ≡ Err fault → Runs conduct (map listed (names_in separator list)) a c result
+Runs-stopped_in {A} conduct separator a c list result fault stops is =
+    subst (λ (r : Result A RunFault). Runs conduct (map listed (names_in separator list)) a c r) (sym is)
+    (subst (λ (l : List ℕ). StopsInList conduct separator l fault a c) (append-nil list) (stops []))

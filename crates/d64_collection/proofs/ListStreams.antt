@@ -4,7 +4,7 @@ use Rattle.std.specs.Io.KnownBytes.{Consumes, IsAtEnd}
 use Rattle.std.proofs.KnownBytes.{Consumes-trans, Consumes-all}
 use Rattle.std.proofs.lemmas.List.{length-append, length-take-le}
 use Rattle.d64_collection.specs.Names.{names_in, listed}
-use Rattle.d64_collection.specs.Answers.{Rule}
+use Rattle.d64_collection.specs.Answers.{Conduct}
 use Rattle.d64_collection.specs.Runs.{Stand, Runs}
 use Rattle.d64_collection.specs.Lists.{HasCome, RunsStream, StopsInList, StopsInStream, LosesStream, list_limit}
 use Rattle.d64_collection.specs.declared.desk.RunFault.{RunFault}
@@ -16,38 +16,38 @@ Consumes-none a b c bytes more count before read none =
     subst (Consumes a c) (ap (λ n. bytes ++ take n more) none ∙ append-nil bytes) (Consumes-trans a b c bytes (take count more) before read)
 
 -- a run that stops stops at a name
-stopped_stream : (rule : Rule) (separator : ℕ) (reader left : Option (List ℕ)) (fault : RunFault) (a c : Stand) (bytes : List ℕ)
-    → Consumes reader left bytes → ((more : List ℕ) → StopsInList rule separator (bytes ++ more) fault a c) → StopsInStream rule separator reader fault a c
-stopped_stream rule separator None left fault a c bytes lost stops = record { list = bytes ++ []; all = tt; stopped = stops [] }
-stopped_stream rule separator (Some all) None fault a c bytes lost stops = absurd lost
-stopped_stream rule separator (Some all) (Some rest) fault a c bytes lost stops = record { list = bytes ++ rest; all = sym lost; stopped = stops rest }
+stopped_stream : (conduct : Conduct) (separator : ℕ) (reader left : Option (List ℕ)) (fault : RunFault) (a c : Stand) (bytes : List ℕ)
+    → Consumes reader left bytes → ((more : List ℕ) → StopsInList conduct separator (bytes ++ more) fault a c) → StopsInStream conduct separator reader fault a c
+stopped_stream conduct separator None left fault a c bytes lost stops = record { list = bytes ++ []; all = tt; stopped = stops [] }
+stopped_stream conduct separator (Some all) None fault a c bytes lost stops = absurd lost
+stopped_stream conduct separator (Some all) (Some rest) fault a c bytes lost stops = record { list = bytes ++ rest; all = sym lost; stopped = stops rest }
 
-stopped_by : (A : Type 0) (rule : Rule) (separator : ℕ) (reader left : Option (List ℕ)) (fault : RunFault) (a c : Stand) (bytes : List ℕ)
-    → Consumes reader left bytes → ((more : List ℕ) → StopsInList rule separator (bytes ++ more) fault a c) → RunsStream {A = A} rule separator reader left a c (Err fault)
-stopped_by A rule separator reader left faults.List a c bytes lost stops = absurd (stops []).stopped
-stopped_by A rule separator reader left faults.Write a c bytes lost stops = stopped_stream rule separator reader left faults.Write a c bytes lost stops
-stopped_by A rule separator reader left faults.Memory a c bytes lost stops = stopped_stream rule separator reader left faults.Memory a c bytes lost stops
+stopped_by : (A : Type 0) (conduct : Conduct) (separator : ℕ) (reader left : Option (List ℕ)) (fault : RunFault) (a c : Stand) (bytes : List ℕ)
+    → Consumes reader left bytes → ((more : List ℕ) → StopsInList conduct separator (bytes ++ more) fault a c) → RunsStream {A = A} conduct separator reader left a c (Err fault)
+stopped_by A conduct separator reader left faults.List a c bytes lost stops = absurd (stops []).stopped
+stopped_by A conduct separator reader left faults.Write a c bytes lost stops = stopped_stream conduct separator reader left faults.Write a c bytes lost stops
+stopped_by A conduct separator reader left faults.Memory a c bytes lost stops = stopped_stream conduct separator reader left faults.Memory a c bytes lost stops
 
-pub RunsStream-stopped : {A : Type 0} (rule : Rule) (separator : ℕ) (reader left : Option (List ℕ)) (fault : RunFault) (a c : Stand) (bytes : List ℕ) (result : Result A RunFault)
-    → Consumes reader left bytes → ((more : List ℕ) → StopsInList rule separator (bytes ++ more) fault a c) → result ≡ Err fault → RunsStream rule separator reader left a c result
-RunsStream-stopped {A} rule separator reader left fault a c bytes result lost stops is =
-    subst (λ (r : Result A RunFault). RunsStream rule separator reader left a c r) (sym is) (stopped_by A rule separator reader left fault a c bytes lost stops)
+pub RunsStream-stopped : {A : Type 0} (conduct : Conduct) (separator : ℕ) (reader left : Option (List ℕ)) (fault : RunFault) (a c : Stand) (bytes : List ℕ) (result : Result A RunFault)
+    → Consumes reader left bytes → ((more : List ℕ) → StopsInList conduct separator (bytes ++ more) fault a c) → result ≡ Err fault → RunsStream conduct separator reader left a c result
+RunsStream-stopped {A} conduct separator reader left fault a c bytes result lost stops is =
+    subst (λ (r : Result A RunFault). RunsStream conduct separator reader left a c r) (sym is) (stopped_by A conduct separator reader left fault a c bytes lost stops)
 
 -- at the list's end, the run over its names is the run over it
-pub RunsStream-ended : {A : Type 0} (rule : Rule) (separator : ℕ) (reader left : Option (List ℕ)) (a c : Stand) (bytes : List ℕ) (result : Result A RunFault)
-    → Consumes reader left bytes → IsAtEnd left → Runs rule (map listed (names_in separator bytes)) a c result → RunsStream rule separator reader left a c result
-RunsStream-ended rule separator reader left a c bytes (Ok done) lost end ran =
+pub RunsStream-ended : {A : Type 0} (conduct : Conduct) (separator : ℕ) (reader left : Option (List ℕ)) (a c : Stand) (bytes : List ℕ) (result : Result A RunFault)
+    → Consumes reader left bytes → IsAtEnd left → Runs conduct (map listed (names_in separator bytes)) a c result → RunsStream conduct separator reader left a c result
+RunsStream-ended conduct separator reader left a c bytes (Ok done) lost end ran =
     record { list = bytes; all = Consumes-all reader left bytes [] bytes lost end refl; answered = ran }
-RunsStream-ended rule separator reader left a c bytes (Err faults.List) lost end ran = absurd ran.stopped
-RunsStream-ended rule separator reader left a c bytes (Err faults.Write) lost end ran =
+RunsStream-ended conduct separator reader left a c bytes (Err faults.List) lost end ran = absurd ran.stopped
+RunsStream-ended conduct separator reader left a c bytes (Err faults.Write) lost end ran =
     record { list = bytes; all = Consumes-all reader left bytes [] bytes lost end refl; stopped = ran }
-RunsStream-ended rule separator reader left a c bytes (Err faults.Memory) lost end ran =
+RunsStream-ended conduct separator reader left a c bytes (Err faults.Memory) lost end ran =
     record { list = bytes; all = Consumes-all reader left bytes [] bytes lost end refl; stopped = ran }
 
 -- the list cannot be read on
-pub LosesStream-by : (rule : Rule) (separator : ℕ) (reader left : Option (List ℕ)) (a c : Stand) (held bytes : List ℕ)
-    → Consumes reader left bytes → HasCome rule separator a c held bytes → LosesStream rule separator reader left a c
-LosesStream-by rule separator reader left a c held bytes lost come = record {
+pub LosesStream-by : (conduct : Conduct) (separator : ℕ) (reader left : Option (List ℕ)) (a c : Stand) (held bytes : List ℕ)
+    → Consumes reader left bytes → HasCome conduct separator a c held bytes → LosesStream conduct separator reader left a c
+LosesStream-by conduct separator reader left a c held bytes lost come = record {
   consumed = bytes;
   lost = lost;
   came = bytes;
@@ -59,10 +59,10 @@ LosesStream-by rule separator reader left a c held bytes lost come = record {
 }
 
 -- more has come than a list may have
-pub LosesStream-past : (rule : Rule) (separator : ℕ) (reader middle left : Option (List ℕ)) (a c : Stand) (held bytes buffer : List ℕ) (count room : ℕ)
+pub LosesStream-past : (conduct : Conduct) (separator : ℕ) (reader middle left : Option (List ℕ)) (a c : Stand) (held bytes buffer : List ℕ) (count room : ℕ)
     → Consumes reader middle bytes → Consumes middle left (take count buffer) → length bytes + room ≡ list_limit → count ≤ length buffer → room < count
-    → HasCome rule separator a c held bytes → LosesStream rule separator reader left a c
-LosesStream-past rule separator reader middle left a c held bytes buffer count room lost read full fits over come = record {
+    → HasCome conduct separator a c held bytes → LosesStream conduct separator reader left a c
+LosesStream-past conduct separator reader middle left a c held bytes buffer count room lost read full fits over come = record {
   consumed = bytes ++ take count buffer;
   lost = Consumes-trans reader middle left bytes (take count buffer) lost read;
   came = bytes;
@@ -73,20 +73,20 @@ LosesStream-past rule separator reader middle left a c held bytes buffer count r
   has_come = come;
 }
 
--- what has come, by the same rule and separator
-pub HasCome-same : (rule same : Rule) (separator other : ℕ) (a b : Stand) (held came : List ℕ) → same ≡ rule → other ≡ separator
-    → HasCome rule separator a b held came → HasCome same other a b held came
-HasCome-same rule same separator other a b held came is_same is_other come =
-    subst (λ (s : ℕ). HasCome same s a b held came) (sym is_other) (subst (λ (r : Rule). HasCome r separator a b held came) (sym is_same) come)
+-- what has come, by the same conduct and separator
+pub HasCome-same : (conduct same : Conduct) (separator other : ℕ) (a b : Stand) (held came : List ℕ) → same ≡ conduct → other ≡ separator
+    → HasCome conduct separator a b held came → HasCome same other a b held came
+HasCome-same conduct same separator other a b held came is_same is_other come =
+    subst (λ (s : ℕ). HasCome same s a b held came) (sym is_other) (subst (λ (r : Conduct). HasCome r separator a b held came) (sym is_same) come)
 
 -- one piece more has come
-pub HasCome-piece : (rule same : Rule) (separator other : ℕ) (a b : Stand) (held came : List ℕ) → same ≡ rule → other ≡ separator
-    → HasCome same other a b held came → HasCome rule separator a b held came
-HasCome-piece rule same separator other a b held came is_same is_other come =
-    subst (λ (s : ℕ). HasCome rule s a b held came) is_other (subst (λ (r : Rule). HasCome r other a b held came) is_same come)
+pub HasCome-piece : (conduct same : Conduct) (separator other : ℕ) (a b : Stand) (held came : List ℕ) → same ≡ conduct → other ≡ separator
+    → HasCome same other a b held came → HasCome conduct separator a b held came
+HasCome-piece conduct same separator other a b held came is_same is_other come =
+    subst (λ (s : ℕ). HasCome conduct s a b held came) is_other (subst (λ (r : Conduct). HasCome r other a b held came) is_same come)
 
 -- a run stops in a piece
-pub Stops-same : (rule same : Rule) (separator other : ℕ) (fault : RunFault) (a b : Stand) (came : List ℕ) → same ≡ rule → other ≡ separator
-    → ((more : List ℕ) → StopsInList same other (came ++ more) fault a b) → (more : List ℕ) → StopsInList rule separator (came ++ more) fault a b
-Stops-same rule same separator other fault a b came is_same is_other stops more =
-    subst (λ (s : ℕ). StopsInList rule s (came ++ more) fault a b) is_other (subst (λ (r : Rule). StopsInList r other (came ++ more) fault a b) is_same (stops more))
+pub Stops-same : (conduct same : Conduct) (separator other : ℕ) (fault : RunFault) (a b : Stand) (came : List ℕ) → same ≡ conduct → other ≡ separator
+    → ((more : List ℕ) → StopsInList same other (came ++ more) fault a b) → (more : List ℕ) → StopsInList conduct separator (came ++ more) fault a b
+Stops-same conduct same separator other fault a b came is_same is_other stops more =
+    subst (λ (s : ℕ). StopsInList conduct s (came ++ more) fault a b) is_other (subst (λ (r : Conduct). StopsInList r other (came ++ more) fault a b) is_same (stops more))

@@ -1,5 +1,6 @@
 -- What is answered of a file, and what a report promises.
 use Rattle.std.specs.Prelude.{◌≡◌, ℕ, List, [], Option}
+use Rattle.d64_host.specs.Files.{HostState}
 use Rattle.d64_collection.specs.declared.report.Verdict.{Verdict}
 use Rattle.d64_collection.specs.declared.report.Verdict.TheVariants.{Clean, Amiss, Failed}
 
@@ -9,9 +10,30 @@ pub record Answer : Type 0 where
   pub complaint : List ℕ
   pub verdict : Verdict
 
+abbrev pub answer_of : List ℕ → List ℕ → Verdict → Answer
+answer_of printed complaint verdict = record { printed = printed; complaint = complaint; verdict = verdict }
+
 -- what is answered of a file of this name, with these bytes, or with none where it cannot be read
 abbrev pub Rule : Type 0
 Rule = List ℕ → Option (List ℕ) → Answer
+
+-- what is done where a file of this name is answered, with these bytes, or with none where it cannot be read: what may be answered, and what
+-- the host shows before and then; and what it may show where memory was wanting
+pub record Conduct : Type 1 where
+  pub does : List ℕ → Option (List ℕ) → HostState → Answer → HostState → Type 0
+  pub halts : List ℕ → Option (List ℕ) → HostState → HostState → Type 0
+
+-- what answers by a rule does nothing to the host
+abbrev pub by_rule : Rule → Conduct
+by_rule rule = record {
+  does = λ name bytes old answer new. (answer ≡ rule name bytes) × (new ≡ old);
+  halts = λ name bytes old new. new ≡ old;
+}
+
+-- nothing goes to the standard error of a file on which the verdict is clean
+abbrev pub KeepsQuiet : Conduct → Type 0
+KeepsQuiet conduct = (name : List ℕ) (bytes : Option (List ℕ)) (old : HostState) (answer : Answer) (new : HostState)
+    → conduct.does name bytes old answer new → answer.verdict ≡ Clean → answer.complaint ≡ []
 
 -- a rule is quiet: of a file on which its verdict is clean, nothing goes to the standard error
 abbrev pub IsQuiet : Rule → Type 0

@@ -2,45 +2,45 @@
 use Rattle.std.specs.Prelude.{◌≡◌, ◌≢◌, ◌<◌, ℕ, List, [], ◌∷◌, ◌++◌, ◌⊎◌, length, All, map, Option, IfSome, Result, Ok, Err}
 use Rattle.std.specs.Io.KnownBytes.{Consumes}
 use Rattle.d64_collection.specs.Names.{kept, listed, names_in}
-use Rattle.d64_collection.specs.Answers.{Rule}
+use Rattle.d64_collection.specs.Answers.{Conduct}
 use Rattle.d64_collection.specs.Runs.{Stand, Steps, StopsIn}
 use Rattle.d64_collection.specs.declared.desk.RunFault.{RunFault}
 use Rattle.d64_collection.specs.declared.desk.RunFault.TheVariants as faults
 
 -- the names in these bytes of a list are answered
-abbrev pub AnswersList : Rule → ℕ → List ℕ → Stand → Stand → Type 0
-AnswersList rule separator bytes old new = Steps rule (map listed (names_in separator bytes)) old new
+abbrev pub AnswersList : Conduct → ℕ → List ℕ → Stand → Stand → Type 0
+AnswersList conduct separator bytes old new = Steps conduct (map listed (names_in separator bytes)) old new
 
 -- a run stops at one of the names in these bytes
-abbrev pub StopsInList : Rule → ℕ → List ℕ → RunFault → Stand → Stand → Type 0
-StopsInList rule separator bytes fault old new = StopsIn rule (map listed (names_in separator bytes)) fault old new
+abbrev pub StopsInList : Conduct → ℕ → List ℕ → RunFault → Stand → Stand → Type 0
+StopsInList conduct separator bytes fault old new = StopsIn conduct (map listed (names_in separator bytes)) fault old new
 
 -- the bytes end with a separator, or there are none
 abbrev pub IsEnded : ℕ → List ℕ → Type 0
 IsEnded separator bytes = (bytes ≡ []) ⊎ ((before : List ℕ) × (bytes ≡ before ++ separator ∷ []))
 
 -- how far a list has come with these bytes: the names that are ended are answered, and of the one that is not this is kept
-pub record HasCome (rule : Rule) (separator : ℕ) (first now : Stand) (held came : List ℕ) : Type 0 where
+pub record HasCome (conduct : Conduct) (separator : ℕ) (first now : Stand) (held came : List ℕ) : Type 0 where
   pub ended : List ℕ
   pub raw : List ℕ
   pub parts : ended ++ raw ≡ came
   pub is_ended : IsEnded separator ended
   pub unended : All (λ byte. byte ≢ separator) raw
   pub keeps : held ≡ kept raw
-  pub answered : AnswersList rule separator ended first now
+  pub answered : AnswersList conduct separator ended first now
 
 -- the most bytes of a list that is read as it comes
 abbrev pub list_limit : ℕ
 list_limit = 16777216
 
 -- the whole of a list was read, and all of its names are answered
-pub record AnswersStream (rule : Rule) (separator : ℕ) (reader : Option (List ℕ)) (old new : Stand) : Type 0 where
+pub record AnswersStream (conduct : Conduct) (separator : ℕ) (reader : Option (List ℕ)) (old new : Stand) : Type 0 where
   pub list : List ℕ
   pub all : IfSome reader (λ bytes. list ≡ bytes)
-  pub answered : AnswersList rule separator list old new
+  pub answered : AnswersList conduct separator list old new
 
 -- a list cannot be read to its end: all names that were ended before are answered; of bytes past the limit nothing is looked at
-pub record LosesStream (rule : Rule) (separator : ℕ) (reader left : Option (List ℕ)) (old new : Stand) : Type 0 where
+pub record LosesStream (conduct : Conduct) (separator : ℕ) (reader left : Option (List ℕ)) (old new : Stand) : Type 0 where
   pub consumed : List ℕ
   pub lost : Consumes reader left consumed
   pub came : List ℕ
@@ -48,17 +48,17 @@ pub record LosesStream (rule : Rule) (separator : ℕ) (reader left : Option (Li
   pub parts : came ++ beyond ≡ consumed
   pub limit : (beyond ≡ []) ⊎ (list_limit < length consumed)
   pub held : List ℕ
-  pub has_come : HasCome rule separator old new held came
+  pub has_come : HasCome conduct separator old new held came
 
 -- a run stops at a name of a list that is read as it comes
-pub record StopsInStream (rule : Rule) (separator : ℕ) (reader : Option (List ℕ)) (fault : RunFault) (old new : Stand) : Type 0 where
+pub record StopsInStream (conduct : Conduct) (separator : ℕ) (reader : Option (List ℕ)) (fault : RunFault) (old new : Stand) : Type 0 where
   pub list : List ℕ
   pub all : IfSome reader (λ bytes. list ≡ bytes)
-  pub stopped : StopsInList rule separator list fault old new
+  pub stopped : StopsInList conduct separator list fault old new
 
 -- how a run over a list that is read as it comes ends
-abbrev pub RunsStream : {A : Type 0} → Rule → ℕ → Option (List ℕ) → Option (List ℕ) → Stand → Stand → Result A RunFault → Type 0
-RunsStream rule separator reader left old new (Ok done) = AnswersStream rule separator reader old new
-RunsStream rule separator reader left old new (Err faults.List) = LosesStream rule separator reader left old new
-RunsStream rule separator reader left old new (Err faults.Write) = StopsInStream rule separator reader faults.Write old new
-RunsStream rule separator reader left old new (Err faults.Memory) = StopsInStream rule separator reader faults.Memory old new
+abbrev pub RunsStream : {A : Type 0} → Conduct → ℕ → Option (List ℕ) → Option (List ℕ) → Stand → Stand → Result A RunFault → Type 0
+RunsStream conduct separator reader left old new (Ok done) = AnswersStream conduct separator reader old new
+RunsStream conduct separator reader left old new (Err faults.List) = LosesStream conduct separator reader left old new
+RunsStream conduct separator reader left old new (Err faults.Write) = StopsInStream conduct separator reader faults.Write old new
+RunsStream conduct separator reader left old new (Err faults.Memory) = StopsInStream conduct separator reader faults.Memory old new

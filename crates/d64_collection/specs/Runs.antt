@@ -8,7 +8,7 @@ use Rattle.d64_host.specs.declared.host.HostFault.TheVariants.{Missing, Device, 
 use Rattle.d64_script.specs.Output.{Account, AppendsPart, Writes, account_of}
 use Rattle.d64_script.specs.declared.output.OutputStream.{OutputStream}
 use Rattle.d64_collection.specs.Names.{Asked, File, NoFile}
-use Rattle.d64_collection.specs.Answers.{Answer, Rule, worse}
+use Rattle.d64_collection.specs.Answers.{Answer, Conduct, worse}
 use Rattle.d64_collection.specs.declared.report.Verdict.{Verdict}
 use Rattle.d64_script.specs.declared.output.WriteFault.{WriteFault}
 use Rattle.d64_collection.specs.declared.desk.RunFault.{RunFault}
@@ -97,50 +97,75 @@ Begins heading old new (Err faults.Write) = AppendsPart old.contents new.content
 Begins heading old new (Err faults.Memory) = new ≡ old
 Begins heading old new (Err faults.List) = ⊥
 
--- a file is answered: it is read, and what the rule says of it is told
-pub record Answers (rule : Rule) (asked : Asked) (old new : Stand) : Type 0 where
+-- a file is read, and this is answered
+pub record Serves (conduct : Conduct) (asked : Asked) (old : HostState) (answer : Answer) (new : HostState) : Type 0 where
   pub bytes : Option (List ℕ)
-  pub read : IsRead asked old.host bytes new.host
-  pub told : IsTold (rule (shown asked) bytes) old.told new.told
+  pub host : HostState
+  pub read : IsRead asked old bytes host
+  pub done : conduct.does (shown asked) bytes host answer new
+
+-- a file is answered: what is answered of it is told
+pub record Answers (conduct : Conduct) (asked : Asked) (old new : Stand) : Type 0 where
+  pub answer : Answer
+  pub served : Serves conduct asked old.host answer new.host
+  pub told : IsTold answer old.told new.told
 
 -- files are answered, one after another
-unfoldable pub Steps : Rule → List Asked → Stand → Stand → Type 0
-Steps rule [] old new = new ≡ old
-Steps rule (asked ∷ more) old new = (middle : Stand) × Answers rule asked old middle × Steps rule more middle new
+unfoldable pub Steps : Conduct → List Asked → Stand → Stand → Type 0
+Steps conduct [] old new = new ≡ old
+Steps conduct (asked ∷ more) old new = (middle : Stand) × Answers conduct asked old middle × Steps conduct more middle new
 
 -- the output failed while a file was told of
-pub record FailsToTell (rule : Rule) (asked : Asked) (old new : Stand) : Type 0 where
-  pub bytes : Option (List ℕ)
-  pub read : IsRead asked old.host bytes new.host
-  pub told : IsCut (rule (shown asked) bytes) old.told new.told
+pub record FailsToTell (conduct : Conduct) (asked : Asked) (old new : Stand) : Type 0 where
+  pub answer : Answer
+  pub served : Serves conduct asked old.host answer new.host
+  pub told : IsCut answer old.told new.told
 
--- there was no memory to read a file, or to tell of it: nothing of it was told
-pub record WantsMemory (asked : Asked) (old new : Stand) : Type 0 where
-  pub read : ((bytes : Option (List ℕ)) × IsRead asked old.host bytes new.host) ⊎ (new.host ≡ old.host)
+-- there was no memory to answer a file that was read
+pub record Halts (conduct : Conduct) (asked : Asked) (old new : HostState) : Type 0 where
+  pub bytes : Option (List ℕ)
+  pub host : HostState
+  pub read : IsRead asked old bytes host
+  pub halted : conduct.halts (shown asked) bytes host new
+
+-- there was no memory to read a file, or to answer it
+abbrev pub Wants : Conduct → Asked → HostState → HostState → Type 0
+Wants conduct asked old new = Halts conduct asked old new ⊎ (new ≡ old)
+
+-- how reading a file and answering it ends, where this is the answer
+abbrev pub EndsServing : Conduct → Asked → HostState → HostState → (Verdict → Answer) → Result Verdict RunFault → Type 0
+EndsServing conduct asked old new answer (Ok verdict) = Serves conduct asked old (answer verdict) new
+EndsServing conduct asked old new answer (Err faults.Memory) = Wants conduct asked old new
+EndsServing conduct asked old new answer (Err faults.Write) = ⊥
+EndsServing conduct asked old new answer (Err faults.List) = ⊥
+
+-- memory was wanting: nothing was told of the file
+pub record WantsMemory (conduct : Conduct) (asked : Asked) (old new : Stand) : Type 0 where
+  pub wants : Wants conduct asked old.host new.host
   pub told : new.told ≡ old.told
 
 -- a run stops at a file, by a fault
-abbrev pub StopsAt : Rule → Asked → RunFault → Stand → Stand → Type 0
-StopsAt rule asked faults.Write old new = FailsToTell rule asked old new
-StopsAt rule asked faults.Memory old new = WantsMemory asked old new
-StopsAt rule asked faults.List old new = ⊥
+abbrev pub StopsAt : Conduct → Asked → RunFault → Stand → Stand → Type 0
+StopsAt conduct asked faults.Write old new = FailsToTell conduct asked old new
+StopsAt conduct asked faults.Memory old new = WantsMemory conduct asked old new
+StopsAt conduct asked faults.List old new = ⊥
 
 -- how answering a file ends
-abbrev pub EndsAt : {A : Type 0} → Rule → Asked → Stand → Stand → Result A RunFault → Type 0
-EndsAt rule asked old new (Ok done) = Answers rule asked old new
-EndsAt rule asked old new (Err fault) = StopsAt rule asked fault old new
+abbrev pub EndsAt : {A : Type 0} → Conduct → Asked → Stand → Stand → Result A RunFault → Type 0
+EndsAt conduct asked old new (Ok done) = Answers conduct asked old new
+EndsAt conduct asked old new (Err fault) = StopsAt conduct asked fault old new
 
 -- a run stops at one of these files, after those before it were answered
-pub record StopsIn (rule : Rule) (all : List Asked) (fault : RunFault) (old new : Stand) : Type 0 where
+pub record StopsIn (conduct : Conduct) (all : List Asked) (fault : RunFault) (old new : Stand) : Type 0 where
   pub before : List Asked
   pub asked : Asked
   pub rest : List Asked
   pub split : before ++ asked ∷ rest ≡ all
   pub middle : Stand
-  pub answered : Steps rule before old middle
-  pub stopped : StopsAt rule asked fault middle new
+  pub answered : Steps conduct before old middle
+  pub stopped : StopsAt conduct asked fault middle new
 
 -- how a run over these files ends: all are answered, or it stops at one
-abbrev pub Runs : {A : Type 0} → Rule → List Asked → Stand → Stand → Result A RunFault → Type 0
-Runs rule all old new (Ok done) = Steps rule all old new
-Runs rule all old new (Err fault) = StopsIn rule all fault old new
+abbrev pub Runs : {A : Type 0} → Conduct → List Asked → Stand → Stand → Result A RunFault → Type 0
+Runs conduct all old new (Ok done) = Steps conduct all old new
+Runs conduct all old new (Err fault) = StopsIn conduct all fault old new

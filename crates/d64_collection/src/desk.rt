@@ -1,10 +1,11 @@
 //! Where files are answered, one after another.
-ghost use Rattle.std.specs.Prelude.{◌≡◌, [], true, map, string_bytes, OnErr, OnOk};
+ghost use Rattle.std.specs.Prelude.{◌≡◌, [], true, map, string_bytes, IfOk, OnErr, OnOk};
 ghost use Rattle.d64_collection.specs.Names.{File, NoFile};
-ghost use Rattle.d64_host.specs.Files.{HostState};
-ghost use Rattle.d64_collection.specs.Runs.{Begins, EndsAt, Runs, Tells, account_at, stand_at, stand_of, told_at};
+ghost use Rattle.d64_collection.specs.Answers.{KeepsQuiet, answer_of};
+ghost use Rattle.d64_collection.specs.Runs.{Begins, EndsAt, EndsServing, Runs, Tells, account_at, stand_at, told_at};
 
-use crate::report::{AnswerRoom, Report, Verdict};
+use crate::clerk::Clerk;
+use crate::report::{AnswerRoom, Verdict};
 use d64_host::{Host, HostFault};
 use d64_script::output::{OutputStream, WriteFault};
 use std::alloc::{AllocError, Global};
@@ -78,99 +79,119 @@ impl Desk {
     }
 
     /// Prints what stands before all answers.
-    pub fn begin<P: Report, W: Write>(
+    pub fn begin<C: Clerk, W: Write>(
         &mut self,
-        report: &mut P,
+        clerk: &mut C,
         output: &mut OutputStream<'_, W>,
     ) -> Result<(), RunFault>
         ensures output { output.new.writer.ghost_name ≡ output.old.writer.ghost_name }
-        ensures rule { P.rule report.new ≡ P.rule report.old }
+        ensures manner { C.manner clerk.new ≡ C.manner clerk.old }
         ensures delivered { OnOk result (output.new.is_delivered ≡ true) }
         ensures unfailed { OnOk result (output.new.has_failed ≡ output.old.has_failed) }
         ensures worst { self.new.worst ≡ self.old.worst }
-        ensures begun { Begins (P.heading report.old) (account_at W.contents output.old) (account_at W.contents output.new) result }
+        ensures begun { Begins (C.heading clerk.old) (account_at W.contents output.old) (account_at W.contents output.new) result }
     {
-        report.head(&mut self.room)?;
+        clerk.head(&mut self.room)?;
         output.write(self.room.printed.as_slice())?;
         output.flush()?;
         Ok(())
     }
 
     /// Answers a file of the host.
-    pub(crate) fn answer_file<H: Host, P: Report, W: Write, F: Write>(
+    pub(crate) fn answer_file<H: Host, C: Clerk, W: Write, F: Write>(
         &mut self,
         name: &str,
         host: &mut H,
-        report: &mut P,
+        clerk: &mut C,
         output: &mut OutputStream<'_, W>,
         faults: &mut OutputStream<'_, F>,
     ) -> Result<(), RunFault>
         ensures output { output.new.writer.ghost_name ≡ output.old.writer.ghost_name }
         ensures faults { faults.new.writer.ghost_name ≡ faults.old.writer.ghost_name }
-        ensures rule { P.rule report.new ≡ P.rule report.old }
+        ensures manner { C.manner clerk.new ≡ C.manner clerk.old }
         ensures delivered { OnOk result (output.new.is_delivered ≡ true) }
         ensures unfailed { OnOk result (output.new.has_failed ≡ output.old.has_failed) }
-        ensures silent { self.new.worst ≡ Verdict.Clean → (self.old.worst ≡ Verdict.Clean) × (faults.new ≡ faults.old) }
-        ensures answered { EndsAt (P.rule report.old) (File name.now)
+        ensures silent { KeepsQuiet (C.conduct (C.manner clerk.old)) → self.new.worst ≡ Verdict.Clean → (self.old.worst ≡ Verdict.Clean) × (faults.new ≡ faults.old) }
+        ensures answered { EndsAt (C.conduct (C.manner clerk.old)) (File name.now)
             (stand_at H.state host.old W.contents output.old F.contents faults.old self.old.worst)
             (stand_at H.state host.new W.contents output.new F.contents faults.new self.new.worst) result }
     {
-        let verdict = match host.fill(name, FILE_BYTES, &mut self.bytes) {
-            Ok(()) => report.answer(name.as_bytes(), Some(self.bytes.as_slice()), &mut self.room)?,
-            Err(HostFault::Missing | HostFault::Device | HostFault::TooLong) => {
-                report.answer(name.as_bytes(), None, &mut self.room)?
-            }
-            Err(HostFault::Memory(_)) => return Err(RunFault::Memory),
-        };
+        let verdict = self.serve(name, host, clerk)?;
         self.tell(verdict, output, faults)?;
         Ok(())
     }
 
+    /// Reads a file of the host, and lets the clerk put the answer into the room.
+    fn serve<H: Host, C: Clerk>(
+        &mut self,
+        name: &str,
+        host: &mut H,
+        clerk: &mut C,
+    ) -> Result<Verdict, RunFault>
+        ensures manner { C.manner clerk.new ≡ C.manner clerk.old }
+        ensures worst { self.new.worst ≡ self.old.worst }
+        ensures quiet { IfOk result (λ verdict. KeepsQuiet (C.conduct (C.manner clerk.old)) → verdict ≡ Verdict.Clean → self.new.room.complaint.items ≡ []) }
+        ensures served { EndsServing (C.conduct (C.manner clerk.old)) (File name.now) (H.state host.old) (H.state host.new)
+            (answer_of self.new.room.printed.items self.new.room.complaint.items) result }
+    {
+        match host.fill(name, FILE_BYTES, &mut self.bytes) {
+            Ok(()) => {
+                let bytes = Some(self.bytes.as_slice());
+                Ok(clerk.answer(name.as_bytes(), bytes, host, &mut self.room)?)
+            }
+            Err(HostFault::Missing | HostFault::Device | HostFault::TooLong) => {
+                Ok(clerk.answer(name.as_bytes(), None, host, &mut self.room)?)
+            }
+            Err(HostFault::Memory(_)) => Err(RunFault::Memory),
+        }
+    }
+
     /// Answers a name that is shown so and that can be no file's.
-    pub(crate) fn answer_no_file<P: Report, W: Write, F: Write>(
+    pub(crate) fn answer_no_file<H: Host, C: Clerk, W: Write, F: Write>(
         &mut self,
         name: &[u8],
-        report: &mut P,
+        host: &mut H,
+        clerk: &mut C,
         output: &mut OutputStream<'_, W>,
         faults: &mut OutputStream<'_, F>,
     ) -> Result<(), RunFault>
         ensures output { output.new.writer.ghost_name ≡ output.old.writer.ghost_name }
         ensures faults { faults.new.writer.ghost_name ≡ faults.old.writer.ghost_name }
-        ensures rule { P.rule report.new ≡ P.rule report.old }
+        ensures manner { C.manner clerk.new ≡ C.manner clerk.old }
         ensures delivered { OnOk result (output.new.is_delivered ≡ true) }
         ensures unfailed { OnOk result (output.new.has_failed ≡ output.old.has_failed) }
-        ensures silent { self.new.worst ≡ Verdict.Clean → (self.old.worst ≡ Verdict.Clean) × (faults.new ≡ faults.old) }
-        ensures answered { (seen : HostState) → EndsAt (P.rule report.old) (NoFile name.now)
-            (stand_of seen (told_at W.contents output.old F.contents faults.old self.old.worst))
-            (stand_of seen (told_at W.contents output.new F.contents faults.new self.new.worst)) result }
+        ensures silent { KeepsQuiet (C.conduct (C.manner clerk.old)) → self.new.worst ≡ Verdict.Clean → (self.old.worst ≡ Verdict.Clean) × (faults.new ≡ faults.old) }
+        ensures answered { EndsAt (C.conduct (C.manner clerk.old)) (NoFile name.now)
+            (stand_at H.state host.old W.contents output.old F.contents faults.old self.old.worst)
+            (stand_at H.state host.new W.contents output.new F.contents faults.new self.new.worst) result }
     {
-        let verdict = report.answer(name, None, &mut self.room)?;
+        let verdict = clerk.answer(name, None, host, &mut self.room)?;
         self.tell(verdict, output, faults)?;
         Ok(())
     }
 
     /// Answers files of the host, one after another, and returns the worst verdict. `Write` comes where the output fails, and nothing is
     /// answered after that; a file that cannot be read stops nothing.
-    pub fn answer_files<H: Host, P: Report, W: Write, F: Write>(
+    pub fn answer_files<H: Host, C: Clerk, W: Write, F: Write>(
         &mut self,
         names: &[String],
         host: &mut H,
-        report: &mut P,
+        clerk: &mut C,
         output: &mut OutputStream<'_, W>,
         faults: &mut OutputStream<'_, F>,
     ) -> Result<(), RunFault>
         ensures output { output.new.writer.ghost_name ≡ output.old.writer.ghost_name }
         ensures faults { faults.new.writer.ghost_name ≡ faults.old.writer.ghost_name }
-        ensures rule { P.rule report.new ≡ P.rule report.old }
+        ensures manner { C.manner clerk.new ≡ C.manner clerk.old }
         ensures delivered { output.old.is_delivered ≡ true → OnOk result (output.new.is_delivered ≡ true) }
         ensures unfailed { OnOk result (output.new.has_failed ≡ output.old.has_failed) }
-        ensures silent { self.new.worst ≡ Verdict.Clean → (self.old.worst ≡ Verdict.Clean) × (faults.new ≡ faults.old) }
-        ensures answered { Runs (P.rule report.old) (map (λ name. File (string_bytes name)) names.now)
+        ensures silent { KeepsQuiet (C.conduct (C.manner clerk.old)) → self.new.worst ≡ Verdict.Clean → (self.old.worst ≡ Verdict.Clean) × (faults.new ≡ faults.old) }
+        ensures answered { Runs (C.conduct (C.manner clerk.old)) (map (λ name. File (string_bytes name)) names.now)
             (stand_at H.state host.old W.contents output.old F.contents faults.old self.old.worst)
             (stand_at H.state host.new W.contents output.new F.contents faults.new self.new.worst) result }
     {
         for name in names {
-            self.answer_file(name.as_str(), host, report, output, faults)?;
+            self.answer_file(name.as_str(), host, clerk, output, faults)?;
         }
         Ok(())
     }
@@ -189,7 +210,7 @@ impl Desk {
         ensures unfailed { OnOk result (output.new.has_failed ≡ output.old.has_failed) }
         ensures silent { self.old.room.complaint.items ≡ [] → faults.new ≡ faults.old }
         ensures stopped { OnErr result (faults.new ≡ faults.old) }
-        ensures told { Tells (record { printed = self.old.room.printed.items; complaint = self.old.room.complaint.items; verdict = verdict })
+        ensures told { Tells (answer_of self.old.room.printed.items self.old.room.complaint.items verdict)
             (told_at W.contents output.old F.contents faults.old self.old.worst)
             (told_at W.contents output.new F.contents faults.new self.new.worst) result }
     {

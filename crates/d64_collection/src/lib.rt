@@ -3,11 +3,13 @@
 //! Nothing here knows what the files hold: a `Report` tells of one.
 #![tactic(auto)]
 
+mod clerk;
 mod desk;
 mod list_desk;
 mod open_name;
 mod report;
 
+pub use clerk::Clerk;
 pub use desk::{Desk, RunFault};
 pub use list_desk::ListDesk;
 pub use report::{AnswerRoom, Report, Verdict};

@@ -1,13 +1,15 @@
 //! Where the files that a list names are answered, as the list's bytes come.
 ghost use Rattle.std.specs.Prelude.{◌≡◌, ◌≢◌, Err, [], ◌∷◌, ◌++◌, List, ℕ, true, map, OnOk, IfErr};
 ghost use Rattle.d64_script.specs.Input.{IsUnread, IsUnreadable, reading_of};
+ghost use Rattle.d64_collection.specs.Answers.{KeepsQuiet};
 ghost use Rattle.d64_collection.specs.Names.{asked_by, listed, names_in};
 ghost use Rattle.d64_collection.specs.Runs.{Runs, Stand, stand_at};
 ghost use Rattle.d64_collection.specs.Lists.{HasCome, RunsStream, StopsInList};
 
+use crate::clerk::Clerk;
 use crate::desk::{Desk, RunFault};
 use crate::open_name::OpenName;
-use crate::report::{Report, Verdict};
+use crate::report::Verdict;
 use d64_host::Host;
 use d64_script::input::InputStream;
 use d64_script::output::OutputStream;
@@ -44,36 +46,36 @@ impl ListDesk {
     }
 
     /// Answers the files that the bytes of a list name.
-    pub fn answer_list<H: Host, P: Report, W: Write, F: Write>(
+    pub fn answer_list<H: Host, C: Clerk, W: Write, F: Write>(
         &mut self,
         list: &[u8],
         host: &mut H,
-        report: &mut P,
+        clerk: &mut C,
         output: &mut OutputStream<'_, W>,
         faults: &mut OutputStream<'_, F>,
     ) -> Result<(), RunFault>
         ensures separator { self.new.separator ≡ self.old.separator }
         ensures output { output.new.writer.ghost_name ≡ output.old.writer.ghost_name }
         ensures faults { faults.new.writer.ghost_name ≡ faults.old.writer.ghost_name }
-        ensures rule { P.rule report.new ≡ P.rule report.old }
+        ensures manner { C.manner clerk.new ≡ C.manner clerk.old }
         ensures delivered { output.old.is_delivered ≡ true → OnOk result (output.new.is_delivered ≡ true) }
         ensures unfailed { OnOk result (output.new.has_failed ≡ output.old.has_failed) }
-        ensures silent { self.new.desk.worst ≡ Verdict.Clean → (self.old.desk.worst ≡ Verdict.Clean) × (faults.new ≡ faults.old) }
-        ensures answered { self.old.name ≡ [] → Runs (P.rule report.old) (map listed (names_in self.old.separator list.now))
+        ensures silent { KeepsQuiet (C.conduct (C.manner clerk.old)) → self.new.desk.worst ≡ Verdict.Clean → (self.old.desk.worst ≡ Verdict.Clean) × (faults.new ≡ faults.old) }
+        ensures answered { self.old.name ≡ [] → Runs (C.conduct (C.manner clerk.old)) (map listed (names_in self.old.separator list.now))
             (stand_at H.state host.old W.contents output.old F.contents faults.old self.old.desk.worst)
             (stand_at H.state host.new W.contents output.new F.contents faults.new self.new.desk.worst) result }
     {
-        self.take(list, host, report, output, faults)?;
-        self.end(host, report, output, faults)
+        self.take(list, host, clerk, output, faults)?;
+        self.end(host, clerk, output, faults)
     }
 
     /// Answers the files that an input names, each once its name is ended. `List` comes where the input cannot be read to its end: a read failed,
     /// or it has more than 16,777,216 bytes, or takes more than 1,000,000 reads.
-    pub fn answer_stream<R: Read, H: Host, P: Report, W: Write, F: Write>(
+    pub fn answer_stream<R: Read, H: Host, C: Clerk, W: Write, F: Write>(
         &mut self,
         input: &mut InputStream<'_, R>,
         host: &mut H,
-        report: &mut P,
+        clerk: &mut C,
         output: &mut OutputStream<'_, W>,
         faults: &mut OutputStream<'_, F>,
     ) -> Result<(), RunFault>
@@ -84,11 +86,11 @@ impl ListDesk {
         ensures input { input.new.reader.ghost_name ≡ input.old.reader.ghost_name }
         ensures output { output.new.writer.ghost_name ≡ output.old.writer.ghost_name }
         ensures faults { faults.new.writer.ghost_name ≡ faults.old.writer.ghost_name }
-        ensures rule { P.rule report.new ≡ P.rule report.old }
+        ensures manner { C.manner clerk.new ≡ C.manner clerk.old }
         ensures delivered { OnOk result (output.new.is_delivered ≡ true) }
         ensures unfailed { OnOk result (output.new.has_failed ≡ output.old.has_failed) }
-        ensures silent { self.new.desk.worst ≡ Verdict.Clean → (self.old.desk.worst ≡ Verdict.Clean) × (faults.new ≡ faults.old) }
-        ensures answered { self.old.name ≡ [] → RunsStream (P.rule report.old) self.old.separator (R.remaining input.old.reader.now) (R.remaining input.new.reader.now)
+        ensures silent { KeepsQuiet (C.conduct (C.manner clerk.old)) → self.new.desk.worst ≡ Verdict.Clean → (self.old.desk.worst ≡ Verdict.Clean) × (faults.new ≡ faults.old) }
+        ensures answered { self.old.name ≡ [] → RunsStream (C.conduct (C.manner clerk.old)) self.old.separator (R.remaining input.old.reader.now) (R.remaining input.new.reader.now)
             (stand_at H.state host.old W.contents output.old F.contents faults.old self.old.desk.worst)
             (stand_at H.state host.new W.contents output.new F.contents faults.new self.new.desk.worst) result }
     {
@@ -96,7 +98,7 @@ impl ListDesk {
         let mut buffer = [0; READ_BYTES];
         for _ in 0..SCRIPT_READS {
             let count = match input.read_after(output, &mut buffer) {
-                Ok(0) => return self.end(host, report, output, faults),
+                Ok(0) => return self.end(host, clerk, output, faults),
                 Ok(count) => count,
                 Err(_) => return Err(RunFault::List),
             };
@@ -104,17 +106,17 @@ impl ListDesk {
                 return Err(RunFault::List);
             }
             left -= count;
-            self.take(&buffer[..count], host, report, output, faults)?;
+            self.take(&buffer[..count], host, clerk, output, faults)?;
         }
         Err(RunFault::List)
     }
 
     /// Takes the next bytes of the list, and answers the files whose names end in them.
-    fn take<H: Host, P: Report, W: Write, F: Write>(
+    fn take<H: Host, C: Clerk, W: Write, F: Write>(
         &mut self,
         bytes: &[u8],
         host: &mut H,
-        report: &mut P,
+        clerk: &mut C,
         output: &mut OutputStream<'_, W>,
         faults: &mut OutputStream<'_, F>,
     ) -> Result<(), RunFault>
@@ -122,36 +124,36 @@ impl ListDesk {
         ensures never { result ≢ Err RunFault.List }
         ensures output { output.new.writer.ghost_name ≡ output.old.writer.ghost_name }
         ensures faults { faults.new.writer.ghost_name ≡ faults.old.writer.ghost_name }
-        ensures rule { P.rule report.new ≡ P.rule report.old }
+        ensures manner { C.manner clerk.new ≡ C.manner clerk.old }
         ensures delivered { output.old.is_delivered ≡ true → OnOk result (output.new.is_delivered ≡ true) }
         ensures unfailed { OnOk result (output.new.has_failed ≡ output.old.has_failed) }
-        ensures silent { self.new.desk.worst ≡ Verdict.Clean → (self.old.desk.worst ≡ Verdict.Clean) × (faults.new ≡ faults.old) }
+        ensures silent { KeepsQuiet (C.conduct (C.manner clerk.old)) → self.new.desk.worst ≡ Verdict.Clean → (self.old.desk.worst ≡ Verdict.Clean) × (faults.new ≡ faults.old) }
         ensures came { (first : Stand) (before : List ℕ)
-            → HasCome (P.rule report.old) self.old.separator first
+            → HasCome (C.conduct (C.manner clerk.old)) self.old.separator first
             (stand_at H.state host.old W.contents output.old F.contents faults.old self.old.desk.worst)
             self.old.name before
-            → OnOk result (HasCome (P.rule report.old) self.old.separator first
+            → OnOk result (HasCome (C.conduct (C.manner clerk.old)) self.old.separator first
             (stand_at H.state host.new W.contents output.new F.contents faults.new self.new.desk.worst)
             self.new.name (before ++ bytes.now)) }
         ensures stopped { (first : Stand) (before : List ℕ)
-            → HasCome (P.rule report.old) self.old.separator first
+            → HasCome (C.conduct (C.manner clerk.old)) self.old.separator first
             (stand_at H.state host.old W.contents output.old F.contents faults.old self.old.desk.worst)
             self.old.name before
-            → IfErr result (λ fault. (more : List ℕ) → StopsInList (P.rule report.old) self.old.separator ((before ++ bytes.now) ++ more) fault first
+            → IfErr result (λ fault. (more : List ℕ) → StopsInList (C.conduct (C.manner clerk.old)) self.old.separator ((before ++ bytes.now) ++ more) fault first
             (stand_at H.state host.new W.contents output.new F.contents faults.new self.new.desk.worst)) }
     {
         for byte in bytes {
-            self.take_byte(*byte, host, report, output, faults)?;
+            self.take_byte(*byte, host, clerk, output, faults)?;
         }
         Ok(())
     }
 
     /// Takes the next byte of the list, and answers the file whose name it ends.
-    fn take_byte<H: Host, P: Report, W: Write, F: Write>(
+    fn take_byte<H: Host, C: Clerk, W: Write, F: Write>(
         &mut self,
         byte: u8,
         host: &mut H,
-        report: &mut P,
+        clerk: &mut C,
         output: &mut OutputStream<'_, W>,
         faults: &mut OutputStream<'_, F>,
     ) -> Result<(), RunFault>
@@ -159,38 +161,38 @@ impl ListDesk {
         ensures never { result ≢ Err RunFault.List }
         ensures output { output.new.writer.ghost_name ≡ output.old.writer.ghost_name }
         ensures faults { faults.new.writer.ghost_name ≡ faults.old.writer.ghost_name }
-        ensures rule { P.rule report.new ≡ P.rule report.old }
+        ensures manner { C.manner clerk.new ≡ C.manner clerk.old }
         ensures delivered { output.old.is_delivered ≡ true → OnOk result (output.new.is_delivered ≡ true) }
         ensures unfailed { OnOk result (output.new.has_failed ≡ output.old.has_failed) }
-        ensures silent { self.new.desk.worst ≡ Verdict.Clean → (self.old.desk.worst ≡ Verdict.Clean) × (faults.new ≡ faults.old) }
+        ensures silent { KeepsQuiet (C.conduct (C.manner clerk.old)) → self.new.desk.worst ≡ Verdict.Clean → (self.old.desk.worst ≡ Verdict.Clean) × (faults.new ≡ faults.old) }
         ensures came { (first : Stand) (before : List ℕ)
-            → HasCome (P.rule report.old) self.old.separator first
+            → HasCome (C.conduct (C.manner clerk.old)) self.old.separator first
             (stand_at H.state host.old W.contents output.old F.contents faults.old self.old.desk.worst)
             self.old.name before
-            → OnOk result (HasCome (P.rule report.old) self.old.separator first
+            → OnOk result (HasCome (C.conduct (C.manner clerk.old)) self.old.separator first
             (stand_at H.state host.new W.contents output.new F.contents faults.new self.new.desk.worst)
             self.new.name (before ++ byte ∷ [])) }
         ensures stopped { (first : Stand) (before : List ℕ)
-            → HasCome (P.rule report.old) self.old.separator first
+            → HasCome (C.conduct (C.manner clerk.old)) self.old.separator first
             (stand_at H.state host.old W.contents output.old F.contents faults.old self.old.desk.worst)
             self.old.name before
-            → IfErr result (λ fault. (more : List ℕ) → StopsInList (P.rule report.old) self.old.separator ((before ++ byte ∷ []) ++ more) fault first
+            → IfErr result (λ fault. (more : List ℕ) → StopsInList (C.conduct (C.manner clerk.old)) self.old.separator ((before ++ byte ∷ []) ++ more) fault first
             (stand_at H.state host.new W.contents output.new F.contents faults.new self.new.desk.worst)) }
     {
         if byte != self.separator {
             self.name.push(byte);
             return Ok(());
         }
-        self.end(host, report, output, faults)?;
+        self.end(host, clerk, output, faults)?;
         self.name.clear();
         Ok(())
     }
 
     /// Answers the file whose name is ended, if it has a byte.
-    fn end<H: Host, P: Report, W: Write, F: Write>(
+    fn end<H: Host, C: Clerk, W: Write, F: Write>(
         &mut self,
         host: &mut H,
-        report: &mut P,
+        clerk: &mut C,
         output: &mut OutputStream<'_, W>,
         faults: &mut OutputStream<'_, F>,
     ) -> Result<(), RunFault>
@@ -198,11 +200,11 @@ impl ListDesk {
         ensures never { result ≢ Err RunFault.List }
         ensures output { output.new.writer.ghost_name ≡ output.old.writer.ghost_name }
         ensures faults { faults.new.writer.ghost_name ≡ faults.old.writer.ghost_name }
-        ensures rule { P.rule report.new ≡ P.rule report.old }
+        ensures manner { C.manner clerk.new ≡ C.manner clerk.old }
         ensures delivered { output.old.is_delivered ≡ true → OnOk result (output.new.is_delivered ≡ true) }
         ensures unfailed { OnOk result (output.new.has_failed ≡ output.old.has_failed) }
-        ensures silent { self.new.desk.worst ≡ Verdict.Clean → (self.old.desk.worst ≡ Verdict.Clean) × (faults.new ≡ faults.old) }
-        ensures answered { Runs (P.rule report.old) (asked_by self.old.name)
+        ensures silent { KeepsQuiet (C.conduct (C.manner clerk.old)) → self.new.desk.worst ≡ Verdict.Clean → (self.old.desk.worst ≡ Verdict.Clean) × (faults.new ≡ faults.old) }
+        ensures answered { Runs (C.conduct (C.manner clerk.old)) (asked_by self.old.name)
             (stand_at H.state host.old W.contents output.old F.contents faults.old self.old.desk.worst)
             (stand_at H.state host.new W.contents output.new F.contents faults.new self.new.desk.worst) result }
     {
@@ -210,11 +212,11 @@ impl ListDesk {
             return Ok(());
         }
         match self.name.file_name() {
-            Some(name) => self.desk.answer_file(name, host, report, output, faults),
+            Some(name) => self.desk.answer_file(name, host, clerk, output, faults),
             None => {
                 self.name.shorten();
                 self.desk
-                    .answer_no_file(self.name.as_bytes(), report, output, faults)
+                    .answer_no_file(self.name.as_bytes(), host, clerk, output, faults)
             }
         }
     }

@@ -5,7 +5,7 @@ use Rattle.std.specs.Prelude.{MatchBool}
 use Rattle.d64_host.specs.declared.host.HostFault.{HostFault}
 use Rattle.d64_script.specs.Output.{Account, account_of}
 use Rattle.d64_collection.specs.Names.{Asked, File, listed, names_in}
-use Rattle.d64_collection.specs.Answers.{Rule}
+use Rattle.d64_collection.specs.Answers.{Conduct}
 use Rattle.d64_host.specs.Files.{HostState}
 use Rattle.d64_collection.specs.Runs.{Begins, IsFetched, Runs, Stand, stand_of, told_of}
 use Rattle.d64_collection.specs.Lists.{RunsStream}
@@ -30,60 +30,60 @@ second_case true P Q is q = cc
 second_case false P Q is q = q
 
 -- a run over given names
-pub over_given : (rule : Rule) (names : FileNames) (given : Bor (List (String Global))) (reader : Option (List ℕ)) (a b : Stand) (ended : Result (Unit {0}) RunFault)
-    → names ≡ Given given → Runs rule (map (λ name. File (string_bytes name)) given.now) a b ended → RunsOver rule (files_in names) reader reader a b ended
-over_given rule names given reader a b ended is ran =
-    let whole : RunsOver rule (files_in (Given given)) reader reader a b ended =
-    (refl, subst (λ (l : List Asked). Runs rule l a b ended) (sym (map-map File string_bytes given.now)) ran) in
-    subst (λ (n : FileNames). RunsOver rule (files_in n) reader reader a b ended) (sym is) whole
+pub over_given : (conduct : Conduct) (names : FileNames) (given : Bor (List (String Global))) (reader : Option (List ℕ)) (a b : Stand) (ended : Result (Unit {0}) RunFault)
+    → names ≡ Given given → Runs conduct (map (λ name. File (string_bytes name)) given.now) a b ended → RunsOver conduct (files_in names) reader reader a b ended
+over_given conduct names given reader a b ended is ran =
+    let whole : RunsOver conduct (files_in (Given given)) reader reader a b ended =
+    (refl, subst (λ (l : List Asked). Runs conduct l a b ended) (sym (map-map File string_bytes given.now)) ran) in
+    subst (λ (n : FileNames). RunsOver conduct (files_in n) reader reader a b ended) (sym is) whole
 
 -- a run over the names of the input
-pub over_input : (rule : Rule) (names : FileNames) (list : Bor (List ℕ)) (separator byte : ℕ) (reader left : Option (List ℕ)) (a b : Stand) (ended : Result (Unit {0}) RunFault)
-    → names ≡ Listed list separator → is_input list.now ≡ true → byte ≡ separator → RunsStream rule byte reader left a b ended
-    → RunsOver rule (files_in names) reader left a b ended
-over_input rule names list separator byte reader left a b ended is input bytes ran =
-    let whole : RunsOver rule (files_in (Listed list separator)) reader left a b ended =
-    first_case (is_input list.now) _ _ input (subst (λ (s : ℕ). RunsStream rule s reader left a b ended) bytes ran) in
-    subst (λ (n : FileNames). RunsOver rule (files_in n) reader left a b ended) (sym is) whole
+pub over_input : (conduct : Conduct) (names : FileNames) (list : Bor (List ℕ)) (separator byte : ℕ) (reader left : Option (List ℕ)) (a b : Stand) (ended : Result (Unit {0}) RunFault)
+    → names ≡ Listed list separator → is_input list.now ≡ true → byte ≡ separator → RunsStream conduct byte reader left a b ended
+    → RunsOver conduct (files_in names) reader left a b ended
+over_input conduct names list separator byte reader left a b ended is input bytes ran =
+    let whole : RunsOver conduct (files_in (Listed list separator)) reader left a b ended =
+    first_case (is_input list.now) _ _ input (subst (λ (s : ℕ). RunsStream conduct s reader left a b ended) bytes ran) in
+    subst (λ (n : FileNames). RunsOver conduct (files_in n) reader left a b ended) (sym is) whole
 
 -- a run over the names of a list of the host
-pub over_file : (rule : Rule) (names : FileNames) (list : Bor (List ℕ)) (separator byte : ℕ) (reader : Option (List ℕ)) (a b : Stand) (ended : Result (Unit {0}) RunFault)
-    → names ≡ Listed list separator → is_input list.now ≡ false → byte ≡ separator → RunsListFile rule byte list.now a b ended
-    → RunsOver rule (files_in names) reader reader a b ended
-over_file rule names list separator byte reader a b ended is file bytes ran =
-    let whole : RunsOver rule (files_in (Listed list separator)) reader reader a b ended =
-    second_case (is_input list.now) _ _ file (refl, subst (λ (s : ℕ). RunsListFile rule s list.now a b ended) bytes ran) in
-    subst (λ (n : FileNames). RunsOver rule (files_in n) reader reader a b ended) (sym is) whole
+pub over_file : (conduct : Conduct) (names : FileNames) (list : Bor (List ℕ)) (separator byte : ℕ) (reader : Option (List ℕ)) (a b : Stand) (ended : Result (Unit {0}) RunFault)
+    → names ≡ Listed list separator → is_input list.now ≡ false → byte ≡ separator → RunsListFile conduct byte list.now a b ended
+    → RunsOver conduct (files_in names) reader reader a b ended
+over_file conduct names list separator byte reader a b ended is file bytes ran =
+    let whole : RunsOver conduct (files_in (Listed list separator)) reader reader a b ended =
+    second_case (is_input list.now) _ _ file (refl, subst (λ (s : ℕ). RunsListFile conduct s list.now a b ended) bytes ran) in
+    subst (λ (n : FileNames). RunsOver conduct (files_in n) reader reader a b ended) (sym is) whole
 
 -- a survey that was begun goes on as its run
-pub surveyed : (rule same : Rule) (heading : List ℕ) (files : SurveyFiles) (reader left : Option (List ℕ)) (host : HostState) (before after error : Account) (worst : Verdict) (last : Stand)
+pub surveyed : (conduct same : Conduct) (heading : List ℕ) (files : SurveyFiles) (reader left : Option (List ℕ)) (host : HostState) (before after error : Account) (worst : Verdict) (last : Stand)
     (done : Unit {0}) (ended : Result (Unit {0}) RunFault)
-    → Begins {A = Unit {0}} heading before after (Ok done) → worst ≡ Clean → same ≡ rule → RunsOver same files reader left (stand_of host (told_of after error worst)) last ended
-    → Surveys rule heading files reader left (stand_of host (told_of before error Clean)) last ended
-surveyed rule same heading files reader left host before after error worst last done ended begins clean is_same ran = record {
+    → Begins {A = Unit {0}} heading before after (Ok done) → worst ≡ Clean → same ≡ conduct → RunsOver same files reader left (stand_of host (told_of after error worst)) last ended
+    → Surveys conduct heading files reader left (stand_of host (told_of before error Clean)) last ended
+surveyed conduct same heading files reader left host before after error worst last done ended begins clean is_same ran = record {
   begun = Ok done;
   output = after;
   begins = begins;
-  goes_on = subst (λ (r : Rule). RunsOver r files reader left (stand_of host (told_of after error Clean)) last ended) is_same
+  goes_on = subst (λ (r : Conduct). RunsOver r files reader left (stand_of host (told_of after error Clean)) last ended) is_same
       (subst (λ (w : Verdict). RunsOver same files reader left (stand_of host (told_of after error w)) last ended) clean ran);
 }
 
 -- a run over the names of a list that was fetched
-pub file_fetched : (rule : Rule) (separator : ℕ) (list : List ℕ) (first : Stand) (host : HostState) (bytes slice : List ℕ) (last : Stand) (ended : Result (Unit {0}) RunFault)
-    → slice ≡ bytes → IsFetched list first.host (Ok bytes) host → Runs rule (map listed (names_in separator slice)) (stand_of host first.told) last ended
-    → RunsListFile rule separator list first last ended
-file_fetched rule separator list first host bytes slice last ended same fetched ran =
-    (Ok bytes, host, fetched, subst (λ (l : List ℕ). Runs rule (map listed (names_in separator l)) (stand_of host first.told) last ended) same ran)
+pub file_fetched : (conduct : Conduct) (separator : ℕ) (list : List ℕ) (first : Stand) (host : HostState) (bytes slice : List ℕ) (last : Stand) (ended : Result (Unit {0}) RunFault)
+    → slice ≡ bytes → IsFetched list first.host (Ok bytes) host → Runs conduct (map listed (names_in separator slice)) (stand_of host first.told) last ended
+    → RunsListFile conduct separator list first last ended
+file_fetched conduct separator list first host bytes slice last ended same fetched ran =
+    (Ok bytes, host, fetched, subst (λ (l : List ℕ). Runs conduct (map listed (names_in separator l)) (stand_of host first.told) last ended) same ran)
 
 -- and of one that was not
-pub file_unfetched : (rule : Rule) (separator : ℕ) (list : List ℕ) (first : Stand) (host : HostState) (fault : HostFault) (told : RunFault)
-    → told ≡ fault_of_list fault → IsFetched list first.host (Err fault) host → RunsListFile {A = Unit {0}} rule separator list first (stand_of host first.told) (Err told)
-file_unfetched rule separator list first host fault told is fetched = (Err fault, host, fetched, (ap Err is, refl))
+pub file_unfetched : (conduct : Conduct) (separator : ℕ) (list : List ℕ) (first : Stand) (host : HostState) (fault : HostFault) (told : RunFault)
+    → told ≡ fault_of_list fault → IsFetched list first.host (Err fault) host → RunsListFile {A = Unit {0}} conduct separator list first (stand_of host first.told) (Err told)
+file_unfetched conduct separator list first host fault told is fetched = (Err fault, host, fetched, (ap Err is, refl))
 
 -- where there is no memory to begin a survey, it has ended with nothing printed
-pub not_begun : (rule : Rule) (heading : List ℕ) (files : SurveyFiles) (old : Outside) (faults told : Account) (status : ℕ)
-    → Reports Memory faults told status → EndedSurvey rule heading files old old faults told status
-not_begun rule heading files old faults told status reports = record {
+pub not_begun : (conduct : Conduct) (heading : List ℕ) (files : SurveyFiles) (old : Outside) (faults told : Account) (status : ℕ)
+    → Reports Memory faults told status → EndedSurvey conduct heading files old old faults told status
+not_begun conduct heading files old faults told status reports = record {
   ended = Err stops.Memory;
   last = first_stand old faults;
   surveyed = record {

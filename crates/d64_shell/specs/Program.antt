@@ -23,7 +23,7 @@ use Rattle.d64_wording.specs.FaultLines.{unread_line, unwritten_line}
 use Rattle.cbm_text.specs.BasicText.{fault_line as fault_line_of}
 use Rattle.d64_script.specs.declared.status.Status.{Status}
 use Rattle.d64_shell.specs.RefusalLine.{refusal_line}
-use Rattle.d64_collection.specs.Answers.{Rule, status_of as verdict_status}
+use Rattle.d64_collection.specs.Answers.{Conduct, by_rule, status_of as verdict_status}
 use Rattle.d64_collection.specs.Runs.{Stand, Told, stand_of, told_of}
 use Rattle.d64_collection.specs.declared.desk.RunFault.{RunFault}
 use Rattle.d64_collection.specs.declared.desk.RunFault.TheVariants as run_faults
@@ -294,10 +294,10 @@ abbrev pub first_stand : Outside → Account → Stand
 first_stand old faults = stand_of old.host (told_of (account_of old.writer false) faults Clean)
 
 -- a survey has ended
-pub record EndedSurvey (rule : Rule) (heading : List ℕ) (files : SurveyFiles) (old new : Outside) (faults told : Account) (status : ℕ) : Type 0 where
+pub record EndedSurvey (conduct : Conduct) (heading : List ℕ) (files : SurveyFiles) (old new : Outside) (faults told : Account) (status : ℕ) : Type 0 where
   pub ended : Result (Unit {0}) RunFault
   pub last : Stand
-  pub surveyed : Surveys rule heading files old.reader new.reader (first_stand old faults) last ended
+  pub surveyed : Surveys conduct heading files old.reader new.reader (first_stand old faults) last ended
   pub host : new.host ≡ last.host
   pub writer : new.writer ≡ last.told.output.contents
   pub tells : TellsEnd (list_name files) ended last.told told status
@@ -323,7 +323,7 @@ abbrev pub EndedWork : Work → Outside → Outside → Account → Account → 
 EndedWork (Script beginning source manner) old new faults told status = EndedShell beginning source manner old new faults told status
 EndedWork (Conversion tool name None) old new faults told status = EndedTool tool name old new faults told status
 EndedWork (Conversion tool name (Some target)) old new faults told status = EndedToolTo tool name target old new faults told status
-EndedWork (Survey rule heading files) old new faults told status = EndedSurvey rule heading files old new faults told status
+EndedWork (Survey rule heading files) old new faults told status = EndedSurvey (by_rule rule) heading files old new faults told status
 EndedWork (Comparison rule old_name new_name) old new faults told status = EndedComparison rule old_name new_name old new faults told status
 
 -- help or the version was written, whole; or there was a fault: a first part of it was written, or there was no memory

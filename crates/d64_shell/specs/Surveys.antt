@@ -4,7 +4,7 @@ use Rattle.d64_host.specs.declared.host.HostFault.{HostFault}
 use Rattle.d64_host.specs.declared.host.HostFault.TheVariants as refusals
 use Rattle.d64_script.specs.Output.{Account}
 use Rattle.d64_collection.specs.Names.{File, listed, names_in}
-use Rattle.d64_collection.specs.Answers.{Rule}
+use Rattle.d64_collection.specs.Answers.{Conduct}
 use Rattle.d64_host.specs.Files.{HostState}
 use Rattle.d64_collection.specs.Runs.{Begins, IsFetched, Runs, Stand, stand_of, told_of}
 use Rattle.d64_collection.specs.Lists.{RunsStream}
@@ -23,34 +23,34 @@ fault_of_list (refusals.Memory error) = faults.Memory
 fault_of_list fault = faults.List
 
 -- how a run over the names of a list of the host ends, which was fetched so
-abbrev pub RunsFetched : {A : Type 0} → Rule → ℕ → Result (List ℕ) HostFault → Stand → Stand → Result A RunFault → Type 0
-RunsFetched rule separator (Ok bytes) first last result = Runs rule (map listed (names_in separator bytes)) first last result
-RunsFetched rule separator (Err fault) first last result = (result ≡ Err (fault_of_list fault)) × (last ≡ first)
+abbrev pub RunsFetched : {A : Type 0} → Conduct → ℕ → Result (List ℕ) HostFault → Stand → Stand → Result A RunFault → Type 0
+RunsFetched conduct separator (Ok bytes) first last result = Runs conduct (map listed (names_in separator bytes)) first last result
+RunsFetched conduct separator (Err fault) first last result = (result ≡ Err (fault_of_list fault)) × (last ≡ first)
 
 -- how a run over the names of a list of the host ends
-abbrev pub RunsListFile : {A : Type 0} → Rule → ℕ → List ℕ → Stand → Stand → Result A RunFault → Type 0
-RunsListFile rule separator list first last result =
-    (fetched : Result (List ℕ) HostFault) × (host : HostState) × IsFetched list first.host fetched host × RunsFetched rule separator fetched (stand_of host first.told) last result
+abbrev pub RunsListFile : {A : Type 0} → Conduct → ℕ → List ℕ → Stand → Stand → Result A RunFault → Type 0
+RunsListFile conduct separator list first last result =
+    (fetched : Result (List ℕ) HostFault) × (host : HostState) × IsFetched list first.host fetched host × RunsFetched conduct separator fetched (stand_of host first.told) last result
 
 -- how a run over the files of a survey ends, and what it leaves of the input
-abbrev pub RunsOver : {A : Type 0} → Rule → SurveyFiles → Option (List ℕ) → Option (List ℕ) → Stand → Stand → Result A RunFault → Type 0
-RunsOver rule (Named names) reader left first last result = (left ≡ reader) × Runs rule (map File names) first last result
-RunsOver rule (ListedIn list separator) reader left first last result =
+abbrev pub RunsOver : {A : Type 0} → Conduct → SurveyFiles → Option (List ℕ) → Option (List ℕ) → Stand → Stand → Result A RunFault → Type 0
+RunsOver conduct (Named names) reader left first last result = (left ≡ reader) × Runs conduct (map File names) first last result
+RunsOver conduct (ListedIn list separator) reader left first last result =
     MatchBool (is_input list)
-    (RunsStream rule separator reader left first last result)
-    ((left ≡ reader) × RunsListFile rule separator list first last result)
+    (RunsStream conduct separator reader left first last result)
+    ((left ≡ reader) × RunsListFile conduct separator list first last result)
 
 -- how a survey goes on after what stands before all answers: over the files, or not at all where that was not printed
-abbrev pub GoesOn : {A B : Type 0} → Rule → SurveyFiles → Option (List ℕ) → Option (List ℕ) → Result B RunFault → Stand → Stand → Result A RunFault → Type 0
-GoesOn rule files reader left (Ok done) first last result = RunsOver rule files reader left first last result
-GoesOn rule files reader left (Err fault) first last result = (left ≡ reader) × (last ≡ first) × (result ≡ Err fault)
+abbrev pub GoesOn : {A B : Type 0} → Conduct → SurveyFiles → Option (List ℕ) → Option (List ℕ) → Result B RunFault → Stand → Stand → Result A RunFault → Type 0
+GoesOn conduct files reader left (Ok done) first last result = RunsOver conduct files reader left first last result
+GoesOn conduct files reader left (Err fault) first last result = (left ≡ reader) × (last ≡ first) × (result ≡ Err fault)
 
 -- how a survey ends: what stands before all answers is printed, and then the files are answered
-pub record Surveys (rule : Rule) (heading : List ℕ) (files : SurveyFiles) (reader left : Option (List ℕ)) (first last : Stand) (ended : Result (Unit {0}) RunFault) : Type 0 where
+pub record Surveys (conduct : Conduct) (heading : List ℕ) (files : SurveyFiles) (reader left : Option (List ℕ)) (first last : Stand) (ended : Result (Unit {0}) RunFault) : Type 0 where
   pub begun : Result (Unit {0}) RunFault
   pub output : Account
   pub begins : Begins heading first.told.output output begun
-  pub goes_on : GoesOn rule files reader left begun (stand_of first.host (told_of output first.told.error first.told.worst)) last ended
+  pub goes_on : GoesOn conduct files reader left begun (stand_of first.host (told_of output first.told.error first.told.worst)) last ended
 
 -- a survey that ended so says this: the worst verdict, or the fault
 abbrev pub Says : Verdict → Result (Unit {0}) RunFault → Result Verdict RunFault → Type 0

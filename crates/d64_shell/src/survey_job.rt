@@ -2,7 +2,7 @@
 ghost use Rattle.std.specs.Prelude.{◌≡◌, ◌≤◌, ℕ, List, Err, IfErr, IfOk, Ok, OnOk, Result, true, false};
 ghost use Rattle.d64_host.specs.declared.host.HostFault.{HostFault};
 ghost use Rattle.d64_script.specs.Input.{IsUnread, reading_of};
-ghost use Rattle.d64_collection.specs.Answers.{Rule};
+ghost use Rattle.d64_collection.specs.Answers.{KeepsQuiet, Rule, by_rule};
 ghost use Rattle.d64_collection.specs.Runs.{IsFetched, account_at, stand_at};
 ghost use Rattle.d64_shell.specs.Program.{EndedSurvey, TellsFault, outside_at};
 ghost use Rattle.d64_shell.specs.SurveyFiles.{files_in, list_name};
@@ -13,7 +13,7 @@ ghost use Rattle.d64_collection.specs.declared.report.Verdict.{Verdict};
 use crate::entry::NOT_RUN;
 use crate::file_names::FileNames;
 use crate::program_fault::ProgramFault;
-use d64_collection::{Desk, ListDesk, Report, RunFault, Verdict};
+use d64_collection::{Clerk, Desk, ListDesk, Report, RunFault, Verdict};
 use d64_host::{Host, HostFault};
 use d64_script::input::InputStream;
 use d64_script::output::OutputStream;
@@ -69,25 +69,53 @@ impl<'n> SurveyJob<'n> {
         ensures delivered { result ≡ 0 → (output.new.is_delivered ≡ true) × (output.new.has_failed ≡ false) }
         ensures silent { result ≡ 0 → faults.new ≡ faults.old }
         ensures ended { (rule : Rule) (heading : List ℕ) → IfOk report (λ report. (P.rule report ≡ rule) × (P.heading report ≡ heading))
-            → EndedSurvey rule heading (files_in self.now.names)
+            → EndedSurvey (by_rule rule) heading (files_in self.now.names)
             (outside_at R.remaining input.old W.contents output.old H.state host.old)
             (outside_at R.remaining input.new W.contents output.new H.state host.new)
             (account_at F.contents faults.old) (account_at F.contents faults.new) result }
     {
-        let mut report = match report {
-            Ok(report) => report,
+        self.run_by(report, input, output, faults, host)
+    }
+
+    /// Answers the files by a clerk, where there was memory to make one, and returns the exit status: that of the worst verdict, or 2 where the
+    /// list cannot be read, the output takes no more bytes, or memory is wanting.
+    pub(crate) fn run_by<R: Read, W: Write, F: Write, H: Host, C: Clerk + Drop>(
+        &self,
+        clerk: Result<C, AllocError>,
+        input: &mut InputStream<'_, R>,
+        output: &mut OutputStream<'_, W>,
+        faults: &mut OutputStream<'_, F>,
+        host: &mut H,
+    ) -> u8
+        requires unread { IsUnread (reading_of input.old.reads input.old.came input.old.has_failed) }
+        requires unfailed { output.old.has_failed ≡ false }
+        requires delivered { output.old.is_delivered ≡ true }
+        ensures input { input.new.reader.ghost_name ≡ input.old.reader.ghost_name }
+        ensures output { output.new.writer.ghost_name ≡ output.old.writer.ghost_name }
+        ensures faults { faults.new.writer.ghost_name ≡ faults.old.writer.ghost_name }
+        ensures status { result ≤ 2 }
+        ensures delivered { result ≡ 0 → (output.new.is_delivered ≡ true) × (output.new.has_failed ≡ false) }
+        ensures silent { IfOk clerk (λ clerk. KeepsQuiet (C.conduct (C.manner clerk))) → result ≡ 0 → faults.new ≡ faults.old }
+        ensures ended { (manner : C.Manner) (heading : List ℕ) → IfOk clerk (λ clerk. (C.manner clerk ≡ manner) × (C.heading clerk ≡ heading))
+            → EndedSurvey (C.conduct manner) heading (files_in self.now.names)
+            (outside_at R.remaining input.old W.contents output.old H.state host.old)
+            (outside_at R.remaining input.new W.contents output.new H.state host.new)
+            (account_at F.contents faults.old) (account_at F.contents faults.new) result }
+    {
+        let mut clerk = match clerk {
+            Ok(clerk) => clerk,
             Err(_) => return ProgramFault::Memory.report_on(faults),
         };
-        match self.answer(&mut report, input, output, faults, host) {
+        match self.answer(&mut clerk, input, output, faults, host) {
             Ok(verdict) => verdict.exit_status(),
             Err(fault) => self.tell(fault, faults),
         }
     }
 
-    /// Answers the files by a report, and returns the worst verdict.
-    fn answer<R: Read, W: Write, F: Write, H: Host, P: Report>(
+    /// Answers the files by a clerk, and returns the worst verdict.
+    fn answer<R: Read, W: Write, F: Write, H: Host, C: Clerk>(
         &self,
-        report: &mut P,
+        clerk: &mut C,
         input: &mut InputStream<'_, R>,
         output: &mut OutputStream<'_, W>,
         faults: &mut OutputStream<'_, F>,
@@ -100,28 +128,28 @@ impl<'n> SurveyJob<'n> {
         ensures output { output.new.writer.ghost_name ≡ output.old.writer.ghost_name }
         ensures faults { faults.new.writer.ghost_name ≡ faults.old.writer.ghost_name }
         ensures delivered { OnOk result ((output.new.is_delivered ≡ true) × (output.new.has_failed ≡ false)) }
-        ensures silent { result ≡ Ok Verdict.Clean → faults.new ≡ faults.old }
-        ensures surveyed { (worst : Verdict) × (ended : Result (Unit {0}) RunFault) × Surveys (P.rule report.old) (P.heading report.old) (files_in self.now.names) (R.remaining input.old.reader.now) (R.remaining input.new.reader.now)
+        ensures silent { KeepsQuiet (C.conduct (C.manner clerk.old)) → result ≡ Ok Verdict.Clean → faults.new ≡ faults.old }
+        ensures surveyed { (worst : Verdict) × (ended : Result (Unit {0}) RunFault) × Surveys (C.conduct (C.manner clerk.old)) (C.heading clerk.old) (files_in self.now.names) (R.remaining input.old.reader.now) (R.remaining input.new.reader.now)
             (stand_at H.state host.old W.contents output.old F.contents faults.old Verdict.Clean)
             (stand_at H.state host.new W.contents output.new F.contents faults.new worst) ended × Says worst ended result }
     {
         let mut desk = Desk::new(self.alloc);
-        desk.begin(report, output)?;
+        desk.begin(clerk, output)?;
         match self.names {
             FileNames::Given(names) => {
-                desk.answer_files(names, host, report, output, faults)?;
+                desk.answer_files(names, host, clerk, output, faults)?;
                 Ok(desk.worst())
             }
             FileNames::Listed { list, separator } => {
                 let mut desk = ListDesk::new(desk, separator);
                 match list {
                     "-" => {
-                        desk.answer_stream(input, host, report, output, faults)?;
+                        desk.answer_stream(input, host, clerk, output, faults)?;
                         Ok(desk.worst())
                     }
                     list => {
                         let list = self.list_bytes(list, host)?;
-                        desk.answer_list(list.as_slice(), host, report, output, faults)?;
+                        desk.answer_list(list.as_slice(), host, clerk, output, faults)?;
                         Ok(desk.worst())
                     }
                 }

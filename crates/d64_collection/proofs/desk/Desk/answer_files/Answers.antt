@@ -7,7 +7,7 @@ pub loop-name-init : goal.loop-name-init
 loop-name-init g c = record {
   output = search rules;
   faults = search rules;
-  rule = search rules;
+  manner = search rules;
   delivered = search rules;
   unfailed = search rules;
   silent = search rules;
@@ -20,19 +20,19 @@ loop-name-preserved g c =
     record {
       output = search rules;
       faults = search rules;
-      rule = search rules;
+      manner = search rules;
       delivered = search rules;
       unfailed = search rules;
       silent = search rules;
       answered = Steps-next _ _ (λ name. File (string_bytes name)) c.args.names.now c.loop-name.name-index c.name-item.result _ _ _ _ c.loop-name-test.true c.name-item.is
-          i.answered i.rule (ap File c.as_str.ensures.value) c.in_ok-answer_file.ensures.answered;
+          i.answered (ap g.C.Clerk.conduct i.manner) (ap File c.as_str.ensures.value) c.in_ok-answer_file.ensures.answered;
     }
 
 pub returns-in_err-answer_file-clause-answered : goal.returns-in_err-answer_file-clause-answered
 returns-in_err-answer_file-clause-answered g c =
     let i = c.loop-name.invariant in
     Runs-stopped _ _ (λ name. File (string_bytes name)) c.args.names.now c.loop-name.name-index c.name-item.result _ c.in_err-answer_file.field-0.0 _ _ _ _ c.loop-name-test.true
-    c.name-item.is i.answered i.rule (ap File c.as_str.ensures.value) c.in_err-answer_file.ensures.answered (search rules)
+    c.name-item.is i.answered (ap g.C.Clerk.conduct i.manner) (ap File c.as_str.ensures.value) c.in_err-answer_file.ensures.answered (search rules)
 
 pub returns-clause-answered : goal.returns-clause-answered
 returns-clause-answered g c =

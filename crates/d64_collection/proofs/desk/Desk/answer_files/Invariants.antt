@@ -1,5 +1,6 @@
 use Rattle.std.proofs.Common.{◌≡◌, true, map, take, string_bytes}
 use Rattle.d64_collection.specs.Names.{File}
+use Rattle.d64_collection.specs.Answers.{KeepsQuiet}
 use Rattle.d64_collection.specs.declared.report.Verdict.TheVariants.{Clean}
 use Rattle.d64_collection.specs.Runs.{Steps, stand_at}
 use Rattle.d64_collection.proofs.desk.Desk.answer_files.Given as goal
@@ -9,11 +10,11 @@ abbrev pub invariant-loop-name : goal.invariant-loop-name
 invariant-loop-name g l = record {
   output : l.output.writer.ghost_name ≡ l.initial.output.writer.ghost_name;
   faults : l.faults.writer.ghost_name ≡ l.initial.faults.writer.ghost_name;
-  rule : g.P.Report.rule l.report ≡ g.P.Report.rule l.initial.report;
+  manner : g.C.Clerk.manner l.clerk ≡ g.C.Clerk.manner l.initial.clerk;
   delivered : l.initial.output.is_delivered ≡ true → l.output.is_delivered ≡ true;
   unfailed : l.output.has_failed ≡ l.initial.output.has_failed;
-  silent : l.self.worst ≡ Clean → (l.initial.self.worst ≡ Clean) × (l.faults ≡ l.initial.faults);
-  answered : Steps (g.P.Report.rule l.initial.report) (map (λ name. File (string_bytes name)) (take l.name-index l.names))
+  silent : KeepsQuiet (g.C.Clerk.conduct (g.C.Clerk.manner l.initial.clerk)) → l.self.worst ≡ Clean → (l.initial.self.worst ≡ Clean) × (l.faults ≡ l.initial.faults);
+  answered : Steps (g.C.Clerk.conduct (g.C.Clerk.manner l.initial.clerk)) (map (λ name. File (string_bytes name)) (take l.name-index l.names))
       (stand_at g.H.Host.state l.initial.host g.W.Write.contents l.initial.output g.F.Write.contents l.initial.faults l.initial.self.worst)
       (stand_at g.H.Host.state l.host g.W.Write.contents l.output g.F.Write.contents l.faults l.self.worst);
 }

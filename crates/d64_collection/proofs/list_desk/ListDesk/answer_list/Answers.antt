@@ -1,4 +1,4 @@
-use Rattle.std.proofs.Common.{rules, []}
+use Rattle.std.proofs.Common.{ap, rules, []}
 use Rattle.d64_collection.proofs.ListSteps.{HasCome-none, Runs-came, Runs-stopped_in}
 use Rattle.d64_collection.proofs.list_desk.ListDesk.answer_list.Goals as goal
 
@@ -10,4 +10,4 @@ returns-in_err-take-clause-answered g c = λ fresh.
 pub returns-clause-answered : goal.returns-clause-answered
 returns-clause-answered g c = λ fresh.
     Runs-came _ _ _ _ _ _ c.take.new.self.name c.args.list.now c.end.result (c.in_ok-take.ensures.came _ [] (HasCome-none _ _ _ c.args.self.now.name fresh))
-    c.take.ensures.rule c.end.ensures.answered
+    (ap g.C.Clerk.conduct c.take.ensures.manner) c.end.ensures.answered

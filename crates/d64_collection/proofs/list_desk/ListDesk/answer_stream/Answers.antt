@@ -1,4 +1,4 @@
-use Rattle.std.proofs.Common.{rules, [], ◌++◌, take, arith}
+use Rattle.std.proofs.Common.{ap, rules, [], ◌++◌, take, arith}
 use Rattle.std.proofs.KnownBytes.{Consumes-kept, Consumes-nil, Consumes-trans}
 use Rattle.std.proofs.lemmas.List.{length-append, length-take-le}
 use Rattle.d64_collection.proofs.ListSteps.{HasCome-none, Runs-came}
@@ -13,7 +13,7 @@ loop-init g c = record {
   came = λ fresh. HasCome-none _ _ _ c.args.self.now.name fresh;
   silent = search rules;
   separator = search rules;
-  rule = search rules;
+  manner = search rules;
   same_input = search rules;
   same_output = search rules;
   same_faults = search rules;
@@ -31,7 +31,7 @@ returns-in-Ok-eq0-clause-answered g c = λ fresh.
     RunsStream-ended _ _ (g.R.Read.remaining c.args.input.now.reader.now) (g.R.Read.remaining c.read_after.new.self.reader.now) _ _ i.bytes c.end.result
     (Consumes-none _ _ _ i.bytes c.read_after.new.buffer c.in-Ok-eq0.field-0 i.lost read.0 c.in-Ok-eq0.field-0-test)
     (read.1 c.in-Ok-eq0.field-0-test (search rules))
-    (Runs-came _ _ _ _ _ _ c.loop.self.name i.bytes c.end.result (i.came fresh) i.rule c.end.ensures.answered)
+    (Runs-came _ _ _ _ _ _ c.loop.self.name i.bytes c.end.result (i.came fresh) (ap g.C.Clerk.conduct i.manner) c.end.ensures.answered)
 
 pub returns-in-Err-clause-answered : goal.returns-in-Err-clause-answered
 returns-in-Err-clause-answered g c = λ fresh.
@@ -51,8 +51,8 @@ returns-in_err-take-clause-answered g c = λ fresh.
     let piece = take c.in-Ok.count c.read_after.new.buffer in
     RunsStream-stopped _ _ (g.R.Read.remaining c.args.input.now.reader.now) (g.R.Read.remaining c.read_after.new.self.reader.now) c.in_err-take.field-0.0 _ _ (i.bytes ++ piece) c.from_residual.result
     (Consumes-trans _ _ _ i.bytes piece i.lost c.in-Ok.ensures.bytes.0)
-    (Stops-same _ _ _ _ c.in_err-take.field-0.0 _ _ (i.bytes ++ piece) i.rule i.separator
-    (c.in_err-take.ensures.stopped _ i.bytes (HasCome-same _ _ _ _ _ _ c.loop.self.name i.bytes i.rule i.separator (i.came fresh))))
+    (Stops-same _ _ _ _ c.in_err-take.field-0.0 _ _ (i.bytes ++ piece) (ap g.C.Clerk.conduct i.manner) i.separator
+    (c.in_err-take.ensures.stopped _ i.bytes (HasCome-same _ _ _ _ _ _ c.loop.self.name i.bytes (ap g.C.Clerk.conduct i.manner) i.separator (i.came fresh))))
     (search rules)
 
 pub loop-preserved : goal.loop-preserved
@@ -65,11 +65,11 @@ loop-preserved g c =
       bytes = i.bytes ++ piece;
       lost = Consumes-trans _ _ _ i.bytes piece i.lost c.in-Ok.ensures.bytes.0;
       within = omega (arith, i.within, counts, count, c.if-count-left.false);
-      came = λ fresh. HasCome-piece _ _ _ _ _ _ c.take.new.self.name (i.bytes ++ piece) i.rule i.separator
-          (c.in_ok-take.ensures.came _ i.bytes (HasCome-same _ _ _ _ _ _ c.loop.self.name i.bytes i.rule i.separator (i.came fresh)));
+      came = λ fresh. HasCome-piece _ _ _ _ _ _ c.take.new.self.name (i.bytes ++ piece) (ap g.C.Clerk.conduct i.manner) i.separator
+          (c.in_ok-take.ensures.came _ i.bytes (HasCome-same _ _ _ _ _ _ c.loop.self.name i.bytes (ap g.C.Clerk.conduct i.manner) i.separator (i.came fresh)));
       silent = search rules;
       separator = search rules;
-      rule = search rules;
+      manner = search rules;
       same_input = search rules;
       same_output = search rules;
       same_faults = search rules;

@@ -1,6 +1,7 @@
 use Rattle.std.proofs.Common.{◌≡◌, ℕ, ◌+◌, true, false, List, [], length}
 use Rattle.std.specs.Io.KnownBytes.{Consumes}
 use Rattle.d64_collection.specs.Lists.{HasCome, list_limit}
+use Rattle.d64_collection.specs.Answers.{KeepsQuiet}
 use Rattle.d64_collection.specs.declared.report.Verdict.TheVariants.{Clean}
 use Rattle.d64_collection.specs.Runs.{stand_at}
 use Rattle.d64_collection.proofs.list_desk.ListDesk.answer_stream.Given as goal
@@ -11,13 +12,13 @@ invariant-loop g l = record {
   bytes : List ℕ;
   lost : Consumes (g.R.Read.remaining l.initial.input.reader.now) (g.R.Read.remaining l.input.reader.now) bytes;
   within : length bytes + l.left ≡ list_limit;
-  came : l.initial.self.name ≡ [] → HasCome (g.P.Report.rule l.initial.report) l.initial.self.separator
+  came : l.initial.self.name ≡ [] → HasCome (g.C.Clerk.conduct (g.C.Clerk.manner l.initial.clerk)) l.initial.self.separator
       (stand_at g.H.Host.state l.initial.host g.W.Write.contents l.initial.output g.F.Write.contents l.initial.faults l.initial.self.desk.worst)
       (stand_at g.H.Host.state l.host g.W.Write.contents l.output g.F.Write.contents l.faults l.self.desk.worst)
       l.self.name bytes;
-  silent : l.self.desk.worst ≡ Clean → (l.initial.self.desk.worst ≡ Clean) × (l.faults ≡ l.initial.faults);
+  silent : KeepsQuiet (g.C.Clerk.conduct (g.C.Clerk.manner l.initial.clerk)) → l.self.desk.worst ≡ Clean → (l.initial.self.desk.worst ≡ Clean) × (l.faults ≡ l.initial.faults);
   separator : l.self.separator ≡ l.initial.self.separator;
-  rule : g.P.Report.rule l.report ≡ g.P.Report.rule l.initial.report;
+  manner : g.C.Clerk.manner l.clerk ≡ g.C.Clerk.manner l.initial.clerk;
   same_input : l.input.reader.ghost_name ≡ l.initial.input.reader.ghost_name;
   same_output : l.output.writer.ghost_name ≡ l.initial.output.writer.ghost_name;
   same_faults : l.faults.writer.ghost_name ≡ l.initial.faults.writer.ghost_name;

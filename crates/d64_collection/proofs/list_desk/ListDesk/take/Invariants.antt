@@ -1,5 +1,6 @@
 use Rattle.std.proofs.Common.{◌≡◌, true, ℕ, List, ◌++◌, take}
 use Rattle.d64_collection.specs.Lists.{HasCome}
+use Rattle.d64_collection.specs.Answers.{KeepsQuiet}
 use Rattle.d64_collection.specs.declared.report.Verdict.TheVariants.{Clean}
 use Rattle.d64_collection.specs.Runs.{Stand, stand_at}
 use Rattle.d64_collection.proofs.list_desk.ListDesk.take.Given as goal
@@ -10,15 +11,15 @@ invariant-loop-byte g l = record {
   separator : l.self.separator ≡ l.initial.self.separator;
   output : l.output.writer.ghost_name ≡ l.initial.output.writer.ghost_name;
   faults : l.faults.writer.ghost_name ≡ l.initial.faults.writer.ghost_name;
-  rule : g.P.Report.rule l.report ≡ g.P.Report.rule l.initial.report;
+  manner : g.C.Clerk.manner l.clerk ≡ g.C.Clerk.manner l.initial.clerk;
   delivered : l.initial.output.is_delivered ≡ true → l.output.is_delivered ≡ true;
   unfailed : l.output.has_failed ≡ l.initial.output.has_failed;
-  silent : l.self.desk.worst ≡ Clean → (l.initial.self.desk.worst ≡ Clean) × (l.faults ≡ l.initial.faults);
+  silent : KeepsQuiet (g.C.Clerk.conduct (g.C.Clerk.manner l.initial.clerk)) → l.self.desk.worst ≡ Clean → (l.initial.self.desk.worst ≡ Clean) × (l.faults ≡ l.initial.faults);
   came : (first : Stand) (before : List ℕ)
-      → HasCome (g.P.Report.rule l.initial.report) l.initial.self.separator first
+      → HasCome (g.C.Clerk.conduct (g.C.Clerk.manner l.initial.clerk)) l.initial.self.separator first
       (stand_at g.H.Host.state l.initial.host g.W.Write.contents l.initial.output g.F.Write.contents l.initial.faults l.initial.self.desk.worst)
       l.initial.self.name before
-      → HasCome (g.P.Report.rule l.initial.report) l.initial.self.separator first
+      → HasCome (g.C.Clerk.conduct (g.C.Clerk.manner l.initial.clerk)) l.initial.self.separator first
       (stand_at g.H.Host.state l.host g.W.Write.contents l.output g.F.Write.contents l.faults l.self.desk.worst)
       l.self.name (before ++ take l.byte-index l.bytes);
 }

@@ -7,7 +7,7 @@ pub returns-in_err-answer_files-in-Given-clause-surveyed : goal.returns-in_err-a
 returns-in_err-answer_files-in-Given-clause-surveyed g c = (
   c.answer_files.new.self.worst,
   Err c.in_err-answer_files-in-Given.field-0.0,
-  surveyed _ _ _ _ _ _ _ _ _ _ c.begin.new.self.worst _ c.in_ok-begin.field-0 _ c.in_ok-begin.ensures.begun (c.begin.ensures.worst ∙ c.new-desk.ensures) c.begin.ensures.rule
+  surveyed _ _ _ _ _ _ _ _ _ _ c.begin.new.self.worst _ c.in_ok-begin.field-0 _ c.in_ok-begin.ensures.begun (c.begin.ensures.worst ∙ c.new-desk.ensures) (ap g.C.Clerk.conduct c.begin.ensures.manner)
       (over_given _ c.args.self.now.names c.in-Given.names _ _ _ _ c.in-Given.is c.in_err-answer_files-in-Given.ensures.answered),
   search rules,
 )
@@ -16,7 +16,7 @@ pub returns-in-Given-clause-surveyed : goal.returns-in-Given-clause-surveyed
 returns-in-Given-clause-surveyed g c = (
   c.answer_files.new.self.worst,
   Ok c.in_ok-answer_files-in-Given.field-0,
-  surveyed _ _ _ _ _ _ _ _ _ _ c.begin.new.self.worst _ c.in_ok-begin.field-0 _ c.in_ok-begin.ensures.begun (c.begin.ensures.worst ∙ c.new-desk.ensures) c.begin.ensures.rule
+  surveyed _ _ _ _ _ _ _ _ _ _ c.begin.new.self.worst _ c.in_ok-begin.field-0 _ c.in_ok-begin.ensures.begun (c.begin.ensures.worst ∙ c.new-desk.ensures) (ap g.C.Clerk.conduct c.begin.ensures.manner)
       (over_given _ c.args.self.now.names c.in-Given.names _ _ _ _ c.in-Given.is c.in_ok-answer_files-in-Given.ensures.answered),
   ap Ok c.worst.ensures,
 )
@@ -27,7 +27,7 @@ returns-in_err-answer_stream-in-text-clause-surveyed g c =
       c.answer_stream.new.self.desk.worst,
       Err c.in_err-answer_stream-in-text.field-0.0,
       surveyed _ _ _ _ _ _ _ _ _ _ c.new-desk-in-Listed.result.desk.worst _ c.in_ok-begin.field-0 _ c.in_ok-begin.ensures.begun
-          (c.new-desk-in-Listed.ensures.worst ∙ c.begin.ensures.worst ∙ c.new-desk.ensures) c.begin.ensures.rule
+          (c.new-desk-in-Listed.ensures.worst ∙ c.begin.ensures.worst ∙ c.new-desk.ensures) (ap g.C.Clerk.conduct c.begin.ensures.manner)
           (over_input _ c.args.self.now.names c.in-Listed.list c.in-Listed.separator c.new-desk-in-Listed.result.separator _ _ _ _ _ c.in-Listed.is input
           c.new-desk-in-Listed.ensures.separator (c.in_err-answer_stream-in-text.ensures.answered c.new-desk-in-Listed.ensures.fresh)),
       search rules,
@@ -39,7 +39,7 @@ returns-in-text-clause-surveyed g c =
       c.answer_stream.new.self.desk.worst,
       Ok c.in_ok-answer_stream-in-text.field-0,
       surveyed _ _ _ _ _ _ _ _ _ _ c.new-desk-in-Listed.result.desk.worst _ c.in_ok-begin.field-0 _ c.in_ok-begin.ensures.begun
-          (c.new-desk-in-Listed.ensures.worst ∙ c.begin.ensures.worst ∙ c.new-desk.ensures) c.begin.ensures.rule
+          (c.new-desk-in-Listed.ensures.worst ∙ c.begin.ensures.worst ∙ c.new-desk.ensures) (ap g.C.Clerk.conduct c.begin.ensures.manner)
           (over_input _ c.args.self.now.names c.in-Listed.list c.in-Listed.separator c.new-desk-in-Listed.result.separator _ _ _ _ _ c.in-Listed.is input
           c.new-desk-in-Listed.ensures.separator (c.in_ok-answer_stream-in-text.ensures.answered c.new-desk-in-Listed.ensures.fresh)),
       ap Ok c.worst-in-text.ensures,
@@ -52,7 +52,7 @@ returns-in_err-list-in_default-clause-surveyed g c =
       c.new-desk-in-Listed.result.desk.worst,
       Err c.in_err-list-in_default.field-0.0,
       surveyed _ _ _ _ _ _ _ _ _ _ c.new-desk-in-Listed.result.desk.worst _ c.in_ok-begin.field-0 _ c.in_ok-begin.ensures.begun
-          (c.new-desk-in-Listed.ensures.worst ∙ c.begin.ensures.worst ∙ c.new-desk.ensures) c.begin.ensures.rule
+          (c.new-desk-in-Listed.ensures.worst ∙ c.begin.ensures.worst ∙ c.new-desk.ensures) (ap g.C.Clerk.conduct c.begin.ensures.manner)
           (over_file _ c.args.self.now.names c.in-Listed.list c.in-Listed.separator c.new-desk-in-Listed.result.separator _ _ _ _ c.in-Listed.is file
           c.new-desk-in-Listed.ensures.separator (file_unfetched _ c.new-desk-in-Listed.result.separator c.in-Listed.list.now _ _ refused.0 _ refused.2 refused.1)),
       search rules,
@@ -64,7 +64,7 @@ returns-in_err-answer_list-in_default-clause-surveyed g c =
       c.answer_list.new.self.desk.worst,
       Err c.in_err-answer_list-in_default.field-0.0,
       surveyed _ _ _ _ _ _ _ _ _ _ c.new-desk-in-Listed.result.desk.worst _ c.in_ok-begin.field-0 _ c.in_ok-begin.ensures.begun
-          (c.new-desk-in-Listed.ensures.worst ∙ c.begin.ensures.worst ∙ c.new-desk.ensures) c.begin.ensures.rule
+          (c.new-desk-in-Listed.ensures.worst ∙ c.begin.ensures.worst ∙ c.new-desk.ensures) (ap g.C.Clerk.conduct c.begin.ensures.manner)
           (over_file _ c.args.self.now.names c.in-Listed.list c.in-Listed.separator c.new-desk-in-Listed.result.separator _ _ _ _ c.in-Listed.is file
           c.new-desk-in-Listed.ensures.separator (file_fetched _ c.new-desk-in-Listed.result.separator c.in-Listed.list.now _ _ c.in_ok-list-in_default.list.items c.as_slice.result.now _ _
           c.as_slice.ensures.value c.in_ok-list-in_default.ensures.fetched (c.in_err-answer_list-in_default.ensures.answered c.new-desk-in-Listed.ensures.fresh))),
@@ -77,7 +77,7 @@ returns-clause-surveyed g c =
       c.answer_list.new.self.desk.worst,
       Ok c.in_ok-answer_list-in_default.field-0,
       surveyed _ _ _ _ _ _ _ _ _ _ c.new-desk-in-Listed.result.desk.worst _ c.in_ok-begin.field-0 _ c.in_ok-begin.ensures.begun
-          (c.new-desk-in-Listed.ensures.worst ∙ c.begin.ensures.worst ∙ c.new-desk.ensures) c.begin.ensures.rule
+          (c.new-desk-in-Listed.ensures.worst ∙ c.begin.ensures.worst ∙ c.new-desk.ensures) (ap g.C.Clerk.conduct c.begin.ensures.manner)
           (over_file _ c.args.self.now.names c.in-Listed.list c.in-Listed.separator c.new-desk-in-Listed.result.separator _ _ _ _ c.in-Listed.is file
           c.new-desk-in-Listed.ensures.separator (file_fetched _ c.new-desk-in-Listed.result.separator c.in-Listed.list.now _ _ c.in_ok-list-in_default.list.items c.as_slice.result.now _ _
           c.as_slice.ensures.value c.in_ok-list-in_default.ensures.fetched (c.in_ok-answer_list-in_default.ensures.answered c.new-desk-in-Listed.ensures.fresh))),
