@@ -1,0 +1,3 @@
+pub mod Portions
+pub mod Limits
+pub mod ExtractLaws

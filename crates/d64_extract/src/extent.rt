@@ -1,0 +1,11 @@
+//! How much is written of a file.
+ghost use Rattle.std.specs.Prelude.{◌≡◌};
+
+/// How much is written of a file.
+#[derive(Clone, Copy, Debug, PartialEq, Eq)]
+pub enum Extent {
+    /// Its content.
+    Content,
+    /// What is there of a file that has no content: it wasn't closed, its chain of blocks is broken, or it is a DEL entry.
+    Part,
+}

@@ -1,0 +1,12 @@
+pub mod SameNames
+pub mod Numbers
+pub mod Search
+pub mod Records
+pub mod Digests
+pub mod Tails
+pub mod NextNames
+pub mod Parts
+pub mod SafeNames
+pub mod ManyNames
+pub mod Folders
+pub mod Reserved

@@ -1,0 +1,11 @@
+-- A number that all names have that are the same.
+use Rattle.std.specs.Prelude.{ℕ, ◌+◌, ◌*◌, ◌%◌, ◌^◌, List, fold}
+use Rattle.std.specs.Str.{str_to_ascii_lowercase}
+
+-- the number of a name and one byte more
+abbrev pub digested : ℕ → ℕ → ℕ
+digested digest byte = (digest * 31 % 2 ^ 32 + byte) % 2 ^ 32
+
+-- the number of a name
+unfoldable pub digest_of : List ℕ → ℕ
+digest_of name = fold digested 0 (str_to_ascii_lowercase name)

@@ -1,0 +1,6 @@
+pub mod HostName
+pub mod TakenNames
+pub mod ImagePlace
+pub mod Laws
+pub mod Digest
+pub mod Records

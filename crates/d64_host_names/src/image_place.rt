@@ -1,0 +1,99 @@
+//! Where the files of an image go.
+ghost use Rattle.std.specs.Prelude.{◌≡◌, ◌++◌, map, string_bytes, IfOk, OnOk};
+ghost use Rattle.d64_host_names.specs.ImagePlace.{is_folder, folders_of, last_part, finished, unfinished};
+
+use std::alloc::{AllocError, Global};
+
+/// Where the files of an image go, by the path of the image.
+#[derive(Drop)]
+pub struct ImagePlace<'a> {
+    /// The folders of the path, without empty parts, `.` and `..`: each lies in the one before it.
+    pub folders: Vec<&'a str>,
+    /// The last part of the path.
+    pub last: &'a str,
+}
+
+impl<'a> ImagePlace<'a> {
+    /// Where the files of the image with this path go.
+    pub fn of(alloc: Global, path: &'a str) -> Result<ImagePlace<'a>, AllocError>
+        ensures folders { IfOk result (λ place. map (λ folder. folder.now) place.folders.items ≡ folders_of path.now) }
+        ensures last { IfOk result (λ place. place.last.now ≡ last_part path.now) }
+    {
+        let mut folders = Vec::new(alloc);
+        let mut left = path;
+        while let Some((part, rest)) = left.split_once('/') {
+            if is_folder(part) {
+                folders.push(part)?;
+            }
+            left = rest;
+        }
+        Ok(ImagePlace {
+            folders,
+            last: left,
+        })
+    }
+
+    /// Adds the name of the folder for the image.
+    #[tactic(auto, unfolding(crate::specs::ImagePlace::finished))]
+    pub fn push_name(&self, out: &mut String) -> Result<(), AllocError>
+        ensures { OnOk result (string_bytes out.new ≡ string_bytes out.old ++ finished self.now.last.now) }
+    {
+        out.push_str(self.last)?;
+        out.push_str(".files")
+    }
+
+    /// Adds the name that this folder has until all is in it.
+    #[tactic(auto, unfolding(crate::specs::ImagePlace::unfinished))]
+    pub fn push_partial_name(&self, out: &mut String) -> Result<(), AllocError>
+        ensures { OnOk result (string_bytes out.new ≡ string_bytes out.old ++ unfinished self.now.last.now) }
+    {
+        self.push_name(out)?;
+        out.push_str(".partial")
+    }
+}
+
+/// Whether a part of a path names a folder below.
+fn is_folder(part: &str) -> bool
+    ensures { result ≡ is_folder part.now }
+{
+    !matches!(part, "" | "." | "..")
+}
+
+#[cfg(test)]
+mod tests {
+    use super::*;
+    use std::test::Fail;
+
+    #[test]
+    fn places_are_below(rt: HostRuntime) -> Result<(), Fail> {
+        for (path, folders, wanted) in [
+            ("c.d64", "", "c.d64.files"),
+            ("a/side1.d64", "a ", "side1.d64.files"),
+            ("/a//b/./../c/../side1.d64", "a b c ", "side1.d64.files"),
+            ("../../x.d64", "", "x.d64.files"),
+            ("...//..a/x", "... ..a ", "x.files"),
+            ("a/..", "a ", "...files"),
+            ("a/", "a ", ".files"),
+            ("", "", ".files"),
+        ] {
+            let place = ImagePlace::of(rt.alloc(), path)?;
+            let mut found = String::new(rt.alloc());
+            for folder in place.folders.iter() {
+                found.push_str(folder)?;
+                found.push(' ')?;
+            }
+            assert_eq!(rt; found.as_str(), folders, "at {path}");
+            let mut name = String::new(rt.alloc());
+            place.push_name(&mut name)?;
+            assert_eq!(rt; name.as_str(), wanted, "at {path}");
+            let mut partial = String::new(rt.alloc());
+            place.push_partial_name(&mut partial)?;
+            assert_eq!(rt;
+                partial.as_str().strip_suffix(".partial"),
+                Some(wanted),
+                "at {path}"
+            );
+        }
+        Ok(())
+    }
+}
