@@ -70,15 +70,22 @@ file_fields row = name_fields row ++ (type_fields row ++ (entry_fields row ++ (w
 abbrev pub row_with : List (List ℕ) → List ℕ → List ℕ
 row_with fields error = row_text default_writer (fields ++ error ∷ [])
 
+-- what is told of a used slot of an image with this host name
+abbrev pub row_fields : Bytes → RowView → List (List ℕ)
+row_fields name row = name ∷ decimal row.slot ∷ file_fields row
+
 -- the row of a used slot of an image with this host name; it has no error
 unfoldable pub file_row : Bytes → RowView → List ℕ
-file_row name row = row_with (name ∷ decimal row.slot ∷ file_fields row) []
+file_row name row = row_with (row_fields name row) []
 
 -- the header row
 unfoldable pub header_row : List ℕ
 header_row = row_with columns (codes "error")
 
+-- a name, and nothing in each other column
+abbrev pub name_alone : Bytes → List (List ℕ)
+name_alone name = name ∷ [] ∷ [] ∷ [] ∷ [] ∷ [] ∷ [] ∷ [] ∷ [] ∷ [] ∷ [] ∷ [] ∷ [] ∷ [] ∷ [] ∷ [] ∷ [] ∷ [] ∷ [] ∷ []
+
 -- a row with a name and an error alone
 unfoldable pub unanswered_row : Bytes → List ℕ → List ℕ
-unanswered_row name error =
-    row_with (name ∷ [] ∷ [] ∷ [] ∷ [] ∷ [] ∷ [] ∷ [] ∷ [] ∷ [] ∷ [] ∷ [] ∷ [] ∷ [] ∷ [] ∷ [] ∷ [] ∷ [] ∷ [] ∷ []) error
+unanswered_row name error = row_with (name_alone name) error

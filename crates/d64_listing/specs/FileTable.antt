@@ -66,10 +66,13 @@ kind_text kind = option_map_or kind_letters kind (codes "???")
 unfoldable pub state_text : RowView → List ℕ
 state_text row = kind_text row.kind ++ (codes "   " ++ (state_by row.whole row ++ locked_text row.locked))
 
--- the line of a used slot: the size, the name, the kind, and whether it is whole
+-- what is told of a used slot on a line: the size, the name, the kind, and whether it is whole
+unfoldable pub file_text : RowView → List ℕ
+file_text row = right_in 5 (decimal row.size) ++ (codes " " ++ (left_in 18 (quoted (name_in row.field)) ++ (codes " " ++ state_text row)))
+
+-- the line of a used slot
 unfoldable pub file_line : RowView → List ℕ
-file_line row =
-    right_in 5 (decimal row.size) ++ (codes " " ++ (left_in 18 (quoted (name_in row.field)) ++ (codes " " ++ (state_text row ++ codes "\n"))))
+file_line row = file_text row ++ codes "\n"
 
 -- what a line ends in that tells why files may be missing
 abbrev pub may_be_missing : List ℕ → List ℕ

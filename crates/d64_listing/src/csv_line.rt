@@ -3,7 +3,7 @@ ghost use Rattle.std.specs.Prelude.{◌≡◌, [], ◌∷◌, ◌++◌, codes, d
 ghost use Rattle.std.specs.Option.{option_map_or};
 ghost use Rattle.csv.specs.Records.{fields_of, partial_of};
 ghost use Rattle.d64_wording.specs.FileText.{kind_letters};
-ghost use Rattle.d64_listing.specs.FileRow.{decimal_or_empty, truth_or_empty, name_fields, type_fields, entry_fields, way_fields, content_fields, state_fields, file_fields, file_row, header_row, unanswered_row};
+ghost use Rattle.d64_listing.specs.FileRow.{name_alone, row_fields, columns, decimal_or_empty, truth_or_empty, name_fields, type_fields, entry_fields, way_fields, content_fields, state_fields, file_fields, file_row, header_row, unanswered_row};
 
 use crate::spaced::{spell_flaws, spell_numbers};
 use csv::ByteRecord;
@@ -188,7 +188,22 @@ pub fn push_file_fields(
     push_state(scratch, line, row)
 }
 
-/// Adds the row of a file to a text: the name of its image and all that is told of it.
+/// Begins the row of a file: the name of its image and all that is told of it.
+pub(crate) fn begin_file_row(
+    scratch: &mut Scratch,
+    name: &[u8],
+    row: &FileRow,
+) -> Result<(), AllocError>
+    ensures fields { OnOk result (fields_of scratch.new.row ≡ row_fields name.now row.now) }
+    ensures whole { OnOk result (partial_of scratch.new.row ≡ []) }
+{
+    scratch.row.clear();
+    push_field(&mut scratch.row, name)?;
+    push_number(&mut scratch.row, row.slot as u64)?;
+    push_file_fields(&mut scratch.text, &mut scratch.row, row)
+}
+
+/// Adds the row of a file to a text.
 pub fn file_csv(
     scratch: &mut Scratch,
     name: &[u8],
@@ -197,11 +212,17 @@ pub fn file_csv(
 ) -> Result<Vec<u8>, AllocError>
     ensures { IfOk result (λ text. text.items ≡ out.items ++ file_row name.now row.now) }
 {
-    scratch.row.clear();
-    push_field(&mut scratch.row, name)?;
-    push_number(&mut scratch.row, row.slot as u64)?;
-    push_file_fields(&mut scratch.text, &mut scratch.row, row)?;
+    begin_file_row(scratch, name, row)?;
     end_row(&mut scratch.row, b"", out)
+}
+
+/// Begins the header row: the columns but for the error.
+pub(crate) fn begin_header(scratch: &mut Scratch) -> Result<(), AllocError>
+    ensures fields { OnOk result (fields_of scratch.new.row ≡ columns) }
+    ensures whole { OnOk result (partial_of scratch.new.row ≡ []) }
+{
+    scratch.row.clear();
+    push_fields(&mut scratch.row, &COLUMNS)
 }
 
 /// Adds the header row to a text.
@@ -209,9 +230,18 @@ pub fn file_csv(
 pub fn files_header(scratch: &mut Scratch, out: Vec<u8>) -> Result<Vec<u8>, AllocError>
     ensures { IfOk result (λ text. text.items ≡ out.items ++ header_row) }
 {
-    scratch.row.clear();
-    push_fields(&mut scratch.row, &COLUMNS)?;
+    begin_header(scratch)?;
     end_row(&mut scratch.row, b"error", out)
+}
+
+/// Begins a row with a name alone.
+pub(crate) fn begin_name_alone(scratch: &mut Scratch, name: &[u8]) -> Result<(), AllocError>
+    ensures fields { OnOk result (fields_of scratch.new.row ≡ name_alone name.now) }
+    ensures whole { OnOk result (partial_of scratch.new.row ≡ []) }
+{
+    scratch.row.clear();
+    push_field(&mut scratch.row, name)?;
+    push_fields(&mut scratch.row, &EMPTY)
 }
 
 /// Adds a row with a name and an error alone.
@@ -224,9 +254,7 @@ fn push_unanswered(
 ) -> Result<Vec<u8>, AllocError>
     ensures { IfOk result (λ text. text.items ≡ out.items ++ unanswered_row name.now error.now) }
 {
-    scratch.row.clear();
-    push_field(&mut scratch.row, name)?;
-    push_fields(&mut scratch.row, &EMPTY)?;
+    begin_name_alone(scratch, name)?;
     end_row(&mut scratch.row, error, out)
 }
 

@@ -2,6 +2,8 @@
 #![tactic(auto)]
 
 mod csv_line;
+mod extract_printing;
+mod extracted;
 mod file_member;
 mod files_report;
 mod flaw_word;
@@ -14,8 +16,10 @@ mod table;
 pub use csv_line::{
     file_csv, files_header, push_file_fields, unread_file_csv, wrong_length_file_csv,
 };
+pub use extract_printing::{print_error, print_extract_heading, print_file, print_length};
 pub use file_member::put_file_members;
 pub use files_report::FilesReport;
 pub use json_line::{file_json, put_place};
 pub use missing::push_missing_lines;
+pub use printing::{print_after, print_before};
 pub use table::{push_file_line, push_head_line};

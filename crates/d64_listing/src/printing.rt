@@ -67,7 +67,7 @@ fn print_rows(
 }
 
 /// Appends what is printed of an image before its files.
-fn print_before(
+pub fn print_before(
     form: Format,
     name: &[u8],
     image: &Image,
@@ -82,7 +82,7 @@ fn print_before(
 }
 
 /// Appends what is printed of an image after its files.
-fn print_after(form: Format, all: &Inspection, out: &mut Vec<u8>) -> Result<(), AllocError>
+pub fn print_after(form: Format, all: &Inspection, out: &mut Vec<u8>) -> Result<(), AllocError>
     ensures { OnOk result (out.new.items ≡ out.old.items ++ after_rows form all.now) }
 {
     match form {

@@ -1,7 +1,7 @@
 //! The files of an image as a table for people.
 ghost use Rattle.std.specs.Prelude.{◌≡◌, ◌≤◌, ◌++◌, decimal, OnOk};
 ghost use Rattle.d64_wording.specs.Names.{quoted};
-ghost use Rattle.d64_listing.specs.FileTable.{spaces, right_in, left_in, head_line, blocks_there, reasons, unknown_text, state_by, locked_text, kind_text, state_text, file_line};
+ghost use Rattle.d64_listing.specs.FileTable.{spaces, right_in, left_in, head_line, blocks_there, reasons, unknown_text, state_by, locked_text, kind_text, state_text, file_text, file_line};
 
 use d64_files::{Kind, name_in};
 use d64_image::Image;
@@ -144,8 +144,24 @@ fn push_name(scratch: &mut Vec<u8>, out: &mut Vec<u8>, name: &[u8]) -> Result<()
     push_left(out, NAME_COLUMNS, scratch.as_slice())
 }
 
-/// Adds the line of a file: the size that the directory shows, the name, the kind, whether it is whole or what is amiss, and
-/// whether it is locked.
+/// Adds what is told of a file on a line: the size that the directory shows, the name, the kind, whether it is whole or what is
+/// amiss, and whether it is locked.
+#[tactic(auto, unfolding(crate::specs::FileTable::file_text))]
+pub(crate) fn push_file_text(
+    scratch: &mut Vec<u8>,
+    out: &mut Vec<u8>,
+    row: &FileRow,
+) -> Result<(), AllocError>
+    ensures { OnOk result (out.new.items ≡ out.old.items ++ file_text row.now) }
+{
+    push_size(out, row.size)?;
+    out.extend_from_slice(b" ")?;
+    push_name(scratch, out, name_in(&row.field))?;
+    out.extend_from_slice(b" ")?;
+    push_state(out, row)
+}
+
+/// Adds the line of a file.
 #[tactic(auto, unfolding(crate::specs::FileTable::file_line))]
 pub fn push_file_line(
     scratch: &mut Vec<u8>,
@@ -154,10 +170,6 @@ pub fn push_file_line(
 ) -> Result<(), AllocError>
     ensures { OnOk result (out.new.items ≡ out.old.items ++ file_line row.now) }
 {
-    push_size(out, row.size)?;
-    out.extend_from_slice(b" ")?;
-    push_name(scratch, out, name_in(&row.field))?;
-    out.extend_from_slice(b" ")?;
-    push_state(out, row)?;
+    push_file_text(scratch, out, row)?;
     out.extend_from_slice(b"\n")
 }

@@ -23,4 +23,7 @@ pub use member::{put_boolean, put_hexadecimal, put_null, put_number, put_pair, p
 pub use name::put_name;
 pub use row::{csv_header, end_row, unread_csv, wrong_length_csv};
 pub use scratch::Scratch;
-pub use unanswered::{UNREAD, WRONG_LENGTH, into_line, put_image, unread_json, wrong_length_json};
+pub use unanswered::{
+    IS_THERE, UNREAD, UNWRITTEN, WRONG_LENGTH, into_line, put_host_name, put_image,
+    unanswered_json, unread_json, wrong_length_json,
+};

@@ -2,7 +2,7 @@
 ghost use Rattle.std.specs.Prelude.{◌≡◌, [], ◌∷◌, ◌++◌, OnOk, IfOk};
 ghost use Rattle.json.specs.Print.{print};
 ghost use Rattle.d64_report.specs.Values.{line_of, member_tokens};
-ghost use Rattle.d64_report.specs.Unanswered.{image_member, unread_object, wrong_length_object};
+ghost use Rattle.d64_report.specs.Unanswered.{host_value, image_member, unanswered_object, unread_object, wrong_length_object};
 
 use crate::member::{put_number, put_text};
 use crate::scratch::Scratch;
@@ -16,16 +16,35 @@ pub const UNREAD: &str = "cannot be read";
 /// The error of a file whose length no dump has.
 pub const WRONG_LENGTH: &str = "wrong length";
 
+/// The error of an image whose folder is there before anything of it is written.
+pub const IS_THERE: &str = "is there already";
+
+/// The error of an image whose folder cannot be made, or cannot take its name.
+pub const UNWRITTEN: &str = "cannot be written";
+
+/// Prints a member whose value is a name of the host. What isn't UTF-8 in it becomes U+FFFD.
+pub fn put_host_name(
+    scratch: &mut Vec<u8>,
+    writer: &mut Writer,
+    key: &str,
+    name: &[u8],
+) -> Result<(), AllocError>
+    ensures before { writer.new.before ≡ writer.old.before }
+    ensures tokens { OnOk result (writer.new.tokens ≡ writer.old.tokens ++ member_tokens ((key.now, host_value name.now) ∷ [])) }
+{
+    if let Ok(text) = str::from_utf8(name) {
+        return put_text(writer, key, text);
+    }
+    let text = String::from_utf8_lossy(*scratch.allocator(), name)?;
+    put_text(writer, key, text.as_str())
+}
+
 /// Prints the member with the name of a file on the host.
 pub fn put_image(scratch: &mut Vec<u8>, writer: &mut Writer, name: &[u8]) -> Result<(), AllocError>
     ensures before { writer.new.before ≡ writer.old.before }
     ensures tokens { OnOk result (writer.new.tokens ≡ writer.old.tokens ++ member_tokens (image_member name.now ∷ [])) }
 {
-    if let Ok(text) = str::from_utf8(name) {
-        return put_text(writer, "image", text);
-    }
-    let text = String::from_utf8_lossy(*scratch.allocator(), name)?;
-    put_text(writer, "image", text.as_str())
+    put_host_name(scratch, writer, "image", name)
 }
 
 /// What a writer holds, with a line feed after it.
@@ -37,17 +56,29 @@ pub fn into_line(writer: Writer) -> Result<Vec<u8>, AllocError>
     Ok(text)
 }
 
-/// Adds the line of a file that cannot be read to a text.
-pub fn unread_json(scratch: &mut Scratch, name: &[u8], out: Vec<u8>) -> Result<Vec<u8>, AllocError>
-    ensures { IfOk result (λ text. text.items ≡ out.items ++ line_of (unread_object name.now)) }
+/// Adds the line of a file that isn't answered, for this error, to a text.
+pub fn unanswered_json(
+    scratch: &mut Scratch,
+    name: &[u8],
+    error: &str,
+    out: Vec<u8>,
+) -> Result<Vec<u8>, AllocError>
+    ensures { IfOk result (λ text. text.items ≡ out.items ++ line_of (unanswered_object name.now error.now)) }
 {
     let mut writer = Writer::new(out);
     writer.begin_object()?;
     put_image(&mut scratch.text, &mut writer, name)?;
-    put_text(&mut writer, "error", UNREAD)?;
+    put_text(&mut writer, "error", error)?;
     writer.end_object()?;
     let text = into_line(writer)?;
     Ok(text)
+}
+
+/// Adds the line of a file that cannot be read to a text.
+pub fn unread_json(scratch: &mut Scratch, name: &[u8], out: Vec<u8>) -> Result<Vec<u8>, AllocError>
+    ensures { IfOk result (λ text. text.items ≡ out.items ++ line_of (unread_object name.now)) }
+{
+    unanswered_json(scratch, name, UNREAD, out)
 }
 
 /// Adds the line of a file of this length, which no dump has, to a text.

@@ -1,4 +1,4 @@
--- The lines on standard error of files that are not answered.
+-- The lines on standard error of files that are not answered, or not written.
 use Rattle.std.specs.Prelude.{ℕ, List, [], ◌++◌, length, codes, decimal}
 use Rattle.std.specs.Option.{option_map_or}
 use Rattle.d64_wording.specs.Shown.{shown}
@@ -16,6 +16,18 @@ unread_line name = line_about name (codes "cannot be read")
 -- a file that cannot be written
 abbrev pub unwritten_line : List ℕ → List ℕ
 unwritten_line name = line_about name (codes "cannot be written")
+
+-- a file or folder that is there before anything is written
+abbrev pub present_line : List ℕ → List ℕ
+present_line name = line_about name (codes "is there already")
+
+-- a folder that is passed over since it is there
+abbrev pub skipped_line : List ℕ → List ℕ
+skipped_line name = line_about name (codes "skipped")
+
+-- an image of which not all files are written, since they have too many bytes
+abbrev pub too_much_line : List ℕ → List ℕ
+too_much_line name = line_about name (codes "too much")
 
 -- a guess in brackets
 abbrev pub in_brackets : Guess → List ℕ

@@ -1,9 +1,9 @@
-//! The lines on standard error of files that are not answered.
+//! The lines on standard error of files that are not answered, or not written.
 ghost use Rattle.std.specs.Prelude.{◌≡◌, ◌++◌, [], codes, OnOk};
 ghost use Rattle.std.specs.Option.{option_map_or};
 ghost use Rattle.d64_wording.specs.Shown.{shown};
 ghost use Rattle.d64_wording.specs.Guesses.{guess_of as guess_by_all};
-ghost use Rattle.d64_wording.specs.FaultLines.{line_about, unread_line, unwritten_line, in_brackets, wrong_length_text, wrong_length_line};
+ghost use Rattle.d64_wording.specs.FaultLines.{line_about, unread_line, unwritten_line, present_line, skipped_line, too_much_line, in_brackets, wrong_length_text, wrong_length_line};
 
 use crate::guess::{guess_of, guess_text};
 use crate::number::push_number;
@@ -41,6 +41,27 @@ pub fn unwritten_line(out: &mut Vec<u8>, name: &[u8]) -> Result<(), AllocError>
     ensures { OnOk result (out.new.items ≡ out.old.items ++ unwritten_line name.now) }
 {
     push_line(out, name, b"cannot be written")
+}
+
+/// Adds the line of a file or folder that is there before anything is written.
+pub fn present_line(out: &mut Vec<u8>, name: &[u8]) -> Result<(), AllocError>
+    ensures { OnOk result (out.new.items ≡ out.old.items ++ present_line name.now) }
+{
+    push_line(out, name, b"is there already")
+}
+
+/// Adds the line of a folder that is passed over since it is there.
+pub fn skipped_line(out: &mut Vec<u8>, name: &[u8]) -> Result<(), AllocError>
+    ensures { OnOk result (out.new.items ≡ out.old.items ++ skipped_line name.now) }
+{
+    push_line(out, name, b"skipped")
+}
+
+/// Adds the line of an image of which not all files are written, since they have too many bytes.
+pub fn too_much_line(out: &mut Vec<u8>, name: &[u8]) -> Result<(), AllocError>
+    ensures { OnOk result (out.new.items ≡ out.old.items ++ too_much_line name.now) }
+{
+    push_line(out, name, b"too much")
 }
 
 /// Adds what a file seems to be, in brackets, where that is known.

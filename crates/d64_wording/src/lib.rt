@@ -13,7 +13,10 @@ mod owner_text;
 mod shown;
 mod words;
 
-pub use fault_line::{push_wrong_length, unread_line, unwritten_line, wrong_length_line};
+pub use fault_line::{
+    present_line, push_wrong_length, skipped_line, too_much_line, unread_line, unwritten_line,
+    wrong_length_line,
+};
 pub use fault_text::{push_fault, push_read_error, push_status};
 pub use file_text::{blocks_there, kind_letters, push_flaws};
 pub use guess::{Guess, guess_of};

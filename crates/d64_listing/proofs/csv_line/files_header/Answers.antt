@@ -1,11 +1,10 @@
 use Rattle.std.proofs.Common.{◌≡◌, ◌∙◌, ℕ, List, ◌++◌, codes, ap}
 use Rattle.std.proofs.lemmas.Result.{IfOk-weaker}
-use Rattle.d64_listing.specs.FileRow.{columns, row_with, header_row}
+use Rattle.d64_listing.specs.FileRow.{row_with, header_row}
 use Rattle.d64_listing.proofs.csv_line.files_header.Goals as goal
 
 pub returns : goal.returns
 unfolding header_row
 returns c =
-    let named = c.in_ok-push_fields.ensures.fields ∙ ap (λ (fields : List (List ℕ)). fields ++ columns) c.clear.ensures.fields in
     IfOk-weaker c.end_row.result _ (λ text. text.items ≡ c.args.out.items ++ header_row)
-    (λ text told. told ∙ ap (λ (fields : List (List ℕ)). c.args.out.items ++ row_with fields (codes "error")) named) c.end_row.ensures
+    (λ text ended. ended ∙ ap (λ (fields : List (List ℕ)). c.args.out.items ++ row_with fields (codes "error")) c.in_ok-begin_header.ensures.fields) c.end_row.ensures

@@ -1,0 +1,118 @@
+//! What is printed of a file that is written to the host: what `files` prints, and the path of the host file.
+ghost use Rattle.std.specs.Prelude.{◌≡◌, [], ◌∷◌, ◌++◌, option_map, OnOk, IfOk};
+ghost use Rattle.d64_report.specs.Values.{line_of, member_tokens};
+ghost use Rattle.d64_listing.specs.Extracted.{path_member, path_text, extracted_object, extracted_row, extracted_line, extracted_header, unextracted_row};
+
+use crate::csv_line::{begin_file_row, begin_header, begin_name_alone};
+use crate::file_member::put_file_members;
+use crate::json_line::put_place;
+use crate::table::push_file_text;
+use d64_inventory::FileRow;
+use d64_report::{Scratch, end_row, into_line, push_field, put_host_name, put_null};
+use d64_wording::push_shown;
+use json::Writer;
+use std::alloc::AllocError;
+
+/// Prints the path of a host file, or null where none was written.
+fn put_path(
+    scratch: &mut Vec<u8>,
+    writer: &mut Writer,
+    path: Option<&[u8]>,
+) -> Result<(), AllocError>
+    ensures before { writer.new.before ≡ writer.old.before }
+    ensures tokens { OnOk result (writer.new.tokens ≡ writer.old.tokens ++ member_tokens (path_member (option_map (λ p. p.now) path.entry) ∷ [])) }
+{
+    match path {
+        Some(path) => put_host_name(scratch, writer, "file", path),
+        None => put_null(writer, "file"),
+    }
+}
+
+/// Adds the line of a file to a text: an object of JSON with the name of its image, all that is told of it, and the path of the
+/// host file.
+pub(crate) fn extracted_json(
+    scratch: &mut Scratch,
+    name: &[u8],
+    row: &FileRow,
+    path: Option<&[u8]>,
+    out: Vec<u8>,
+) -> Result<Vec<u8>, AllocError>
+    ensures { IfOk result (λ text. text.items ≡ out.items ++ line_of (extracted_object name.now row.now (option_map (λ p. p.now) path.entry))) }
+{
+    let mut writer = Writer::new(out);
+    writer.begin_object()?;
+    put_place(&mut scratch.text, &mut writer, name, row)?;
+    put_file_members(&mut scratch.text, &mut writer, row)?;
+    put_path(&mut scratch.text, &mut writer, path)?;
+    writer.end_object()?;
+    let text = into_line(writer)?;
+    Ok(text)
+}
+
+/// Adds the row of a file to a text, with the path of the host file.
+pub(crate) fn extracted_csv(
+    scratch: &mut Scratch,
+    name: &[u8],
+    row: &FileRow,
+    path: Option<&[u8]>,
+    out: Vec<u8>,
+) -> Result<Vec<u8>, AllocError>
+    ensures { IfOk result (λ text. text.items ≡ out.items ++ extracted_row name.now row.now (option_map (λ p. p.now) path.entry)) }
+{
+    begin_file_row(scratch, name, row)?;
+    push_field(&mut scratch.row, path.unwrap_or(b""))?;
+    end_row(&mut scratch.row, b"", out)
+}
+
+/// Adds where a file was written.
+fn push_path(out: &mut Vec<u8>, path: Option<&[u8]>) -> Result<(), AllocError>
+    ensures { OnOk result (out.new.items ≡ out.old.items ++ path_text (option_map (λ p. p.now) path.entry)) }
+{
+    match path {
+        Some(path) => {
+            out.extend_from_slice(b" -> ")?;
+            push_shown(out, path)
+        }
+        None => out.extend_from_slice(b", not written"),
+    }
+}
+
+/// Adds the line of a file for people, with the path of the host file.
+#[tactic(auto, unfolding(crate::specs::Extracted::extracted_line))]
+pub(crate) fn push_extracted_line(
+    scratch: &mut Vec<u8>,
+    out: &mut Vec<u8>,
+    row: &FileRow,
+    path: Option<&[u8]>,
+) -> Result<(), AllocError>
+    ensures { OnOk result (out.new.items ≡ out.old.items ++ extracted_line row.now (option_map (λ p. p.now) path.entry)) }
+{
+    push_file_text(scratch, out, row)?;
+    push_path(out, path)?;
+    out.extend_from_slice(b"\n")
+}
+
+/// Adds the header row to a text.
+#[tactic(auto, unfolding(crate::specs::Extracted::extracted_header))]
+pub(crate) fn extracted_header(scratch: &mut Scratch, out: Vec<u8>) -> Result<Vec<u8>, AllocError>
+    ensures { IfOk result (λ text. text.items ≡ out.items ++ extracted_header) }
+{
+    begin_header(scratch)?;
+    push_field(&mut scratch.row, b"file")?;
+    end_row(&mut scratch.row, b"error", out)
+}
+
+/// Adds the row of an image that isn't answered, for this error, to a text.
+#[tactic(auto, unfolding(crate::specs::Extracted::unextracted_row))]
+pub(crate) fn unextracted_csv(
+    scratch: &mut Scratch,
+    name: &[u8],
+    error: &[u8],
+    out: Vec<u8>,
+) -> Result<Vec<u8>, AllocError>
+    ensures { IfOk result (λ text. text.items ≡ out.items ++ unextracted_row name.now error.now) }
+{
+    begin_name_alone(scratch, name)?;
+    push_field(&mut scratch.row, b"")?;
+    end_row(&mut scratch.row, error, out)
+}
