@@ -45,6 +45,7 @@ SWEEPS = [
     "scripts/sweep-differences",
     "scripts/sweep-catalogue",
     "scripts/sweep-survey-names",
+    "scripts/sweep-extract",
 ]
 
 # Of the crates whose programs are run, the commands that wait for it.

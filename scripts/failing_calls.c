@@ -1,5 +1,5 @@
-/* Makes calls of the system fail, or kills the process at one. Preloaded by scripts/sweep-stores, scripts/sweep-memory, scripts/sweep-faults
- * and scripts/sweep-survey-names.
+/* Makes calls of the system fail, or kills the process at one. Preloaded by scripts/sweep-stores, scripts/sweep-memory, scripts/sweep-faults,
+ * scripts/sweep-survey-names and scripts/sweep-extract.
  *
  * A call is counted where its path is relative or its descriptor is none of the standard streams and of no file below /proc,
  * in which the system tells of the process; with SWEEP_STREAMS the standard streams count too. SWEEP_LOG names the file that gets a line for each: its name and the path, or the number of a standard stream.
@@ -115,6 +115,10 @@ ssize_t readlink(const char *restrict path, char *restrict into, size_t size)
 }
 
 int rename(const char *from, const char *to) { CALL(OF_PATH(to), "rename", to, REAL(rename)(from, to)); }
+
+int mkdir(const char *path, mode_t mode) { CALL(OF_PATH(path), "mkdir", path, REAL(mkdir)(path, mode)); }
+
+int rmdir(const char *path) { CALL(OF_PATH(path), "rmdir", path, REAL(rmdir)(path)); }
 
 int unlink(const char *path) { CALL(OF_PATH(path), "unlink", path, REAL(unlink)(path)); }
 

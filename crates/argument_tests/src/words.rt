@@ -37,6 +37,9 @@ check|--format|csv|--files-from|l|--digest => Check { digest: true, format: Csv,
 files|a|check => Files { format: Text, names: Given([\"a\", \"check\"]) }
 files|--format=json|--files-from=l => Files { format: Json, names: Listed { list: \"l\", separator: LineFeed } }
 files|--files-from|-|--null|--format|csv => Files { format: Csv, names: Listed { list: \"-\", separator: Nul } }
+extract|a|b => Extract { extraction: Extraction { into: \".\", part: false, skip_existing: false }, format: Text, names: Given([\"a\", \"b\"]) }
+extract|--into|out|--part|--format=json|a => Extract { extraction: Extraction { into: \"out\", part: true, skip_existing: false }, format: Json, names: Given([\"a\"]) }
+extract|--skip-existing|--into=--part|--files-from|-|--null|--format|csv => Extract { extraction: Extraction { into: \"--part\", part: false, skip_existing: true }, format: Csv, names: Listed { list: \"-\", separator: Nul } }
 map|my disk => Map { format: Text, file: \"my disk\" }
 map|--format|text|my disk => Map { format: Text, file: \"my disk\" }
 map|--format=svg|--|--format => Map { format: Svg, file: \"--format\" }
@@ -92,6 +95,20 @@ check|a|--format|json  => usage: --format takes text, json or csv
 check|--null|--format|json  => usage: --format takes text, json or csv
 files|a|--format|json  => usage: --format takes text, json or csv
 files|--null|--format|json  => usage: --format takes text, json or csv
+extract|a|--format|svg => usage: --format takes text, json or csv
+extract|--null|--format|svg => usage: --format takes text, json or csv
+extract|a|--format|JSON => usage: --format takes text, json or csv
+extract|--null|--format|JSON => usage: --format takes text, json or csv
+extract|a|--format| => usage: --format takes text, json or csv
+extract|--null|--format| => usage: --format takes text, json or csv
+extract|a|--format|json  => usage: --format takes text, json or csv
+extract|--null|--format|json  => usage: --format takes text, json or csv
+extract|--into||a => usage: --into takes the name of a folder
+extract|--into| => usage: --into takes the name of a folder
+extract|--into||--format|svg|a => usage: --format takes text, json or csv
+extract|--into=|--part|a => usage: --into takes the name of a folder
+extract|--into=|--part => usage: --into takes the name of a folder
+extract|--into=|--part|--format|svg|a => usage: --format takes text, json or csv
 check => usage: FILE.. or --files-from LIST is wanted, not both
 check|-- => usage: FILE.. or --files-from LIST is wanted, not both
 check|--null => usage: FILE.. or --files-from LIST is wanted, not both
@@ -104,6 +121,12 @@ files|--null => usage: FILE.. or --files-from LIST is wanted, not both
 files|a|--files-from|l => usage: FILE.. or --files-from LIST is wanted, not both
 files|--null|--files-from|l|a => usage: FILE.. or --files-from LIST is wanted, not both
 files|a|--null => usage: --null goes with --files-from
+extract => usage: FILE.. or --files-from LIST is wanted, not both
+extract|-- => usage: FILE.. or --files-from LIST is wanted, not both
+extract|--null => usage: FILE.. or --files-from LIST is wanted, not both
+extract|a|--files-from|l => usage: FILE.. or --files-from LIST is wanted, not both
+extract|--null|--files-from|l|a => usage: FILE.. or --files-from LIST is wanted, not both
+extract|a|--null => usage: --null goes with --files-from
 catalogue => usage: FILE.. or --files-from LIST is wanted, not both
 catalogue|-- => usage: FILE.. or --files-from LIST is wanted, not both
 catalogue|--null => usage: FILE.. or --files-from LIST is wanted, not both
@@ -120,6 +143,7 @@ crunch|--start=1|--start=2 => Usage: d64sh crunch [--start HEX] [-o FILE] [FILE]
 check|-a => Usage: d64sh check [--digest] [--format FORMAT] FILE..
 check|a|--format=csv|--format=csv => Usage: d64sh check [--digest] [--format FORMAT] FILE..
 files|a|--digest => Usage: d64sh files [--format FORMAT] FILE..
+extract|a|--digest => Usage: d64sh extract [--into FOLDER] [--part] [--skip-existing] [--format FORMAT] FILE..
 catalogue|a|--format|text => Usage: d64sh catalogue [--maps] FILE..
 map|--format|json => Usage: d64sh map [--format FORMAT] FILE
 map|a|b => Usage: d64sh map [--format FORMAT] FILE
@@ -141,6 +165,7 @@ petcat|--help => Example: d64sh petcat hello.prg -o hello.bas
 check|--help => Example: d64sh check *.d64
 check|-h =>       --files-from <LIST>  Take the names from the lines of a file; `-` is the standard input
 files|--help => Example: d64sh files --format csv *.d64 >files.csv
+extract|--help => Example: d64sh extract --into files *.d64
 map|--help => Example: d64sh map --format svg disk.d64 >disk.svg
 diff|--help => Example: d64sh diff before.d64 after.d64
 catalogue|--help => Example: d64sh catalogue --maps *.d64 >disks.html

@@ -1,10 +1,15 @@
 -- How a job ends, by how its work does.
-use Rattle.std.proofs.Common.{◌≡◌, ℕ, List, sym, subst}
+use Rattle.std.proofs.Common.{◌≡◌, ℕ, Bool, true, false, List, Result, Ok, Err, refl, sym, subst}
+use Rattle.std.specs.Prelude.{IfOk}
 use Rattle.d64_script.specs.Output.{Account}
 use Rattle.d64_words.specs.declared.asked.Job.{Job}
-use Rattle.d64_collection.specs.Answers.{Rule, by_rule}
+use Rattle.d64_collection.specs.Answers.{KeepsQuiet, Rule, by_rule}
+use Rattle.d64_unpack.specs.Conduct.{unpacks}
+use Rattle.d64_unpack.specs.Setup.{SetupView}
+use Rattle.d64_unpack.specs.declared.unpacker.Unpacker.{Unpacker}
+use Rattle.d64_unpack.proofs.QuietWork.{clean_is_quiet}
 use Rattle.d64_runner.specs.Transcript.{Manner}
-use Rattle.d64_shell.specs.Jobs.{Beginning, Source, Work, Script, Survey, work_of}
+use Rattle.d64_shell.specs.Jobs.{Beginning, Source, Work, Script, Survey, Extraction, PassesOver, work_of}
 use Rattle.d64_shell.specs.SurveyFiles.{SurveyFiles}
 use Rattle.d64_shell.specs.Program.{Outside, EndedShell, EndedSurvey, EndedWork}
 
@@ -25,3 +30,27 @@ script_ended job beginning begun source from manner at old new faults told statu
     (subst (λ (m : Manner). EndedShell beginning source m old new faults told status) same_manner
     (subst (λ (s : Source). EndedShell beginning s at old new faults told status) same_source
     (subst (λ (b : Beginning). EndedShell b from at old new faults told status) same_beginning ended)))
+
+-- where it is an extraction, it has ended as that has
+pub extraction_ended : (job : Job) (setup : SetupView) (heading : List ℕ) (files shown : SurveyFiles) (old new : Outside) (faults told : Account) (status : ℕ)
+    → work_of job ≡ Extraction setup heading files → shown ≡ files → EndedSurvey (unpacks setup) heading shown old new faults told status
+    → EndedWork (work_of job) old new faults told status
+extraction_ended job setup heading files shown old new faults told status is same ended =
+    subst (λ (work : Work). EndedWork work old new faults told status) (sym is)
+    (subst (λ (f : SurveyFiles). EndedSurvey (unpacks setup) heading f old new faults told status) same ended)
+
+-- an extraction that passes over nothing
+not_true : (test : Bool) → (test ≡ true → ⊥) → test ≡ false
+not_true true refuted = absurd (refuted refl)
+not_true false refuted = refl
+
+passes_not : (job : Job) (setup : SetupView) (heading : List ℕ) (files : SurveyFiles) → work_of job ≡ Extraction setup heading files → (PassesOver (work_of job) → ⊥) → setup.skips ≡ false
+passes_not job setup heading files is passes = not_true setup.skips (λ skips. passes (subst PassesOver (sym is) skips))
+
+-- keeps quiet, where there was memory to begin
+pub extraction_is_quiet : {E : Type 0} (job : Job) (setup : SetupView) (heading : List ℕ) (files : SurveyFiles) (made : Result Unpacker E)
+    → work_of job ≡ Extraction setup heading files → IfOk made (λ unpacker. unpacker.setup ≡ setup) → (PassesOver (work_of job) → ⊥)
+    → IfOk made (λ unpacker. KeepsQuiet (unpacks unpacker.setup))
+extraction_is_quiet job setup heading files (Ok unpacker) is made passes =
+    subst (λ (s : SetupView). KeepsQuiet (unpacks s)) (sym made) (clean_is_quiet setup (passes_not job setup heading files is passes))
+extraction_is_quiet job setup heading files (Err error) is made passes = tt

@@ -1,10 +1,14 @@
 -- What each job does.
-use Rattle.std.specs.Prelude.{ℕ, Bool, if◌then◌else◌, List, [], ◌∷◌, ◌++◌, flat_map, map, Option, Some, None, option_map, string_bytes, ⊤}
+use Rattle.std.specs.Prelude.{◌≡◌, ℕ, Bool, true, if◌then◌else◌, List, [], ◌∷◌, ◌++◌, flat_map, map, Option, Some, None, option_map, string_bytes, ⊤}
 use Rattle.d64_words.specs.declared.asked.Job.{Job}
-use Rattle.d64_words.specs.declared.asked.Job.TheVariants.{Shell, Petcat, Crunch, Check, Files, Map, Catalogue, Diff}
+use Rattle.d64_words.specs.declared.asked.Job.TheVariants.{Shell, Petcat, Crunch, Check, Files, Extract, Map, Catalogue, Diff}
+use Rattle.d64_words.specs.declared.asked.Extraction.{Extraction as AskedExtraction}
+use Rattle.d64_words.specs.declared.asked.Format.{Format}
 use Rattle.d64_collection.specs.Answers.{Rule}
 use Rattle.d64_check.specs.Check.{check_rule, heading_of as check_heading}
 use Rattle.d64_listing.specs.Files.{files_rule, heading_of as files_heading}
+use Rattle.d64_listing.specs.Extracts.{extract_heading}
+use Rattle.d64_unpack.specs.Setup.{SetupView}
 use Rattle.d64_picture.specs.Pictures.{map_rule}
 use Rattle.d64_catalogue.specs.Catalogue.{catalogue_rule, catalogue_heading}
 use Rattle.d64_difference.specs.Differences.{difference_rule}
@@ -56,12 +60,18 @@ source_by (Some text) = Given text
 abbrev pub refusals_of : Bool → Refusals
 refusals_of stops = if stops then Stop else GoOn
 
+-- what an extraction is asked for by the words, in a form of the output
+abbrev pub setup_of : AskedExtraction → Format → SetupView
+setup_of asked format = record { into = string_bytes asked.into; with_parts = asked.part; skips = asked.skip_existing; form = format }
+
 -- what a job does: it runs a script of some source in a manner, from a beginning; runs a tool on the input, or on the host file of a name, to
--- the output, or to the host file of a second name; surveys files, by a rule, with what stands before all answers; or compares the files of two names, by a rule
+-- the output, or to the host file of a second name; surveys files, by a rule, with what
+-- stands before all answers; unpacks files, as is asked for, with what stands before all answers; or compares the files of two names, by a rule
 pub data Work : Type 0 where
   Script : Beginning → Source → Manner → Work
   Conversion : Tool → Option (List ℕ) → Option (List ℕ) → Work
   Survey : Rule → List ℕ → SurveyFiles → Work
+  Extraction : SetupView → List ℕ → SurveyFiles → Work
   Comparison : PairRule → List ℕ → List ℕ → Work
 
 -- what each job does
@@ -73,6 +83,7 @@ work_of (Petcat file output) = Conversion tools.Petcat (option_map string_bytes 
 work_of (Crunch start file output) = Conversion (tools.Crunch start) (option_map string_bytes file) (option_map string_bytes output)
 work_of (Check digest format names) = Survey (check_rule format digest) (check_heading format digest) (files_of names)
 work_of (Files format names) = Survey (files_rule format) (files_heading format) (files_of names)
+work_of (Extract asked format names) = Extraction (setup_of asked format) (extract_heading format) (files_of names)
 work_of (Map format file) = Survey (map_rule format) [] (Named (string_bytes file ∷ []))
 work_of (Catalogue maps names) = Survey (catalogue_rule maps) catalogue_heading (files_of names)
 work_of (Diff format old new) = Comparison (difference_rule format) (string_bytes old) (string_bytes new)
@@ -82,4 +93,13 @@ abbrev pub IsScript : Work → Type 0
 IsScript (Script beginning source manner) = ⊤
 IsScript (Conversion tool name target) = ⊥
 IsScript (Survey rule heading files) = ⊥
+IsScript (Extraction setup heading files) = ⊥
 IsScript (Comparison rule old_name new_name) = ⊥
+
+-- the work passes over folders that are there, and complains of it though all is well
+abbrev pub PassesOver : Work → Type 0
+PassesOver (Script beginning source manner) = ⊥
+PassesOver (Conversion tool name target) = ⊥
+PassesOver (Survey rule heading files) = ⊥
+PassesOver (Extraction setup heading files) = setup.skips ≡ true
+PassesOver (Comparison rule old_name new_name) = ⊥

@@ -28,7 +28,8 @@ use Rattle.d64_collection.specs.Runs.{Stand, Told, stand_of, told_of}
 use Rattle.d64_collection.specs.declared.desk.RunFault.{RunFault}
 use Rattle.d64_collection.specs.declared.desk.RunFault.TheVariants as run_faults
 use Rattle.d64_collection.specs.declared.report.Verdict.TheVariants.{Clean}
-use Rattle.d64_shell.specs.Jobs.{Beginning, Blank, ImageFile, SessionFile, Source, Input, Given, Work, Script, Conversion, Survey, Comparison, IsScript, work_of}
+use Rattle.d64_shell.specs.Jobs.{Beginning, Blank, ImageFile, SessionFile, Source, Input, Given, Work, Script, Conversion, Survey, Extraction, Comparison, IsScript, PassesOver, work_of}
+use Rattle.d64_unpack.specs.Conduct.{unpacks}
 use Rattle.d64_shell.specs.SurveyFiles.{SurveyFiles, list_name}
 use Rattle.d64_shell.specs.Surveys.{Surveys}
 use Rattle.d64_shell.specs.Comparisons.{PairRule, Compares}
@@ -49,7 +50,7 @@ use Rattle.d64_shell.specs.declared.tools.Tool.{Tool}
 use Rattle.d64_shell.specs.declared.tools.ToolFault.{ToolFault}
 use Rattle.d64_shell.specs.declared.tools.ToolFault.TheVariants as tool_faults
 use Rattle.d64_shell.specs.declared.program_fault.ProgramFault.{ProgramFault}
-use Rattle.d64_shell.specs.declared.program_fault.ProgramFault.TheVariants.{UnreadableWords, Start, Tracks, Both, Format, Names, Null, Picture, Difference, WrongLength, UnreadableImage, UnreadableSession, NoSession, Read, Write, Memory}
+use Rattle.d64_shell.specs.declared.program_fault.ProgramFault.TheVariants.{UnreadableWords, Start, Tracks, Both, Format, Names, Null, Picture, Difference, Folder, WrongLength, UnreadableImage, UnreadableSession, NoSession, Read, Write, Memory}
 
 -- the most bytes of an image, a program or a text that are read from a file
 abbrev pub file_limit : ℕ
@@ -138,6 +139,7 @@ fault_text Names = codes "usage: FILE.. or --files-from LIST is wanted, not both
 fault_text Null = codes "usage: --null goes with --files-from"
 fault_text Picture = codes "usage: --format takes text or svg"
 fault_text Difference = codes "usage: --format takes text or json"
+fault_text Folder = codes "usage: --into takes the name of a folder"
 fault_text (WrongLength length) = codes "image: wrong length " ++ decimal length
 fault_text UnreadableImage = codes "image: cannot be read"
 fault_text UnreadableSession = codes "session: cannot be read"
@@ -324,6 +326,7 @@ EndedWork (Script beginning source manner) old new faults told status = EndedShe
 EndedWork (Conversion tool name None) old new faults told status = EndedTool tool name old new faults told status
 EndedWork (Conversion tool name (Some target)) old new faults told status = EndedToolTo tool name target old new faults told status
 EndedWork (Survey rule heading files) old new faults told status = EndedSurvey (by_rule rule) heading files old new faults told status
+EndedWork (Extraction setup heading files) old new faults told status = EndedSurvey (unpacks setup) heading files old new faults told status
 EndedWork (Comparison rule old_name new_name) old new faults told status = EndedComparison rule old_name new_name old new faults told status
 
 -- help or the version was written, whole; or there was a fault: a first part of it was written, or there was no memory
@@ -350,6 +353,7 @@ AnswersWords words.Names old new faults told status = (new ≡ old) × Reports N
 AnswersWords words.Null old new faults told status = (new ≡ old) × Reports Null faults told status
 AnswersWords words.Picture old new faults told status = (new ≡ old) × Reports Picture faults told status
 AnswersWords words.Difference old new faults told status = (new ≡ old) × Reports Difference faults told status
+AnswersWords words.Folder old new faults told status = (new ≡ old) × Reports Folder faults told status
 
 -- the words with the program's name before them
 abbrev pub named : List (List ℕ) → List (List ℕ)
@@ -358,6 +362,10 @@ named after = codes "d64sh" ∷ after
 -- the words ask for the shell
 abbrev pub AsksForShell : List (List ℕ) → Type 0
 AsksForShell after = (job : Job) × IsJob (named after) job × IsScript (work_of job)
+
+-- the words ask to pass over folders that are there, which is complained of though all is well
+abbrev pub AsksToPassOver : List (List ℕ) → Type 0
+AsksToPassOver after = (job : Job) × IsJob (named after) job × PassesOver (work_of job)
 
 -- what the program has done, and its status: the job that the words ask for has ended; or they ask for none, and were
 -- answered so, with nothing read and no file touched

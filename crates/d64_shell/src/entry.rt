@@ -3,10 +3,11 @@ ghost use Rattle.std.specs.Prelude.{◌≡◌, ◌≢◌, ◌≤◌, Bool, false
 ghost use Rattle.d64_script.specs.Input.{IsUnread, reading_of};
 ghost use Rattle.d64_script.specs.Output.{account_of};
 ghost use Rattle.d64_collection.specs.Runs.{account_at};
-ghost use Rattle.d64_shell.specs.Jobs.{IsScript, work_of};
-ghost use Rattle.d64_shell.specs.Program.{AsksForShell, Ended, EndedWork, outside_at, outside_of};
+ghost use Rattle.d64_shell.specs.Jobs.{IsScript, PassesOver, work_of};
+ghost use Rattle.d64_shell.specs.Program.{AsksForShell, AsksToPassOver, Ended, EndedWork, outside_at, outside_of};
 
 use crate::difference_job::DifferenceJob;
+use crate::extraction::setup_of;
 use crate::file_names::FileNames;
 use crate::shell_job::{ShellJob, exit_status, refusals_of};
 use crate::survey_job::SurveyJob;
@@ -21,6 +22,7 @@ use d64_picture::MapReport;
 use d64_runner::{Listener, Nobody};
 use d64_script::input::InputStream;
 use d64_script::output::OutputStream;
+use d64_unpack::Unpacker;
 use d64_words::Job;
 use std::alloc::Global;
 use std::io::{Read, Write};
@@ -63,7 +65,7 @@ pub fn program<R: Read, W: Write, F: Write, H: Host>(
         (outside_of (R.remaining reader.old) (W.contents writer.old) (H.state host.old))
         (outside_of (R.remaining reader.new) (W.contents writer.new) (H.state host.new))
         (account_of (F.contents faults.old) false) (account_of (F.contents faults.new) failed) result }
-    ensures silent { result ≡ 0 → faults.new ≡ faults.old }
+    ensures silent { (AsksToPassOver (map (λ word. word.now) words.now) → ⊥) → result ≡ 0 → faults.new ≡ faults.old }
     ensures script { AsksForShell (map (λ word. word.now) words.now) → result ≢ 2 → faults.new ≡ faults.old }
 {
     let mut input = InputStream::new(reader);
@@ -95,7 +97,7 @@ pub fn program_on<R: Read, W: Write, F: Write, H: Host>(
         (outside_at R.remaining input.old W.contents output.old H.state host.old)
         (outside_at R.remaining input.new W.contents output.new H.state host.new)
         (account_at F.contents faults.old) (account_at F.contents faults.new) result }
-    ensures silent { result ≡ 0 → faults.new ≡ faults.old }
+    ensures silent { (AsksToPassOver (map (λ word. word.now) words.now) → ⊥) → result ≡ 0 → faults.new ≡ faults.old }
     ensures script { AsksForShell (map (λ word. word.now) words.now) → result ≢ 2 → faults.new ≡ faults.old }
 {
     let mut nobody = Nobody;
@@ -135,7 +137,7 @@ impl<'l, L: Listener> HeardProgram<'l, L> {
             (outside_at R.remaining input.old W.contents output.old H.state host.old)
             (outside_at R.remaining input.new W.contents output.new H.state host.new)
             (account_at F.contents faults.old) (account_at F.contents faults.new) result }
-        ensures silent { result ≡ 0 → faults.new ≡ faults.old }
+        ensures silent { (AsksToPassOver (map (λ word. word.now) words.now) → ⊥) → result ≡ 0 → faults.new ≡ faults.old }
         ensures script { AsksForShell (map (λ word. word.now) words.now) → result ≢ 2 → faults.new ≡ faults.old }
     {
         match asked(self.alloc, words) {
@@ -165,7 +167,7 @@ impl<'l, L: Listener> HeardProgram<'l, L> {
             (account_at F.contents faults.old) (account_at F.contents faults.new) result }
         ensures status { result ≤ 2 }
         ensures delivered { result ≡ 0 → (output.new.is_delivered ≡ true) × (output.new.has_failed ≡ false) }
-        ensures silent { result ≡ 0 → faults.new ≡ faults.old }
+        ensures silent { (PassesOver (work_of job) → ⊥) → result ≡ 0 → faults.new ≡ faults.old }
         ensures script { IsScript (work_of job) → result ≢ 2 → faults.new ≡ faults.old }
     {
         let alloc = self.alloc;
@@ -226,6 +228,16 @@ impl<'l, L: Listener> HeardProgram<'l, L> {
                 let report = FilesReport::new(alloc, format);
                 SurveyJob::new(alloc, FileNames::of(&names)).run(
                     report, input, output, faults, host,
+                )
+            }
+            Job::Extract {
+                extraction,
+                format,
+                names,
+            } => {
+                let clerk = Unpacker::new(alloc, setup_of(extraction, format));
+                SurveyJob::new(alloc, FileNames::of(&names)).run_by(
+                    clerk, input, output, faults, host,
                 )
             }
             Job::Map { format, file } => {

@@ -3,6 +3,7 @@
 
 mod difference_job;
 mod entry;
+mod extraction;
 mod file_names;
 mod program_fault;
 mod shell_job;

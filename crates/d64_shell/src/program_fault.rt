@@ -51,6 +51,9 @@ pub enum ProgramFault {
     /// What follows `--format` of `diff` is neither `text` nor `json`.
     #[error("usage: --format takes text or json")]
     Difference,
+    /// What follows `--into` is empty.
+    #[error("usage: --into takes the name of a folder")]
+    Folder,
     /// The image file has this many bytes, and an image 174,848 or 196,608.
     #[error("image: wrong length {0}")]
     WrongLength(usize),
@@ -114,6 +117,7 @@ impl ProgramFault {
             ProgramFault::Null => line_of(b"usage: --null goes with --files-from", b""),
             ProgramFault::Picture => line_of(b"usage: --format takes text or svg", b""),
             ProgramFault::Difference => line_of(b"usage: --format takes text or json", b""),
+            ProgramFault::Folder => line_of(b"usage: --into takes the name of a folder", b""),
             ProgramFault::WrongLength(length) => line_of(
                 b"image: wrong length ",
                 Buffer::new().format(length).as_bytes(),

@@ -55,6 +55,7 @@ pub(crate) fn answer_words<W: Write, F: Write>(
         JobFault::Null => ProgramFault::Null.report_on(faults),
         JobFault::Picture => ProgramFault::Picture.report_on(faults),
         JobFault::Difference => ProgramFault::Difference.report_on(faults),
+        JobFault::Folder => ProgramFault::Folder.report_on(faults),
         JobFault::Words(_) => {
             if fault.was_asked_for() {
                 show(alloc, &fault, output, faults)

@@ -16,7 +16,7 @@ use Rattle.d64_words.specs.Commands.{d64sh}
 use Rattle.d64_words.specs.Asked.{IsFault, IsFaultOf, IsJob, IsJobOf, IsOneOf, IsToldAs, Met}
 use Rattle.d64_words.specs.declared.asked.Job.{Job}
 use Rattle.d64_words.specs.declared.asked.JobFault.{JobFault}
-use Rattle.d64_words.specs.declared.asked.JobFault.TheVariants.{Words, Start, Memory, Tracks, Both, Format, Names, Null, Picture, Difference}
+use Rattle.d64_words.specs.declared.asked.JobFault.TheVariants.{Words, Start, Memory, Tracks, Both, Format, Names, Null, Picture, Difference, Folder}
 
 pub simple_and_free : is_simple_and_free d64sh ≡ true
 unfolding clap_on_literals d64sh
@@ -96,6 +96,7 @@ told words error Names kind is = absurd is
 told words error Null kind is = absurd is
 told words error Picture kind is = absurd is
 told words error Difference kind is = absurd is
+told words error Folder kind is = absurd is
 
 -- what the subcommand asks for is what the words ask for
 module _ (words : List Text) (met : Met) (none : fault_of d64sh words ≡ []) (is : subcommand_of d64sh words ≡ Some met) where
@@ -113,6 +114,7 @@ module _ (words : List Text) (met : Met) (none : fault_of d64sh words ≡ []) (i
   refused Null asks = (none, subst (λ o. IsSomeAnd o (λ m. IsFaultOf m Null)) (sym is) asks)
   refused Picture asks = (none, subst (λ o. IsSomeAnd o (λ m. IsFaultOf m Picture)) (sym is) asks)
   refused Difference asks = (none, subst (λ o. IsSomeAnd o (λ m. IsFaultOf m Difference)) (sym is) asks)
+  refused Folder asks = (none, subst (λ o. IsSomeAnd o (λ m. IsFaultOf m Folder)) (sym is) asks)
 
 pub error_told : {T : Type 0} (r : Result T JobFault) (P Q : JobFault → Type 0) → ((fault : JobFault) → P fault → Q fault) → IsErrAnd r P → IfErr r Q
 error_told (Ok job) P Q f is = tt

@@ -6,6 +6,7 @@ use Rattle.clap.specs.declared.error.kind.ErrorKind.TheVariants.{DisplayHelp, Di
 use Rattle.d64_words.specs.Commands.{d64sh}
 use Rattle.d64_words.specs.Start.{IsStartBy, HasNoAddress}
 use Rattle.d64_words.specs.Tracks.{IsTracksBy, HasNoTracks}
+use Rattle.d64_words.specs.Extraction.{HasNoFolder, IsExtractionBy}
 use Rattle.d64_words.specs.Format.{diff_form_of, form_word, format_of, picture_form_of}
 use Rattle.d64_words.specs.Names.{HasNoNames, HasNullAlone, IsNamesBy}
 use Rattle.d64_words.specs.Values.{all_given, has_flag}
@@ -13,9 +14,9 @@ use Rattle.d64_words.specs.declared.asked.DiffForm.{DiffForm}
 use Rattle.d64_words.specs.declared.asked.Format.{Format as OutputFormat}
 use Rattle.d64_words.specs.declared.asked.PictureForm.{PictureForm}
 use Rattle.d64_words.specs.declared.asked.Job.{Job}
-use Rattle.d64_words.specs.declared.asked.Job.TheVariants.{Shell, Petcat, Crunch, Check, Files, Map, Diff, Catalogue}
+use Rattle.d64_words.specs.declared.asked.Job.TheVariants.{Shell, Petcat, Crunch, Check, Files, Extract, Map, Diff, Catalogue}
 use Rattle.d64_words.specs.declared.asked.JobFault.{JobFault}
-use Rattle.d64_words.specs.declared.asked.JobFault.TheVariants.{Words, Start, Memory, Tracks, Both, Format, Names, Null, Picture, Difference}
+use Rattle.d64_words.specs.declared.asked.JobFault.TheVariants.{Words, Start, Memory, Tracks, Both, Format, Names, Null, Picture, Difference, Folder}
 
 -- a subcommand that the words name, and the values that they give to its arguments
 abbrev pub Met : Type 0
@@ -26,9 +27,9 @@ abbrev pub IsOneOf : List Text → Text → Type 0
 IsOneOf [] name = ⊥
 IsOneOf (first ∷ rest) name = (name ≡ first) ⊎ IsOneOf rest name
 
--- the subcommands that survey files by their names, and print in a form of output
+-- the subcommands that take files by their names, and print in a form of output
 abbrev pub surveys : List Text
-surveys = codes "check" ∷ codes "files" ∷ []
+surveys = codes "check" ∷ codes "files" ∷ codes "extract" ∷ []
 
 -- the subcommands
 abbrev pub subcommands : List Text
@@ -59,9 +60,14 @@ HasBoth met = IsSomeAnd (first_of (codes "resume") met.1) (λ file. IsSome (firs
 abbrev pub format_given : Met → Option OutputFormat
 format_given met = format_of (form_word met.1)
 
--- the subcommand takes names of files: a survey, where it has a form of output, or `catalogue`, which has one form alone
+-- `extract` stands in the words with a folder whose name is empty
+abbrev pub IsPlaceless : Met → Type 0
+IsPlaceless met = (met.0 ≡ codes "extract") × HasNoFolder (first_of (codes "into") met.1)
+
+-- the subcommand takes names of files: a survey, where it has a form of output, and a folder where it wants one; or `catalogue`,
+-- which has one form alone
 abbrev pub TakesNames : Met → Type 0
-TakesNames met = (IsOneOf surveys met.0 × IsSome (format_given met)) ⊎ (met.0 ≡ codes "catalogue")
+TakesNames met = (IsOneOf surveys met.0 × IsSome (format_given met) × (¬ IsPlaceless met)) ⊎ (met.0 ≡ codes "catalogue")
 
 -- the form of a picture that it gives
 abbrev pub picture_form_given : Met → Option PictureForm
@@ -84,6 +90,8 @@ IsJobOf met (Crunch start file output) =
 IsJobOf met (Check digest format names) =
     (met.0 ≡ codes "check") × (digest ≡ has_flag (codes "digest") met.1) × (format_given met ≡ Some format) × IsNamesBy met.1 names
 IsJobOf met (Files format names) = (met.0 ≡ codes "files") × (format_given met ≡ Some format) × IsNamesBy met.1 names
+IsJobOf met (Extract extraction format names) =
+    (met.0 ≡ codes "extract") × IsExtractionBy met.1 extraction × (format_given met ≡ Some format) × IsNamesBy met.1 names
 IsJobOf met (Map format file) =
     (met.0 ≡ codes "map") × (picture_form_given met ≡ Some format) × (first_of (codes "file") met.1 ≡ Some (string_bytes file))
 IsJobOf met (Diff format old new) =
@@ -94,7 +102,7 @@ IsJobOf met (Catalogue maps names) =
 
 -- it asks for no job, since its start is no address, or no disk has its number of tracks; or, where a disk has so many, since
 -- a session of a file has tracks of its own; or since its word for a form of output stands for none; or, where it has a form, since
--- there are no names; or there is no memory
+-- the name of its folder is empty; or else since there are no names; or there is no memory
 abbrev pub IsFaultOf : Met → JobFault → Type 0
 IsFaultOf met (Words error) = ⊥
 IsFaultOf met Start = (met.0 ≡ codes "crunch") × HasNoAddress (first_of (codes "start") met.1)
@@ -107,6 +115,7 @@ IsFaultOf met Names = TakesNames met × HasNoNames met.1
 IsFaultOf met Null = TakesNames met × HasNullAlone met.1
 IsFaultOf met Picture = (met.0 ≡ codes "map") × (picture_form_given met ≡ None)
 IsFaultOf met Difference = (met.0 ≡ codes "diff") × (diff_form_given met ≡ None)
+IsFaultOf met Folder = IsPlaceless met × IsSome (format_given met)
 
 -- the words are the program's, and ask neither for help nor for the version; and of the subcommand that they name this holds
 abbrev pub IsUse : List Text → (Met → Type 0) → Type 0
@@ -129,6 +138,7 @@ IsFault words Names = IsUse words (λ met. IsFaultOf met Names)
 IsFault words Null = IsUse words (λ met. IsFaultOf met Null)
 IsFault words Picture = IsUse words (λ met. IsFaultOf met Picture)
 IsFault words Difference = IsUse words (λ met. IsFaultOf met Difference)
+IsFault words Folder = IsUse words (λ met. IsFaultOf met Folder)
 
 -- how clap's error is told: want of memory as that, and every other as it is
 abbrev pub IsToldAs : Error → JobFault → Type 0
@@ -142,6 +152,7 @@ IsToldAs error Names = ⊥
 IsToldAs error Null = ⊥
 IsToldAs error Picture = ⊥
 IsToldAs error Difference = ⊥
+IsToldAs error Folder = ⊥
 
 -- the fault is the help or the version that the words asked for
 abbrev pub WasAskedFor : JobFault → Type 0
@@ -155,3 +166,4 @@ WasAskedFor Names = ⊥
 WasAskedFor Null = ⊥
 WasAskedFor Picture = ⊥
 WasAskedFor Difference = ⊥
+WasAskedFor Folder = ⊥

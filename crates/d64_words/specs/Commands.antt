@@ -67,6 +67,12 @@ check = survey (with_rule (new_app (codes "check")) (flag (codes "digest")))
 abbrev pub files : App
 files = survey (new_app (codes "files"))
 
+-- `extract [--into FOLDER] [--part] [--skip-existing]` with the words of a survey
+abbrev pub extract : App
+extract =
+    let placed = with_rule (new_app (codes "extract")) (valued_option (codes "into")) in
+    survey (with_rule (with_rule placed (flag (codes "part"))) (flag (codes "skip-existing")))
+
 -- `map [--format FORMAT] FILE`
 abbrev pub map : App
 map = with_rule (with_rule (new_app (codes "map")) (valued_option (codes "format"))) (required_argument (codes "file"))
@@ -95,5 +101,5 @@ bare = let named = new_app (codes "d64sh") in record named {
 unfoldable pub d64sh : App
 d64sh =
     let tools = with_subcommand (with_subcommand (with_subcommand bare shell.top) petcat.top) crunch.top in
-    let surveyed = with_subcommand (with_subcommand tools check.top) files.top in
+    let surveyed = with_subcommand (with_subcommand (with_subcommand tools check.top) files.top) extract.top in
     with_subcommand (with_subcommand (with_subcommand surveyed map.top) diff.top) catalogue.top

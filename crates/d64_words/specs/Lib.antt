@@ -1,5 +1,6 @@
 pub mod Asked
 pub mod Commands
+pub mod Extraction
 pub mod Format
 pub mod Names
 pub mod Start

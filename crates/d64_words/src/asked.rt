@@ -45,6 +45,12 @@ pub enum Job {
         format: Format,
         names: Names,
     },
+    /// Write the files on dumps to the host, and tell of each.
+    Extract {
+        extraction: Extraction,
+        format: Format,
+        names: Names,
+    },
     /// Draw the blocks of one dump.
     Map {
         format: PictureForm,
@@ -61,6 +67,17 @@ pub enum Job {
         old: String,
         new: String,
     },
+}
+
+/// How files are taken out of images.
+#[derive(Debug, Drop)]
+pub struct Extraction {
+    /// The folder below which each image gets a folder of its own. The name isn't empty.
+    pub into: String,
+    /// Whether what is left of files that have no content is written too.
+    pub part: bool,
+    /// Whether an image whose folder is there is passed over.
+    pub skip_existing: bool,
 }
 
 /// The form of a survey's output.
@@ -140,6 +157,9 @@ pub enum JobFault {
     /// What follows `--format` of `diff` is neither `text` nor `json`.
     #[error("usage: --format takes text or json")]
     Difference,
+    /// What follows `--into` is empty.
+    #[error("usage: --into takes the name of a folder")]
+    Folder,
 }
 
 impl JobFault {
@@ -157,7 +177,8 @@ impl JobFault {
             | JobFault::Names
             | JobFault::Null
             | JobFault::Picture
-            | JobFault::Difference => false,
+            | JobFault::Difference
+            | JobFault::Folder => false,
         }
     }
 }

@@ -4,7 +4,7 @@ ghost use Rattle.std.specs.Prelude.{◌≡◌, IfOk, false};
 ghost use Rattle.clap.specs.Words.{app_of, kind_of, rule_of};
 ghost use Rattle.clap.specs.declared.error.kind.ErrorKind.TheVariants.{InvalidValue};
 ghost use Rattle.clap.specs.declared.builder.command.Command.TheViews.{out-Command as fields_of};
-ghost use Rattle.d64_words.specs.Commands.{bare, d64sh, shell, petcat, crunch, check, files, map, diff, catalogue, survey, with_names, file_argument, required_argument, files_argument, valued_option, output_option, flag, with_script};
+ghost use Rattle.d64_words.specs.Commands.{bare, d64sh, shell, petcat, crunch, check, files, extract, map, diff, catalogue, survey, with_names, file_argument, required_argument, files_argument, valued_option, output_option, flag, with_script};
 
 use clap::error::ErrorKind;
 use clap::{Arg, ArgAction, Command, Error};
@@ -111,6 +111,23 @@ Example: d64sh files --format csv *.d64 >files.csv
 No image is ever written. The manual says more: `man d64sh`, or docs/MANUAL.md
 beside the source.";
 
+const EXTRACT_USAGE: &str =
+    "d64sh extract [--into FOLDER] [--part] [--skip-existing] [--format FORMAT] FILE..
+       d64sh extract [..] --files-from LIST [--null]";
+
+const EXTRACT_AFTER_HELP: &str =
+    "In:      images of 35 or 40 tracks, each with or without the read codes of its
+         blocks: files of 174,848, 175,531, 196,608 or 197,376 bytes
+Out:     a folder for each image, with its files and a list, `files.jsonl`; and
+         what `files` prints, with the path of each file that was written
+Exit:    0 nothing is amiss; 1 a file isn't whole, or a directory is broken or
+         has a read error; 2 a word, a file, reading or writing failed
+Example: d64sh extract --into files *.d64
+
+The folder of disk.d64 is disk.d64.files, and has `.partial` at its end until all
+is in it. A folder that is there already is left as it is, and no image is ever
+written. The manual says more: `man d64sh`, or docs/MANUAL.md beside the source.";
+
 const MAP_USAGE: &str = "d64sh map [--format FORMAT] FILE";
 
 const MAP_AFTER_HELP: &str =
@@ -165,6 +182,7 @@ pub(crate) fn d64sh<'a>(alloc: Global) -> Result<Command<'a>, AllocError>
         .subcommand(crunch(alloc)?)?
         .subcommand(check(alloc)?)?
         .subcommand(files(alloc)?)?
+        .subcommand(extract(alloc)?)?
         .subcommand(map(alloc)?)?
         .subcommand(diff(alloc)?)?
         .subcommand(catalogue(alloc)?)
@@ -187,6 +205,7 @@ fn usage(name: &str) -> &'static str {
         "crunch" => CRUNCH_USAGE,
         "check" => CHECK_USAGE,
         "files" => FILES_USAGE,
+        "extract" => EXTRACT_USAGE,
         "map" => MAP_USAGE,
         "diff" => DIFF_USAGE,
         "catalogue" => CATALOGUE_USAGE,
@@ -322,6 +341,37 @@ fn files<'a>(alloc: Global) -> Result<Command<'a>, AllocError>
         .about("Lists the files on disk images, and which are whole")
         .override_usage(FILES_USAGE)
         .after_help(FILES_AFTER_HELP);
+    survey(alloc, command)
+}
+
+/// `extract [--into FOLDER] [--part] [--skip-existing]` with the words of a survey.
+fn extract<'a>(alloc: Global) -> Result<Command<'a>, AllocError>
+    ensures app { IfOk result (λ command. app_of command ≡ extract) }
+    ensures local { IfOk result (λ command. (fields_of command).has_globals ≡ false) }
+{
+    let into = valued_option(
+        alloc,
+        "into",
+        "FOLDER",
+        "Put the images' folders into this one, which is there; without it, `.`",
+    );
+    let part = flag(
+        alloc,
+        "part",
+        "Also write what is left of files that have no content, as NAME.part",
+    );
+    let skip = flag(
+        alloc,
+        "skip-existing",
+        "Pass over images whose folders are there and complete",
+    );
+    let command = Command::new(alloc, "extract")
+        .about("Writes the files on disk images to folders")
+        .override_usage(EXTRACT_USAGE)
+        .after_help(EXTRACT_AFTER_HELP)
+        .arg(into)?
+        .arg(part)?
+        .arg(skip)?;
     survey(alloc, command)
 }
 

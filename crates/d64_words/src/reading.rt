@@ -12,7 +12,7 @@ ghost use Rattle.d64_words.specs.declared.asked.JobFault.TheVariants.{Start, Tra
 use crate::asked::{Job, JobFault};
 use crate::command;
 use crate::dumps::{diff_job, map_job};
-use crate::surveys::{catalogue_job, check_job, files_job};
+use crate::surveys::{catalogue_job, check_job, extract_job, files_job};
 use crate::values::{given, has_flag, value, values};
 use clap::error::ErrorKind;
 use clap::{ArgMatches, Error};
@@ -31,11 +31,12 @@ const ADDRESS_DIGITS: usize = 4;
 ///
 /// `Words` comes exactly where the words are none of the program's, or ask for help or the version; else `Start` exactly where
 /// what follows `--start` is other than one to four hexadecimal digits; else `Tracks` exactly where what follows `--tracks` is
-/// neither 35 nor 40, or there is an image beside it; else `Both` exactly where there is `--resume` beside `--tracks`; else `Format`
-/// exactly where what follows `--format` of a survey is neither `text`, `json` nor `csv`; else `Names` exactly where there are both FILE and
-/// `--files-from`, or neither; else `Null` exactly where there is `--null` without `--files-from`; else `Picture` exactly where what
-/// follows `--format` of `map` is neither `text` nor `svg`, or `Difference` exactly where what follows `--format` of `diff` is neither `text`
-/// nor `json`; and `Memory` in place of any answer.
+/// neither 35 nor 40, or there is an image beside it; else `Both` exactly where there is `--resume` beside `--tracks`; else
+/// `Format` exactly where what follows `--format` of a survey is neither `text`, `json` nor `csv`; else `Folder` exactly where
+/// what follows `--into` of `extract` is empty; else `Names` exactly where there are both FILE and `--files-from`, or neither;
+/// else `Null` exactly where there is `--null` without `--files-from`; else `Picture` exactly where what follows `--format` of
+/// `map` is neither `text` nor `svg`, or `Difference` exactly where what follows `--format` of `diff` is neither `text` nor
+/// `json`; and `Memory` in place of any answer.
 pub fn job(alloc: Global, words: &[&str]) -> Result<Job, JobFault>
     ensures job { IfOk result (IsJob (map (λ word. word.now) words.now)) }
     ensures fault { IfErr result (IsFault (map (λ word. word.now) words.now)) }
@@ -82,6 +83,7 @@ fn job_of(alloc: Global, name: &str, arguments: &ArgMatches) -> Result<Job, JobF
         }),
         "check" => check_job(alloc, arguments),
         "files" => files_job(alloc, arguments),
+        "extract" => extract_job(alloc, arguments),
         "map" => map_job(alloc, arguments),
         "diff" => diff_job(alloc, arguments),
         _ => catalogue_job(alloc, arguments),

@@ -1,11 +1,13 @@
 //! The jobs that survey files: what their words have in common.
 
-ghost use Rattle.std.specs.Prelude.{IfOk, IfErr, codes};
-ghost use Rattle.clap.specs.Words.{found_of, rows_of};
+ghost use Rattle.std.specs.Prelude.{◌≡◌, ◌⊎◌, IfOk, IfErr, codes};
+ghost use Rattle.clap.specs.Words.{found_of, first_of, rows_of};
 ghost use Rattle.d64_words.specs.Asked.{IsJobOf, IsFaultOf};
+ghost use Rattle.d64_words.specs.Extraction.{HasNoFolder, IsExtractionBy};
 ghost use Rattle.d64_words.specs.Names.{IsNamesBy, IsNamesFault};
+ghost use Rattle.d64_words.specs.declared.asked.JobFault.TheVariants.{Folder, Memory};
 
-use crate::asked::{Job, JobFault, Names, Separator};
+use crate::asked::{Extraction, Job, JobFault, Names, Separator};
 use crate::forms::format;
 use crate::values::{given, has_flag, values};
 use clap::ArgMatches;
@@ -32,6 +34,35 @@ pub(crate) fn files_job(alloc: Global, arguments: &ArgMatches) -> Result<Job, Jo
     Ok(Job::Files {
         format: format(arguments)?,
         names: names(alloc, arguments)?,
+    })
+}
+
+/// The job that `extract` with these matches asks for.
+pub(crate) fn extract_job(alloc: Global, arguments: &ArgMatches) -> Result<Job, JobFault>
+    ensures job { IfOk result (IsJobOf (codes "extract", rows_of (found_of arguments.now))) }
+    ensures fault { IfErr result (IsFaultOf (codes "extract", rows_of (found_of arguments.now))) }
+{
+    let format = format(arguments)?;
+    Ok(Job::Extract {
+        extraction: extraction(alloc, arguments)?,
+        format,
+        names: names(alloc, arguments)?,
+    })
+}
+
+/// How the words want files taken out.
+fn extraction(alloc: Global, arguments: &ArgMatches) -> Result<Extraction, JobFault>
+    ensures extraction { IfOk result (IsExtractionBy (rows_of (found_of arguments.now))) }
+    ensures fault { IfErr result (λ fault. (fault ≡ Memory) ⊎ ((fault ≡ Folder) × HasNoFolder (first_of (codes "into") (rows_of (found_of arguments.now))))) }
+{
+    let into = given(arguments, "into").unwrap_or(".");
+    if into.is_empty() {
+        return Err(JobFault::Folder);
+    }
+    Ok(Extraction {
+        into: String::from_str(alloc, into)?,
+        part: has_flag(arguments, "part"),
+        skip_existing: has_flag(arguments, "skip-existing"),
     })
 }
 

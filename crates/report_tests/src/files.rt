@@ -9,7 +9,7 @@ use d64_survey::Flaw;
 use std::test::Fail;
 
 /// A whole file of one block.
-fn hello() -> FileRow {
+pub(crate) fn hello() -> FileRow {
     FileRow {
         slot: 0,
         field: *b"HELLO\xA0\xA0\xA0\xA0\xA0\xA0\xA0\xA0\xA0\xA0\xA0",
@@ -34,7 +34,7 @@ fn hello() -> FileRow {
 }
 
 /// A locked REL file whose chain is broken, with a read error, and a control code in its name.
-fn broken() -> FileRow {
+pub(crate) fn broken() -> FileRow {
     let mut why = ArrayVec::new();
     why.push(Flaw::Broken);
     why.push(Flaw::Unreadable);

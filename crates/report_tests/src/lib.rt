@@ -6,6 +6,8 @@
 #[cfg(test)]
 mod disks;
 #[cfg(test)]
+mod extracted;
+#[cfg(test)]
 mod files;
 #[cfg(test)]
 mod lines;

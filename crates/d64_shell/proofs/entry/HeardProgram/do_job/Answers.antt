@@ -3,15 +3,16 @@ use Rattle.std.proofs.Common.{◌≡◌, ℕ, List, Option, inr, map, option_cop
 use Rattle.d64_collection.specs.Runs.{account_at}
 use Rattle.d64_check.specs.Check.{check_rule, heading_of as check_heading}
 use Rattle.d64_listing.specs.Files.{files_rule, heading_of as files_heading}
+use Rattle.d64_listing.specs.Extracts.{extract_heading}
 use Rattle.d64_picture.specs.Pictures.{map_rule}
 use Rattle.d64_catalogue.specs.Catalogue.{catalogue_rule, catalogue_heading}
 use Rattle.std.specs.Prelude.{[], ◌∷◌, string_bytes}
 use Rattle.d64_runner.specs.Transcript.{Manner}
 use Rattle.d64_runner.specs.declared.manners.Refusals.{Refusals}
-use Rattle.d64_shell.specs.Jobs.{beginning_of, home_of, refusals_of, source_of, work_of}
+use Rattle.d64_shell.specs.Jobs.{beginning_of, home_of, refusals_of, setup_of, source_of, work_of}
 use Rattle.d64_shell.specs.SurveyFiles.{Named, files_in, files_of}
 use Rattle.d64_shell.specs.Program.{outside_at}
-use Rattle.d64_shell.proofs.JobEnds.{script_ended, survey_ended}
+use Rattle.d64_shell.proofs.JobEnds.{extraction_ended, extraction_is_quiet, script_ended, survey_ended}
 use Rattle.d64_shell.proofs.entry.HeardProgram.do_job.Goals as goal
 
 -- a fault stopped the script
@@ -69,3 +70,17 @@ returns-in-Catalogue-clause-ended g c =
     (account_at g.F.Write.contents c.args.faults.now) (account_at g.F.Write.contents c.run-in-Catalogue.new.faults) c.run-in-Catalogue.result
     (ap work_of c.in-Catalogue.is) (search rules)
     (c.run-in-Catalogue.ensures.ended (catalogue_rule c.in-Catalogue.maps) catalogue_heading (search rules))
+
+pub returns-in-Extract-clause-ended : goal.returns-in-Extract-clause-ended
+returns-in-Extract-clause-ended g c =
+    extraction_ended c.args.job (setup_of c.in-Extract.extraction c.in-Extract.format) (extract_heading c.in-Extract.format) (files_of c.in-Extract.names) (files_in c.new-in-Extract.result.names)
+    (outside_at g.R.Read.remaining c.args.input.now g.W.Write.contents c.args.output.now g.H.Host.state c.args.host.now)
+    (outside_at g.R.Read.remaining c.run_by.new.input g.W.Write.contents c.run_by.new.output g.H.Host.state c.run_by.new.host)
+    (account_at g.F.Write.contents c.args.faults.now) (account_at g.F.Write.contents c.run_by.new.faults) c.run_by.result
+    (ap work_of c.in-Extract.is) (search rules)
+    (c.run_by.ensures.ended (setup_of c.in-Extract.extraction c.in-Extract.format) (extract_heading c.in-Extract.format) (search rules))
+
+pub returns-in-Extract-clause-silent : goal.returns-in-Extract-clause-silent
+returns-in-Extract-clause-silent g c = λ passes is.
+    c.run_by.ensures.silent (extraction_is_quiet c.args.job (setup_of c.in-Extract.extraction c.in-Extract.format) (extract_heading c.in-Extract.format) (files_of c.in-Extract.names) c.new-clerk.result
+    (ap work_of c.in-Extract.is) (search rules) passes) is

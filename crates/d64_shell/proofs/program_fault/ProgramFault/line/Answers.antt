@@ -39,6 +39,10 @@ pub returns-in-Difference : goal.returns-in-Difference
 unfolding fault_line
 returns-in-Difference c = search (rules, append_assoc)
 
+pub returns-in-Folder : goal.returns-in-Folder
+unfolding fault_line
+returns-in-Folder c = search (rules, append_assoc)
+
 pub returns-in-WrongLength : goal.returns-in-WrongLength
 unfolding fault_line
 returns-in-WrongLength c = search (rules, append_assoc)

@@ -1,0 +1,18 @@
+//! What an extraction is asked for.
+ghost use Rattle.std.specs.Prelude.{◌≡◌};
+ghost use Rattle.d64_shell.specs.Jobs.{setup_of};
+
+use d64_unpack::Setup;
+use d64_words::{Extraction, Format};
+
+/// What an extraction is asked for by the words, in a form of the output.
+pub(crate) fn setup_of(asked: Extraction, form: Format) -> Setup
+    ensures { result ≡ setup_of asked form }
+{
+    Setup {
+        into: asked.into,
+        with_parts: asked.part,
+        skips: asked.skip_existing,
+        form,
+    }
+}

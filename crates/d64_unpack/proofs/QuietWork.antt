@@ -1,0 +1,140 @@
+-- Nothing is complained of an image on which the verdict is clean.
+use Rattle.std.proofs.Common.{◌≡◌, ℕ, Bool, true, false, not, cond, List, [], ◌∷◌, ◌++◌, Option, Some, None, refl, sym, ap, ◌∙◌, subst, inl, inr, append-nil}
+use Rattle.std.specs.Prelude.{is_some}
+use Rattle.std.specs.Str.{is_utf8}
+use Rattle.d64_host.specs.Files.{HostState}
+use Rattle.d64_survey.specs.Dump.{DumpView}
+use Rattle.d64_inventory.specs.Rows.{RowView, rows}
+use Rattle.d64_extract.specs.Portions.{Portion}
+use Rattle.d64_extract.specs.Limits.{within}
+use Rattle.d64_report.specs.DumpOf.{dump_of}
+use Rattle.d64_wording.specs.FaultLines.{too_much_line}
+use Rattle.d64_collection.specs.Answers.{Answer}
+use Rattle.d64_collection.specs.declared.report.Verdict.TheVariants.{Clean, Amiss, Failed}
+use Rattle.d64_host_names.specs.ImagePlace.{folders_of}
+use Rattle.d64_inventory.specs.ListingAmiss.{is_listing_amiss}
+use Rattle.d64_unpack.specs.Setup.{SetupView, TaskView}
+use Rattle.d64_unpack.specs.Paths.{inside, with_slash}
+use Rattle.d64_unpack.specs.Work.{Work, Done, Then, Rename, Does}
+use Rattle.d64_unpack.specs.Progress.{Progress, begun, portion_of, host_name, told, spent, named, tried}
+use Rattle.d64_unpack.specs.Unpacking.{unread, skipped, present, finished, unnamed, unfinished, closed, name_work, list_work, file_work, files_work, folder_work, folders_work, folder_after, task_work_with, task_of, dump_work, unpacking}
+use Rattle.d64_unpack.specs.UnpackLaws.{CleanIsQuiet}
+
+-- whatever the host says, nothing is complained of where the verdict is clean
+unfoldable IsQuietWork : Work → Type 0
+IsQuietWork (Done answer) = answer.verdict ≡ Clean → answer.complaint ≡ []
+IsQuietWork (Then call next) = (said : Bool) → IsQuietWork (next said)
+
+-- then nothing is
+does_quietly : (work : Work) (old new : HostState) (answer : Answer) → IsQuietWork work → Does work old (Some answer) new → answer.verdict ≡ Clean → answer.complaint ≡ []
+unfolding Does IsQuietWork
+does_quietly (Done told) old new answer quiet (same, inl is) clean =
+    let e : answer ≡ told = cc in
+    ap (λ (a : Answer). a.complaint) e ∙ quiet (sym (ap (λ (a : Answer). a.verdict) e) ∙ clean)
+does_quietly (Done told) old new answer quiet (same, inr is) clean = absurd (let e : Some answer ≡ None = is in cc)
+does_quietly (Then call next) old new answer quiet (inl (said, middle, says, done)) clean = does_quietly (next said) middle new answer (quiet said) done clean
+does_quietly (Then call next) old new answer quiet (inr (same, is)) clean = absurd (let e : Some answer ≡ None = is in cc)
+
+-- nothing is complained of unless a write failed
+abbrev IsQuietSoFar : Progress → Type 0
+IsQuietSoFar p = p.has_failed ≡ false → p.complaint ≡ []
+
+-- the folder has its name
+finished_quiet : (task : TaskView) (p : Progress) → p.has_failed ≡ false → IsQuietSoFar p → IsQuietWork (Done (finished task (closed task p)))
+unfolding IsQuietWork closed
+finished_quiet task p unfailed quiet = by_left p.left (p.complaint) (quiet unfailed)
+  where
+    by_left : (left : Option ℕ) (complaint : List ℕ) → complaint ≡ []
+        → (cond (is_some left) (cond (is_listing_amiss task.dump) Amiss Clean) Failed) ≡ Clean → complaint ++ cond (is_some left) [] (too_much_line task.name) ≡ []
+    by_left (Some count) complaint none clean = append-nil complaint ∙ none
+    by_left None complaint none clean = absurd (let e : Failed ≡ Clean = clean in cc)
+
+named_quiet : (task : TaskView) (p : Progress) (is_listed : Bool) → IsQuietSoFar p → IsQuietWork (name_work task (closed task p) is_listed)
+unfolding name_work closed IsQuietWork
+named_quiet task p false quiet = λ clean. absurd (let e : Failed ≡ Clean = clean in cc)
+named_quiet task p true quiet = by_failure p.has_failed refl
+  where
+    by_failure : (failed : Bool) → failed ≡ p.has_failed → IsQuietWork (cond (not failed)
+        (Then (Rename task.partial task.done) (λ is_named. Done (cond is_named (finished task (closed task p)) (unnamed task (closed task p))))) (Done (unfinished task (closed task p) true)))
+    by_failure true is = λ clean. absurd (let e : Failed ≡ Clean = clean in cc)
+    by_failure false is = by_name
+      where
+        by_name : (said : Bool) → IsQuietWork (Done (cond said (finished task (closed task p)) (unnamed task (closed task p))))
+        by_name true = finished_quiet task p (sym is) quiet
+        by_name false = λ clean. absurd (let e : Failed ≡ Clean = clean in cc)
+
+listed_quiet : (task : TaskView) (p : Progress) → IsQuietSoFar p → IsQuietWork (list_work task (closed task p))
+unfolding list_work IsQuietWork
+listed_quiet task p quiet = λ is_listed. named_quiet task p is_listed quiet
+
+-- one more file
+tried_quiet : (task : TaskView) (row : RowView) (file : List ℕ) (said : Bool) (p : Progress) → IsQuietSoFar p → IsQuietSoFar (tried task row file said p)
+unfolding tried told
+tried_quiet task row file true p quiet = quiet
+tried_quiet task row file false p quiet = λ unfailed. absurd (let e : true ≡ false = unfailed in cc)
+
+told_quiet : (task : TaskView) (row : RowView) (path : Option (List ℕ)) (p : Progress) → IsQuietSoFar p → IsQuietSoFar (told task row path p)
+unfolding told
+told_quiet task row path p quiet = quiet
+
+file_quiet : (task : TaskView) (row : RowView) (p : Progress) (portion : Option Portion) (rest : Progress → Work) → IsQuietSoFar p → ((q : Progress) → IsQuietSoFar q → IsQuietWork (rest q))
+    → IsQuietWork (file_work task row p portion rest)
+unfolding file_work IsQuietWork
+file_quiet task row p None rest quiet later = later (told task row None p) (told_quiet task row None p quiet)
+file_quiet task row p (Some portion) rest quiet later =
+    let file = host_name p.taken row portion.extent in
+    λ said. later (tried task row file said (named file p)) (tried_quiet task row file said (named file p) quiet)
+
+files_quiet : (task : TaskView) (rows : List RowView) (p : Progress) → IsQuietSoFar p → IsQuietWork (files_work task rows p)
+unfolding files_work
+files_quiet task [] p quiet = listed_quiet task p quiet
+files_quiet task (row ∷ rows) p quiet =
+    file_quiet task row (spent task row p) (within p.left (portion_of task row)) (files_work task rows) quiet (λ q. files_quiet task rows q)
+
+-- the folders, and what is in them
+folder_quiet : (task : TaskView) → IsQuietWork (folder_work task)
+unfolding folder_work IsQuietWork
+folder_quiet task true = files_quiet task (rows task.dump) (begun task) (λ unfailed. refl)
+folder_quiet task false = λ clean. absurd (let e : Failed ≡ Clean = clean in cc)
+
+after_quiet : (task : TaskView) (unmade : Option (List ℕ)) → IsQuietWork (folder_after task unmade)
+unfolding IsQuietWork
+after_quiet task None = folder_quiet task
+after_quiet task (Some path) = λ clean. absurd (let e : Failed ≡ Clean = clean in cc)
+
+folders_quiet : (task : TaskView) (place : List ℕ) (folders : List (List ℕ)) → IsQuietWork (folders_work (folder_after task) place folders)
+unfolding folders_work IsQuietWork
+folders_quiet task place [] = after_quiet task None
+folders_quiet task place (folder ∷ folders) = by_answer (folders_quiet task (with_slash (place ++ folder)) folders)
+  where
+    by_answer : IsQuietWork (folders_work (folder_after task) (with_slash (place ++ folder)) folders) → (said : Bool)
+        → IsQuietWork (cond said (folders_work (folder_after task) (with_slash (place ++ folder)) folders) (folder_after task (Some (place ++ folder))))
+    by_answer quiet true = quiet
+    by_answer quiet false = after_quiet task (Some (place ++ folder))
+
+task_quiet : (task : TaskView) (folders : List (List ℕ)) → task.setup.skips ≡ false → IsQuietWork (task_work_with task folders)
+unfolding task_work_with IsQuietWork
+task_quiet task folders skips true =
+    subst (λ (s : Bool). IsQuietWork (Done (cond s (skipped task) (present task task.done)))) (sym skips) (λ clean. absurd (let e : Failed ≡ Clean = clean in cc))
+task_quiet task folders skips false = by_begun
+  where
+    by_begun : (said : Bool) → IsQuietWork (cond said (Done (present task task.partial)) (folders_work (folder_after task) (inside task.setup.into) folders))
+    by_begun true = λ clean. absurd (let e : Failed ≡ Clean = clean in cc)
+    by_begun false = folders_quiet task (inside task.setup.into) folders
+
+dump_quiet : (setup : SetupView) (name bytes : List ℕ) (dump : Option DumpView) → setup.skips ≡ false → IsQuietWork (dump_work setup name bytes dump)
+unfolding IsQuietWork
+dump_quiet setup name bytes None skips = λ clean. absurd (let e : Failed ≡ Clean = clean in cc)
+dump_quiet setup name bytes (Some dump) skips = task_quiet (task_of setup name dump) (folders_of name) skips
+
+unpacking_quiet : (setup : SetupView) (name : List ℕ) (bytes : Option (List ℕ)) → setup.skips ≡ false → IsQuietWork (unpacking setup name bytes)
+unfolding unpacking IsQuietWork
+unpacking_quiet setup name None skips = λ clean. absurd (let e : Failed ≡ Clean = clean in cc)
+unpacking_quiet setup name (Some bytes) skips = by_text (is_utf8 name)
+  where
+    by_text : (t : Bool) → IsQuietWork (cond t (dump_work setup name bytes (dump_of bytes)) (Done (unread setup name)))
+    by_text true = dump_quiet setup name bytes (dump_of bytes) skips
+    by_text false = λ clean. absurd (let e : Failed ≡ Clean = clean in cc)
+
+pub clean_is_quiet : CleanIsQuiet
+clean_is_quiet setup skips name bytes old answer new done clean = does_quietly (unpacking setup name bytes) old new answer (unpacking_quiet setup name bytes skips) done clean

@@ -1,0 +1,31 @@
+use Rattle.std.proofs.Common.{◌≡◌, rules, ◌∷◌, None, subst}
+use Rattle.d64_unpack.specs.Work.{Work, Does, LeadsTo}
+use Rattle.d64_unpack.specs.FilesNow.{progress_of}
+use Rattle.d64_unpack.specs.Unpacking.{files_work}
+use Rattle.d64_unpack.proofs.Steps.{stops, further, comes_not}
+use Rattle.d64_unpack.proofs.FileSteps.{next_file}
+use Rattle.d64_unpack.proofs.files.Files.unpack_files.Goals as goal
+
+pub returns-in_err-begin : goal.returns-in_err-begin
+returns-in_err-begin g c = comes_not c.from_residual.result _ _ _ _ c.from_residual.ensures.0 (stops _ _)
+
+pub loop-row-preserved : goal.loop-row-preserved
+loop-row-preserved g c =
+    let task = c.args.task.now in
+    let row = c.in-Some.row in
+    let later = c.next.new.self in
+    let step : c.loop-row.row-iterator ≡ row ∷ later = search rules in
+    further _ _ _ _ _ _ c.loop-row.invariant
+    (subst (λ (w : Work). LeadsTo w (g.H.Host.state c.loop-row.host) (files_work task later (progress_of c.unpack_file.new.self)) (g.H.Host.state c.unpack_file.new.host))
+    (next_file task row later c.loop-row.row-iterator (progress_of c.loop-row.self) step) (c.in_ok-unpack_file.ensures (files_work task later)))
+
+pub returns-in_err-unpack_file : goal.returns-in_err-unpack_file
+returns-in_err-unpack_file g c =
+    let task = c.args.task.now in
+    let row = c.in-Some.row in
+    let later = c.next.new.self in
+    let step : c.loop-row.row-iterator ≡ row ∷ later = search rules in
+    comes_not c.from_residual-in_err-unpack_file.result _ _ _ _ c.from_residual-in_err-unpack_file.ensures.0
+    (c.loop-row.invariant None (g.H.Host.state c.unpack_file.new.host)
+    (subst (λ (w : Work). Does w (g.H.Host.state c.loop-row.host) None (g.H.Host.state c.unpack_file.new.host))
+    (next_file task row later c.loop-row.row-iterator (progress_of c.loop-row.self) step) (c.in_err-unpack_file.ensures (files_work task later))))

@@ -1,0 +1,14 @@
+-- How far the code has come with the files of an image.
+use Rattle.d64_unpack.specs.Progress.{Progress}
+use Rattle.d64_unpack.specs.declared.files.Files.{Files}
+
+-- how far it has come, by what the code holds
+abbrev pub progress_of : Files → Progress
+progress_of files = record {
+  left = files.extraction;
+  taken = files.taken;
+  printed = files.told.printed.items;
+  lines = files.told.lines.items;
+  complaint = files.told.complaint.items;
+  has_failed = files.told.has_failed;
+}

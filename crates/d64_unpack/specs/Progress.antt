@@ -1,0 +1,91 @@
+-- How far it has come with the files of an image.
+use Rattle.std.specs.Prelude.{ℕ, Bool, true, false, List, [], ◌∷◌, ◌++◌, Option, Some, None}
+use Rattle.std.specs.Option.{option_map_or}
+use Rattle.petscii.specs.Spelling.{spelling}
+use Rattle.d64_files.specs.Name.{name_in}
+use Rattle.d64_files.specs.declared.kind.Kind.{Kind}
+use Rattle.d64_files.specs.declared.kind.Kind.TheVariants as kinds
+use Rattle.d64_inventory.specs.Rows.{RowView}
+use Rattle.d64_extract.specs.Portions.{Portion, portion_at}
+use Rattle.d64_extract.specs.Limits.{limit, left_after}
+use Rattle.d64_extract.specs.declared.extent.Extent.{Extent}
+use Rattle.d64_extract.specs.declared.extent.Extent.TheVariants as extents
+use Rattle.d64_host_names.specs.TakenNames.{next_name}
+use Rattle.d64_host_names.specs.declared.ending.Ending.{Ending}
+use Rattle.d64_host_names.specs.declared.ending.Ending.TheVariants as endings
+use Rattle.d64_words.specs.declared.asked.Format.TheVariants.{Json}
+use Rattle.d64_wording.specs.FaultLines.{unwritten_line}
+use Rattle.d64_listing.specs.Files.{before_rows}
+use Rattle.d64_listing.specs.Extracts.{printed_file}
+use Rattle.d64_unpack.specs.Setup.{TaskView}
+use Rattle.d64_unpack.specs.Paths.{path_in}
+
+-- how far it has come: how many bytes later files may have, the host names that are taken, what is printed, the same in JSON, what is complained
+-- of, and whether a write failed
+pub record Progress : Type 0 where
+  pub left : Option ℕ
+  pub taken : List (List ℕ)
+  pub printed : List ℕ
+  pub lines : List ℕ
+  pub complaint : List ℕ
+  pub has_failed : Bool
+
+-- no file has come
+abbrev pub begun : TaskView → Progress
+begun task = record {
+  left = Some limit;
+  taken = [];
+  printed = before_rows task.setup.form task.name task.dump.image;
+  lines = [];
+  complaint = [];
+  has_failed = false;
+}
+
+-- the ending of the host name by the kind of a file
+abbrev pub ending_of : Kind → Ending
+ending_of kinds.Del = endings.Del
+ending_of kinds.Seq = endings.Seq
+ending_of kinds.Prg = endings.Prg
+ending_of kinds.Usr = endings.Usr
+ending_of kinds.Rel = endings.Rel
+
+-- the same where there may be no kind: then there is nothing to write
+abbrev pub ending_by : Option Kind → Ending
+ending_by kind = option_map_or ending_of kind endings.Del
+
+-- a file is written in part
+abbrev pub is_part : Extent → Bool
+is_part extents.Content = false
+is_part extents.Part = true
+
+-- the host name of the file of a row, where these are taken
+unfoldable pub host_name : List (List ℕ) → RowView → Extent → List ℕ
+host_name taken row extent = next_name taken (spelling (name_in row.field)) (ending_by row.kind) (is_part extent)
+
+-- what there is to write of the file of a row
+abbrev pub portion_of : TaskView → RowView → Option Portion
+portion_of task row = portion_at task.setup.with_parts task.dump.image row.slot
+
+-- a file was told of, with the path of its host file, or that none was written
+unfoldable pub told : TaskView → RowView → Option (List ℕ) → Progress → Progress
+told task row path progress = record progress {
+  printed = progress.printed ++ printed_file task.setup.form task.name row path;
+  lines = progress.lines ++ printed_file Json task.name row path;
+}
+
+-- of the files that may come after one, fewer bytes are left
+abbrev pub spent : TaskView → RowView → Progress → Progress
+spent task row progress = record progress { left = left_after progress.left (portion_of task row) }
+
+-- a host name is taken
+abbrev pub named : List ℕ → Progress → Progress
+named file progress = record progress { taken = progress.taken ++ file ∷ [] }
+
+-- a write at a path failed
+abbrev pub failed_at : List ℕ → Progress → Progress
+failed_at path progress = record progress { complaint = progress.complaint ++ unwritten_line path; has_failed = true }
+
+-- a write was tried for the file of a row, whose host name is taken, and went well or not
+unfoldable pub tried : TaskView → RowView → List ℕ → Bool → Progress → Progress
+tried task row file true progress = told task row (Some (path_in task.done file)) progress
+tried task row file false progress = told task row None (failed_at (path_in task.partial file) progress)

@@ -1,0 +1,112 @@
+//! An image is unpacked, call by call of the host.
+ghost use Rattle.std.specs.Prelude.{map};
+ghost use Rattle.d64_inventory.specs.Rows.{rows};
+ghost use Rattle.d64_unpack.specs.Paths.{inside};
+ghost use Rattle.d64_unpack.specs.Work.{Ends};
+ghost use Rattle.d64_unpack.specs.FilesNow.{progress_of};
+ghost use Rattle.d64_unpack.specs.Unpacking.{name_work, list_work, closed, files_work, folder_work, folders_work, folder_after, task_work_with};
+
+use crate::answering::{
+    LIST_NAME, tell_done, tell_finished, tell_present, tell_unfinished, tell_unmade, tell_unnamed,
+};
+use crate::calls::{is_there, make_file, make_folder, rename};
+use crate::files::Files;
+use crate::folders::have_folders;
+use crate::paths::{inside, put_path};
+use crate::setup::Task;
+use d64_collection::{AnswerRoom, Verdict};
+use d64_host::Host;
+use std::alloc::AllocError;
+
+impl<'a, 'd> Task<'a, 'd> {
+    /// Gives the image's folder its name, where all was written, and answers.
+    fn name_folder<H: Host>(
+        &self,
+        is_listed: bool,
+        files: &mut Files,
+        host: &mut H,
+        room: &mut AnswerRoom,
+    ) -> Result<Verdict, AllocError>
+        ensures { Ends result room.new (name_work self.now (progress_of files.old) is_listed) (H.state host.old) (H.state host.new) }
+    {
+        if !is_listed {
+            return tell_unfinished(self, is_listed, files, room);
+        }
+        if files.told.has_failed {
+            return tell_unfinished(self, is_listed, files, room);
+        }
+        if rename(host, &self.partial, &self.done) {
+            Ok(tell_finished(self, files, room))
+        } else {
+            tell_unnamed(self, files, room)
+        }
+    }
+
+    /// Writes the list of the image's files, and ends.
+    fn list_files<H: Host>(
+        &self,
+        files: &mut Files,
+        host: &mut H,
+        room: &mut AnswerRoom,
+    ) -> Result<Verdict, AllocError>
+        ensures { Ends result room.new (list_work self.now (progress_of files.old)) (H.state host.old) (H.state host.new) }
+    {
+        put_path(&mut files.path, &self.partial, LIST_NAME)?;
+        let is_listed = make_file(host, &files.path, &files.told.lines);
+        self.name_folder(is_listed, files, host, room)
+    }
+
+    /// Makes the image's folder, and all that is in it.
+    fn unpack_folder<H: Host>(
+        &self,
+        files: &mut Files,
+        host: &mut H,
+        room: &mut AnswerRoom,
+    ) -> Result<Verdict, AllocError>
+        ensures { Ends result room.new (folder_work self.now) (H.state host.old) (H.state host.new) }
+    {
+        if !make_folder(host, &self.partial) {
+            return tell_unmade(self, &mut files.told.scratch, &self.partial, room);
+        }
+        files.unpack_files(self, host)?;
+        files.close(self)?;
+        self.list_files(files, host, room)
+    }
+
+    /// Makes the folders in which the image's folder lies, and then that.
+    fn unpack_below<H: Host>(
+        &self,
+        folders: &[&str],
+        files: &mut Files,
+        host: &mut H,
+        room: &mut AnswerRoom,
+    ) -> Result<Verdict, AllocError>
+        ensures { Ends result room.new (folders_work (folder_after self.now) (inside self.now.setup.into) (map (λ folder. folder.now) folders.now)) (H.state host.old) (H.state host.new) }
+    {
+        let setup = self.setup;
+        let start = inside(self.alloc, &setup.into)?;
+        match have_folders(host, start, folders)? {
+            Some(path) => tell_unmade(self, &mut files.told.scratch, &path, room),
+            None => self.unpack_folder(files, host, room),
+        }
+    }
+
+    /// Unpacks the image, which lies in these folders, unless its folder is there.
+    pub(crate) fn unpack<H: Host>(
+        &self,
+        folders: &[&str],
+        files: &mut Files,
+        host: &mut H,
+        room: &mut AnswerRoom,
+    ) -> Result<Verdict, AllocError>
+        ensures { Ends result room.new (task_work_with self.now (map (λ folder. folder.now) folders.now)) (H.state host.old) (H.state host.new) }
+    {
+        if is_there(host, &self.done) {
+            return tell_done(self, &mut files.told.scratch, room);
+        }
+        if is_there(host, &self.partial) {
+            return tell_present(self, &mut files.told.scratch, &self.partial, room);
+        }
+        self.unpack_below(folders, files, host, room)
+    }
+}
