@@ -1,0 +1,17 @@
+//! Case files: the steps of a worked example as a file says them, for the program `test_worked_examples`, which plays them.
+//!
+//! docs/TESTING.md says how a case is written.
+#![tactic(auto)]
+
+mod case;
+mod deeds;
+mod fault;
+mod manners;
+mod notation;
+mod reading;
+mod script;
+
+pub use case::{Deed, Manner, Place, Run, Step, WhenFull};
+pub use fault::CaseFault;
+pub use reading::{Unread, steps_of};
+pub use script::{Mark, Script};

@@ -1,0 +1,195 @@
+//! Calls of the shell: what they are given, and what must come of them.
+
+use d64_shell::{Outcome, ShellFault};
+use test_cases::{Manner, Mark, Place, Run, Script, WhenFull};
+
+/// How a call ended.
+#[derive(Clone, Copy, Debug, PartialEq, Eq)]
+pub enum Ending {
+    Counted(Outcome),
+    ReadFault,
+    WriteFault,
+    OutOfMemory,
+    /// The exit status of the program.
+    Status(u8),
+}
+
+impl From<Result<Outcome, ShellFault>> for Ending {
+    fn from(outcome: Result<Outcome, ShellFault>) -> Ending {
+        match outcome {
+            Ok(outcome) => Ending::Counted(outcome),
+            Err(ShellFault::Read) => Ending::ReadFault,
+            Err(ShellFault::Write) => Ending::WriteFault,
+            Err(ShellFault::Memory(_)) => Ending::OutOfMemory,
+        }
+    }
+}
+
+/// A call of `run`, or of `program` where it has words.
+#[derive(Clone, Copy)]
+pub struct Call<'a> {
+    pub words: Option<&'a [String]>,
+    /// The bytes that the reader gives, how many at most a read, and whether it then fails.
+    pub given: &'a [u8],
+    pub at_most: usize,
+    pub reader_fails: bool,
+    /// How many bytes the writer takes, and what it does then.
+    pub room: usize,
+    pub when_full: WhenFull,
+    pub fails_at_flush: bool,
+    pub faults_room: usize,
+    /// What must come of it.
+    pub answers: &'a [u8],
+    pub faults: &'a [u8],
+    pub ending: Ending,
+}
+
+impl<'a> Call<'a> {
+    /// The first call of a run. A stream that fails anywhere fails after `place` bytes.
+    pub fn first(run: &'a Run, at_most: usize, place: usize) -> Call<'a> {
+        let call = Call::whole(run, at_most);
+        if let Some(came) = bytes_before(run.manner.reader_fails, place) {
+            return call.with_failing_reader(&run.script, came);
+        }
+        match bytes_before(run.manner.writer_stops, place) {
+            Some(room) => call.with_full_writer(room),
+            None => call,
+        }
+    }
+
+    /// The call on what a first call left of the script, where it left some.
+    pub fn second(run: &'a Run, at_most: usize, place: usize) -> Option<Call<'a>> {
+        let mark = stopped_at(run, place)?;
+        if run.manner.words.is_some() || run.script.is_closed(mark) {
+            return None;
+        }
+        let call = Call::whole(run, at_most);
+        let answers = from(call.answers, mark.answers);
+        Some(Call {
+            given: from(call.given, mark.script),
+            answers,
+            ending: Ending::Counted(counts_of(answers)),
+            ..call
+        })
+    }
+
+    /// The call on a whole script, on streams that do not fail.
+    fn whole(run: &'a Run, at_most: usize) -> Call<'a> {
+        let manner = &run.manner;
+        let answers = run.script.answers.as_bytes();
+        Call {
+            words: manner.words.as_ref().map(|words| words.as_slice()),
+            given: run.script.bytes.as_slice(),
+            at_most: manner.at_most.unwrap_or(at_most),
+            reader_fails: false,
+            room: usize::MAX,
+            when_full: manner.when_full,
+            fails_at_flush: manner.fails_at_flush,
+            faults_room: manner.faults_room.unwrap_or(usize::MAX),
+            answers,
+            faults: manner.faults.as_bytes(),
+            ending: ending_of(manner, answers),
+        }
+    }
+
+    /// This call, whose reader gives so many bytes and then fails: the lines that are ended by then are answered.
+    fn with_failing_reader(self, script: &Script, came: usize) -> Call<'a> {
+        let mark = script.ended_by(came);
+        let answers = up_to(self.answers, mark.answers);
+        let ending = match self.ending {
+            Ending::Counted(_) if script.is_closed(mark) => Ending::Counted(counts_of(answers)),
+            Ending::Counted(_) => Ending::ReadFault,
+            other => other,
+        };
+        Call {
+            given: up_to(self.given, came),
+            reader_fails: true,
+            answers,
+            ending,
+            ..self
+        }
+    }
+
+    /// This call, whose writer takes so many bytes: where there are more, that part of the answers is written.
+    fn with_full_writer(self, room: usize) -> Call<'a> {
+        let ending = match self.ending {
+            Ending::Counted(_) if room < self.answers.len() => Ending::WriteFault,
+            other => other,
+        };
+        Call {
+            room,
+            answers: up_to(self.answers, room),
+            ending,
+            ..self
+        }
+    }
+}
+
+/// After how many bytes a stream stops, where it does.
+fn bytes_before(stops: Place, place: usize) -> Option<usize> {
+    match stops {
+        Place::Nowhere => None,
+        Place::After(count) => Some(count),
+        Place::Anywhere => Some(place),
+    }
+}
+
+/// The last line that the first call of a run has answered, or was answering, where a stream stops.
+fn stopped_at(run: &Run, place: usize) -> Option<Mark> {
+    if let Some(came) = bytes_before(run.manner.reader_fails, place) {
+        return Some(run.script.ended_by(came));
+    }
+    let room = bytes_before(run.manner.writer_stops, place)?;
+    Some(run.script.answered_at(room))
+}
+
+/// How many places a run is tried with, one after another.
+pub fn place_count(run: &Run) -> usize {
+    if run.manner.reader_fails == Place::Anywhere {
+        run.script.bytes.len().saturating_add(1)
+    } else if run.manner.writer_stops == Place::Anywhere {
+        run.script.answers.len()
+    } else {
+        1
+    }
+}
+
+fn up_to(bytes: &[u8], count: usize) -> &[u8] {
+    bytes.get(..count).unwrap_or(bytes)
+}
+
+fn from(bytes: &[u8], count: usize) -> &[u8] {
+    bytes.get(count..).unwrap_or(&[])
+}
+
+/// How a script ends whose reader and writer do not fail.
+fn ending_of(manner: &Manner, answers: &[u8]) -> Ending {
+    if manner.words.is_some() {
+        Ending::Status(manner.status)
+    } else if manner.is_past_limits {
+        Ending::ReadFault
+    } else {
+        Ending::Counted(counts_of(answers))
+    }
+}
+
+/// How many lines these answers accept and refuse: a status line begins with two digits and a comma, and accepts where
+/// they are 00 or 01.
+fn counts_of(answers: &[u8]) -> Outcome {
+    let mut outcome = Outcome {
+        accepted: 0,
+        refused: 0,
+    };
+    for line in answers.split(|byte| *byte == b'\n') {
+        match line {
+            [b'0', b'0' | b'1', b',', ..] => {
+                outcome.accepted = outcome.accepted.saturating_add(1);
+            }
+            [b'0'..=b'9', b'0'..=b'9', b',', ..] => {
+                outcome.refused = outcome.refused.saturating_add(1);
+            }
+            _ => {}
+        }
+    }
+    outcome
+}

@@ -1,0 +1,356 @@
+//! Playing the steps of a case.
+
+use crate::call::{Call, Ending, place_count};
+use crate::differences::Differences;
+use crate::streams::{Asked, Bounded, Pieces};
+use d64_image::{BlockNo, Image};
+use d64_shell::{FolderHost, Host, MemoryHost, Session, program, run};
+use std::alloc::{AllocError, Global};
+use std::fs;
+use std::os::fd::AsFd;
+use std::rt::Files;
+use test_cases::{CaseFault, Deed, Run, Step, Unread, WhenFull};
+
+/// The most bytes that the shell may ask for in one read of a script, and the most reads.
+const READ_BYTES: usize = 4096;
+
+const READS: u64 = 1_000_000;
+
+/// What came of a call.
+#[derive(Drop)]
+struct Came {
+    output: Bounded,
+    faults: Bounded,
+    ending: Ending,
+    asked: Asked,
+}
+
+/// Where a case is played: a session, and a host in memory or over the current folder.
+#[derive(Drop)]
+pub struct Scene<'r, R> {
+    rt: &'r R,
+    in_folder: bool,
+    host: MemoryHost,
+    session: Session,
+}
+
+impl<'r, R: Files + AllocGlobal> Scene<'r, R>
+where
+    R::File: AsFd,
+{
+    /// A blank image, and a host in memory without files.
+    fn new(rt: &'r R) -> Result<Scene<'r, R>, AllocError> {
+        Ok(Scene {
+            rt,
+            in_folder: false,
+            host: MemoryHost::new(rt.alloc()),
+            session: Session::new(rt.alloc(), Image::zeroed(rt.alloc())?),
+        })
+    }
+
+    /// Plays a step, with so many bytes a read, and a stream that fails anywhere failing after `place` bytes.
+    fn play(
+        &mut self,
+        step: &Step,
+        at_most: usize,
+        place: usize,
+        differences: &mut Differences,
+    ) -> Result<(), CaseFault> {
+        match &step.deed {
+            Deed::Run { run } => {
+                self.make_call(step.line, Call::first(run, at_most, place), differences)?;
+                match Call::second(run, at_most, place) {
+                    Some(call) => self.make_call(step.line, call, differences),
+                    None => Ok(()),
+                }
+            }
+            Deed::OnTheFolder
+            | Deed::Image { .. }
+            | Deed::Put { .. }
+            | Deed::Change { .. }
+            | Deed::FailAt { .. } => self.prepare(&step.deed),
+            Deed::File { .. }
+            | Deed::FileIsImage { .. }
+            | Deed::NoFile { .. }
+            | Deed::Block { .. }
+            | Deed::Records { .. } => self.look(step, differences),
+        }
+    }
+
+    /// Does what comes before a script.
+    fn prepare(&mut self, deed: &Deed) -> Result<(), CaseFault> {
+        match deed {
+            Deed::OnTheFolder => self.in_folder = true,
+            Deed::Image { bytes } => {
+                let Ok(image) = Image::from_bytes(self.rt.alloc(), bytes.as_slice()) else {
+                    return Err(CaseFault::NoImage(bytes.len()));
+                };
+                self.session = Session::new(self.rt.alloc(), image);
+            }
+            Deed::Put { name, bytes } => self.host.put(name.as_str(), bytes.as_slice())?,
+            Deed::Change { name, place, bytes } => {
+                self.change(name.as_str(), *place, bytes.as_slice())?;
+            }
+            Deed::FailAt { call } => self.host.fail_at(*call as u64),
+            _ => {}
+        }
+        Ok(())
+    }
+
+    /// Gives a host file these bytes from a place on.
+    fn change(&mut self, name: &str, place: usize, bytes: &[u8]) -> Result<(), CaseFault> {
+        let Some(old) = self.file(name)? else {
+            return Err(CaseFault::MissingFile(String::from_str(self.rt.alloc(), name)?));
+        };
+        let mut new = Vec::from_slice(self.rt.alloc(), up_to(old.as_slice(), place))?;
+        new.extend_from_slice(bytes)?;
+        new.extend_from_slice(from(old.as_slice(), new.len()))?;
+        Ok(self.host.put(name, new.as_slice())?)
+    }
+
+    /// The bytes of a host file, where there is one.
+    fn file(&self, name: &str) -> Result<Option<Vec<u8>>, AllocError> {
+        if self.in_folder {
+            return Ok(fs::read(self.rt, name).ok());
+        }
+        match self.host.file(name) {
+            Some(bytes) => Ok(Some(Vec::from_slice(self.rt.alloc(), bytes)?)),
+            None => Ok(None),
+        }
+    }
+
+    /// Looks at a host file, at a block or at the records.
+    fn look(&self, step: &Step, differences: &mut Differences) -> Result<(), CaseFault> {
+        match &step.deed {
+            Deed::File { name, bytes } => {
+                self.look_at_file(
+                    step.line,
+                    name.as_str(),
+                    Some(bytes.as_slice()),
+                    differences,
+                )
+            }
+            Deed::FileIsImage { name } => {
+                let image = self.session.image().bytes();
+                self.look_at_file(step.line, name.as_str(), Some(image), differences)
+            }
+            Deed::NoFile { name } => {
+                self.look_at_file(step.line, name.as_str(), None, differences)
+            }
+            Deed::Block {
+                track,
+                sector,
+                place,
+                bytes,
+            } => {
+                let Some(block) = BlockNo::of(*track, *sector) else {
+                    return Err(CaseFault::NoBlock);
+                };
+                let image = self.session.image();
+                if !image.holds(block) {
+                    return Err(CaseFault::NoBlock);
+                }
+                let found = from(image.sector(block).as_slice(), *place);
+                let found = up_to(found, bytes.len());
+                Ok(differences.look_at_bytes(step.line, "block", found, bytes.as_slice())?)
+            }
+            Deed::Records { done, undone } => self.look_at_records(
+                step.line,
+                *done,
+                *undone,
+                differences,
+            ),
+            _ => Ok(()),
+        }
+    }
+
+    /// Looks whether a host file has these bytes, or whether there is none.
+    fn look_at_file(
+        &self,
+        line: usize,
+        name: &str,
+        wanted: Option<&[u8]>,
+        differences: &mut Differences,
+    ) -> Result<(), CaseFault> {
+        let found = self.file(name)?;
+        match (found, wanted) {
+            (Some(found), Some(wanted)) => {
+                differences.look_at_bytes(line, name, found.as_slice(), wanted)?;
+            }
+            (None, Some(_)) => differences.add(line, name, "no file", "a file")?,
+            (Some(_), None) => differences.add(line, name, "a file", "no file")?,
+            (None, None) => {}
+        }
+        Ok(())
+    }
+
+    /// Looks at how many records are before and after the cursor.
+    fn look_at_records(
+        &self,
+        line: usize,
+        done: usize,
+        undone: usize,
+        differences: &mut Differences,
+    ) -> Result<(), CaseFault> {
+        let found = (self.session.done(), self.session.undone());
+        Ok(differences.look_at_values(line, "records", &found, &(done, undone))?)
+    }
+
+    /// Makes a call, and looks at what came of it.
+    fn make_call(
+        &mut self,
+        line: usize,
+        call: Call<'_>,
+        differences: &mut Differences,
+    ) -> Result<(), CaseFault> {
+        let came = if self.in_folder {
+            let mut host = FolderHost::new(self.rt);
+            came_of(self.rt.alloc(), &call, &mut host, &mut self.session)?
+        } else {
+            came_of(self.rt.alloc(), &call, &mut self.host, &mut self.session)?
+        };
+        came.look(line, &call, differences)
+    }
+}
+
+/// Makes a call on these host and session.
+fn came_of<H: Host>(
+    alloc: Global,
+    call: &Call<'_>,
+    host: &mut H,
+    session: &mut Session,
+) -> Result<Came, AllocError> {
+    let mut reader = Pieces::of(call.given, call.at_most, call.reader_fails);
+    let mut output = Bounded::with_room(alloc, call.room, call.when_full, call.fails_at_flush);
+    let mut faults = Bounded::with_room(alloc, call.faults_room, WhenFull::TakesNothing, false);
+    let ending = match call.words {
+        Some(words) => {
+            let words: Vec<&str> = words.iter().map(|word| word.as_str()).collect(alloc)?;
+            let words = words.as_slice();
+            Ending::Status(program(alloc, words, &mut reader, &mut output, &mut faults, host))
+        }
+        None => Ending::from(run(alloc, &mut reader, &mut output, host, "", session)),
+    };
+    Ok(Came {
+        output,
+        faults,
+        ending,
+        asked: reader.asked(),
+    })
+}
+
+impl Came {
+    /// Looks at the answers, the faults, the ending, and at how the reader was asked.
+    fn look(
+        &self,
+        line: usize,
+        call: &Call<'_>,
+        differences: &mut Differences,
+    ) -> Result<(), CaseFault> {
+        differences.look_at_lines(line, "answers", self.output.written(), call.answers)?;
+        let faults = up_to(call.faults, call.faults_room);
+        differences.look_at_lines(line, "faults", self.faults.written(), faults)?;
+        differences.look_at_values(line, "ending", &self.ending, &call.ending)?;
+        let within = Asked {
+            reads: self.asked.reads.min(READS),
+            most: self.asked.most.min(READ_BYTES),
+            after_end: false,
+        };
+        Ok(differences.look_at_values(line, "reads", &self.asked, &within)?)
+    }
+}
+
+/// Plays a case, with reads of so many bytes, and a stream that fails anywhere failing after `place` bytes.
+fn play_once<R: Files + AllocGlobal>(
+    rt: &R,
+    steps: &[Step],
+    at_most: usize,
+    place: usize,
+) -> Result<Differences, Unread>
+where
+    R::File: AsFd,
+{
+    let mut differences = Differences::none(rt.alloc());
+    let mut scene = Scene::new(rt)?;
+    for step in steps {
+        match scene.play(step, at_most, place, &mut differences) {
+            Ok(()) => {}
+            Err(fault) => {
+                return Err(Unread {
+                    line: step.line,
+                    fault,
+                });
+            }
+        }
+    }
+    Ok(differences)
+}
+
+/// Plays a case with reads of so many bytes, once for each place where a stream is to fail, up to the first that finds
+/// differences.
+fn play_places<R: Files + AllocGlobal>(
+    rt: &R,
+    steps: &[Step],
+    at_most: usize,
+) -> Result<Differences, Unread>
+where
+    R::File: AsFd,
+{
+    for place in 0..places_of(steps) {
+        let differences = play_once(rt, steps, at_most, place)?;
+        if differences.is_any() {
+            return Ok(differences);
+        }
+    }
+    Ok(Differences::none(rt.alloc()))
+}
+
+/// Plays a case with reads of 1, of 7 and of 4,096 bytes, or of as many as it says, up to the first that find
+/// differences.
+pub fn play<R: Files + AllocGlobal>(rt: &R, steps: &[Step]) -> Result<Differences, Unread>
+where
+    R::File: AsFd,
+{
+    let cuts: &[usize] = if says_reads(steps) {
+        &[READ_BYTES]
+    } else {
+        &[1, 7, READ_BYTES]
+    };
+    for at_most in cuts {
+        let differences = play_places(rt, steps, *at_most)?;
+        if differences.is_any() {
+            return Ok(differences);
+        }
+    }
+    Ok(Differences::none(rt.alloc()))
+}
+
+/// The run of a step, where it is one.
+fn run_of(step: &Step) -> Option<&Run> {
+    match &step.deed {
+        Deed::Run { run } => Some(run),
+        _ => None,
+    }
+}
+
+/// Whether a case says how many bytes a read gives.
+fn says_reads(steps: &[Step]) -> bool {
+    steps.iter().any(|step| run_of(step).is_some_and(|run| run.manner.at_most.is_some()))
+}
+
+/// How often a case is played, once for each place where a stream is to fail.
+fn places_of(steps: &[Step]) -> usize {
+    let mut count = 1;
+    for step in steps {
+        count = count.max(run_of(step).map_or(1, place_count));
+    }
+    count
+}
+
+fn up_to(bytes: &[u8], count: usize) -> &[u8] {
+    bytes.get(..count).unwrap_or(bytes)
+}
+
+fn from(bytes: &[u8], count: usize) -> &[u8] {
+    bytes.get(count..).unwrap_or(&[])
+}
