@@ -12,6 +12,12 @@ RT = os.environ.get("RT", "rt")
 MEMORY = 3_500_000_000
 
 
+def version():
+    """The newest version of CHANGELOG.md."""
+    with open(os.path.join(TOP, "CHANGELOG.md"), encoding="utf-8") as file:
+        return next(line.split()[1].rstrip(",") for line in file if line.startswith("## ") and line[3].isdigit())
+
+
 def read_crates():
     """Of each crate the crates that it names, in the order of crates.txt, where a crate stands after those."""
     named = {}

@@ -11,7 +11,7 @@ use clap::{Arg, ArgAction, Command, Error};
 use std::alloc::{AllocError, Global};
 
 /// The program's version.
-const VERSION: &str = "0.1.0";
+const VERSION: &str = "0.2.0";
 
 const ABOUT: &str = "Looks at and changes D64 images of Commodore 1541 disks, with undo, and turns
 BASIC V2 programs into text and back.";

@@ -169,7 +169,7 @@ extract|--help => Example: d64sh extract --into files *.d64
 map|--help => Example: d64sh map --format svg disk.d64 >disk.svg
 diff|--help => Example: d64sh diff before.d64 after.d64
 catalogue|--help => Example: d64sh catalogue --maps *.d64 >disks.html
--V => d64sh 0.1.0";
+-V => d64sh 0.2.0";
 
 /// The program's name and the arguments that stand before ` => ` in a row, and what stands after it.
 fn parted<'a>(alloc: Global, row: &'a str) -> Result<(Vec<&'a str>, &'a str), Fail> {
