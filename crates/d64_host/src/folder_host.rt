@@ -6,6 +6,7 @@ ghost use Rattle.d64_host.specs.Host.{failures_after};
 
 use crate::host::{FolderFault, Host, HostFault};
 use crate::new_entry;
+use crate::size_limit::SizeLimit;
 use crate::whole_store::store_file;
 use std::alloc::Global;
 use std::fs::File;
@@ -25,6 +26,8 @@ const READ_BYTES: usize = 65_536;
 #[derive(Drop)]
 pub struct FolderHost<R> {
     rt: R,
+    /// The process's limit on the size of a file, once the first one was to be made.
+    size_limit: Option<SizeLimit>,
     failures: u64,
 }
 
@@ -41,7 +44,25 @@ impl<R: Files + Drop> FolderHost<R> {
     pub fn new(rt: R) -> FolderHost<R>
         ensures { result ≡ 0 }
     {
-        FolderHost { rt, failures: 0 }
+        FolderHost {
+            rt,
+            size_limit: None,
+            failures: 0,
+        }
+    }
+
+    /// The process's limit on the size of a file, for which the system is asked once.
+    fn size_limit(&mut self) -> SizeLimit
+        ensures { self.new ≡ self.old }
+    {
+        match self.size_limit {
+            Some(limit) => limit,
+            None => {
+                let limit = SizeLimit::of_process(&self.rt);
+                self.size_limit = Some(limit);
+                limit
+            }
+        }
     }
 }
 
@@ -64,7 +85,8 @@ where
     }
 
     fn store(&mut self, alloc: Global, name: &str, bytes: &[u8]) -> Result<(), HostFault> {
-        let outcome = store_file(&self.rt, alloc, name, bytes);
+        let limit = self.size_limit();
+        let outcome = store_file(&self.rt, alloc, limit, name, bytes);
         count_failure(&mut self.failures, &outcome);
         outcome
     }
@@ -80,7 +102,8 @@ where
     }
 
     fn make_file(&mut self, path: &str, bytes: &[u8]) -> Result<(), FolderFault> {
-        let outcome = new_entry::make_file(&self.rt, Path::new(path), bytes);
+        let limit = self.size_limit();
+        let outcome = new_entry::make_file(&self.rt, limit, Path::new(path), bytes);
         count_refusal(&mut self.failures, &outcome);
         outcome
     }

@@ -20,9 +20,15 @@ pub fn make_folder<R: Files>(rt: &R, path: &str) -> Result<(), FolderFault> {
     fs::create_dir(rt, path).map_err(|error| entry_fault(error.kind()))
 }
 
-/// Makes a file of these bytes, or takes it away again where its writing fails. It waits for no disk.
-pub fn make_file<R: Files>(rt: &R, path: Path<'_>, bytes: &[u8]) -> Result<(), FolderFault> {
-    if !SizeLimit::of_process(rt).holds(bytes.len()) {
+/// Makes a file of these bytes, where the limit lets a file have so many, or takes it away again where its writing
+/// fails. It waits for no disk.
+pub fn make_file<R: Files>(
+    rt: &R,
+    limit: SizeLimit,
+    path: Path<'_>,
+    bytes: &[u8],
+) -> Result<(), FolderFault> {
+    if !limit.holds(bytes.len()) {
         return Err(FolderFault::Device);
     }
     let mut file = File::create_new(rt, path).map_err(|error| entry_fault(error.kind()))?;

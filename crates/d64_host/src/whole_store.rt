@@ -33,10 +33,11 @@ struct End {
 ///
 /// A file that is there is replaced in one step, or stays as it is. One that is not there is made,
 /// and removed again where its writing fails. What isn't a file is written as it stands. What is
-/// open as a standard stream is refused, and a file of more bytes than the system lets one have.
+/// open as a standard stream is refused, and a file of more bytes than the limit lets one have.
 pub fn store_file<R: Files>(
     rt: &R,
     alloc: Global,
+    limit: SizeLimit,
     name: &str,
     bytes: &[u8],
 ) -> Result<(), HostFault>
@@ -52,11 +53,11 @@ where
     let end = end_of_links(rt, alloc, name)?;
     match opened {
         Ok(old) => match &end.found {
-            Some(found) => store_over(rt, alloc, old, end.path.as_path(), found, bytes),
+            Some(found) => store_over(rt, alloc, limit, old, end.path.as_path(), found, bytes),
             None => Err(HostFault::Device),
         },
         Err(error) if error.kind() == ErrorKind::NotFound && end.found.is_none() => {
-            make_file(rt, end.path.as_path(), bytes).map_err(|_| HostFault::Device)
+            make_file(rt, limit, end.path.as_path(), bytes).map_err(|_| HostFault::Device)
         }
         Err(_) => Err(HostFault::Device),
     }
@@ -66,6 +67,7 @@ where
 fn store_over<R: Files>(
     rt: &R,
     alloc: Global,
+    limit: SizeLimit,
     old: R::File,
     path: Path<'_>,
     found: &Metadata,
@@ -78,7 +80,7 @@ where
     let Ok(opened) = old.metadata() else {
         return Err(HostFault::Device);
     };
-    if opened.is_file() && !SizeLimit::of_process(rt).holds(bytes.len()) {
+    if opened.is_file() && !limit.holds(bytes.len()) {
         return Err(HostFault::Device);
     }
     if !opened.is_file() || found.is_symlink() {
