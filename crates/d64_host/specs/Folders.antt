@@ -1,5 +1,5 @@
 -- What a host may answer to a look at a path, and to a call that makes something new there.
-use Rattle.std.specs.Prelude.{◌≡◌, ℕ, Bool, true, false, ◌||◌, if◌then◌else◌, List, [], ◌∷◌, ◌++◌, nat_eq, length, drop, Option, Some, None, option_map, IfSome, Result, Ok, Err}
+use Rattle.std.specs.Prelude.{◌≡◌, ℕ, Bool, true, false, ◌||◌, if◌then◌else◌, List, [], ◌∷◌, ◌++◌, nat_eq, length, drop, Option, option_map, IfSome, Result, Ok, Err}
 use Rattle.std.specs.List.{fold, starts_with}
 use Rattle.std.specs.FinMap.{contains_key, empty, entries, insert}
 use Rattle.d64_host.specs.Files.{Files}

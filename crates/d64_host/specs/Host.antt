@@ -1,5 +1,5 @@
 -- What a host may answer to a fetch and a store, and how it counts its failures.
-use Rattle.std.specs.Prelude.{◌≡◌, ℕ, ◌+◌, ◌-◌, min, ◌^◌, ◌<◌, ◌≤◌, ⊤, List, length, Option, Some, None, option_map, IsSomeAnd, Result, Ok, Err, Vec}
+use Rattle.std.specs.Prelude.{◌≡◌, ◌≢◌, ℕ, ◌+◌, ◌-◌, min, ◌^◌, ◌<◌, ◌≤◌, ⊤, List, length, Option, Some, None, option_map, IsSomeAnd, Result, Ok, Err, Vec}
 use Rattle.std.specs.FinMap.{get, insert}
 use Rattle.d64_host.specs.Files.{Files}
 use Rattle.d64_host.specs.declared.host.HostFault.{HostFault}
@@ -36,6 +36,25 @@ abbrev pub Fetches : Option Files → List ℕ → ℕ → Result (List ℕ) Hos
 Fetches (Some files) name limit answer = FetchesOf files name limit answer
 Fetches None name limit (Ok bytes) = length bytes ≤ limit
 Fetches None name limit (Err fault) = ⊤
+
+-- the answer to an opening, with the bytes that the file has left, as far as it tells them
+abbrev pub opened : {F : Type 0} → (F → Option (List ℕ)) → Result F HostFault → Result (Option (List ℕ)) HostFault
+opened remaining (Ok file) = Ok (remaining file)
+opened remaining (Err fault) = Err fault
+
+-- what an opening of a name may answer where these are the files: all bytes of the file, which it tells; that it is not
+-- there; and in place of either the device's fault or want of memory
+abbrev pub OpensOf : Files → List ℕ → Result (Option (List ℕ)) HostFault → Type 0
+OpensOf files name (Ok rest) = IsSomeAnd rest (λ bytes. get files name ≡ Some bytes)
+OpensOf files name (Err Missing) = get files name ≡ None
+OpensOf files name (Err TooLong) = ⊥
+OpensOf files name (Err Device) = ⊤
+OpensOf files name (Err (Memory error)) = ⊤
+
+-- what a host may answer to an opening: no file is too long for it
+abbrev pub Opens : Option Files → List ℕ → Result (Option (List ℕ)) HostFault → Type 0
+Opens (Some files) name answer = OpensOf files name answer
+Opens None name answer = answer ≢ Err TooLong
 
 -- the faults that may come whatever the files are
 abbrev pub IsOfDeviceOrMemory : HostFault → Type 0

@@ -1,6 +1,6 @@
 -- What a host in memory is seen as, and what keeps its calls from being accepted.
 use Rattle.std.specs.Prelude.{zero, suc, refl, ℕ, ◌-◌, ◌==◌, nat_lt, List, map, length, if◌then◌else◌, Option, Some, None, String, Vec, string_bytes}
-use Rattle.std.specs.FinMap.{get, from_entries, code}
+use Rattle.std.specs.FinMap.{contains_key, get, from_entries, code}
 use Rattle.std.specs.Coded.{Coded, code_by, coded×, coded_list, coded_ℕ}
 use Rattle.d64_host.specs.Files.{Files}
 use Rattle.d64_host.specs.Host.{one_more_failure}
@@ -47,6 +47,11 @@ file_refusal (Some bytes) limit = if nat_lt limit (length bytes) then Some TooLo
 -- why a fetch is refused, want of memory aside: the call that was to fail, or else the file itself
 abbrev pub fetch_refusal : MemoryFiles → List ℕ → ℕ → Option HostFault
 fetch_refusal host name limit = if host.countdown == 1 then Some Device else file_refusal (get host.files name) limit
+
+-- why opening what stands under a name is refused, want of memory aside: the call that was to fail, or there is no file
+abbrev pub open_refusal : MemoryFiles → List ℕ → Option HostFault
+open_refusal host name =
+    if host.countdown == 1 then Some Device else if contains_key host.files name then None else Some Missing
 
 -- why a store is refused, want of memory aside
 abbrev pub store_refusal : MemoryFiles → Option HostFault

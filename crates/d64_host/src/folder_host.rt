@@ -6,6 +6,7 @@ ghost use Rattle.d64_host.specs.Host.{failures_after};
 
 use crate::host::{FolderFault, Host, HostFault};
 use crate::new_entry;
+use crate::retrying::Retrying;
 use crate::size_limit::SizeLimit;
 use crate::whole_store::store_file;
 use std::alloc::Global;
@@ -70,6 +71,8 @@ impl<R: Files + Drop> Host for FolderHost<R>
 where
     R::File: AsFd,
 {
+    type File = Retrying<R::File>;
+
     ghost state = { λ count. record { files = None; failures = count } };
 
     fn fetch(&mut self, alloc: Global, name: &str, limit: usize) -> Result<Vec<u8>, HostFault> {
@@ -80,6 +83,12 @@ where
 
     fn fill(&mut self, name: &str, limit: usize, bytes: &mut Vec<u8>) -> Result<(), HostFault> {
         let outcome = read_file(&self.rt, name, limit, bytes);
+        count_failure(&mut self.failures, &outcome);
+        outcome
+    }
+
+    fn open(&mut self, name: &str) -> Result<Retrying<R::File>, HostFault> {
+        let outcome = open_file(&self.rt, name);
         count_failure(&mut self.failures, &outcome);
         outcome
     }
@@ -146,8 +155,16 @@ fn read_file<R: Files>(
 ) -> Result<(), HostFault>
     ensures { OnOk result (length bytes.new.items ≤ limit) }
 {
+    let mut file = open_file(rt, path)?;
+    read_to_end(&mut file, limit, bytes)
+}
+
+/// Opens the file at this path, to be read.
+fn open_file<R: Files>(rt: &R, path: &str) -> Result<Retrying<R::File>, HostFault>
+    ensures { result ≢ Err HostFault.TooLong }
+{
     match File::open(rt, path) {
-        Ok(mut file) => read_to_end(&mut file, limit, bytes),
+        Ok(file) => Ok(Retrying(file)),
         Err(error) => Err(open_fault(error.kind())),
     }
 }
@@ -176,7 +193,6 @@ fn read_to_end<F: Read>(file: &mut F, limit: usize, bytes: &mut Vec<u8>) -> Resu
         match file.read(&mut buffer) {
             Ok(0) => return Ok(()),
             Ok(count) => add_piece(bytes, &buffer[..count], limit)?,
-            Err(error) if error.kind() == ErrorKind::Interrupted => {}
             Err(_) => return Err(HostFault::Device),
         }
     }
@@ -237,9 +253,10 @@ mod tests {
     #[test]
     fn reads_again_where_a_read_is_interrupted(rt: HostRuntime) -> Result<(), Fail> {
         let mut bytes = Vec::from_slice(rt.alloc(), &[9])?;
-        read_to_end(&mut three_bytes(), 3, &mut bytes)?;
+        read_to_end(&mut Retrying(three_bytes()), 3, &mut bytes)?;
         assert_eq!(rt; bytes.as_slice(), [3, 2, 1].as_slice());
-        assert!(rt; read_to_end(&mut three_bytes(), 2, &mut bytes) == Err(HostFault::TooLong));
+        let outcome = read_to_end(&mut Retrying(three_bytes()), 2, &mut bytes);
+        assert!(rt; outcome == Err(HostFault::TooLong));
         Ok(())
     }
 

@@ -4,9 +4,10 @@ ghost use Rattle.std.specs.Prelude.{◌≡◌, true, IfSome, OnOk};
 ghost use Rattle.std.specs.FinMap.{contains_key};
 ghost use Rattle.d64_host.specs.Files.{HostState};
 ghost use Rattle.d64_host.specs.Folders.{folder_name, with_folder, with_file, with_moved, Looks, Makes, CountsMaking};
-ghost use Rattle.d64_host.specs.Host.{fault_number, fetched, filled, Fetches, Stores, CountsDevice};
+ghost use Rattle.d64_host.specs.Host.{fault_number, fetched, filled, opened, Fetches, Opens, Stores, CountsDevice};
 
 use std::alloc::{AllocError, Global};
+use std::io::Read;
 use thiserror::Error;
 
 /// Why a host refuses a file.
@@ -56,6 +57,9 @@ pub enum FolderFault {
 /// A host may tell its files to a proof, as one in memory does, or tell nothing, as one over a disk
 /// that others write to. It counts the calls that its device failed.
 pub trait Host {
+    /// A file that is open to be read.
+    type File: Read + Drop;
+
     // What it shows: its files, where it tells them, and how many calls answered `Device`.
     ghost state: { Self → HostState };
 
@@ -70,6 +74,13 @@ pub trait Host {
     /// refused as `fetch` is; `bytes` then has no content that is told.
     fn fill(&mut self, name: &str, limit: usize, bytes: &mut Vec<u8>) -> Result<(), HostFault>
         ensures answer { Fetches (state self.old).files name.now limit (filled result bytes.new) }
+        ensures files_kept { (state self.new).files ≡ (state self.old).files }
+        ensures counted { CountsDevice (state self.old).failures (state self.new).failures result };
+
+    /// Opens the named file, to be read from its first byte on. `Missing` where there is no such file, and else only `Device` or
+    /// `Memory`. What is read is the file's, whatever becomes of the host.
+    fn open(&mut self, name: &str) -> Result<Self::File, HostFault>
+        ensures answer { Opens (state self.old).files name.now (opened Self.File.remaining result) }
         ensures files_kept { (state self.new).files ≡ (state self.old).files }
         ensures counted { CountsDevice (state self.old).failures (state self.new).failures result };
 

@@ -3,12 +3,12 @@
 ghost use Rattle.std.specs.Prelude.{◌≡◌, ℕ, ◌+◌, ◌-◌, ◌↔◌, Some, Err, true, OnOk, OnErr, IfOk, IfErr, IfSome, IsTrue, option_copied, string_bytes};
 ghost use Rattle.std.specs.FinMap.{contains_key, empty, get, insert};
 ghost use Rattle.d64_host.specs.Folders.{folder_name, is_at, moved_name, with_file, with_folder, with_moved, Looks, Makes, CountsMaking};
-ghost use Rattle.d64_host.specs.Host.{fetched, filled, Fetches, Stores, CountsDevice, answered_fault, one_more_failure};
-ghost use Rattle.d64_host.specs.MemoryHost.{after_call, countdown_after, fetch_refusal, files_of, store_refusal};
+ghost use Rattle.d64_host.specs.Host.{fetched, filled, opened, Fetches, Opens, Stores, CountsDevice, answered_fault, one_more_failure};
+ghost use Rattle.d64_host.specs.MemoryHost.{after_call, countdown_after, fetch_refusal, files_of, open_refusal, store_refusal};
 
 use crate::host::{FolderFault, Host, HostFault};
 use std::alloc::{AllocError, Global};
-use std::collections::BTreeMap;
+use std::collections::{BTreeMap, VecDeque};
 use std::marker::Model;
 
 /// Files in memory, by name. One of its calls can be made to fail, as a disk would. A folder is a file of no bytes whose name ends with a
@@ -187,6 +187,8 @@ fn moved_name(alloc: Global, name: &str, from: &str, to: &str) -> Result<String,
 }
 
 impl Host for MemoryHost {
+    type File = VecDeque<u8>;
+
     ghost state = { λ host. record { files = Some host.files; failures = host.failures } };
 
     fn fetch(&mut self, alloc: Global, name: &str, limit: usize) -> Result<Vec<u8>, HostFault>
@@ -219,6 +221,21 @@ impl Host for MemoryHost {
         }
         bytes.clear();
         bytes.extend_from_slice(file).map_err(HostFault::Memory)
+    }
+
+    fn open(&mut self, name: &str) -> Result<VecDeque<u8>, HostFault>
+        ensures refused { answered_fault result ≡ open_refusal self.old name.now }
+        ensures after { self.new ≡ after_call self.old }
+        ensures answer { Opens (Some self.old.files) name.now (opened (λ file. Some file.items) result) }
+        ensures files_kept { Some self.new.files ≡ Some self.old.files }
+        ensures counted { CountsDevice self.old.failures self.new.failures result }
+    {
+        if self.count_call() {
+            return Err(HostFault::Device);
+        }
+        let file = self.file(name).ok_or(HostFault::Missing)?;
+        let copy = Vec::from_slice(self.alloc, file).map_err(HostFault::Memory)?;
+        Ok(VecDeque::from_vec(copy))
     }
 
     fn store(&mut self, _alloc: Global, name: &str, bytes: &[u8]) -> Result<(), HostFault>

@@ -3,17 +3,15 @@
 
 mod progress;
 mod prompt;
-mod retrying;
 mod within_limit;
 
 use d64_advice::Advisor;
-use d64_host::{SizeLimit, StandardStream};
+use d64_host::{Retrying, SizeLimit, StandardStream};
 use d64_script::input::InputStream;
 use d64_script::output::OutputStream;
 use d64_shell::{FolderHost, HeardProgram, ProgramFault};
 use progress::{ProgressLine, WatchedHost, WipingWriter};
 use prompt::PromptingReader;
-use retrying::Retrying;
 use std::env;
 use std::io::{self, BufWriter, ErrorKind, IsTerminal, Write};
 use std::process::ExitCode;

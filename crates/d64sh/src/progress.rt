@@ -86,6 +86,8 @@ impl<'a, R, H> WatchedHost<'a, R, H> {
 }
 
 impl<'a, R: Clock + Eprint, H: Host> Host for WatchedHost<'a, R, H> {
+    type File = H::File;
+
     ghost state = { λ watched. H.state watched.host };
 
     fn fetch(&mut self, alloc: Global, name: &str, limit: usize) -> Result<Vec<u8>, HostFault> {
@@ -97,6 +99,10 @@ impl<'a, R: Clock + Eprint, H: Host> Host for WatchedHost<'a, R, H> {
         let outcome = self.host.fill(name, limit, bytes);
         self.done = self.done.saturating_add(1);
         outcome
+    }
+
+    fn open(&mut self, name: &str) -> Result<H::File, HostFault> {
+        self.host.open(name)
     }
 
     fn store(&mut self, alloc: Global, name: &str, bytes: &[u8]) -> Result<(), HostFault> {

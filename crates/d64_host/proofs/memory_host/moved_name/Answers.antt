@@ -1,7 +1,5 @@
-use Rattle.std.proofs.Common.{◌≡◌, ◌≢◌, ℕ, List, ◌++◌, ap, sym, subst, ◌∙◌, rules, IfOk, string_bytes}
-use Rattle.std.specs.Prelude.{MatchOption}
-use Rattle.d64_host.specs.Folders.{moved_name}
-use Rattle.d64_host.proofs.Moves.{moved_name-within, moved_name-beside, StripsText, stripped, unstripped}
+use Rattle.std.proofs.Common.{◌≡◌, ◌++◌, sym, subst, ◌∙◌, rules, IfOk, string_bytes}
+use Rattle.d64_host.proofs.Moves.{moved_name-within, moved_name-beside, stripped, unstripped}
 use Rattle.d64_host.proofs.memory_host.moved_name.Goals as goal
 
 -- the new beginning, and what follows the old one
