@@ -3,6 +3,8 @@ pub mod Sizes
 pub mod Pairs
 pub mod Chunks
 pub mod Sets
+pub mod Windows
+pub mod AddedBits
 pub mod Differences
 pub mod Patches
 pub mod SameBytes

@@ -1,6 +1,7 @@
--- Sets of blocks, and the marks that stand for one.
-use Rattle.std.specs.Prelude.{◌≡◌, ℕ, ◌+◌, ◌<◌, ◌&&◌, Bool, true, false, List, [], ◌∷◌, map}
-use Rattle.std.specs.List.{range_with_len}
+-- Sets of blocks, and the words whose bits stand for one.
+use Rattle.std.specs.Prelude.{◌≡◌, ℕ, zero, suc, ◌+◌, ◌-◌, ◌*◌, ◌/◌, ◌%◌, ◌^◌, ◌<◌, ◌==◌, ◌&&◌, if◌then◌else◌, Bool, true, List, map, length, slice_index, All, nat_le, bit_or}
+use Rattle.std.specs.List.{range_with_len, slice_set}
+use Rattle.std.specs.Int.{bit_at}
 use Rattle.std.specs.Ordering.{nat_cmp}
 use Rattle.std.specs.FinSet as set
 use Rattle.d64_image.specs.declared.block.TheConstants.{BLOCKS}
@@ -9,15 +10,41 @@ use Rattle.d64_image.specs.declared.block.TheConstants.{BLOCKS}
 abbrev pub BlockSet : Type 0
 BlockSet = set.FinSet nat_cmp
 
--- the set of the blocks that are marked, where the first mark is that of the block `first`
-unfoldable pub marked : ℕ → List Bool → BlockSet
-marked first [] = set.empty
-marked first (true ∷ marks) = set.insert (marked (first + 1) marks) first
-marked first (false ∷ marks) = marked (first + 1) marks
+-- whether a block is marked: each word has the bits of 32 blocks, the lowest bit for the first of them
+abbrev pub is_marked : List ℕ → ℕ → Bool
+is_marked words block = bit_at (slice_index words (block / 32)) (block % 32) == 1
 
--- which blocks of the disk are members, block by block
-unfoldable pub marks_of : BlockSet → List Bool
-marks_of blocks = map (set.contains blocks) (range_with_len 0 BLOCKS)
+-- the set of the marked blocks below a number
+unfoldable pub marked_below : ℕ → List ℕ → BlockSet
+marked_below zero words = set.empty
+marked_below (suc block) words =
+    if is_marked words block then set.insert (marked_below block words) block else marked_below block words
+
+-- the set of the blocks of a disk that are marked
+abbrev pub marked : List ℕ → BlockSet
+marked words = marked_below BLOCKS words
+
+-- words that have a bit for each block of a disk
+pub record AreWords (words : List ℕ) : Type 0 where
+  pub all : 32 * length words ≡ BLOCKS
+  pub fit : All (λ word. word < 2 ^ 32) words
+
+-- the words in which bits are set of the one at a place
+abbrev pub with_bits : List ℕ → ℕ → ℕ → List ℕ
+with_bits words place bits = slice_set words place (bit_or (slice_index words place) bits)
+
+-- whether a block's bit is given: bit b is that of the block b after the first one
+abbrev pub is_given : ℕ → ℕ → ℕ → Bool
+is_given first bits block = nat_le first block && (bit_at bits (block - first) == 1)
+
+-- the number of so many bits in which those are 1 that pass
+unfoldable pub bits_where : (ℕ → Bool) → ℕ → ℕ
+bits_where passes zero = 0
+bits_where passes (suc bit) = (if passes bit then 1 else 0) * 2 ^ bit + bits_where passes bit
+
+-- the words in which the members are marked
+unfoldable pub words_of : BlockSet → List ℕ
+words_of blocks = map (λ place. bits_where (λ bit. set.contains blocks (32 * place + bit)) 32) (range_with_len 0 (BLOCKS / 32))
 
 -- whether each member of either set is one of the other
 abbrev pub same_members : BlockSet → BlockSet → Bool

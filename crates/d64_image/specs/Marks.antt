@@ -1,14 +1,18 @@
--- marks and the set that they stand for
-use Rattle.std.proofs.Common.{◌≡◌, ◌≢◌, ℕ, zero, suc, ◌+◌, ◌<◌, ◌&&◌, ◌||◌, Bool, true, false, eqb, List, [], ◌∷◌, length, map, get_or, refl, sym, ap, ap₂, ◌∙◌, subst, arith}
-use Rattle.std.specs.List.{range_with_len}
-use Rattle.std.specs.Ordering.{nat_cmp, eq_by_cmp}
+-- the words of a set, and the set that they stand for
+use Rattle.std.proofs.Common.{◌≡◌, ℕ, zero, suc, ◌+◌, ◌-◌, ◌*◌, ◌/◌, ◌%◌, ◌^◌, ◌<◌, ◌&&◌, ◌||◌, Bool, true, false, cond, eqb, ltb, nat_eq, List, length, get_or, refl, sym, ap, ap₂, ◌∙◌, subst, inl, inr, arith}
+use Rattle.std.specs.Int.{bit_at}
+use Rattle.std.specs.Ordering.{nat_cmp}
 use Rattle.std.specs.Bool.{Decides}
 use Rattle.std.specs.Cmp.{IsEquivalence, decided, nat_cmp_total, unsigned_tied}
 use Rattle.std.specs.FinSet as set
 use Rattle.std.specs.FinSet.{contains-empty, contains-insert, same_set, is_subset-contains, contains-is_subset, nat_cmp-IsAntisymmetric}
-use Rattle.std.proofs.lemmas.Bool.Decides.{nat_tests}
+use Rattle.std.proofs.Math.Nat.{two-pow-succ}
+use Rattle.std.proofs.lemmas.Bool.{cases_Bool, cases_lt}
+use Rattle.std.proofs.lemmas.Bool.Decides.{nat_tests, eqb_tells}
 use Rattle.std.proofs.lemmas.List.FromFn.{fill_by_all}
-use Rattle.d64_image.specs.BlockSet.{BlockSet, marked, marks_of, same_members}
+use Rattle.std.proofs.lemmas.List.Elements.{All-get_or}
+use Rattle.std.proofs.lemmas.Nat.Bits.{bit_at-lt, bit_at_cat_low, bit_at_cat_high, same_from_bits_below}
+use Rattle.d64_image.specs.BlockSet.{BlockSet, is_marked, marked_below, marked, AreWords, bits_where, words_of, same_members}
 use Rattle.d64_image.specs.declared.block.TheConstants.{BLOCKS}
 
 -- where both of two tests pass, each does
@@ -16,55 +20,108 @@ pub both_true : (a b : Bool) → (a && b) ≡ true → (a ≡ true) × (b ≡ tr
 both_true true b h = (refl, h)
 both_true false b h = (h, absurd (cc))
 
--- a number ties with itself
-same-number : (q : ℕ) → eq_by_cmp nat_cmp q q ≡ true
-same-number q = unsigned_tied q q ∙ (let e : eqb q q ≡ true = grind (arith, nat_tests) in e)
+-- the members below a number are the marked blocks
+pub contains-marked_below : (n : ℕ) (words : List ℕ) (q : ℕ) → set.contains (marked_below n words) q ≡ (ltb q n && is_marked words q)
+unfolding marked_below
+contains-marked_below zero words q =
+    contains-empty nat_cmp q ∙ (let e : false ≡ (ltb q 0 && is_marked words q) = grind (arith, nat_tests) in e)
+contains-marked_below (suc n) words q =
+    let below = contains-marked_below n words q in
+    elim (cases_Bool (is_marked words n)) [
+      | inl marks ↦ ap (λ (b : Bool). set.contains (cond b (set.insert (marked_below n words) n) (marked_below n words)) q) marks
+          ∙ contains-insert nat_cmp_total (marked_below n words) n q
+          ∙ ap (λ (b : Bool). b || set.contains (marked_below n words) q) (unsigned_tied q n)
+          ∙ ap (λ (b : Bool). eqb q n || b) below
+          ∙ with_last n words q marks
+      | inr misses ↦ ap (λ (b : Bool). set.contains (cond b (set.insert (marked_below n words) n) (marked_below n words)) q) misses ∙ below ∙ without_last n words q misses
+    ]
+  where
+    with_last : (n : ℕ) (words : List ℕ) (q : ℕ) → is_marked words n ≡ true → (eqb q n || (ltb q n && is_marked words q)) ≡ (ltb q (suc n) && is_marked words q)
+    with_last n words q marks =
+        elim (eqb_tells q n) [
+          | inl e ↦ let z : is_marked words q ≡ true = ap (is_marked words) e.1 ∙ marks in grind (arith, nat_tests)
+          | inr e ↦ grind (arith, nat_tests)
+        ]
 
--- two numbers do not tie
-pub other-number : (q k : ℕ) → q ≢ k → eq_by_cmp nat_cmp q k ≡ false
-other-number q k n = unsigned_tied q k ∙ (let e : eqb q k ≡ false = grind (arith, nat_tests) in e)
+    without_last : (n : ℕ) (words : List ℕ) (q : ℕ) → is_marked words n ≡ false → (ltb q n && is_marked words q) ≡ (ltb q (suc n) && is_marked words q)
+    without_last n words q misses =
+        elim (eqb_tells q n) [
+          | inl e ↦ let z : is_marked words q ≡ false = ap (is_marked words) e.1 ∙ misses in grind (arith, nat_tests)
+          | inr e ↦ grind (arith, nat_tests)
+        ]
 
--- no block before the first is a member
-pub not_before : (first : ℕ) (marks : List Bool) (q : ℕ) → q < first → set.contains (marked first marks) q ≡ false
-unfolding marked
-not_before first [] q h = contains-empty nat_cmp q
-not_before first (true ∷ marks) q h =
-    contains-insert nat_cmp_total (marked (first + 1) marks) first q
-    ∙ ap (λ (b : Bool). b || set.contains (marked (first + 1) marks) q) (other-number q first (omega arith))
-    ∙ not_before (first + 1) marks q (omega arith)
-not_before first (false ∷ marks) q h = not_before (first + 1) marks q (omega arith)
+-- a block is a member where it is marked
+pub contains-marked : (words : List ℕ) (block : ℕ) → block < BLOCKS → set.contains (marked words) block ≡ is_marked words block
+contains-marked words block h =
+    contains-marked_below BLOCKS words block
+    ∙ ap (λ (b : Bool). b && is_marked words block) (let e : ltb block BLOCKS ≡ true = grind (arith, nat_tests) in e)
 
--- a block is a member where its mark stands
-member : (first : ℕ) (marks : List Bool) (k : ℕ) → set.contains (marked first marks) (first + k) ≡ get_or marks k false
-unfolding marked
-member first [] k = contains-empty nat_cmp (first + k)
-member first (true ∷ marks) zero =
-    let e : first + 0 ≡ first = omega arith in
-    contains-insert nat_cmp_total (marked (first + 1) marks) first (first + 0)
-    ∙ ap (λ (q : ℕ). eq_by_cmp nat_cmp q first || set.contains (marked (first + 1) marks) q) e
-    ∙ ap (λ (b : Bool). b || set.contains (marked (first + 1) marks) first) (same-number first)
-member first (false ∷ marks) zero = not_before (first + 1) marks (first + 0) (omega arith)
-member first (true ∷ marks) (suc k) =
-    let e : first + suc k ≡ first + 1 + k = omega arith in
-    contains-insert nat_cmp_total (marked (first + 1) marks) first (first + suc k)
-    ∙ ap (λ (b : Bool). b || set.contains (marked (first + 1) marks) (first + suc k)) (other-number (first + suc k) first (omega arith))
-    ∙ ap (set.contains (marked (first + 1) marks)) e
-    ∙ member (first + 1) marks k
-member first (false ∷ marks) (suc k) =
-    let e : first + suc k ≡ first + 1 + k = omega arith in ap (set.contains (marked (first + 1) marks)) e ∙ member (first + 1) marks k
+-- a test as a bit
+abbrev pub as_bit : Bool → ℕ
+as_bit b = cond b 1 0
 
--- the members are the blocks whose marks stand
-pub contains-marked : (marks : List Bool) (q : ℕ) → set.contains (marked 0 marks) q ≡ get_or marks q false
-contains-marked marks q = let e : q ≡ 0 + q = omega arith in ap (set.contains (marked 0 marks)) e ∙ member 0 marks q
+bit_of_bit : (b : Bool) → bit_at (as_bit b) 0 ≡ as_bit b
+bit_of_bit true = refl
+bit_of_bit false = refl
 
--- whether each block is a member, in order, are the marks
-marks-are : (marks : List Bool) (n : ℕ) → length marks ≡ n → map (set.contains (marked 0 marks)) (range_with_len 0 n) ≡ marks
-marks-are marks n long = sym (fill_by_all (set.contains (marked 0 marks)) marks n false long (λ k h. sym (contains-marked marks k)))
+bit_below : (b : Bool) → as_bit b < 2
+bit_below true = omega arith
+bit_below false = omega arith
 
--- the marks of a set are those that made it
-pub marks_of-marked : (marks : List Bool) → length marks ≡ BLOCKS → marks_of (marked 0 marks) ≡ marks
-unfolding marks_of
-marks_of-marked marks long = marks-are marks BLOCKS long
+-- so many bits make a number below the value of the next one
+bits_where-below : (p : ℕ → Bool) (n : ℕ) → bits_where p n < 2 ^ n
+unfolding bits_where
+bits_where-below p zero = omega arith
+bits_where-below p (suc n) =
+    let h = bits_where-below p n in
+    let t = two-pow-succ n in
+    elim (cases_Bool (p n)) [
+      | inl marks ↦ let e : as_bit (p n) * 2 ^ n ≡ 2 ^ n = ap (λ (b : Bool). as_bit b * 2 ^ n) marks ∙ omega arith in omega arith
+      | inr misses ↦ let e : as_bit (p n) * 2 ^ n ≡ 0 = ap (λ (b : Bool). as_bit b * 2 ^ n) misses ∙ omega arith in omega arith
+    ]
+
+-- each of them is the test at its place
+bit_at-where : (p : ℕ → Bool) (n bit : ℕ) → bit < n → bit_at (bits_where p n) bit ≡ as_bit (p bit)
+unfolding bits_where
+bit_at-where p zero bit h = absurd (omega arith)
+bit_at-where p (suc n) bit h =
+    elim (cases_lt bit n) [
+      | inl below ↦ bit_at_cat_low (as_bit (p n)) n (bits_where p n) bit below ∙ bit_at-where p n bit below
+      | inr past ↦
+          let same : n ≡ bit = omega arith in
+          let last : bit - n ≡ 0 = omega arith in
+          bit_at_cat_high (as_bit (p n)) n (bits_where p n) bit (bits_where-below p n) past ∙ ap (bit_at (as_bit (p n))) last
+          ∙ bit_of_bit (p n)
+          ∙ ap (λ (k : ℕ). as_bit (p k)) same
+    ]
+
+-- a bit is what its test makes of it
+pub bit_tested : (b : ℕ) → b < 2 → as_bit (nat_eq b 1) ≡ b
+bit_tested zero h = refl
+bit_tested (suc zero) h = refl
+bit_tested (suc (suc b)) h = absurd (omega arith)
+
+-- the word at a place has the bits of its blocks
+word-is : (words : List ℕ) (place : ℕ) → AreWords words → place < length words
+    → bits_where (λ bit. set.contains (marked words) (32 * place + bit)) 32 ≡ get_or words place 0
+word-is words place are held =
+    same_from_bits_below 32 _ _ (bits_where-below (λ bit. set.contains (marked words) (32 * place + bit)) 32) (All-get_or (λ word. word < 2 ^ 32) words place 0 held are.fit) (λ bit h.
+    let all = are.all in
+    let at : (32 * place + bit) / 32 ≡ place = omega arith in
+    let on : (32 * place + bit) % 32 ≡ bit = omega arith in
+    bit_at-where (λ bit. set.contains (marked words) (32 * place + bit)) 32 bit h
+    ∙ ap as_bit (contains-marked words (32 * place + bit) (omega arith))
+    ∙ ap (λ (k : ℕ). as_bit (nat_eq (bit_at (get_or words k 0) ((32 * place + bit) % 32)) 1)) at
+    ∙ ap (λ (k : ℕ). as_bit (nat_eq (bit_at (get_or words place 0) k) 1)) on
+    ∙ bit_tested (bit_at (get_or words place 0) bit) (bit_at-lt (get_or words place 0) bit))
+
+-- the words of a set are those that made it
+pub words_of-marked : (words : List ℕ) → AreWords words → words_of (marked words) ≡ words
+unfolding words_of
+words_of-marked words are =
+    let long : length words ≡ BLOCKS / 32 = let all = are.all in omega arith in
+    sym (fill_by_all (λ place. bits_where (λ bit. set.contains (marked words) (32 * place + bit)) 32) words (BLOCKS / 32) 0 long (λ place h.
+    sym (word-is words place are (omega arith))))
 
 -- two answers that imply one another are one
 alike : (a b : Bool) → (a ≡ true → b ≡ true) → (b ≡ true → a ≡ true) → a ≡ b

@@ -1,42 +1,74 @@
 //! Sets of blocks.
-ghost use Rattle.std.specs.Prelude.{◌≡◌, ◌≤◌, ◌↔◌, IsTrue};
+ghost use Rattle.std.specs.Prelude.{◌≡◌, ℕ, ◌+◌, ◌*◌, ◌/◌, ◌%◌, ◌^◌, ◌<◌, ◌≤◌, ◌↔◌, ◌||◌, if◌then◌else◌, IsTrue, slice_index};
+ghost use Rattle.std.specs.Int.{bit_at};
 ghost use Rattle.std.specs.Ordering.{nat_cmp};
 ghost use Rattle.std.specs.FinSet as set;
 ghost use Rattle.std.specs.Coded.{coded_ℕ};
-ghost use Rattle.d64_image.specs.BlockSet.{MembersAreBlocks};
+ghost use Rattle.d64_image.specs.BlockSet.{AreWords, MembersAreBlocks, is_given, with_bits};
 ghost use Rattle.d64_image.specs.declared.block.TheConstants.{BLOCKS};
 
 use crate::block::{BLOCKS, BlockNo};
 use std::marker::Model;
 
+/// How many blocks a word has bits for.
+const WORD_BITS: usize = 32;
+
+/// How many words have a bit for each block.
+const WORDS: usize = BLOCKS / WORD_BITS;
+
 /// A set of blocks. It takes no memory of its own.
 #[derive(Clone, Copy, Debug)]
 pub struct BlockSet {
-    /// Whether each block is a member.
-    marks: [bool; BLOCKS],
+    /// Which blocks are members: each word has the bits of 32 blocks, the lowest for the first of
+    /// them.
+    words: [u32; WORDS],
 }
 
 impl Model for BlockSet {
-    ghost use Rattle.std.specs.Prelude.{◌≡◌, length};
     ghost use Rattle.std.specs.Ordering.{nat_cmp};
     ghost use Rattle.std.specs.FinSet as set;
     ghost use Rattle.std.specs.Coded.{coded_ℕ};
-    ghost use Rattle.d64_image.specs.BlockSet.{marked, marks_of};
-    ghost use Rattle.d64_image.specs.declared.block.TheConstants.{BLOCKS};
-    ghost use Rattle.d64_image.specs.Marks.{marks_of-marked};
+    ghost use Rattle.d64_image.specs.BlockSet.{marked, AreWords, words_of};
+    ghost use Rattle.d64_image.specs.Marks.{words_of-marked};
     ghost use Rattle.std.proofs.Common.{ap};
 
     ghost Value = { set.FinSet nat_cmp };
 
     ghost coded = { set.code coded_ℕ };
 
-    ghost view = { λ blocks. marked 0 blocks.marks };
+    ghost view = { λ blocks. marked blocks.words };
 
-    ghost invariant = { λ blocks. length blocks.marks ≡ BLOCKS };
+    ghost invariant = { λ blocks. AreWords blocks.words };
 
-    ghost inverse = { λ blocks. record { marks = marks_of blocks } };
+    ghost inverse = { λ blocks. record { words = words_of blocks } };
 
-    ghost inverse_ok = { λ blocks long. ap (λ marks. record { marks = marks }) (marks_of-marked blocks.marks long) };
+    ghost inverse_ok = { λ blocks are. ap (λ words. record { words = words }) (words_of-marked blocks.words are) };
+}
+
+/// The word at a place, and 0 past the last one.
+fn word_at(words: &[u32; WORDS], place: usize) -> u32
+    ensures { result ≡ slice_index words.now place }
+{
+    if place < WORDS { words[place] } else { 0 }
+}
+
+/// Sets bits of the word at a place, if there is one.
+fn set_bits(words: &mut [u32; WORDS], place: usize, bits: u32)
+    ensures set { words.new ≡ with_bits words.old place bits }
+    ensures fit { AreWords words.old → AreWords words.new }
+{
+    if place < WORDS {
+        words[place] |= bits;
+    }
+}
+
+/// The 32 bits from one on, of the 64 of a word and the next one.
+fn bits_within(word: u32, next: u32, start: usize) -> u32
+    requires { start < 32 }
+    ensures { result ≡ (next * 2 ^ 32 + word) / 2 ^ start % 2 ^ 32 }
+{
+    let both = u64::from(next) * (1 << WORD_BITS) + u64::from(word);
+    ((both >> start) % (1 << WORD_BITS)) as u32
 }
 
 impl BlockSet {
@@ -45,9 +77,7 @@ impl BlockSet {
         ensures value { result ≡ set.empty }
         ensures blocks { MembersAreBlocks result }
     {
-        BlockSet {
-            marks: [false; BLOCKS],
-        }
+        BlockSet { words: [0; WORDS] }
     }
 
     /// Whether a block is a member.
@@ -55,7 +85,20 @@ impl BlockSet {
         ensures value { result ≡ set.contains self.now block }
         ensures blocks { MembersAreBlocks self.now }
     {
-        self.marks[block.index()]
+        let index = block.index();
+        (self.words[index / WORD_BITS] >> (index % WORD_BITS)) & 1 == 1
+    }
+
+    /// Which of the 32 blocks from a number on are members: bit b is 1 where the block b after the
+    /// first one is a member.
+    pub fn bits_from(&self, first: usize) -> u32
+        requires { first < BLOCKS }
+        ensures { (bit : ℕ) → bit < 32 → bit_at result bit ≡ (if set.contains self.now (first + bit) then 1 else 0) }
+    {
+        let place = first / WORD_BITS;
+        let word = word_at(&self.words, place);
+        let next = word_at(&self.words, place + 1);
+        bits_within(word, next, first % WORD_BITS)
     }
 
     /// For the contract alone, and does nothing: what each set is, which a caller knows only from the contract of a call.
@@ -70,7 +113,23 @@ impl BlockSet {
         ensures value { self.new ≡ set.insert self.old block }
         ensures blocks { MembersAreBlocks self.new }
     {
-        self.marks[block.index()] = true;
+        let index = block.index();
+        self.words[index / WORD_BITS] |= 1 << (index % WORD_BITS);
+    }
+
+    /// Makes those of the 32 blocks from a number on members whose bits are 1: bit b is that of the
+    /// block b after the first one.
+    ///
+    /// The caller knows that a disk has each of them.
+    pub fn add_bits(&mut self, first: usize, bits: u32)
+        requires first { first < BLOCKS }
+        requires blocks { (bit : ℕ) → bit_at bits bit ≡ 1 → first + bit < BLOCKS }
+        ensures { (block : ℕ) → set.contains self.new block ≡ (set.contains self.old block || is_given first bits block) }
+    {
+        let place = first / WORD_BITS;
+        let both = u64::from(bits) << (first % WORD_BITS);
+        set_bits(&mut self.words, place, (both % (1 << WORD_BITS)) as u32);
+        set_bits(&mut self.words, place + 1, (both >> WORD_BITS) as u32);
     }
 
     /// Removes a block from the members, if it is one.
@@ -78,7 +137,8 @@ impl BlockSet {
         ensures value { self.new ≡ set.remove self.old block }
         ensures blocks { MembersAreBlocks self.new }
     {
-        self.marks[block.index()] = false;
+        let index = block.index();
+        self.words[index / WORD_BITS] &= !(1 << (index % WORD_BITS));
     }
 
     /// How many members there are.
@@ -87,7 +147,11 @@ impl BlockSet {
         ensures within { result ≤ BLOCKS }
         ensures blocks { MembersAreBlocks self.now }
     {
-        self.marks.iter().filter(|mark| **mark).count()
+        let mut count = 0;
+        for place in 0..WORDS {
+            count += self.words[place].count_ones() as usize;
+        }
+        count
     }
 }
 
@@ -105,7 +169,7 @@ impl PartialEq for BlockSet {
         ensures answer { result ≡ same_members self.now other.now }
         ensures same { IsTrue result ↔ (self.now ≡ other.now) }
     {
-        self.marks == other.marks
+        self.words == other.words
     }
 }
 

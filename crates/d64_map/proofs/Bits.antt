@@ -7,23 +7,12 @@ use Rattle.std.proofs.lemmas.Bool.{cases_lt}
 use Rattle.std.proofs.lemmas.Nat.Bits.{bit_at_cat_low, bit_at_cat_high}
 use Rattle.d64_map.proofs.Ranges.{sum_more, sum_by-range_push}
 
--- each bit has twice the value of the one before
-pub next_value : (k : ℕ) → 2 ^ (k + 1) ≡ 2 ^ k + 2 ^ k
-next_value k = let e : k + 1 ≡ suc k = omega arith in ap (λ (n : ℕ). 2 ^ n) e ∙ two-pow-succ k
-
 -- the value of the bits that are set
 abbrev pub value_of : (ℕ → Bool) → ℕ → ℕ
 value_of p b = if p b then 2 ^ b else 0
 
--- one more bit, set or not
-pub bits_more : (p : ℕ → Bool) (k c d : ℕ) → c ≡ sum_by (value_of p) (range_with_len 0 k) → p k ≡ true → d ≡ c + 2 ^ k
-    → d ≡ sum_by (value_of p) (range_with_len 0 (k + 1))
-bits_more p k c d summed bit more =
-    let z : 0 + k ≡ k = omega arith in
-    let v : value_of p (0 + k) ≡ 2 ^ k = ap (value_of p) z ∙ ap (λ (b : Bool). cond b (2 ^ k) 0) bit in
-    sum_more (value_of p) 0 k c d summed (more ∙ ap (λ (x : ℕ). c + x) (sym v))
-
-pub bits_same : (p : ℕ → Bool) (k c d : ℕ) → c ≡ sum_by (value_of p) (range_with_len 0 k) → p k ≡ false → d ≡ c
+-- one more bit that is not set
+bits_same : (p : ℕ → Bool) (k c d : ℕ) → c ≡ sum_by (value_of p) (range_with_len 0 k) → p k ≡ false → d ≡ c
     → d ≡ sum_by (value_of p) (range_with_len 0 (k + 1))
 bits_same p k c d summed bit same =
     let z : 0 + k ≡ k = omega arith in

@@ -1,17 +1,14 @@
 -- the blocks that a map marks free
-use Rattle.std.proofs.Common.{◌≡◌, ◌≢◌, ℕ, ◌+◌, ◌<◌, ◌≤◌, ◌&&◌, Bool, true, false, ltb, nat_eq, List, length, sym, ap, ◌∙◌, subst, inl, inr, arith}
-use Rattle.std.specs.List.{range_with_len, list_any, filter}
-use Rattle.std.specs.Ordering.{nat_cmp}
-use Rattle.std.specs.Cmp.{nat_cmp_total}
+use Rattle.std.proofs.Common.{◌≡◌, ℕ, ◌+◌, ◌<◌, ◌≤◌, ◌&&◌, Bool, true, false, ltb, nat_eq, List, length, sym, ap, ◌∙◌, arith}
+use Rattle.std.specs.List.{range_with_len, list_any}
 use Rattle.std.specs.FinSet as set
-use Rattle.std.specs.FinSet.{from_list_push, nat_cmp-IsAntisymmetric}
-use Rattle.std.proofs.lemmas.Bool.Decides.{nat_tests, eqb_tells}
+use Rattle.std.proofs.lemmas.Bool.Decides.{nat_tests}
 use Rattle.d64_image.specs.declared.block.TheConstants.{BLOCKS}
 use Rattle.d64_image.specs.Block.{sectors_on, first_block, pair_at}
 use Rattle.d64_image.specs.Image.{sector_at}
 use Rattle.d64_image.proofs.Pairs.{pair_at-counted}
-use Rattle.d64_map.specs.Map.{map_block, blocks, bit_in, is_free, free_blocks, NoneIsFreeBetween}
-use Rattle.d64_map.proofs.Ranges.{any-range, contains-filtered, filter_more, filter_same}
+use Rattle.d64_map.specs.Map.{map_block, blocks, bit_in, is_free, free_blocks}
+use Rattle.d64_map.proofs.Ranges.{any-range, contains-filtered}
 
 -- all blocks, counted one after another
 pub all_blocks : (n : ℕ) → n ≡ BLOCKS → range_with_len 0 n ≡ blocks
@@ -41,22 +38,6 @@ contains-free_blocks-past image block h =
     contains-free_blocks-both image block
     ∙ ap (λ (b : Bool). b && is_free image block) (let e : ltb block (length image) ≡ false = grind (arith, nat_tests) in e)
 
--- one step of the set of what passes
-pub set_more : (p : ℕ → Bool) (n block : ℕ) (s t : set.FinSet nat_cmp) → s ≡ set.from_list (filter p (range_with_len 0 n)) → block ≡ n → p block ≡ true
-    → t ≡ set.insert s block → t ≡ set.from_list (filter p (range_with_len 0 (n + 1)))
-set_more p n block s t so_far is passes more =
-    let z : 0 + n ≡ n = omega arith in
-    more ∙ ap (λ (x : set.FinSet nat_cmp). set.insert x block) so_far
-    ∙ ap (set.insert (set.from_list {R = nat_cmp} (filter p (range_with_len 0 n)))) (is ∙ sym z)
-    ∙ sym (from_list_push nat_cmp_total nat_cmp-IsAntisymmetric (filter p (range_with_len 0 n)) (0 + n))
-    ∙ ap (λ (xs : List ℕ). set.from_list {R = nat_cmp} xs) (sym (filter_more p 0 n (ap p (z ∙ sym is) ∙ passes)))
-
-pub set_same : (p : ℕ → Bool) (n block : ℕ) (s t : set.FinSet nat_cmp) → s ≡ set.from_list (filter p (range_with_len 0 n)) → block ≡ n → p block ≡ false
-    → t ≡ s → t ≡ set.from_list (filter p (range_with_len 0 (n + 1)))
-set_same p n block s t so_far is fails same =
-    let z : 0 + n ≡ n = omega arith in
-    same ∙ so_far ∙ ap (λ (xs : List ℕ). set.from_list {R = nat_cmp} xs) (sym (filter_same p 0 n (ap p (z ∙ sym is) ∙ fails)))
-
 -- the bit of a block's track and sector tells whether the block is free
 pub bit_tells : (image : List (List ℕ)) (block track sector : ℕ) (bytes : List ℕ) → bytes ≡ sector_at image map_block
     → track ≡ (pair_at block).0 → sector ≡ (pair_at block).1 → nat_eq (bit_in bytes track sector) 1 ≡ is_free image block
@@ -74,12 +55,3 @@ bit_is_member image track sector bytes e one last held there =
     let pair = pair_at-counted track sector one last held in
     bit_tells image (first_block track + sector) track sector bytes e (sym (ap (λ (p : ℕ × ℕ). p.0) pair)) (sym (ap (λ (p : ℕ × ℕ). p.1) pair))
     ∙ sym (contains-free_blocks image (first_block track + sector) there)
-
--- one block more, which is no free member
-pub none_more : (image : List (List ℕ)) (members : set.FinSet nat_cmp) (first block end : ℕ) → block + 1 ≡ end → NoneIsFreeBetween image members first block
-    → (set.contains members block ≡ true → set.contains (free_blocks image) block ≡ false) → NoneIsFreeBetween image members first end
-none_more image members first block end next none last other from to member =
-    elim (eqb_tells other block) [
-      | inl same ↦ subst (λ (b : ℕ). set.contains (free_blocks image) b ≡ false) (sym same.1) (last (ap (set.contains members) (sym same.1) ∙ member))
-      | inr apart ↦ none other from (let n : other ≢ block = apart.1 in omega arith) member
-    ]

@@ -2,6 +2,8 @@ pub mod Ranges
 pub mod Sectors
 pub mod FreeBlocks
 pub mod Bits
+pub mod MemberBits
+pub mod FreeTracks
 pub mod TrackBits
 pub mod Entries
 pub mod Maps

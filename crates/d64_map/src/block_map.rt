@@ -9,7 +9,7 @@ ghost use Rattle.d64_image.specs.Patch.{IsPatchOf, back};
 ghost use Rattle.d64_map.specs.Track.{members_on};
 ghost use Rattle.d64_map.specs.Map.{map_block, entry_of, IsOfTrack, count_of, bit_in, is_free, free_below, free_blocks, NoneIsFreeBetween, blocks_free, CountsFit, map_byte, with_map};
 
-use crate::tracks::{DIRECTORY_TRACK, first_block, has_block, member_bits, sector_count};
+use crate::tracks::{DIRECTORY_TRACK, first_block, member_bits, sector_mask};
 use d64_image::{BLOCK_BYTES, BlockNo, BlockSet, Image, Patch};
 use std::alloc::AllocError;
 
@@ -104,16 +104,8 @@ fn add_free_on(free: &mut BlockSet, image: &Image, track: u8)
     requires before { free.old ≡ free_below image.now (first_block track) }
     ensures added { free.new ≡ free_below image.now (first_block (track + 1)) }
 {
-    let first = first_block(track);
-    let bits = bits_on(map_of(image), track);
-    for sector in 0..sector_count(track) {
-        if marks_free(bits, sector) {
-            match BlockNo::at(first + usize::from(sector)) {
-                Some(block) => free.add(block),
-                None => {}
-            }
-        }
-    }
+    let bits = bits_on(map_of(image), track) & sector_mask(track);
+    free.add_bits(first_block(track), bits);
 }
 
 /// The blocks that the map marks free.
@@ -133,16 +125,8 @@ fn none_is_free_on(image: &Image, blocks: &BlockSet, track: u8) -> bool
     ensures none { IsTrue result ↔ NoneIsFreeBetween image.now blocks.now (first_block track) (first_block (track + 1)) }
 {
     image.known_image();
-    let first = first_block(track);
-    let bits = bits_on(map_of(image), track);
-    for sector in 0..sector_count(track) {
-        if marks_free(bits, sector) {
-            if has_block(blocks, first + usize::from(sector)) {
-                return false;
-            }
-        }
-    }
-    true
+    let free = bits_on(map_of(image), track);
+    free & member_bits(blocks, track) == 0
 }
 
 /// Whether the map marks none of these blocks free.
@@ -163,8 +147,7 @@ pub fn free_on(image: &Image, track: u8) -> u8
     ensures free { result ≡ members_on (free_blocks image.now) track }
 {
     image.known_image();
-    let sectors = (1 << sector_count(track)) - 1;
-    let free = bits_on(map_of(image), track) & sectors;
+    let free = bits_on(map_of(image), track) & sector_mask(track);
     free.count_ones() as u8
 }
 

@@ -1,7 +1,6 @@
 //! Tracks and their blocks.
-ghost use Rattle.std.specs.Prelude.{◌≡◌, ℕ, ◌^◌, ◌<◌, ◌≤◌, if◌then◌else◌, sum_by};
+ghost use Rattle.std.specs.Prelude.{◌≡◌, ℕ, ◌-◌, ◌^◌, ◌<◌, ◌≤◌, if◌then◌else◌, sum_by};
 ghost use Rattle.std.specs.List.{range_with_len};
-ghost use Rattle.std.specs.FinSet as set;
 ghost use Rattle.d64_image.specs.Block.{sectors_on, first_block};
 ghost use Rattle.d64_image.specs.declared.block.TheConstants.{BLOCKS};
 ghost use Rattle.d64_map.specs.Track.{has_sector};
@@ -24,6 +23,13 @@ pub fn sector_count(track: u8) -> u8
     }
 }
 
+/// As many bits as a track has sectors, all of which are 1.
+pub fn sector_mask(track: u8) -> u32
+    ensures { result ≡ 2 ^ sectors_on track - 1 }
+{
+    (1 << sector_count(track)) - 1
+}
+
 /// The number of a track's first block.
 pub fn first_block(track: u8) -> usize
     requires track { (1 ≤ track) × (track < 41) }
@@ -36,28 +42,10 @@ pub fn first_block(track: u8) -> usize
     }
 }
 
-/// Whether the block of that number is a member.
-pub fn has_block(blocks: &BlockSet, index: usize) -> bool
-    requires there { index < BLOCKS }
-    ensures { result ≡ set.contains blocks.now index }
-{
-    match BlockNo::at(index) {
-        Some(block) => blocks.has(block),
-        None => false,
-    }
-}
-
 /// The bits of a track's sectors: bit s is 1 where the block of sector s is a member. Bits that stand for no sector are 0.
 pub fn member_bits(blocks: &BlockSet, track: u8) -> u32
     requires track { (1 ≤ track) × (track < 41) }
     ensures bits { (count : ℕ) → sectors_on track ≤ count → result ≡ sum_by (λ s. if has_sector blocks.now track s then 2 ^ s else 0) (range_with_len 0 count) }
 {
-    let first = first_block(track);
-    let mut bits = 0;
-    for sector in 0..sector_count(track) {
-        if has_block(blocks, first + usize::from(sector)) {
-            bits += 1 << sector;
-        }
-    }
-    bits
+    blocks.bits_from(first_block(track)) & sector_mask(track)
 }

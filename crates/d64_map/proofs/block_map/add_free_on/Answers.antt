@@ -1,42 +1,49 @@
-use Rattle.std.proofs.Common.{◌≡◌, ℕ, nat_eq, ◌+◌, ◌<◌, refl, sym, ap, ◌∙◌, arith}
+use Rattle.std.proofs.Common.{◌≡◌, ℕ, nat_eq, ◌+◌, ◌%◌, ◌^◌, ◌||◌, bit_and, sym, ap, ap₂, ◌∙◌, inl, inr, arith}
+use Rattle.std.specs.Int.{bit_at}
+use Rattle.std.specs.FinSet as set
+use Rattle.std.proofs.Math.Nat.{mod-lt}
+use Rattle.std.proofs.lemmas.Bool.{cases_lt}
+use Rattle.std.proofs.lemmas.Nat.{pow_pos, and_mask}
+use Rattle.std.proofs.lemmas.Nat.Bits.{bit_at_above}
 use Rattle.d64_image.specs.Block.{sectors_on, first_block}
+use Rattle.d64_image.specs.BlockSet.{is_given}
 use Rattle.d64_image.proofs.Pairs.{pair_at-counted}
 use Rattle.d64_image.proofs.Zones.{counted_below}
-use Rattle.d64_map.specs.Map.{is_free, free_below}
-use Rattle.d64_map.proofs.FreeBlocks.{bit_tells, set_more, set_same}
-use Rattle.d64_map.proofs.Sectors.{first_block-next}
+use Rattle.d64_map.proofs.FreeBlocks.{bit_tells}
+use Rattle.d64_map.proofs.FreeTracks.{track_added}
+use Rattle.d64_map.proofs.Maps.{sectors_few}
 use Rattle.d64_map.proofs.block_map.add_free_on.Goals as goal
-use Rattle.d64_map.proofs.block_map.add_free_on.Goals.{then-marks_free+in-Some, then-marks_free+in-None, else-marks_free}
 
-pub loop-sector-preserved : goal.loop-sector-preserved
-loop-sector-preserved c =
-    let image = c.args.image.now in
+pub add_bits-requires : goal.add_bits-requires
+add_bits-requires c =
     let track = c.args.track in
-    let sector = c.loop-sector.sector in
-    let block : ℕ = first_block track + sector in
-    let held : sector < sectors_on track = omega (arith, c.sector_count-sector-end.ensures.sectors) in
-    let short : sector < 24 = omega (arith, c.sector_count-sector-end.ensures.few) in
-    let place = c.first_block-first.ensures.first in
-    let pair = pair_at-counted track sector c.requires.track.0 c.requires.track.1 held in
-    let marked =
-    c.marks_free.ensures
-    ∙ ap (λ (n : ℕ). nat_eq n 1) (c.bits_on-bits.ensures sector short)
-    ∙ bit_tells image block track sector c.map_of.result.now c.map_of.ensures.value
-    (sym (ap (λ (p : ℕ × ℕ). p.0) pair)) (sym (ap (λ (p : ℕ × ℕ). p.1) pair)) in
-    let next = ap (free_below image) (let e : block + 1 ≡ first_block track + (sector + 1) = omega arith in e) in
-    elim c.if-marks_free.branch [
-      | then-marks_free+in-Some w ↦
-          let found : w.in-Some.block ≡ block = omega (arith, w.in-Some.ensures.1, place, w.from.ensures) in
-          let passes = ap (is_free image) found ∙ sym marked ∙ w.if-marks_free.true in
-          set_more (is_free image) block w.in-Some.block c.loop-sector.free _ c.loop-sector.invariant found passes (w.free-is ∙ w.add.ensures.value) ∙ next
-      | then-marks_free+in-None w ↦
-          let below = counted_below track sector c.requires.track.1 held in
-          absurd (omega (arith, w.in-None.ensures, below, place, w.from.ensures))
-      | else-marks_free w ↦ set_same (is_free image) block block c.loop-sector.free _ c.loop-sector.invariant refl (sym marked ∙ w.if-marks_free.false) w.free-is ∙ next
-    ]
+    let bits = c.bits_on.result in
+    let is : bit_and bits c.sector_mask.result ≡ bits % 2 ^ sectors_on track = ap (bit_and bits) c.sector_mask.ensures ∙ and_mask bits (sectors_on track) in
+    record {
+      first = c.first_block.ensures.within;
+      blocks = λ bit one.
+          elim (cases_lt bit (sectors_on track)) [
+            | inl held ↦ let below = counted_below track bit c.requires.track.1 held in omega (arith, below, c.first_block.ensures.first)
+            | inr past ↦
+                let zero = bit_at_above (bits % 2 ^ sectors_on track) (sectors_on track) bit (mod-lt bits (pow_pos (sectors_on track))) past in
+                let set : bit_at (bits % 2 ^ sectors_on track) bit ≡ 1 = ap (λ (n : ℕ). bit_at n bit) (sym is) ∙ one in
+                absurd (omega arith)
+          ];
+    }
 
 pub returns : goal.returns
 returns c =
-    let n : c.loop-sector.sector ≡ sectors_on c.args.track = omega (arith, c.sector_count-sector-end.ensures.sectors) in
-    let end = ap (λ (k : ℕ). first_block c.args.track + k) n ∙ sym (first_block-next c.args.track c.requires.track.0) in
-    record { added = c.loop-sector.invariant ∙ ap (free_below c.args.image.now) end }
+    let image = c.args.image.now in
+    let track = c.args.track in
+    let bits = c.bits_on.result in
+    let few = sectors_few track in
+    let is : bit_and bits c.sector_mask.result ≡ bits % 2 ^ sectors_on track = ap (bit_and bits) c.sector_mask.ensures ∙ and_mask bits (sectors_on track) in
+    record {
+      added = track_added image track bits c.args.free.now _ c.requires.track.0 c.requires.before
+          (λ block. c.add_bits.ensures block ∙ ap₂ (λ (first given : ℕ). set.contains c.args.free.now block || is_given first given block) c.first_block.ensures.first is)
+          (λ s held.
+          let pair = pair_at-counted track s c.requires.track.0 c.requires.track.1 held in
+          ap (λ (n : ℕ). nat_eq n 1) (c.bits_on.ensures s (omega (arith, few, held)))
+          ∙ bit_tells image (first_block track + s) track s c.map_of.result.now c.map_of.ensures.value
+          (sym (ap (λ (p : ℕ × ℕ). p.0) pair)) (sym (ap (λ (p : ℕ × ℕ). p.1) pair)));
+    }

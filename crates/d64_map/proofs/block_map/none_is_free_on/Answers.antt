@@ -1,74 +1,55 @@
-use Rattle.std.proofs.Common.{◌≡◌, ℕ, nat_eq, ◌+◌, ◌<◌, true, false, length, refl, sym, ap, ◌∙◌, arith}
+use Rattle.std.proofs.Common.{◌≡◌, ◌≢◌, ℕ, ◌+◌, ◌-◌, ◌<◌, ◌^◌, Bool, true, false, nat_eq, length, sym, ap, ◌∙◌, subst, inl, inr, arith}
+use Rattle.std.specs.Int.{bit_at}
+use Rattle.std.specs.List.{range_with_len, sum_by}
 use Rattle.std.specs.FinSet as set
+use Rattle.std.proofs.lemmas.Bool.Decides.{Decides-eqb, eqb_tells}
+use Rattle.std.proofs.lemmas.Nat.Bits.{bit_at-lt}
 use Rattle.d64_image.specs.Block.{sectors_on, first_block}
-use Rattle.d64_image.proofs.Sizes.{counted_within, size_most, tracks_most}
-use Rattle.d64_map.proofs.FreeBlocks.{bit_is_member, none_more}
-use Rattle.d64_map.proofs.Sectors.{first_block-next}
+use Rattle.d64_image.proofs.Sizes.{counted_within, tracks_most}
+use Rattle.d64_map.specs.Map.{free_blocks}
+use Rattle.d64_map.specs.Track.{has_sector}
+use Rattle.d64_map.proofs.Bits.{value_of, as_bit, bit_test, sum_below, bit_at-sum}
+use Rattle.d64_map.proofs.FreeBlocks.{bit_is_member}
+use Rattle.d64_map.proofs.Maps.{sectors_few}
+use Rattle.d64_map.proofs.MemberBits.{not_shared, share_none}
+use Rattle.d64_map.proofs.Sectors.{first_block-next, has_sector-legal}
 use Rattle.d64_map.proofs.block_map.none_is_free_on.Goals as goal
-use Rattle.d64_map.proofs.block_map.none_is_free_on.Goals.{then-marks_free+else-has_block, else-marks_free}
-
-pub has_block-requires : goal.has_block-requires
-has_block-requires c =
-    let held : c.loop-sector.sector < sectors_on c.args.track = omega (arith, c.sector_count-sector-end.ensures.sectors) in
-    let size = c.known_image.ensures.size in
-    let below = counted_within (length c.args.image.now) c.args.track c.loop-sector.sector size c.requires.track.1 held in
-    let most = size_most (length c.args.image.now) size in
-    record { there = omega (arith, below, most, c.from.ensures, c.first_block-first.ensures.first) }
-
-pub returns-then-has_block : goal.returns-then-has_block
-returns-then-has_block c =
-    let image = c.args.image.now in
-    let track = c.args.track in
-    let sector = c.loop-sector.sector in
-    let held : sector < sectors_on track = omega (arith, c.sector_count-sector-end.ensures.sectors) in
-    let short : sector < 24 = omega (arith, c.sector_count-sector-end.ensures.few) in
-    let next = first_block-next track c.requires.track.0 in
-    let few : track < 41 = let most = tracks_most (length image) c.known_image.ensures.size in omega (arith, most, c.requires.track.1) in
-    let there = counted_within (length image) track sector c.known_image.ensures.size c.requires.track.1 held in
-    let bit =
-    c.marks_free.ensures
-    ∙ ap (λ (n : ℕ). nat_eq n 1) (c.bits_on-bits.ensures sector short)
-    ∙ bit_is_member image track sector c.map_of.result.now c.map_of.ensures.value c.requires.track.0 few held there in
-    let place : c.first_block-first.result + c.from.result ≡ first_block track + sector = omega (arith, c.from.ensures, c.first_block-first.ensures.first) in
-    let has = c.has_block.ensures ∙ ap (set.contains c.args.blocks.now) place in
-    record {
-      none = (
-        λ e. absurd (cc),
-        λ none.
-            let not_free = none (first_block track + sector) (omega arith) (omega arith) (sym has ∙ c.if-has_block.true) in
-            let f : true ≡ false = sym c.if-marks_free.true ∙ bit ∙ not_free in
-            absurd (cc),
-      );
-    }
-
-pub loop-sector-preserved : goal.loop-sector-preserved
-loop-sector-preserved c =
-    let image = c.args.image.now in
-    let blocks = c.args.blocks.now in
-    let track = c.args.track in
-    let sector = c.loop-sector.sector in
-    let held : sector < sectors_on track = omega (arith, c.sector_count-sector-end.ensures.sectors) in
-    let few : track < 41 = let most = tracks_most (length image) c.known_image.ensures.size in omega (arith, most, c.requires.track.1) in
-    let there = counted_within (length image) track sector c.known_image.ensures.size c.requires.track.1 held in
-    let short : sector < 24 = omega (arith, c.sector_count-sector-end.ensures.few) in
-    let bit =
-    c.marks_free.ensures
-    ∙ ap (λ (n : ℕ). nat_eq n 1) (c.bits_on-bits.ensures sector short)
-    ∙ bit_is_member image track sector c.map_of.result.now c.map_of.ensures.value c.requires.track.0 few held there in
-    let end : first_block track + sector + 1 ≡ first_block track + (sector + 1) = omega arith in
-    elim c.if-marks_free.branch [
-      | then-marks_free+else-has_block w ↦
-          let place : c.first_block-first.result + w.from.result ≡ first_block track + sector = omega (arith, w.from.ensures, c.first_block-first.ensures.first) in
-          let has = w.has_block.ensures ∙ ap (set.contains blocks) place in
-          none_more image blocks (first_block track) (first_block track + sector) (first_block track + (sector + 1)) end c.loop-sector.invariant
-          (λ member. let f : true ≡ false = sym member ∙ sym has ∙ w.if-has_block.false in absurd (cc))
-      | else-marks_free w ↦
-          none_more image blocks (first_block track) (first_block track + sector) (first_block track + (sector + 1)) end c.loop-sector.invariant
-          (λ member. sym bit ∙ w.if-marks_free.false)
-    ]
 
 pub returns : goal.returns
 returns c =
-    let next = first_block-next c.args.track c.requires.track.0 in
-    let n : c.loop-sector.sector ≡ sectors_on c.args.track = omega (arith, c.sector_count-sector-end.ensures.sectors) in
-    record { none = (λ e block from to. c.loop-sector.invariant block from (omega arith), λ none. refl) }
+    let image = c.args.image.now in
+    let blocks = c.args.blocks.now in
+    let track = c.args.track in
+    let first : ℕ = first_block track in
+    let count : ℕ = sectors_on track in
+    let p : ℕ → Bool = has_sector blocks track in
+    let free : ℕ = c.bits_on-free.result in
+    let members : ℕ = c.member_bits.result in
+    let next = first_block-next track c.requires.track.0 in
+    let few = sectors_few track in
+    let last : track < 41 = let most = tracks_most (length image) c.known_image.ensures.size in omega (arith, most, c.requires.track.1) in
+    let bits : members ≡ sum_by (value_of p) (range_with_len 0 count) = c.member_bits.ensures.bits count (omega arith) in
+    let is_free : (s : ℕ) → s < count → nat_eq (bit_at free s) 1 ≡ set.contains (free_blocks image) (first + s) =
+    λ s h. ap (λ (n : ℕ). nat_eq n 1) (c.bits_on-free.ensures s (omega (arith, h, few)))
+    ∙ bit_is_member image track s c.map_of.result.now c.map_of.ensures.value c.requires.track.0 last h (counted_within (length image) track s c.known_image.ensures.size c.requires.track.1 h) in
+    let is_member : (s : ℕ) → s < count → bit_at members s ≡ as_bit (set.contains blocks (first + s)) =
+    λ s h. ap (λ (n : ℕ). bit_at n s) bits ∙ bit_at-sum p count s h ∙ ap as_bit (has_sector-legal blocks track s c.requires.track.0 last h) in
+    record {
+      none = (
+        λ e block from to has.
+            let s : ℕ = block - first in
+            let h : block - first < count = omega (arith, from, to, next) in
+            let same : first + (block - first) ≡ block = omega (arith, from) in
+            let one : bit_at members (block - first) ≡ 1 = is_member (block - first) h ∙ ap (λ (k : ℕ). as_bit (set.contains blocks k)) same ∙ ap as_bit has in
+            let zero = not_shared free members (block - first) ((Decides-eqb _ _).0 e) one in
+            ap (set.contains (free_blocks image)) (sym same) ∙ sym (is_free (block - first) h) ∙ ap (λ (n : ℕ). nat_eq n 1) zero,
+        λ none. (Decides-eqb _ _).1 (share_none free members count (subst (λ (n : ℕ). n < 2 ^ count) (sym bits) (sum_below p count)) (λ s h one.
+            let has : set.contains blocks (first + s) ≡ true = sym (bit_test (set.contains blocks (first + s))) ∙ ap (λ (n : ℕ). nat_eq n 1) (sym (is_member s h) ∙ one) in
+            let not_free = is_free s h ∙ none (first + s) (omega arith) (omega (arith, h, next)) has in
+            let small = bit_at-lt free s in
+            elim (eqb_tells (bit_at free s) 1) [
+              | inl is ↦ let f : true ≡ false = sym is.0 ∙ not_free in absurd (cc)
+              | inr other ↦ let n : bit_at free s ≢ 1 = other.1 in omega arith
+            ])),
+      );
+    }
