@@ -1,6 +1,6 @@
 -- the bits of a track's members, read from the set at once and held against those of the map
-use Rattle.std.proofs.Common.{◌≡◌, ◌≢◌, ℕ, ◌+◌, ◌%◌, ◌^◌, ◌<◌, ◌≤◌, min, Bool, cond, bit_and, sym, ap, ◌∙◌, inl, inr, arith}
-use Rattle.std.specs.List.{range_with_len, sum_by}
+use Rattle.std.proofs.Common.{◌≡◌, ◌≢◌, ℕ, zero, suc, ◌+◌, ◌%◌, ◌^◌, ◌<◌, ◌≤◌, min, Bool, false, cond, nat_eq, Some, None, bit_and, refl, sym, ap, ◌∙◌, inl, inr, arith}
+use Rattle.std.specs.List.{range_with_len, sum_by, find}
 use Rattle.std.specs.Int.{bit_at}
 use Rattle.std.specs.Ordering.{nat_cmp}
 use Rattle.std.specs.FinSet as set
@@ -11,8 +11,9 @@ use Rattle.std.proofs.lemmas.Nat.{pow_pos}
 use Rattle.std.proofs.lemmas.Nat.Bits.{bit_at-lt, bit_at-zero, bit_at_and, bit_at_above, same_from_bits, same_from_bits_below}
 use Rattle.d64_image.specs.Block.{sectors_on, first_block}
 use Rattle.d64_image.proofs.Windows.{bit_at-mod}
-use Rattle.d64_map.specs.Track.{has_sector}
-use Rattle.d64_map.proofs.Bits.{value_of, sum_below, as_bit, bit_at-sum}
+use Rattle.d64_map.specs.Track.{blocks_on, has_sector}
+use Rattle.d64_map.proofs.Bits.{value_of, sum_below, as_bit, bit_at-sum, bit_test}
+use Rattle.d64_map.proofs.Searching.{all_on}
 use Rattle.d64_map.proofs.Sectors.{has_sector-legal}
 
 -- the lowest of the bits from a track's first block on are those of its sectors
@@ -48,3 +49,21 @@ share_none a b n below each =
       | inr past ↦ let z = bit_at_above b n s below past in omega arith
     ]
     ∙ sym (bit_at-zero s))
+
+-- where no bit of a track is set, none of its blocks is a member
+find_none : (p : ℕ → Bool) (a n : ℕ) → ((s : ℕ) → s < n → p (a + s) ≡ false) → find p (range_with_len a n) ≡ None
+find_none p a zero none = refl
+find_none p a (suc n) none =
+    let here : a + 0 ≡ a = omega arith in
+    ap (λ (b : Bool). cond b (Some a) (find p (range_with_len (a + 1) n))) (ap p (sym here) ∙ none 0 (omega arith))
+    ∙ find_none p (a + 1) n (λ s h. let later : a + 1 + s ≡ a + suc s = omega arith in ap p later ∙ none (suc s) (omega arith))
+
+pub none_on : (free : set.FinSet nat_cmp) (track bits : ℕ) → 1 ≤ track → track < 41
+    → ((count : ℕ) → sectors_on track ≤ count → bits ≡ sum_by (value_of (has_sector free track)) (range_with_len 0 count))
+    → bits ≡ 0 → find (set.contains free) (blocks_on track) ≡ None
+none_on free track bits one last are empty =
+    ap (find (set.contains free)) (all_on track)
+    ∙ find_none (set.contains free) (first_block track) (sectors_on track) (λ s held.
+    let bit : as_bit (has_sector free track s) ≡ 0 =
+    sym (bit_at-sum (has_sector free track) (sectors_on track) s held) ∙ ap (λ (n : ℕ). bit_at n s) (sym (are (sectors_on track) (omega arith)) ∙ empty) ∙ bit_at-zero s in
+    sym (has_sector-legal free track s one last held) ∙ sym (bit_test (has_sector free track s)) ∙ ap (λ (n : ℕ). nat_eq n 1) bit)

@@ -7,7 +7,7 @@ ghost use Rattle.d64_map.specs.Track.{blocks_on};
 ghost use Rattle.d64_map.specs.Search.{first_order, sector_after, rotated, next_order, dir_order};
 ghost use Rattle.d64_map.specs.Side.{track_at, other_side, reach, tracks_along, tracks_beyond};
 
-use crate::tracks::{DIRECTORY_TRACK, first_block, sector_count};
+use crate::tracks::{DIRECTORY_TRACK, first_block, member_bits, sector_count};
 use d64_image::{BLOCKS, BlockNo, BlockSet};
 
 /// How many sectors further on a file's next block is looked for.
@@ -105,6 +105,9 @@ fn pick_on(free: &BlockSet, track: u8) -> Option<BlockNo>
     requires { (1 ≤ track) × (track < 41) }
     ensures { result ≡ find (set.contains free.now) (blocks_on track) }
 {
+    if member_bits(free, track) == 0 {
+        return None;
+    }
     pick_between(free, track, 0, sector_count(track))
 }
 

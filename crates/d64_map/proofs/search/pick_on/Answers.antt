@@ -2,8 +2,13 @@ use Rattle.std.proofs.Common.{◌≡◌, ℕ, ◌+◌, ◌-◌, sym, ap, ◌∙�
 use Rattle.std.specs.List.{range_with_len, find}
 use Rattle.std.specs.FinSet as set
 use Rattle.d64_image.specs.Block.{sectors_on, first_block}
+use Rattle.d64_map.proofs.MemberBits.{none_on}
 use Rattle.d64_map.proofs.Searching.{all_on}
 use Rattle.d64_map.proofs.search.pick_on.Goals as goal
+
+pub returns-then-member_bits-eq0 : goal.returns-then-member_bits-eq0
+returns-then-member_bits-eq0 c =
+    sym (none_on c.args.free.now c.args.track c.member_bits.result c.requires.0 c.requires.1 c.member_bits.ensures.bits c.if-member_bits-eq0.true)
 
 pub returns : goal.returns
 returns c =
