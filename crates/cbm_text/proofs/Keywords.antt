@@ -1,13 +1,13 @@
 -- The table of keywords, row by row.
-use Rattle.std.proofs.Common.{◌≡◌, ◌≢◌, ℕ, suc, ◌+◌, ◌-◌, ◌<◌, ◌≤◌, Bool, true, false, cond, List, [], ◌∷◌, ◌++◌, length, drop, get_or, Option, Some, None, length-drop, refl, sym, ◌∙◌, ap, subst, arith}
-use Rattle.std.proofs.lemmas.List.{drop_more}
-use Rattle.std.proofs.lemmas.Option.{slice_get_within, get_or_from_slice_get, slice_get_past, slice_get-get_or}
-use Rattle.std.proofs.lemmas.Bool.{leb-true, leb-false, ltb-true, and_parts}
+use Rattle.std.proofs.Common.{◌≡◌, ℕ, suc, ◌+◌, ◌-◌, ◌<◌, ◌≤◌, Bool, true, false, cond, List, [], ◌∷◌, ◌++◌, length, drop, get_or, Option, Some, None, length-drop, refl, sym, ◌∙◌, ap, subst, arith}
+use Rattle.std.proofs.lemmas.Option.{slice_get_past}
+use Rattle.std.proofs.lemmas.Bool.{leb-true, leb-false, ltb-true, and_parts, eqb-false, ne_eqb}
 use Rattle.std.proofs.lemmas.Bool.Decides.{Decides-eqb}
 use Rattle.std.proofs.lemmas.Slice.Eq.{starts_is}
-use Rattle.std.specs.Prelude.{slice_get, nat_le, nat_lt, nat_eq}
+use Rattle.std.specs.Prelude.{slice_get, nat_le, nat_lt, nat_eq, ◌==◌}
 use Rattle.std.specs.List.{starts_with, list_all}
-use Rattle.cbm_text.specs.Keywords.{keywords, keyword, token_from}
+use Rattle.std.specs.Option.{option_map_or}
+use Rattle.cbm_text.specs.Keywords.{keywords, keyword, token_from, tokens_with}
 
 -- a token, and what follows it
 abbrev pub found : ℕ → List ℕ → Option (ℕ × List ℕ)
@@ -20,30 +20,6 @@ code_in (Some it) = it.0
 abbrev pub rest_in : Option (ℕ × List ℕ) → List ℕ
 rest_in None = []
 rest_in (Some it) = it.1
-
--- a row of a table is the first of what is left there
-row_first : (words : List (List ℕ)) (k : ℕ) (word : List ℕ) → slice_get words k ≡ Some word → drop k words ≡ word ∷ drop (k + 1) words
-row_first words k word is =
-    let within : k < length words = slice_get_within words k word is in
-    drop_more words k word within ∙ ap (λ (w : List ℕ). w ∷ drop (k + 1) words) (get_or_from_slice_get words k word word is)
-
--- where the text begins with the word of a row, this is the first token; else the next rows are left
-pub token_found : (words : List (List ℕ)) (k token : ℕ) (text word : List ℕ) → slice_get words k ≡ Some word → starts_with nat_eq text word ≡ true
-    → token_from token (drop k words) text ≡ Some (token, drop (length word) text)
-token_found words k token text word is starts = rw (row_first words k word is) (rw starts refl)
-
-pub token_passed : (words : List (List ℕ)) (k token : ℕ) (text word : List ℕ) → slice_get words k ≡ Some word → starts_with nat_eq text word ≡ false
-    → token_from token (drop k words) text ≡ token_from (token + 1) (drop (k + 1) words) text
-token_passed words k token text word is starts = rw (row_first words k word is) (rw starts refl)
-
--- the rows of the table
-pub keyword_row : (token : ℕ) (word : List ℕ) → keyword token ≡ Some word → (128 ≤ token) × (slice_get keywords (token - 128) ≡ Some word)
-unfolding keyword
-keyword_row token word is = of_test (nat_le 128 token) refl is
-  where
-    of_test : (b : Bool) → nat_le 128 token ≡ b → cond b (slice_get keywords (token - 128)) None ≡ Some word → (128 ≤ token) × (slice_get keywords (token - 128) ≡ Some word)
-    of_test true at row = (leb-true 128 token at, row)
-    of_test false at row = absurd cc
 
 -- how many there are
 pub rows : length keywords ≡ 76
@@ -66,19 +42,6 @@ keyword_below token low = of_test (nat_le 128 token) refl
     of_test : (b : Bool) → nat_le 128 token ≡ b → cond b (slice_get keywords (token - 128)) None ≡ None
     of_test true at = let high : 128 ≤ token = leb-true 128 token at in absurd (omega arith)
     of_test false at = refl
-
-pub keyword_within : (token : ℕ) → 128 ≤ token → token < 204 → keyword token ≢ None
-unfolding keyword
-keyword_within token low high = of_test (nat_le 128 token) refl
-  where
-    of_test : (b : Bool) → nat_le 128 token ≡ b → cond b (slice_get keywords (token - 128)) None ≢ None
-    of_test true at none = let there : Some (get_or keywords (token - 128) []) ≡ None = sym (slice_get-get_or keywords (token - 128) [] (omega (arith, rows))) ∙ none in absurd cc
-    of_test false at none = let below : token < 128 = leb-false 128 token at in absurd (omega arith)
-
--- behind the last row there is no token
-pub no_token : (token : ℕ) (text : List ℕ) → token ≡ 204 → token_from token (drop (token - 128) keywords) text ≡ None
-unfolding keywords
-no_token token text last = subst (λ (t : ℕ). token_from t (drop (t - 128) keywords) text ≡ None) (sym last) refl
 
 -- no keyword is empty
 some_bytes : list_all (λ word. nat_lt 0 (length word)) keywords ≡ true
@@ -157,3 +120,58 @@ token_shown text code rest is =
     of_test : (b : Bool) → nat_le 128 code ≡ b → 128 ≤ code → (word : List ℕ) → slice_get keywords (code - 128) ≡ Some word → cond b (slice_get keywords (code - 128)) None ≡ Some word
     of_test true at high word row = row
     of_test false at high word row = let low : code < 128 = leb-false 128 code at in absurd (omega arith)
+
+-- ---- the keywords that begin with a byte
+
+-- the first of these tokens whose keyword the text begins with
+abbrev pub first_of : List ℕ → List ℕ → Option (ℕ × List ℕ)
+first_of [] text = None
+first_of (token ∷ tokens) text =
+    option_map_or (λ (word : List ℕ). cond (starts_with nat_eq text word) (Some (token, drop (length word) text)) (first_of tokens text)) (keyword token) (first_of tokens text)
+
+-- these are the words of the tokens from one on
+abbrev AreWordsFrom : ℕ → List (List ℕ) → Type 0
+AreWordsFrom token words = (k code : ℕ) (word : List ℕ) → code ≡ token + k → slice_get words k ≡ Some word → keyword code ≡ Some word
+
+-- a text begins with none of the words that begin with another byte
+first_among : (words : List (List ℕ)) (token first : ℕ) (rest : List ℕ) → AreWordsFrom token words → list_all (λ word. nat_lt 0 (length word)) words ≡ true
+    → token_from token words (first ∷ rest) ≡ first_of (tokens_with first token words) (first ∷ rest)
+first_among [] token first rest are somes = refl
+first_among ([] ∷ words) token first rest are somes = absurd cc
+first_among ((byte ∷ bytes) ∷ words) token first rest are somes =
+    of_test (first == byte) refl (are 0 token (byte ∷ bytes) (omega arith) refl) (first_among words (token + 1) first rest behind (and_parts _ _ somes).1)
+  where
+    behind : AreWordsFrom (token + 1) words
+    behind k code word at is = are (suc k) code word (omega (arith, at)) is
+
+    of_test : (b : Bool) → (first == byte) ≡ b → keyword token ≡ Some (byte ∷ bytes) → token_from (token + 1) words (first ∷ rest) ≡ first_of (tokens_with first (token + 1) words) (first ∷ rest)
+        → token_from token ((byte ∷ bytes) ∷ words) (first ∷ rest)
+        ≡ first_of (cond b (token ∷ tokens_with first (token + 1) words) (tokens_with first (token + 1) words)) (first ∷ rest)
+    of_test true at known later =
+        rw known (ap (λ (o : Option (ℕ × List ℕ)). cond (starts_with nat_eq (first ∷ rest) (byte ∷ bytes)) (found token (drop (length (byte ∷ bytes)) (first ∷ rest))) o) later)
+    of_test false at known later =
+        let other : nat_eq byte first ≡ false = ne_eqb byte first (λ same. eqb-false first byte at (sym same)) in
+        rw other later
+
+-- the table's words are those of the tokens from $80 on
+keyword_words : AreWordsFrom 128 keywords
+unfolding keyword
+keyword_words k code word at is = of_test (nat_le 128 code) refl
+  where
+    row : slice_get keywords (code - 128) ≡ Some word
+    row = subst (λ (n : ℕ). slice_get keywords n ≡ Some word) (omega (arith, at)) is
+
+    of_test : (b : Bool) → nat_le 128 code ≡ b → cond b (slice_get keywords (code - 128)) None ≡ Some word
+    of_test true high = row
+    of_test false high = let low : code < 128 = leb-false 128 code high in absurd (omega (arith, at))
+
+-- so only the words that begin with a text's first byte can be its first token
+pub token_by_first : (text : List ℕ) (first : ℕ) → 1 ≤ length text → first ≡ get_or text 0 0 → token_from 128 keywords text ≡ first_of (tokens_with first 128 keywords) text
+token_by_first [] first some is = absurd (omega arith)
+token_by_first (byte ∷ rest) first some is = subst (λ (n : ℕ). token_from 128 keywords (byte ∷ rest) ≡ first_of (tokens_with n 128 keywords) (byte ∷ rest)) (sym is) (first_among keywords 128 byte rest keyword_words some_bytes)
+
+-- an empty text begins with no keyword
+pub nothing_begins : (text : List ℕ) → length text < 1 → token_from 128 keywords text ≡ None
+unfolding keywords
+nothing_begins [] none = refl
+nothing_begins (byte ∷ rest) none = absurd (omega arith)
