@@ -1,14 +1,14 @@
 -- Crunched bytes, one by one.
 use Rattle.std.proofs.Common.{◌≡◌, ◌≢◌, ℕ, ◌<◌, ◌≤◌, length, arith, true, false, ◌+◌, ◌-◌, get_or, take, drop, List, [], ◌∷◌, ◌++◌, Option, Some, None, refl, sym, ◌∙◌, ap, subst, append_assoc}
 use Rattle.std.proofs.lemmas.List.{append-nil, take_all, drop_all, drop_more}
-use Rattle.std.proofs.lemmas.Bool.{eqb-true}
-use Rattle.std.specs.Prelude.{◌==◌}
+use Rattle.std.proofs.lemmas.Bool.{and_parts, eqb-true}
+use Rattle.std.specs.Prelude.{◌==◌, suc, zero}
 use Rattle.cbm_text.specs.declared.mode.Mode.{Mode}
 use Rattle.cbm_text.specs.declared.mode.Mode.TheVariants.{Free, Quoted, Remark, Data, QuotedData}
-use Rattle.std.specs.Option.{option_map_or}
+use Rattle.std.specs.Option.{is_some, option_map_or}
 use Rattle.cbm_text.specs.Keywords.{keywords, token_from}
-use Rattle.cbm_text.proofs.Keywords.{found, code_in, rest_in, token_shrinks}
-use Rattle.cbm_text.specs.Modes.{after, single_code, free_code, first_code, CrunchedFrom, expanded_from, shown}
+use Rattle.cbm_text.proofs.Keywords.{found, code_in, rest_in, token_shrinks, token_shown}
+use Rattle.cbm_text.specs.Modes.{after, crunches_anyhow, single_code, free_code, first_code, CrunchedFrom, expanded_from, shown}
 
 -- what has been crunched of a text, and what is left, read in this mode: what the rest crunches to follows, and every
 -- crunched form of the whole comes so
@@ -125,6 +125,52 @@ not_empty (byte ∷ rest) test none = absurd cc
 pub empty : (text : List ℕ) → true ≡ (length text == 0) → text ≡ []
 empty [] test = refl
 empty (byte ∷ rest) test = let none : length (byte ∷ rest) ≡ 0 = eqb-true _ _ (sym test) in absurd (omega arith)
+
+-- ---- texts that crunch however they are read
+
+all_behind : (word rest : List ℕ) → crunches_anyhow (word ++ rest) ≡ true → crunches_anyhow rest ≡ true
+all_behind [] rest all = all
+all_behind (byte ∷ word) rest all = all_behind word rest (and_parts _ _ all).1
+
+-- such a text begins with a crunched byte, and what follows is such a text
+anyhow_first : (mode : Mode) (byte : ℕ) (others : List ℕ) → crunches_anyhow (byte ∷ others) ≡ true
+    → (code : ℕ) × (rest : List ℕ) × (first_code mode (byte ∷ others) ≡ Some (code, rest)) × (crunches_anyhow rest ≡ true)
+unfolding free_code
+anyhow_first Free byte others all = by_token (token_from 128 keywords (byte ∷ others)) refl
+  where
+    by_single : (single : Option ℕ) → is_some single ≡ true → (code : ℕ) × (rest : List ℕ) × (after_single others single ≡ Some (code, rest)) × (crunches_anyhow rest ≡ true)
+    by_single None never = absurd cc
+    by_single (Some code) some = (code, others, refl, (and_parts _ _ all).1)
+
+    by_token : (token : Option (ℕ × List ℕ)) → token_from 128 keywords (byte ∷ others) ≡ token
+        → (code : ℕ) × (rest : List ℕ) × (option_map_or it_is token (after_single others (single_code byte)) ≡ Some (code, rest)) × (crunches_anyhow rest ≡ true)
+    by_token None none = by_single (single_code byte) (and_parts _ _ all).0
+    by_token (Some (code, rest)) at =
+        let shown = token_shown (byte ∷ others) code rest at in
+        (code, rest, refl, all_behind shown.0 rest (subst (λ (w : List ℕ). crunches_anyhow w ≡ true) shown.2 all))
+anyhow_first Quoted byte others all = (byte, others, refl, (and_parts _ _ all).1)
+anyhow_first Remark byte others all = (byte, others, refl, (and_parts _ _ all).1)
+anyhow_first Data byte others all = (byte, others, refl, (and_parts _ _ all).1)
+anyhow_first QuotedData byte others all = (byte, others, refl, (and_parts _ _ all).1)
+
+anyhow_within : (most : ℕ) (mode : Mode) (text : List ℕ) → length text ≤ most → crunches_anyhow text ≡ true → (codes : List ℕ) × CrunchedFrom mode text codes
+unfolding CrunchedFrom
+anyhow_within most mode [] few all = ([], refl)
+anyhow_within zero mode (byte ∷ others) few all = absurd (omega arith)
+anyhow_within (suc most) mode (byte ∷ others) few all =
+    let (code, rest, first, behind) = anyhow_first mode byte others all in
+    let shorter = first_shrinks mode (byte ∷ others) code rest (some_byte byte others) first in
+    let (codes, crunched) = anyhow_within most (after mode code) rest (omega (arith, few, shorter)) behind in
+    (code ∷ codes, (rest, first, crunched))
+  where
+    some_byte : (b : ℕ) (bs : List ℕ) → b ∷ bs ≢ []
+    some_byte b bs none = absurd cc
+
+-- and so does what is left of a text
+pub crunched_anyhow : (text codes : List ℕ) (mode : Mode) (left : List ℕ) → CrunchedSoFar text codes mode left → crunches_anyhow left ≡ true → (more : List ℕ) × CrunchedFrom Free text (codes ++ more)
+crunched_anyhow text codes mode left so_far all =
+    let (more, crunched) = anyhow_within (length left) mode left (omega arith) all in
+    (more, so_far.completes more crunched)
 
 -- ---- expanding
 

@@ -1,5 +1,6 @@
 -- Texts of programs, line by line.
-use Rattle.std.proofs.Common.{◌≡◌, ℕ, ◌+◌, ◌≤◌, ◌⊎◌, List, [], ◌∷◌, ◌++◌, length, true, false, Contains, refl, sym, ◌∙◌, ap, subst, inl, inr, append_assoc, arith}
+use Rattle.std.proofs.Common.{◌≡◌, ℕ, ◌+◌, ◌<◌, ◌≤◌, ◌⊎◌, List, [], ◌∷◌, ◌++◌, length, true, false, Contains, refl, sym, ◌∙◌, ap, subst, inl, inr, append_assoc, arith}
+use Rattle.std.proofs.lemmas.List.{append-nil, length-append}
 use Rattle.std.specs.Prelude.{nat_eq, suc, zero}
 use Rattle.std.specs.List.{list_any}
 use Rattle.std.proofs.lemmas.Bool.{eqb-false, or_parts}
@@ -7,8 +8,10 @@ use Rattle.d64_script.specs.RawLines.{lines_of, text_of, is_skipped}
 use Rattle.d64_script.proofs.LineCuts.{length-lines_of}
 use Rattle.cbm_text.specs.declared.fault.BasicFault.{BasicFault}
 use Rattle.cbm_text.specs.declared.fault.BasicFault.TheVariants.{NoNumber, NumberTooLarge, Text, TokenByte, ZeroByte, TooLong, Memory}
+use Rattle.cbm_text.specs.Crunching.{Crunched}
+use Rattle.cbm_text.specs.Modes.{CrunchesUpTo}
 use Rattle.cbm_text.specs.Program.{Line, Program, word, line_layout, lines_layout, address_behind}
-use Rattle.cbm_text.specs.BasicText.{IsLine, HasFault, AreLines, FaultsFirst, IsFileOf, IsFirstFault, IsOfMemory, TellsLine}
+use Rattle.cbm_text.specs.BasicText.{IsLine, IsRead, IsTooLong, HasFault, AreLines, FaultsFirst, IsFileOf, IsFirstFault, IsOfMemory, TellsLine}
 
 -- what has been crunched of a text, and the raw lines that are left: what these give completes the file, and their first
 -- fault is the text's
@@ -142,3 +145,24 @@ pub no_zero_in : (bytes : List ℕ) → false ≡ list_any (λ y. nat_eq y 0) by
 no_zero_in [] test (k, within, is) = absurd (omega arith)
 no_zero_in (byte ∷ bytes) test (zero, within, is) = eqb-false byte 0 (or_parts _ _ (sym test)).0 is
 no_zero_in (byte ∷ bytes) test (suc k, within, is) = no_zero_in bytes (sym (or_parts _ _ (sym test)).1) (k, omega arith, is)
+
+-- ---- lines of which the first crunched bytes are known
+
+-- they are all where they are no more than a line has
+pub crunched_short : (most : ℕ) (bytes codes : List ℕ) → CrunchesUpTo most bytes codes → length codes ≤ most → Crunched bytes codes
+crunched_short most bytes codes up short = it up.whole
+  where
+    it : (up.more ≡ []) ⊎ (most < length codes) → Crunched bytes codes
+    it (inl none) = subst (λ (w : List ℕ). Crunched bytes w) (ap (λ (w : List ℕ). codes ++ w) none ∙ append-nil codes) up.crunched
+    it (inr long) = absurd (omega (arith, long, short))
+
+-- the faults of such a line
+pub zero_fault : (at place most : ℕ) (text bytes codes : List ℕ) → IsRead text bytes → CrunchesUpTo most bytes codes → Contains bytes 0 → HasFault at place text (ZeroByte place)
+zero_fault at place most text bytes codes read up zero_in = (refl, bytes, codes ++ up.more, record { read = read; crunched = up.crunched }, zero_in)
+
+pub long_fault : (at place most : ℕ) (text bytes codes : List ℕ) → IsRead text bytes → CrunchesUpTo most bytes codes → ¬ (Contains bytes 0) → IsTooLong at codes → HasFault at place text (TooLong place)
+long_fault at place most text bytes codes read up no_zero long = (refl, bytes, codes ++ up.more, record { read = read; crunched = up.crunched }, no_zero, longer long)
+  where
+    longer : IsTooLong at codes → IsTooLong at (codes ++ up.more)
+    longer (inl bytes_past) = inl (omega (arith, bytes_past, length-append codes up.more))
+    longer (inr link_past) = inr (omega (arith, link_past, length-append codes up.more))

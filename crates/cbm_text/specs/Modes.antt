@@ -1,14 +1,14 @@
 -- How a line is crunched and listed byte after byte: a line is free at its start, and each crunched byte says how the next
 -- place is read. Only private functions speak of this; `proofs` has that it agrees with the pieces of a line.
-use Rattle.std.specs.Prelude.{◌≡◌, ℕ, ◌||◌, List, [], ◌∷◌, ◌++◌, Option, Some, None, nat_lt, ◌==◌, if◌then◌else◌}
-use Rattle.std.specs.Option.{option_map_or}
-use Rattle.std.specs.List.{flat_map}
+use Rattle.std.specs.Prelude.{◌≡◌, ℕ, ◌<◌, ◌||◌, ◌⊎◌, Bool, List, [], ◌∷◌, ◌++◌, length, Option, Some, None, nat_lt, ◌==◌, if◌then◌else◌}
+use Rattle.std.specs.Option.{is_some, option_map_or}
+use Rattle.std.specs.List.{flat_map, list_all}
 use Rattle.cbm_text.specs.declared.mode.Mode.{Mode}
 use Rattle.cbm_text.specs.declared.mode.Mode.TheVariants.{Free, Quoted, Remark, Data, QuotedData}
 use Rattle.cbm_text.specs.Keywords.{keywords, keyword, token_from}
 use Rattle.cbm_text.specs.Kept.{quote, colon, data_token, rem_token}
 use Rattle.cbm_text.specs.Pieces.{print_token}
-use Rattle.cbm_text.specs.Crunching.{question, pi}
+use Rattle.cbm_text.specs.Crunching.{question, pi, Crunched}
 use Rattle.cbm_text.specs.Listing.{line_text}
 use Rattle.cbm_text.specs.Program.{Line, Program}
 
@@ -43,6 +43,16 @@ first_code kept (byte ∷ rest) = Some (byte, rest)
 unfoldable pub CrunchedFrom : Mode → List ℕ → List ℕ → Type 0
 CrunchedFrom mode text [] = text ≡ []
 CrunchedFrom mode text (code ∷ codes) = (rest : List ℕ) × (first_code mode text ≡ Some (code, rest)) × CrunchedFrom (after mode code) rest codes
+
+-- No byte is one that crunches to nothing at a free place.
+abbrev pub crunches_anyhow : List ℕ → Bool
+crunches_anyhow text = list_all (λ byte. is_some (single_code byte)) text
+
+-- A text crunches to these bytes, or to more than so many bytes of which these are the first, more than so many too.
+pub record CrunchesUpTo (most : ℕ) (text codes : List ℕ) : Type 0 where
+  pub more : List ℕ
+  pub crunched : Crunched text (codes ++ more)
+  pub whole : (more ≡ []) ⊎ (most < length codes)
 
 -- ---- listing
 

@@ -1,12 +1,16 @@
 //! The crunched bytes of a line, and what they stand for.
 
 ghost use Rattle.std.specs.Prelude.{◌≡◌, ℕ, List, ◌++◌, MatchOption, IfOk, OnOk};
+ghost use Rattle.cbm_text.specs.BasicText.{most_bytes};
 ghost use Rattle.cbm_text.specs.Crunching.{Crunched};
-ghost use Rattle.cbm_text.specs.Modes.{expanded, first_code, free_code, shown, single_code};
+ghost use Rattle.cbm_text.specs.Modes.{CrunchesUpTo, crunches_anyhow, expanded, first_code, free_code, shown, single_code};
 
 use crate::keyword::{first_token, keyword_of};
 use crate::mode::Mode;
 use std::alloc::{AllocError, Global};
+
+/// The most crunched bytes of a line.
+pub(crate) const MOST_BYTES: usize = 250;
 
 /// The token of `print`.
 const PRINT: u8 = 0x99;
@@ -14,16 +18,21 @@ const PRINT: u8 = 0x99;
 /// The byte of pi, which is no token.
 const PI: u8 = 0xff;
 
-/// The crunched bytes of a line, or `None` where a byte of $80 or more stands at a free place.
+/// The crunched bytes of a line, or `None` where a byte of $80 or more stands at a free place. Where they are more than
+/// `MOST_BYTES`, only the first may be there, but more than `MOST_BYTES` too.
 pub(crate) fn crunch_bytes(alloc: Global, bytes: &[u8]) -> Result<Option<Vec<u8>>, AllocError>
     ensures { IfOk result (λ crunched. MatchOption crunched
         ((codes : List ℕ) → ¬ (Crunched bytes.now codes))
-        (λ codes. Crunched bytes.now codes.items)) }
+        (λ codes. CrunchesUpTo most_bytes bytes.now codes.items)) }
 {
-    let mut codes = Vec::new(alloc);
+    let mut codes = Vec::with_capacity(alloc, bytes.len().min(MOST_BYTES + 1))?;
     let mut mode = Mode::Free;
     let mut left = bytes;
     while !left.is_empty() {
+        // the line is too long, and only whether it crunches is left to see
+        if codes.len() == MOST_BYTES + 1 && crunches_anyhow(left) {
+            return Ok(Some(codes));
+        }
         let Some((code, rest)) = next_code(mode, left) else {
             return Ok(None);
         };
@@ -60,6 +69,13 @@ fn code_of_byte(byte: u8) -> Option<u8>
         0..0x80 | PI => Some(byte),
         _ => None,
     }
+}
+
+/// Whether no byte of a text is one that crunches to nothing at a free place: then the text crunches, however it is read.
+fn crunches_anyhow(text: &[u8]) -> bool
+    ensures { result ≡ crunches_anyhow text.now }
+{
+    text.iter().all(|byte| code_of_byte(*byte).is_some())
 }
 
 /// What the crunched bytes of a line stand for.

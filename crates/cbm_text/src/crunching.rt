@@ -4,16 +4,13 @@ ghost use Rattle.std.specs.Prelude.{◌≡◌, ◌⊎◌, ◌++◌, ℕ, IfOk, I
 ghost use Rattle.cbm_text.specs.BasicText.{IsFileOf, IsFirstFault, IsOfMemory, IsLine, HasFault, TellsLine};
 ghost use Rattle.cbm_text.specs.Program.{Line, line_layout, address_behind};
 
-use crate::codes::crunch_bytes;
+use crate::codes::{MOST_BYTES, crunch_bytes};
 use crate::fault::BasicFault;
 use crate::program::{self, push_line, push_word};
 use crate::text_line::split_number;
 use d64_script::raw_lines::{self, RawLines};
 use petscii::{TextFault, from_text};
 use std::alloc::Global;
-
-/// The most crunched bytes of a line.
-const MOST_BYTES: usize = 250;
 
 /// The greatest link.
 const GREATEST_LINK: usize = 65_535;
@@ -51,6 +48,7 @@ pub fn crunch(alloc: Global, start: u16, text: &[u8]) -> Result<Vec<u8>, BasicFa
 
 /// Adds the line of a program that a text line stands for, at an address: the address of what follows. The line's
 /// place in the text goes into a fault.
+#[tactic(auto, using(crate::proofs::TextPrograms::zero_fault, crate::proofs::TextPrograms::long_fault))]
 fn push_text_line(
     alloc: Global,
     file: &mut Vec<u8>,

@@ -4,8 +4,9 @@ use Rattle.std.specs.List.{list_any}
 use Rattle.petscii.specs.TextForm.{IsTextOf}
 use Rattle.cbm_text.specs.Program.{Line, address_behind}
 use Rattle.cbm_text.specs.Crunching.{Crunched}
-use Rattle.cbm_text.specs.BasicText.{IsOfMemory, HasFault}
-use Rattle.cbm_text.proofs.TextPrograms.{no_zero_in, line_pushed}
+use Rattle.cbm_text.specs.BasicText.{IsOfMemory, HasFault, most_bytes}
+use Rattle.cbm_text.specs.Modes.{CrunchesUpTo}
+use Rattle.cbm_text.proofs.TextPrograms.{crunched_short, no_zero_in, line_pushed}
 use Rattle.cbm_text.proofs.crunching.push_text_line.Goals as goal
 
 pub returns-in_err-number-clause-fault : goal.returns-in_err-number-clause-fault
@@ -19,7 +20,8 @@ returns-clause-line c =
     let line : Line = record { number = c.in_ok-number.number; bytes = c.in-Some.codes.items } in
     let numbered = c.in_ok-number.ensures in
     let codes = c.in-Some.codes.items in
-    let there : Crunched c.deref.result.now codes = rw c.in-Some.is at c.in_ok-codes.ensures in
+    let up_to : CrunchesUpTo most_bytes c.deref.result.now codes = rw c.in-Some.is at c.in_ok-codes.ensures in
+    let there : Crunched c.deref.result.now codes = crunched_short most_bytes c.deref.result.now codes up_to (omega arith) in
     let next : c.from.result + c.len.result + 5 ≡ address_behind c.args.at codes = omega arith in (
       line,
       record {
