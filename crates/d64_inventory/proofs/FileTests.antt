@@ -8,8 +8,9 @@ use Rattle.std.specs.FinSet as set
 use Rattle.std.specs.FinSet.{contains-insert, contains-empty}
 use Rattle.std.proofs.lemmas.List.{take_more}
 use Rattle.std.proofs.lemmas.List.Sums.{length-filter}
-use Rattle.std.proofs.lemmas.List.Folds.{list_any-append}
+use Rattle.std.proofs.lemmas.List.Folds.{list_any-append, list_any_more}
 use Rattle.d64_survey.specs.Owners.{pair_of, blocks_from}
+use Rattle.d64_survey.specs.SlotBlocks.{slot_blocks}
 use Rattle.d64_survey.specs.declared.owner.Part.TheVariants.{Data, Side}
 use Rattle.d64_inventory.specs.Rows.{is_of_file}
 
@@ -30,6 +31,25 @@ one_more before old new blocks k block d e members within is q =
     turned false true c = refl
     turned false false true = refl
     turned false false false = refl
+
+-- one more block may pass a test
+pub flag_more : (f : ℕ → Bool) (blocks : List ℕ) (k block d : ℕ) (before old new : Bool) → k < length blocks → block ≡ get_or blocks k d
+    → old ≡ (before || list_any f (take k blocks)) → new ≡ (old || f block) → new ≡ (before || list_any f (take (k + 1) blocks))
+flag_more f blocks k block d before old new within is told e =
+    e ∙ ap₂ ◌||◌ told (ap f is) ∙ joined before (list_any f (take k blocks)) (f (get_or blocks k d)) ∙ sym (ap (λ (t : Bool). before || t) (list_any_more f blocks k d within))
+  where
+    joined : (a b c : Bool) → ((a || b) || c) ≡ (a || (b || c))
+    joined true b c = refl
+    joined false b c = refl
+
+-- a block of either part passes a test
+pub either_part : (f : ℕ → Bool) (image : List (List ℕ)) (cell : List ℕ) (data_pair side_pair : Option (ℕ × ℕ)) (first all : Bool)
+    → data_pair ≡ pair_of Data cell → side_pair ≡ pair_of Side cell → first ≡ list_any f (blocks_from image data_pair)
+    → all ≡ (first || list_any f (blocks_from image side_pair)) → all ≡ list_any f (slot_blocks image cell)
+either_part f image cell data_pair side_pair first all d s in_data in_side =
+    in_side
+    ∙ ap₂ ◌||◌ (in_data ∙ ap (λ (p : Option (ℕ × ℕ)). list_any f (blocks_from image p)) d) (ap (λ (p : Option (ℕ × ℕ)). list_any f (blocks_from image p)) s)
+    ∙ sym (list_any-append f (blocks_from image (pair_of Data cell)) (blocks_from image (pair_of Side cell)))
 
 -- the blocks of both parts are those of the file
 pub both_parts : (image : List (List ℕ)) (cell : List ℕ) (none first all : set.FinSet nat_cmp) (data_pair side_pair : Option (ℕ × ℕ)) → none ≡ set.empty

@@ -1,5 +1,6 @@
 pub mod AnyOf
 pub mod Naming
+pub mod FileConditions
 pub mod NumberLists
 pub mod KeptContents
 pub mod ReadContents

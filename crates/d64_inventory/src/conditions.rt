@@ -1,10 +1,10 @@
 //! The conditions of a sound image that fail at a slot.
-ghost use Rattle.std.specs.Prelude.{◌≡◌, ◌+◌, ◌<◌, ◌≤◌, ◌&&◌, ℕ, [], ◌∷◌, ◌++◌, Some, length, if◌then◌else◌};
+ghost use Rattle.std.specs.Prelude.{◌≡◌, ◌+◌, ◌<◌, ◌≤◌, ℕ, [], ◌∷◌, ◌++◌, Some, length, if◌then◌else◌};
 ghost use Rattle.std.specs.List.{list_any};
 ghost use Rattle.std.specs.FinSet as set;
-ghost use Rattle.d64_map.specs.Map.{blocks as all_blocks, free_blocks};
-ghost use Rattle.d64_survey.specs.Owners.{is_shared};
-ghost use Rattle.d64_survey.specs.Flaws.{is_broken};
+ghost use Rattle.d64_map.specs.Map.{free_blocks};
+ghost use Rattle.d64_survey.specs.SlotBlocks.{slot_blocks};
+ghost use Rattle.d64_survey.specs.Flaws.{any_shared, is_broken};
 ghost use Rattle.d64_survey.specs.Inspection.{slot_cell};
 ghost use Rattle.d64_inventory.specs.Conditions.{conditions as conditions_of};
 ghost use Rattle.d64_inventory.specs.Rows.{is_of_file};
@@ -12,33 +12,10 @@ ghost use Rattle.d64_inventory.specs.Rows.{is_of_file};
 use crate::file_blocks::FileBlocks;
 use arrayvec::ArrayVec;
 use d64_files::Entry;
-use d64_image::{BlockNo, BlockSet};
 use d64_survey::Survey;
 
 /// How many conditions a fault of a slot's file may fail: those of the numbers 3 to 6.
 pub(crate) const SLOT_CONDITIONS: usize = 4;
-
-/// Whether one of the blocks has more than one owner.
-fn any_shared(survey: &Survey, blocks: &BlockSet) -> bool
-    ensures { result ≡ list_any (λ block. is_shared survey.now block && set.contains blocks.now block) all_blocks }
-{
-    let mut is_shared = false;
-    for block in BlockNo::all() {
-        is_shared = is_shared || (survey.is_shared(block) && blocks.has(block));
-    }
-    is_shared
-}
-
-/// Whether the two sets have a member in common.
-fn any_common(blocks: &BlockSet, others: &BlockSet) -> bool
-    ensures { result ≡ list_any (λ block. set.contains blocks.now block && set.contains others.now block) all_blocks }
-{
-    let mut is_common = false;
-    for block in BlockNo::all() {
-        is_common = is_common || (blocks.has(block) && others.has(block));
-    }
-    is_common
-}
 
 /// Appends the number of a condition where that fails.
 fn number_if(list: &mut ArrayVec<u8, SLOT_CONDITIONS>, number: u8, fails: bool)
@@ -51,23 +28,24 @@ fn number_if(list: &mut ArrayVec<u8, SLOT_CONDITIONS>, number: u8, fails: bool)
     }
 }
 
-/// The numbers of the faults that name a slot, by the blocks of its file and the set of the blocks that the map marks free.
+/// The numbers of the faults that name a slot, by the blocks of its file.
 pub(crate) fn conditions(
     survey: &Survey,
-    free: &BlockSet,
     entry: &Entry,
     file: &FileBlocks,
 ) -> ArrayVec<u8, SLOT_CONDITIONS>
-    requires free { free.now ≡ free_blocks survey.now }
     requires slot { slot_cell survey.now entry.now.slot ≡ Some entry.now.bytes }
     requires blocks { (block : ℕ) → set.contains file.now.members block ≡ is_of_file survey.now entry.now.bytes block }
     requires broken { file.now.is_broken ≡ is_broken survey.now entry.now.bytes }
+    requires shared { file.now.is_shared ≡ any_shared survey.now (slot_blocks survey.now entry.now.bytes) }
+    requires free { file.now.is_marked_free ≡ list_any (set.contains (free_blocks survey.now)) (slot_blocks survey.now entry.now.bytes) }
     ensures { result.items ≡ conditions_of survey.now entry.now.slot }
 {
+    file.members.known_members();
     let mut list = ArrayVec::new();
     number_if(&mut list, 3, !entry.has_kind());
     number_if(&mut list, 4, file.is_broken);
-    number_if(&mut list, 5, any_shared(survey, &file.members));
-    number_if(&mut list, 6, any_common(&file.members, free));
+    number_if(&mut list, 5, file.is_shared);
+    number_if(&mut list, 6, file.is_marked_free);
     list
 }

@@ -146,7 +146,8 @@ impl<'a> Inventory<'a> {
         ensures same { self.new ≡ self.old }
     {
         let all = self.inspection;
-        let file = FileBlocks::of(all.image(), entry);
+        let survey = all.survey();
+        let file = FileBlocks::of(survey, &self.free, entry);
         let why = all.why(entry);
         FileRow {
             slot: entry.slot().place(),
@@ -157,13 +158,13 @@ impl<'a> Inventory<'a> {
             locked: entry.locked(),
             size: entry.blocks(),
             first: entry.first_pair(),
-            record: record_length(all.survey(), entry),
+            record: record_length(survey, entry),
             blocks: all.way_length(entry, Part::Data),
             side: all.way_length(entry, Part::Side),
             content: self.contents.content(all.image(), entry),
             whole: wholeness(entry, why.as_slice()),
             why,
-            conditions: conditions(all.survey(), &self.free, entry, &file),
+            conditions: conditions(survey, entry, &file),
             read_errors: count_errors(all.read_errors(), &file.members),
         }
     }

@@ -28,15 +28,15 @@ returns-clause-row c =
       record_length = c.record_length.ensures;
       blocks = c.way_length.ensures ∙ ap (λ (d : DumpView). way_length d.image bytes Data) c.self.view_is;
       side = c.way_length-2.ensures ∙ ap (λ (d : DumpView). way_length d.image bytes Side) c.self.view_is;
-      content = c.content.ensures.content ∙ ap (λ (i : List (List ℕ)). option_map digested (content_of i bytes)) c.image-2.ensures ∙ ap (λ (d : DumpView). option_map digested (content_of d.image bytes)) c.self.view_is;
+      content = c.content.ensures.content ∙ ap (λ (i : List (List ℕ)). option_map digested (content_of i bytes)) c.image.ensures ∙ ap (λ (d : DumpView). option_map digested (content_of d.image bytes)) c.self.view_is;
       whole = c.wholeness.ensures ∙ ap (wholeness_by bytes) (c.as_slice.ensures.value ∙ c.why-why.ensures) ∙ ap (λ (d : DumpView). wholeness d.image d.codes bytes) c.self.view_is;
       why = c.why-why.ensures ∙ ap (λ (d : DumpView). why d.image d.codes bytes) c.self.view_is;
-      conditions = c.conditions.ensures ∙ ap (λ (i : List (List ℕ)). conditions i c.args.entry.now.slot) c.survey-2.ensures ∙ ap (λ (d : DumpView). conditions d.image c.args.entry.now.slot) c.self.view_is;
+      conditions = c.conditions.ensures ∙ ap (λ (i : List (List ℕ)). conditions i c.args.entry.now.slot) c.survey-survey.ensures ∙ ap (λ (d : DumpView). conditions d.image c.args.entry.now.slot) c.self.view_is;
       read_errors =
           c.count_errors.ensures
-          ∙ count_same (λ (error : ReadError). set.contains c.of-file.result.members error.block) (λ (error : ReadError). is_of_file c.image.result.now bytes error.block)
+          ∙ count_same (λ (error : ReadError). set.contains c.of-file.result.members error.block) (λ (error : ReadError). is_of_file c.survey-survey.result.now bytes error.block)
           (λ error. c.of-file.ensures.members error.block) c.read_errors.result.now
-          ∙ ap (λ (i : List (List ℕ)). count_by (λ (error : ReadError). is_of_file i bytes error.block) c.read_errors.result.now) c.image.ensures
+          ∙ ap (λ (i : List (List ℕ)). count_by (λ (error : ReadError). is_of_file i bytes error.block) c.read_errors.result.now) c.survey-survey.ensures
           ∙ ap (λ (es : List ReadError). count_by (λ (error : ReadError). is_of_file c.self.inside.inspection.now.image bytes error.block) es) c.read_errors.ensures
           ∙ ap (λ (d : DumpView). error_count d bytes) c.self.view_is;
     })

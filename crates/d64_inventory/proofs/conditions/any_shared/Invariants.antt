@@ -1,9 +1,0 @@
-use Rattle.std.proofs.Common.{◌≡◌, ◌||◌, ◌&&◌}
-use Rattle.std.specs.List.{list_any}
-use Rattle.std.specs.FinSet as set
-use Rattle.d64_map.specs.Map.{blocks}
-use Rattle.d64_survey.specs.Owners.{is_shared}
-use Rattle.d64_inventory.proofs.conditions.any_shared.Given as goal
-
-abbrev pub invariant-loop-block : goal.invariant-loop-block
-invariant-loop-block l = (l.is_shared || list_any (λ block. is_shared l.survey block && set.contains l.blocks block) l.block-iterator) ≡ list_any (λ block. is_shared l.survey block && set.contains l.blocks block) blocks
