@@ -16,6 +16,7 @@ mod size_limit;
 mod standard_streams;
 mod whole_store;
 
+pub use draft::{Draft, replace_by};
 pub use folder_host::FolderHost;
 pub use host::{FolderFault, Host, HostFault};
 pub use memory_host::MemoryHost;
