@@ -7,7 +7,7 @@ use Rattle.std.proofs.lemmas.List.Sums.{take_while-cons}
 use Rattle.d64_files.specs.Name.{IsName, forbidden_in_names, filled, name_in}
 
 -- a byte that a name may hold is no shifted space
-no_filler : (byte : ℕ) → ¬ (Contains forbidden_in_names byte) → not (byte == 0xA0) ≡ true
+pub no_filler : (byte : ℕ) → ¬ (Contains forbidden_in_names byte) → not (byte == 0xA0) ≡ true
 no_filler byte allowed =
     elim (eqb_tells byte 0xA0) [
       | inl same ↦ absurd (allowed (7, omega arith, sym same.1))

@@ -3,6 +3,7 @@ pub mod Conditions
 pub mod Contents
 pub mod FileBlocks
 pub mod FilledNames
+pub mod FieldNames
 pub mod FirstFaults
 pub mod Following
 pub mod LabelTests

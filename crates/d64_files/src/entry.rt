@@ -1,11 +1,11 @@
 //! The slots of a directory, one at a time.
-ghost use Rattle.std.specs.Prelude.{◌≡◌, ◌*◌, ◌+◌, length, option_map};
+ghost use Rattle.std.specs.Prelude.{◌≡◌, ◌*◌, ◌+◌, ◌≤◌, ◌==◌, ◌||◌, bytes_eq, length, option_map, slice_index};
 ghost use Rattle.d64_files.specs.Chain.{block_in};
 ghost use Rattle.d64_files.specs.Slot.{type_byte, has_kind, is_used, kind_of, is_locked, is_closed, first_pair, field_of, name_of, side_pair, geos_type, size_of};
 
 use crate::chain::block_in;
 use crate::kind::Kind;
-use crate::name::name_in;
+use crate::name::{FILLER, Name, name_in};
 use d64_image::{BlockNo, Image};
 use std::marker::Model;
 
@@ -29,6 +29,14 @@ impl Model for SlotNo {
     ghost view = { λ slot. slot.place };
 
     ghost inverse = { λ place. record { place = place } };
+}
+
+/// Whether a field ends at a place, or a filler stands there.
+fn ends_at(field: &[u8], place: usize) -> bool
+    requires { place ≤ length field.now }
+    ensures { result ≡ ((place == length field.now) || (slice_index field.now place == 0xA0)) }
+{
+    place == field.len() || field[place] == FILLER
 }
 
 impl SlotNo {
@@ -144,6 +152,19 @@ impl<'a> Entry<'a> {
         ensures { result.now ≡ name_of self.now.bytes }
     {
         name_in(self.field())
+    }
+
+    /// Whether its name is this one.
+    pub(crate) fn is_called(&self, name: &Name) -> bool
+        ensures { result ≡ bytes_eq (name_of self.now.bytes) name.now }
+    {
+        let field = self.field();
+        let bytes = name.bytes();
+        let len = bytes.len();
+        if !ends_at(field, len) {
+            return false;
+        }
+        &field[..len] == bytes
     }
 
     /// The first block of the file, or None where the image that the entry stands in has no block of that track and sector.

@@ -28,7 +28,7 @@ impl Directory<'_> {
         ensures { result ≡ is_name_taken name.now (slots self.now) }
     {
         for entry in self.slots() {
-            if entry.used() && entry.name() == name.bytes() {
+            if entry.used() && entry.is_called(name) {
                 return true;
             }
         }
