@@ -1,5 +1,5 @@
 -- What the program does with its words, its streams and a host.
-use Rattle.std.specs.Prelude.{◌≡◌, ℕ, ◌==◌, false, if◌then◌else◌, List, ◌∷◌, ◌++◌, length, replicate, codes, Option, Some, None, Result, Ok, Err, ◌⊎◌}
+use Rattle.std.specs.Prelude.{◌≡◌, ℕ, ◌==◌, false, if◌then◌else◌, List, [], ◌∷◌, ◌++◌, length, replicate, codes, Option, Some, None, MatchOption, Result, Ok, Err, ◌⊎◌}
 use Rattle.std.specs.Fmt.{decimal}
 use Rattle.std.specs.Io.KnownBytes.{Appends, Keeps}
 use Rattle.d64_script.specs.Output.{Account, AppendsPart, Writes, account_of}
@@ -16,7 +16,7 @@ use Rattle.d64_image.specs.declared.image.TheConstants.{BLOCK_BYTES}
 use Rattle.d64_words.specs.Asked.{IsFault, IsJob, WasAskedFor}
 use Rattle.d64_words.specs.declared.asked.Job.{Job}
 use Rattle.d64_words.specs.declared.asked.JobFault.{JobFault}
-use Rattle.d64_words.specs.declared.asked.JobFault.TheVariants as words
+use Rattle.d64_words.specs.FaultText.{text_of}
 use Rattle.d64_line.specs.Act.{FetchesFile}
 use Rattle.d64_line.specs.BasicFiles.{status_of_basic, status_of_listing}
 use Rattle.d64_wording.specs.FaultLines.{unread_line, unwritten_line}
@@ -50,7 +50,7 @@ use Rattle.d64_shell.specs.declared.tools.Tool.{Tool}
 use Rattle.d64_shell.specs.declared.tools.ToolFault.{ToolFault}
 use Rattle.d64_shell.specs.declared.tools.ToolFault.TheVariants as tool_faults
 use Rattle.d64_shell.specs.declared.program_fault.ProgramFault.{ProgramFault}
-use Rattle.d64_shell.specs.declared.program_fault.ProgramFault.TheVariants.{UnreadableWords, Start, Tracks, Both, Format, Names, Null, Picture, Difference, Folder, WrongLength, UnreadableImage, UnreadableSession, NoSession, Read, Write, Memory}
+use Rattle.d64_shell.specs.declared.program_fault.ProgramFault.TheVariants.{UnreadableWords, WrongLength, UnreadableImage, UnreadableSession, NoSession, Read, Write, Memory}
 
 -- the most bytes of an image, a program or a text that are read from a file
 abbrev pub file_limit : ℕ
@@ -128,29 +128,30 @@ fault_of_run runs.Read = Read
 fault_of_run runs.Write = Write
 fault_of_run (runs.Memory error) = Memory
 
--- the text that tells a fault
-abbrev pub fault_text : ProgramFault → List ℕ
-fault_text UnreadableWords = codes "usage: a word is no text in UTF-8"
-fault_text Start = codes "usage: --start takes one to four hexadecimal digits"
-fault_text Tracks = codes "usage: --tracks takes 35 or 40 and no IMAGE"
-fault_text Both = codes "usage: --resume and --tracks exclude each other"
-fault_text Format = codes "usage: --format takes text, json or csv"
-fault_text Names = codes "usage: FILE.. or --files-from LIST is wanted, not both"
-fault_text Null = codes "usage: --null goes with --files-from"
-fault_text Picture = codes "usage: --format takes text or svg"
-fault_text Difference = codes "usage: --format takes text or json"
-fault_text Folder = codes "usage: --into takes the name of a folder"
-fault_text (WrongLength length) = codes "image: wrong length " ++ decimal length
-fault_text UnreadableImage = codes "image: cannot be read"
-fault_text UnreadableSession = codes "session: cannot be read"
-fault_text (NoSession fault) = codes "session: fault " ++ decimal fault
-fault_text Read = codes "read fault"
-fault_text Write = codes "write fault"
-fault_text Memory = codes "out of memory"
+-- the text that tells a fault, up to its number where it has one
+abbrev pub fault_words : ProgramFault → List ℕ
+fault_words UnreadableWords = codes "usage: a word is no text in UTF-8"
+fault_words (WrongLength length) = codes "image: wrong length "
+fault_words UnreadableImage = codes "image: cannot be read"
+fault_words UnreadableSession = codes "session: cannot be read"
+fault_words (NoSession fault) = codes "session: fault "
+fault_words Read = codes "read fault"
+fault_words Write = codes "write fault"
+fault_words Memory = codes "out of memory"
 
--- the line that tells a fault, with the line feed at its end
-unfoldable pub fault_line : ProgramFault → List ℕ
-fault_line fault = codes "d64sh: " ++ fault_text fault ++ codes "\n"
+-- the number that ends it
+abbrev pub fault_digits : ProgramFault → List ℕ
+fault_digits (WrongLength length) = decimal length
+fault_digits (NoSession fault) = decimal fault
+fault_digits other = []
+
+-- the text that tells a fault
+unfoldable pub fault_text : ProgramFault → List ℕ
+fault_text fault = fault_words fault ++ fault_digits fault
+
+-- the line of a fault that is told by this text, with the line feed at its end
+unfoldable pub told_line : List ℕ → List ℕ
+told_line text = codes "d64sh: " ++ text ++ codes "\n"
 
 -- why a host file that was fetched so gives no image: it was not fetched, or is of another length, or there is no memory
 abbrev pub GivesNoImage : Result (List ℕ) HostFault → ProgramFault → Type 0
@@ -189,9 +190,13 @@ StoppedBy fault beginning source manner old new =
     HasNoText fault source old new ⊎ (HasNotBegunFor fault beginning old new
     ⊎ ((ended : Result Outcome ShellFault) × RanShell beginning source manner old new ended × IsToldOf ended fault))
 
--- the program answered with this fault: status 2, and its line, whole unless writing it failed
+-- the program answered with a fault that is told by this text: status 2, and its line, whole unless writing it failed
+abbrev pub ReportsText : List ℕ → Account → Account → ℕ → Type 0
+ReportsText text faults told status = (status ≡ 2) × Writes faults told (told_line text)
+
+-- the program answered with this fault
 abbrev pub Reports : ProgramFault → Account → Account → ℕ → Type 0
-Reports fault faults told status = (status ≡ 2) × Writes faults told (fault_line fault)
+Reports fault faults told status = ReportsText (fault_text fault) faults told status
 
 -- how a shell ended: the script ran to its end, and no fault is told; or a fault stopped it
 abbrev pub EndedShell : Beginning → Source → Manner → Outside → Outside → Account → Account → ℕ → Type 0
@@ -339,21 +344,15 @@ HasShown old new faults told status =
 abbrev pub HasTold : Account → Account → ℕ → Type 0
 HasTold faults told status = ((text : List ℕ) × Writes faults told text × (status ≡ 2)) ⊎ Reports Memory faults told status
 
--- how words are answered that ask for no job: with the help or the version that they asked for, or with what is wrong
+-- what they asked to see was shown, or what clap finds wrong with them was told
+abbrev pub ShowsOrTells : JobFault → Option (List ℕ) → Option (List ℕ) → Account → Account → ℕ → Type 0
+ShowsOrTells fault old new faults told status =
+    (WasAskedFor fault × HasShown old new faults told status) ⊎ (¬ (WasAskedFor fault) × (new ≡ old) × HasTold faults told status)
+
+-- how words are answered that ask for no job: by the text of the fault, and, where it is clap's, by what they asked to see or by what is wrong
 abbrev pub AnswersWords : JobFault → Option (List ℕ) → Option (List ℕ) → Account → Account → ℕ → Type 0
-AnswersWords (words.Words error) old new faults told status =
-    (WasAskedFor (words.Words error) × HasShown old new faults told status)
-    ⊎ (¬ (WasAskedFor (words.Words error)) × (new ≡ old) × HasTold faults told status)
-AnswersWords words.Start old new faults told status = (new ≡ old) × Reports Start faults told status
-AnswersWords words.Memory old new faults told status = (new ≡ old) × Reports Memory faults told status
-AnswersWords words.Tracks old new faults told status = (new ≡ old) × Reports Tracks faults told status
-AnswersWords words.Both old new faults told status = (new ≡ old) × Reports Both faults told status
-AnswersWords words.Format old new faults told status = (new ≡ old) × Reports Format faults told status
-AnswersWords words.Names old new faults told status = (new ≡ old) × Reports Names faults told status
-AnswersWords words.Null old new faults told status = (new ≡ old) × Reports Null faults told status
-AnswersWords words.Picture old new faults told status = (new ≡ old) × Reports Picture faults told status
-AnswersWords words.Difference old new faults told status = (new ≡ old) × Reports Difference faults told status
-AnswersWords words.Folder old new faults told status = (new ≡ old) × Reports Folder faults told status
+AnswersWords fault old new faults told status =
+    MatchOption (text_of fault) (ShowsOrTells fault old new faults told status) (λ text. (new ≡ old) × ReportsText text faults told status)
 
 -- the words with the program's name before them
 abbrev pub named : List (List ℕ) → List (List ℕ)

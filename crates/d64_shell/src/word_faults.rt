@@ -7,7 +7,7 @@ ghost use Rattle.d64_words.specs.Asked.{IsJob, IsFault};
 ghost use Rattle.d64_shell.specs.Program.{AnswersWords, HasShown, HasTold, named};
 
 use crate::entry::{ALL_ACCEPTED, NOT_RUN};
-use crate::program_fault::ProgramFault;
+use crate::program_fault::{ProgramFault, report_text};
 use d64_script::output::{OutputStream, WriteFault};
 use d64_words::{Job, JobFault, job};
 use std::alloc::Global;
@@ -45,24 +45,10 @@ pub(crate) fn answer_words<W: Write, F: Write>(
     ensures silent { result ≡ 0 → faults.new ≡ faults.old }
     ensures delivered { result ≡ 0 → (output.new.is_delivered ≡ true) × (output.new.has_failed ≡ false) }
 {
-    match &fault {
-        JobFault::Start => ProgramFault::Start.report_on(faults),
-        JobFault::Memory => ProgramFault::Memory.report_on(faults),
-        JobFault::Tracks => ProgramFault::Tracks.report_on(faults),
-        JobFault::Both => ProgramFault::Both.report_on(faults),
-        JobFault::Format => ProgramFault::Format.report_on(faults),
-        JobFault::Names => ProgramFault::Names.report_on(faults),
-        JobFault::Null => ProgramFault::Null.report_on(faults),
-        JobFault::Picture => ProgramFault::Picture.report_on(faults),
-        JobFault::Difference => ProgramFault::Difference.report_on(faults),
-        JobFault::Folder => ProgramFault::Folder.report_on(faults),
-        JobFault::Words(_) => {
-            if fault.was_asked_for() {
-                show(alloc, &fault, output, faults)
-            } else {
-                tell(alloc, &fault, faults)
-            }
-        }
+    match fault.text() {
+        Some(text) => report_text(text, faults),
+        None if fault.was_asked_for() => show(alloc, &fault, output, faults),
+        None => tell(alloc, &fault, faults),
     }
 }
 

@@ -129,41 +129,16 @@ IsJob words job = IsUse words (λ met. IsJobOf met job)
 -- what the subcommand that they name is given
 abbrev pub IsFault : List Text → JobFault → Type 0
 IsFault words (Words error) = IsAmong (kind_of error) (fault_of d64sh words) × (kind_of error ≢ OutOfMemory)
-IsFault words Start = IsUse words (λ met. IsFaultOf met Start)
 IsFault words Memory = ⊤
-IsFault words Tracks = IsUse words (λ met. IsFaultOf met Tracks)
-IsFault words Both = IsUse words (λ met. IsFaultOf met Both)
-IsFault words Format = IsUse words (λ met. IsFaultOf met Format)
-IsFault words Names = IsUse words (λ met. IsFaultOf met Names)
-IsFault words Null = IsUse words (λ met. IsFaultOf met Null)
-IsFault words Picture = IsUse words (λ met. IsFaultOf met Picture)
-IsFault words Difference = IsUse words (λ met. IsFaultOf met Difference)
-IsFault words Folder = IsUse words (λ met. IsFaultOf met Folder)
+IsFault words fault = IsUse words (λ met. IsFaultOf met fault)
 
 -- how clap's error is told: want of memory as that, and every other as it is
 abbrev pub IsToldAs : Error → JobFault → Type 0
 IsToldAs error (Words told) = (told ≡ error) × (kind_of error ≢ OutOfMemory)
-IsToldAs error Start = ⊥
 IsToldAs error Memory = kind_of error ≡ OutOfMemory
-IsToldAs error Tracks = ⊥
-IsToldAs error Both = ⊥
-IsToldAs error Format = ⊥
-IsToldAs error Names = ⊥
-IsToldAs error Null = ⊥
-IsToldAs error Picture = ⊥
-IsToldAs error Difference = ⊥
-IsToldAs error Folder = ⊥
+IsToldAs error fault = ⊥
 
 -- the fault is the help or the version that the words asked for
 abbrev pub WasAskedFor : JobFault → Type 0
 WasAskedFor (Words error) = (kind_of error ≡ DisplayHelp) ⊎ (kind_of error ≡ DisplayVersion)
-WasAskedFor Start = ⊥
-WasAskedFor Memory = ⊥
-WasAskedFor Tracks = ⊥
-WasAskedFor Both = ⊥
-WasAskedFor Format = ⊥
-WasAskedFor Names = ⊥
-WasAskedFor Null = ⊥
-WasAskedFor Picture = ⊥
-WasAskedFor Difference = ⊥
-WasAskedFor Folder = ⊥
+WasAskedFor fault = ⊥

@@ -1,6 +1,7 @@
 pub mod Asked
 pub mod Commands
 pub mod Extraction
+pub mod FaultText
 pub mod Format
 pub mod Names
 pub mod Start

@@ -1,7 +1,8 @@
 //! What words may ask for, and why they ask for nothing.
 
-ghost use Rattle.std.specs.Prelude.{◌≡◌, ◌↔◌, IsTrue};
+ghost use Rattle.std.specs.Prelude.{◌≡◌, ◌≤◌, ◌↔◌, IfSome, IsTrue, length, option_map};
 ghost use Rattle.d64_words.specs.Asked.{IsToldAs, WasAskedFor};
+ghost use Rattle.d64_words.specs.FaultText.{text_of};
 ghost use Rattle.d64_words.specs.declared.asked.JobFault.TheVariants.{Memory};
 
 use clap::Error as WordsError;
@@ -127,38 +128,29 @@ pub enum Separator {
 
 /// Why the words ask for no job.
 #[derive(Debug, Drop, Error)]
+#[error("{}", self.text().unwrap_or_default())]
 pub enum JobFault {
     /// The words are none of the program's, or ask for help or the version, which the error's text then is.
     #[error("{0}")]
     Words(WordsError),
     /// What follows `--start` is other than one to four hexadecimal digits.
-    #[error("usage: --start takes one to four hexadecimal digits")]
     Start,
-    #[error("out of memory")]
     Memory,
     /// What follows `--tracks` is neither 35 nor 40, or there is an image beside it.
-    #[error("usage: --tracks takes 35 or 40 and no IMAGE")]
     Tracks,
     /// There is `--resume` beside `--tracks`.
-    #[error("usage: --resume and --tracks exclude each other")]
     Both,
     /// What follows `--format` of a survey is neither `text`, `json` nor `csv`.
-    #[error("usage: --format takes text, json or csv")]
     Format,
     /// There are both FILE and `--files-from`, or neither.
-    #[error("usage: FILE.. or --files-from LIST is wanted, not both")]
     Names,
     /// There is `--null` without `--files-from`.
-    #[error("usage: --null goes with --files-from")]
     Null,
     /// What follows `--format` of `map` is neither `text` nor `svg`.
-    #[error("usage: --format takes text or svg")]
     Picture,
     /// What follows `--format` of `diff` is neither `text` nor `json`.
-    #[error("usage: --format takes text or json")]
     Difference,
     /// What follows `--into` is empty.
-    #[error("usage: --into takes the name of a folder")]
     Folder,
 }
 
@@ -169,16 +161,27 @@ impl JobFault {
     {
         match self {
             JobFault::Words(error) => !error.use_stderr(),
-            JobFault::Start
-            | JobFault::Memory
-            | JobFault::Tracks
-            | JobFault::Both
-            | JobFault::Format
-            | JobFault::Names
-            | JobFault::Null
-            | JobFault::Picture
-            | JobFault::Difference
-            | JobFault::Folder => false,
+            _ => false,
+        }
+    }
+
+    /// The text that tells the fault; none for an error of `clap`'s, which has its own.
+    pub fn text(&self) -> Option<&'static str>
+        ensures text { option_map (λ text. text.now) result ≡ text_of self.now }
+        ensures fits { IfSome result (λ text. length text.now ≤ 56) }
+    {
+        match self {
+            JobFault::Words(_) => None,
+            JobFault::Start => Some("usage: --start takes one to four hexadecimal digits"),
+            JobFault::Memory => Some("out of memory"),
+            JobFault::Tracks => Some("usage: --tracks takes 35 or 40 and no IMAGE"),
+            JobFault::Both => Some("usage: --resume and --tracks exclude each other"),
+            JobFault::Format => Some("usage: --format takes text, json or csv"),
+            JobFault::Names => Some("usage: FILE.. or --files-from LIST is wanted, not both"),
+            JobFault::Null => Some("usage: --null goes with --files-from"),
+            JobFault::Picture => Some("usage: --format takes text or svg"),
+            JobFault::Difference => Some("usage: --format takes text or json"),
+            JobFault::Folder => Some("usage: --into takes the name of a folder"),
         }
     }
 }

@@ -63,7 +63,7 @@ fn end_of_call(bench: &Bench) -> Result<End, Fail> {
         "run" => scripts::run(bench, given),
         "petcat_run" => scripts::petcat_run(bench),
         "crunch_run" => scripts::crunch_run(bench),
-        "ShellFault,ToolFault,ProgramFault" => scripts::fault_texts(bench),
+        "ShellFault,ToolFault,JobFault,ProgramFault" => scripts::fault_texts(bench),
         "job" => words::job(bench, given),
         _ => without_memory::end_of_call(bench),
     }

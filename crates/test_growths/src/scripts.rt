@@ -6,7 +6,7 @@ use crate::hosts::{self, host};
 use crate::sessions::Beside;
 use crate::texts::{START, TEXT};
 use cbm_text::{BasicFault, ListFault};
-use d64_shell::{Outcome, ProgramFault, ShellFault, ToolFault};
+use d64_shell::{JobFault, Outcome, ProgramFault, ShellFault, ToolFault};
 use std::alloc::{AllocError, Global};
 use std::test::Fail;
 
@@ -91,10 +91,10 @@ the output takes no more bytes
 out of memory
 line 3: a line holds no byte $00
 the program is cut short
-usage: a word is no text in UTF-8
 usage: --start takes one to four hexadecimal digits
 usage: --tracks takes 35 or 40 and no IMAGE
 usage: --resume and --tracks exclude each other
+usage: a word is no text in UTF-8
 image: wrong length 9
 image: cannot be read
 session: cannot be read
@@ -104,7 +104,7 @@ write fault
 out of memory
 ";
 
-/// The texts of the faults of scripts, tools and the program, one a line.
+/// The texts of the faults of scripts, tools, words and the program, one a line.
 fn shown_faults(alloc: Global) -> Result<String, AllocError> {
     let mut text = String::new(alloc);
     for fault in [
@@ -123,11 +123,11 @@ fn shown_faults(alloc: Global) -> Result<String, AllocError> {
     ] {
         write!(text, "{fault}\n")?;
     }
+    for fault in &[JobFault::Start, JobFault::Tracks, JobFault::Both] {
+        write!(text, "{fault}\n")?;
+    }
     for fault in [
         ProgramFault::UnreadableWords,
-        ProgramFault::Start,
-        ProgramFault::Tracks,
-        ProgramFault::Both,
         ProgramFault::WrongLength(9),
         ProgramFault::UnreadableImage,
         ProgramFault::UnreadableSession,
