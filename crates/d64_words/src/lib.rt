@@ -5,6 +5,7 @@ mod asked;
 mod command;
 mod dumps;
 mod forms;
+mod help;
 mod reading;
 mod surveys;
 mod values;

@@ -1,0 +1,226 @@
+//! The texts of the help, beside those of single arguments.
+
+/// What the help of a subcommand says of all of it.
+#[derive(Clone, Copy, Debug)]
+pub(crate) struct Help {
+    /// What it does, in a line.
+    pub(crate) about: &'static str,
+    pub(crate) usage: &'static str,
+    /// What stands after the arguments: what goes in and what comes out, the exit statuses and an example.
+    pub(crate) details: &'static str,
+}
+
+/// The help of the subcommand of this name, or of the program where it has none of that name.
+pub(crate) fn help_of(name: &str) -> Help {
+    match name {
+        "shell" => Help {
+            about: "Runs a script of commands on a disk image",
+            usage: SHELL_USAGE,
+            details: SHELL_DETAILS,
+        },
+        "petcat" => Help {
+            about: "Lists a BASIC program as text",
+            usage: PETCAT_USAGE,
+            details: PETCAT_DETAILS,
+        },
+        "crunch" => Help {
+            about: "Makes a BASIC program of a text",
+            usage: CRUNCH_USAGE,
+            details: CRUNCH_DETAILS,
+        },
+        "check" => Help {
+            about: "Says what is wrong on disk images, and where",
+            usage: CHECK_USAGE,
+            details: CHECK_DETAILS,
+        },
+        "files" => Help {
+            about: "Lists the files on disk images, and which are whole",
+            usage: FILES_USAGE,
+            details: FILES_DETAILS,
+        },
+        "extract" => Help {
+            about: "Writes the files on disk images to folders",
+            usage: EXTRACT_USAGE,
+            details: EXTRACT_DETAILS,
+        },
+        "map" => Help {
+            about: "Draws a map of the blocks of a disk image",
+            usage: MAP_USAGE,
+            details: MAP_DETAILS,
+        },
+        "diff" => Help {
+            about: "Says what changed from one disk image to another",
+            usage: DIFF_USAGE,
+            details: DIFF_DETAILS,
+        },
+        "catalogue" => Help {
+            about: "Makes one page of what is on disk images, to look at and search",
+            usage: CATALOGUE_USAGE,
+            details: CATALOGUE_DETAILS,
+        },
+        _ => Help {
+            about: ABOUT,
+            usage: "d64sh <COMMAND>",
+            details: DETAILS,
+        },
+    }
+}
+
+const ABOUT: &str = "Looks at and changes D64 images of Commodore 1541 disks, with undo, and turns
+BASIC V2 programs into text and back.";
+
+const DETAILS: &str = "Examples:
+  d64sh shell -c list disk.d64       prints what is on a disk
+  d64sh crunch game.bas -o game.prg  makes a program of a text
+
+`d64sh shell --help` and the like say what goes in and what comes out. The
+manual has the commands of the shell, and what the exit status means:
+`man d64sh`, or docs/MANUAL.md beside the source.";
+
+const SHELL_USAGE: &str = "d64sh shell [-e] [-c LINE].. [--tracks N] [IMAGE]
+       d64sh shell [-e] [-c LINE].. --resume FILE [IMAGE]";
+
+const SHELL_DETAILS: &str = "In:      the script on the standard input, one line a command
+Out:     what each command shows, and a status line for each, `00, OK,00,00`
+         where it was accepted
+Example: d64sh shell -c list disk.d64
+
+Lines:   format NAME,ID         make the disk empty
+         write HOST [NAME[,T]]  write a host file to the disk; T is p, s or u
+         crunch HOST [NAME]     write the BASIC program of a host file's text
+         read NAME [HOST]       store a file of the disk as a host file
+         petcat NAME            print the text of a BASIC program
+         delete PATTERN ..      delete the files whose names match
+         rename OLD NEW         give a file another name
+         list                   print the directory
+         validate               free the blocks that no closed file has
+         block T S              print the block of track T and sector S
+         bread HOST T S         store a block as a host file
+         bwrite HOST T S        write a block from a host file of 256 bytes
+         undo, redo             take a change back, and make it again
+         history                print the changes
+         save [HOST]            store the image, as IMAGE without a name
+         keep HOST              store the session, with its changes
+         quit                   end the script
+
+IMAGE itself changes by the command `save` alone. With --resume, it isn't read,
+and `save` without a name stores there. The manual says more: `man d64sh`, or
+docs/MANUAL.md beside the source.";
+
+const PETCAT_USAGE: &str = "d64sh petcat [-o FILE] [FILE]";
+
+const PETCAT_DETAILS: &str =
+    "In:      a program as the machine saves it, from FILE or the standard input
+Out:     its lines as text on the standard output, where codes that are no
+         characters of a keyboard stand in braces, such as {clr}
+Example: d64sh petcat hello.prg -o hello.bas
+
+With --output, FILE is written whole or not at all.
+
+The manual says more: `man d64sh`, or docs/MANUAL.md beside the source.";
+
+const CRUNCH_USAGE: &str = "d64sh crunch [--start HEX] [-o FILE] [FILE]";
+
+const CRUNCH_DETAILS: &str =
+    "In:      text as `petcat` writes it, each line with its number first, from FILE
+         or the standard input
+Out:     the program as the machine loads it, on the standard output
+Example: d64sh crunch hello.bas -o hello.prg
+
+With --output, FILE is written whole or not at all, and what is wrong with the
+text is told as NAME:LINE: and why.
+
+The manual says more: `man d64sh`, or docs/MANUAL.md beside the source.";
+
+const CHECK_USAGE: &str = "d64sh check [--digest] [--format FORMAT] FILE..
+       d64sh check [--digest] [--format FORMAT] --files-from LIST [--null]";
+
+const CHECK_DETAILS: &str =
+    "In:      images of 35 or 40 tracks, each with or without the read codes of its
+         blocks: files of 174,848, 175,531, 196,608 or 197,376 bytes
+Out:     a line an image, then a line for each fault, each block with a read
+         error and each file that isn't whole; with --format json an object a
+         line, with --format csv a row an image
+Exit:    0 nothing is amiss; 1 an image has a fault, a read error or a file that
+         isn't whole; 2 a word, a file, reading or writing failed
+Example: d64sh check *.d64
+
+No image is ever written. The manual says more: `man d64sh`, or docs/MANUAL.md
+beside the source.";
+
+const FILES_USAGE: &str = "d64sh files [--format FORMAT] FILE..
+       d64sh files [--format FORMAT] --files-from LIST [--null]";
+
+const FILES_DETAILS: &str =
+    "In:      images of 35 or 40 tracks, each with or without the read codes of its
+         blocks: files of 174,848, 175,531, 196,608 or 197,376 bytes
+Out:     a line a file: its image, size, kind and name, and that it is whole or
+         what is amiss; with --format json an object a line, with --format csv a
+         row a file, both with the SHA-256 digest of what it holds
+Exit:    0 nothing is amiss; 1 a file isn't whole, or a directory is broken or
+         has a read error; 2 a word, a file, reading or writing failed
+Example: d64sh files --format csv *.d64 >files.csv
+
+No image is ever written. The manual says more: `man d64sh`, or docs/MANUAL.md
+beside the source.";
+
+const EXTRACT_USAGE: &str =
+    "d64sh extract [--into FOLDER] [--part] [--skip-existing] [--format FORMAT] FILE..
+       d64sh extract [..] --files-from LIST [--null]";
+
+const EXTRACT_DETAILS: &str =
+    "In:      images of 35 or 40 tracks, each with or without the read codes of its
+         blocks: files of 174,848, 175,531, 196,608 or 197,376 bytes
+Out:     a folder for each image, with its files and a list, `files.jsonl`; and
+         what `files` prints, with the path of each file that was written
+Exit:    0 nothing is amiss; 1 a file isn't whole, or a directory is broken or
+         has a read error; 2 a word, a file, reading or writing failed
+Example: d64sh extract --into files *.d64
+
+The folder of disk.d64 is disk.d64.files, and has `.partial` at its end until all
+is in it. A folder that is there already is left as it is, and no image is ever
+written. The manual says more: `man d64sh`, or docs/MANUAL.md beside the source.";
+
+const MAP_USAGE: &str = "d64sh map [--format FORMAT] FILE";
+
+const MAP_DETAILS: &str =
+    "In:      an image of 35 or 40 tracks, with or without the read codes of its
+         blocks: a file of 174,848, 175,531, 196,608 or 197,376 bytes
+Out:     a line a track with a character a sector, and what each character
+         stands for; with --format svg a picture, with a colour for each file
+Exit:    0 nothing is amiss; 1 the image has a fault, a read error or a file
+         that isn't whole; 2 a word, the file, reading or writing failed
+Example: d64sh map --format svg disk.d64 >disk.svg
+
+The image is never written. The manual says more: `man d64sh`, or docs/MANUAL.md
+beside the source.";
+
+const DIFF_USAGE: &str = "d64sh diff [--format FORMAT] OLD NEW";
+
+const DIFF_DETAILS: &str =
+    "In:      two images of 35 or 40 tracks, each with or without the read codes of
+         its blocks: files of 174,848, 175,531, 196,608 or 197,376 bytes
+Out:     what changed from OLD to NEW, files first: lines with `-` for OLD and
+         `+` for NEW, then the blocks that differ; with --format json an object
+         a line
+Exit:    0 the files are the same in each byte; 1 they differ; 2 a word, a file,
+         reading or writing failed
+Example: d64sh diff before.d64 after.d64
+
+No image is ever written. The manual says more: `man d64sh`, or docs/MANUAL.md
+beside the source.";
+
+const CATALOGUE_USAGE: &str = "d64sh catalogue [--maps] FILE..
+       d64sh catalogue [--maps] --files-from LIST [--null]";
+
+const CATALOGUE_DETAILS: &str =
+    "In:      images of 35 or 40 tracks, each with or without the read codes of its
+         blocks: files of 174,848, 175,531, 196,608 or 197,376 bytes
+Out:     one HTML page with a section for each image: its name, what is wrong
+         on it and its files, with a field to search them
+Exit:    0 nothing is amiss; 1 a file isn't whole, or a directory is broken or
+         has a read error; 2 a word, a file, reading or writing failed
+Example: d64sh catalogue --maps *.d64 >disks.html
+
+No image is ever written. The manual says more: `man d64sh`, or docs/MANUAL.md
+beside the source.";
