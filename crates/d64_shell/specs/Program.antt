@@ -130,7 +130,7 @@ fault_of_run (runs.Memory error) = Memory
 
 -- the text that tells a fault, up to its number where it has one
 abbrev pub fault_words : ProgramFault → List ℕ
-fault_words UnreadableWords = codes "usage: a word is no text in UTF-8"
+fault_words UnreadableWords = codes "usage: an argument is not UTF-8"
 fault_words (WrongLength length) = codes "image: wrong length "
 fault_words UnreadableImage = codes "image: cannot be read"
 fault_words UnreadableSession = codes "session: cannot be read"

@@ -85,7 +85,7 @@ impl ProgramFault {
         ensures fits { length result.now ≤ 36 }
     {
         match self {
-            ProgramFault::UnreadableWords => "usage: a word is no text in UTF-8",
+            ProgramFault::UnreadableWords => "usage: an argument is not UTF-8",
             ProgramFault::WrongLength(_) => "image: wrong length ",
             ProgramFault::UnreadableImage => "image: cannot be read",
             ProgramFault::UnreadableSession => "session: cannot be read",

@@ -142,7 +142,8 @@ Out:     a line an image, then a line for each fault, each block with a read
          error and each file that isn't whole; with --format json an object a
          line, with --format csv a row an image
 Exit:    0 nothing is amiss; 1 an image has a fault, a read error or a file that
-         isn't whole; 2 a word, a file, reading or writing failed
+         isn't whole; 2 an argument is wrong, a file is no image, or reading or
+         writing failed
 Example: d64sh check *.d64
 
 No image is ever written. The manual says more: `man d64sh`, or docs/MANUAL.md
@@ -158,7 +159,8 @@ Out:     a line a file: its image, size, kind and name, and that it is whole or
          what is amiss; with --format json an object a line, with --format csv a
          row a file, both with the SHA-256 digest of what it holds
 Exit:    0 nothing is amiss; 1 a file isn't whole, or a directory is broken or
-         has a read error; 2 a word, a file, reading or writing failed
+         has a read error; 2 an argument is wrong, a file is no image, or
+         reading or writing failed
 Example: d64sh files --format csv *.d64 >files.csv
 
 No image is ever written. The manual says more: `man d64sh`, or docs/MANUAL.md
@@ -174,7 +176,8 @@ const EXTRACT_DETAILS: &str =
 Out:     a folder for each image, with its files and a list, `files.jsonl`; and
          what `files` prints, with the path of each file that was written
 Exit:    0 nothing is amiss; 1 a file isn't whole, or a directory is broken or
-         has a read error; 2 a word, a file, reading or writing failed
+         has a read error; 2 an argument is wrong, a file is no image, or
+         reading or writing failed
 Example: d64sh extract --into files *.d64
 
 The folder of disk.d64 is disk.d64.files, and has `.partial` at its end until all
@@ -189,7 +192,8 @@ const MAP_DETAILS: &str =
 Out:     a line a track with a character a sector, and what each character
          stands for; with --format svg a picture, with a colour for each file
 Exit:    0 nothing is amiss; 1 the image has a fault, a read error or a file
-         that isn't whole; 2 a word, the file, reading or writing failed
+         that isn't whole; 2 an argument is wrong, the file is no image, or
+         reading or writing failed
 Example: d64sh map --format svg disk.d64 >disk.svg
 
 The image is never written. The manual says more: `man d64sh`, or docs/MANUAL.md
@@ -203,8 +207,8 @@ const DIFF_DETAILS: &str =
 Out:     what changed from OLD to NEW, files first: lines with `-` for OLD and
          `+` for NEW, then the blocks that differ; with --format json an object
          a line
-Exit:    0 the files are the same in each byte; 1 they differ; 2 a word, a file,
-         reading or writing failed
+Exit:    0 the files are the same in each byte; 1 they differ; 2 an argument is
+         wrong, a file is no image, or reading or writing failed
 Example: d64sh diff before.d64 after.d64
 
 No image is ever written. The manual says more: `man d64sh`, or docs/MANUAL.md
@@ -219,7 +223,8 @@ const CATALOGUE_DETAILS: &str =
 Out:     one HTML page with a section for each image: its name, what is wrong
          on it and its files, with a field to search them
 Exit:    0 nothing is amiss; 1 a file isn't whole, or a directory is broken or
-         has a read error; 2 a word, a file, reading or writing failed
+         has a read error; 2 an argument is wrong, a file is no image, or
+         reading or writing failed
 Example: d64sh catalogue --maps *.d64 >disks.html
 
 No image is ever written. The manual says more: `man d64sh`, or docs/MANUAL.md

@@ -94,7 +94,7 @@ the program is cut short
 usage: --start takes one to four hexadecimal digits
 usage: --tracks takes 35 or 40 and no IMAGE
 usage: --resume and --tracks exclude each other
-usage: a word is no text in UTF-8
+usage: an argument is not UTF-8
 image: wrong length 9
 image: cannot be read
 session: cannot be read
