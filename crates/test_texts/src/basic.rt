@@ -129,6 +129,30 @@ fn takes_lines_up_to_the_limits(rt: HostRuntime) -> Result<(), Fail> {
 }
 
 #[test]
+fn tells_the_least_fault_of_a_long_line(rt: HostRuntime) -> Result<(), Fail> {
+    let mut long = Vec::from_slice(rt.alloc(), b"10 ")?;
+    for _ in 0..300 {
+        long.push(b'a')?;
+    }
+    let rows = [
+        ("\"A", BasicFault::TooLong { line: 1 }),
+        ("A", BasicFault::TokenByte { line: 1 }),
+        ("{$00}", BasicFault::ZeroByte { line: 1 }),
+        ("{$00}A", BasicFault::TokenByte { line: 1 }),
+    ];
+    for (end, fault) in rows {
+        let mut text = Vec::from_slice(rt.alloc(), &long)?;
+        text.extend_from_slice(end.as_bytes())?;
+        assert_eq!(rt;
+            crunch(rt.alloc(), 0x0801, &text).err(),
+            Some(fault),
+            "of {end:?}"
+        );
+    }
+    Ok(())
+}
+
+#[test]
 fn lists_what_reads_as_a_program(rt: HostRuntime) -> Result<(), Fail> {
     let lying = list(rt.alloc(), b"\x01\x08\xff\xff\x0a\x00A\x00\x00\x00w")?;
     assert_eq!(rt; lying.as_slice(), b"10 a\n".as_slice());
