@@ -15,7 +15,8 @@ const OPENING: &[u8] = b"<!DOCTYPE html>\n\
 <meta http-equiv=\"Content-Security-Policy\" content=\"default-src 'none'; style-src 'unsafe-inline'; script-src 'sha256-O5NvN2Y5uY07umS5tjxswLN3hZXI8q2qqRLlHg55YUU='; base-uri 'none'; form-action 'none'\">\n\
 <title>Disks</title>\n";
 
-/// The end of its head, and what stands above the sections: the search field, the buttons, and how many disks are shown.
+/// The end of its head, and what stands above the sections: the search field, the buttons, and how
+/// many disks are shown.
 const SEARCH_HEAD: &[u8] = b"</head>\n\
 <body>\n\
 <header>\n\

@@ -1,4 +1,5 @@
-//! A collection of disks as one page of HTML: a section for each image, with its state, its files and, if wanted, its picture.
+//! A collection of disks as one page of HTML: a section for each image, with its state, its files
+//! and, if wanted, its picture.
 #![tactic(auto)]
 
 mod catalogue_report;

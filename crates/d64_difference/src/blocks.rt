@@ -35,7 +35,8 @@ fn list_differences(
     Ok(())
 }
 
-/// Lists the blocks whose bytes differ, and those that only the larger one of two images has, ascending, in the place of what the list had.
+/// Lists the blocks whose bytes differ, and those that only the larger one of two images has,
+/// ascending, in the place of what the list had.
 pub fn list_changed_blocks(
     old: &Image,
     new: &Image,
@@ -70,7 +71,8 @@ fn has_other_code(old: Option<&[u8]>, new: Option<&[u8]>, block: BlockNo) -> boo
     old_code != new_code && (is_read_error(old_code) || is_read_error(new_code))
 }
 
-/// Lists the blocks that both dumps have whose read codes differ and aren't both good, ascending, after what the list has.
+/// Lists the blocks that both dumps have whose read codes differ and aren't both good, ascending,
+/// after what the list has.
 #[tactic(auto, unfolding(crate::specs::Changes::other_codes))]
 fn list_other_codes(
     old: &Inspection,
@@ -87,8 +89,8 @@ fn list_other_codes(
     Ok(())
 }
 
-/// Lists the blocks that both dumps have whose read codes differ and aren't both good, ascending, in the place of what the list had. There
-/// are none where one of the dumps has no codes.
+/// Lists the blocks that both dumps have whose read codes differ and aren't both good, ascending,
+/// in the place of what the list had. There are none where one of the dumps has no codes.
 #[tactic(auto, unfolding(crate::specs::Changes::changed_codes))]
 pub fn list_changed_codes(
     old: &Inspection,

@@ -125,8 +125,9 @@ impl DifferenceReport {
         Ok(Verdict::Amiss)
     }
 
-    /// Puts into the room, in the place of what that had, what is told of an old file and a new one with these names and these bytes, or
-    /// with none where one cannot be read. The answer is the same whatever was answered before.
+    /// Puts into the room, in the place of what that had, what is told of an old file and a new one
+    /// with these names and these bytes, or with none where one cannot be read. The answer is the
+    /// same whatever was answered before.
     pub fn answer(
         &mut self,
         old_name: &[u8],

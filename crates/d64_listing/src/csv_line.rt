@@ -156,7 +156,8 @@ fn push_content(
     }
 }
 
-/// Adds whether the file is whole, why not, the conditions that it breaks, and how many of its blocks have a read error, to a row.
+/// Adds whether the file is whole, why not, the conditions that it breaks, and how many of its
+/// blocks have a read error, to a row.
 fn push_state(scratch: &mut Vec<u8>, line: &mut ByteRecord, row: &FileRow) -> Result<(), AllocError>
     requires { partial_of line.old ≡ [] }
     ensures fields { OnOk result (fields_of line.new ≡ fields_of line.old ++ state_fields row.now) }

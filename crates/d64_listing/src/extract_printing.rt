@@ -24,7 +24,8 @@ pub fn print_extract_heading(
     }
 }
 
-/// Appends what is printed of a file of the image with this name, and the path of the host file; None where none was written.
+/// Appends what is printed of a file of the image with this name, and the path of the host file;
+/// None where none was written.
 pub fn print_file(
     form: Format,
     scratch: &mut Scratch,

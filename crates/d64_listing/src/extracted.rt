@@ -28,8 +28,8 @@ fn put_path(
     }
 }
 
-/// Adds the line of a file to a text: an object of JSON with the name of its image, all that is told of it, and the path of the
-/// host file.
+/// Adds the line of a file to a text: an object of JSON with the name of its image, all that is
+/// told of it, and the path of the host file.
 pub(crate) fn extracted_json(
     scratch: &mut Scratch,
     name: &[u8],

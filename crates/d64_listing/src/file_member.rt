@@ -159,7 +159,8 @@ fn put_conditions(writer: &mut Writer, numbers: &[u8]) -> Result<(), AllocError>
     put_numbers(writer, numbers)
 }
 
-/// Prints whether the file is whole, why not, the conditions that it breaks, and how many of its blocks have a read error.
+/// Prints whether the file is whole, why not, the conditions that it breaks, and how many of its
+/// blocks have a read error.
 fn put_state(writer: &mut Writer, row: &FileRow) -> Result<(), AllocError>
     ensures before { writer.new.before ≡ writer.old.before }
     ensures tokens { OnOk result (writer.new.tokens ≡ writer.old.tokens ++ member_tokens (state_members row.now)) }

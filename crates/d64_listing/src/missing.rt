@@ -91,8 +91,8 @@ fn push_unreadable_lines(
     Ok(())
 }
 
-/// Adds a line each reason why files may be missing from a table: where the directory's way is no whole chain, and where 18/0 or a block of
-/// the directory couldn't be read well.
+/// Adds a line each reason why files may be missing from a table: where the directory's way is no
+/// whole chain, and where 18/0 or a block of the directory couldn't be read well.
 #[tactic(auto, unfolding(crate::specs::FileTable::missing_lines))]
 pub fn push_missing_lines(out: &mut Vec<u8>, inspection: &Inspection) -> Result<(), AllocError>
     ensures { OnOk result (out.new.items ≡ out.old.items ++ missing_lines inspection.now) }

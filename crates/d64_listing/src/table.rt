@@ -144,8 +144,8 @@ fn push_name(scratch: &mut Vec<u8>, out: &mut Vec<u8>, name: &[u8]) -> Result<()
     push_left(out, NAME_COLUMNS, scratch.as_slice())
 }
 
-/// Adds what is told of a file on a line: the size that the directory shows, the name, the kind, whether it is whole or what is
-/// amiss, and whether it is locked.
+/// Adds what is told of a file on a line: the size that the directory shows, the name, the kind,
+/// whether it is whole or what is amiss, and whether it is locked.
 #[tactic(auto, unfolding(crate::specs::FileTable::file_text))]
 pub(crate) fn push_file_text(
     scratch: &mut Vec<u8>,
