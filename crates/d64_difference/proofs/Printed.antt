@@ -1,5 +1,5 @@
 -- Changes that are printed, one after another.
-use Rattle.std.proofs.Common.{◌≡◌, ℕ, ◌+◌, List, [], ◌∷◌, ◌++◌, sym, ap, ◌∙◌, append_assoc, arith}
+use Rattle.std.proofs.Common.{◌≡◌, ℕ, ◌+◌, List, [], ◌∷◌, ◌++◌, refl, sym, ap, ◌∙◌, append_assoc, append-nil, codes, arith}
 use Rattle.std.specs.List.{flat_map, range_with_len}
 use Rattle.std.proofs.lemmas.Grind.{flat_map-append}
 use Rattle.std.proofs.lemmas.List.{flat_map_more}
@@ -7,8 +7,12 @@ use Rattle.d64_map.proofs.Ranges.{range_push}
 use Rattle.d64_inventory.specs.Rows.{row_at}
 use Rattle.d64_survey.specs.Dump.{DumpView}
 use Rattle.d64_words.specs.declared.asked.DiffForm.{DiffForm}
-use Rattle.d64_difference.specs.Changes.{Change, slot_change, slot_changes}
-use Rattle.d64_difference.specs.Differences.{printed_change, printed_changes}
+use Rattle.d64_words.specs.declared.asked.DiffForm.TheVariants.{Text, Json}
+use Rattle.d64_report.specs.Values.{line_of}
+use Rattle.d64_difference.specs.Changes.{Change, BlocksChanged, CodesChanged, slot_change, slot_changes, where_any}
+use Rattle.d64_difference.specs.ChangeObject.{change_object}
+use Rattle.d64_difference.specs.ChangeText.{change_lines}
+use Rattle.d64_difference.specs.Differences.{printed_change, printed_changes, printed_blocks}
 
 -- changes after others
 pub both_printed : (form : DiffForm) (first second : List Change) → printed_changes form (first ++ second) ≡ printed_changes form first ++ printed_changes form second
@@ -23,6 +27,20 @@ then_printed form old middle last first second begun done =
     ∙ ap (λ (text : List ℕ). text ++ printed_changes form second) begun
     ∙ append_assoc old (printed_changes form first) (printed_changes form second)
     ∙ ap (λ (text : List ℕ). old ++ text) (sym (both_printed form first second))
+
+-- blocks with other bytes
+pub bytes_printed : (form : DiffForm) (blocks : List ℕ) → printed_blocks form (codes "blocks that differ:") (codes "blocks") blocks ≡ printed_changes form (where_any BlocksChanged blocks)
+unfolding printed_changes
+bytes_printed form [] = refl
+bytes_printed Text (block ∷ blocks) = sym (append-nil (change_lines (BlocksChanged (block ∷ blocks))))
+bytes_printed Json (block ∷ blocks) = sym (append-nil (line_of (change_object (BlocksChanged (block ∷ blocks)))))
+
+-- blocks with another read code
+pub codes_printed : (form : DiffForm) (blocks : List ℕ) → printed_blocks form (codes "blocks with another read code:") (codes "codes") blocks ≡ printed_changes form (where_any CodesChanged blocks)
+unfolding printed_changes
+codes_printed form [] = refl
+codes_printed Text (block ∷ blocks) = sym (append-nil (change_lines (CodesChanged (block ∷ blocks))))
+codes_printed Json (block ∷ blocks) = sym (append-nil (line_of (change_object (CodesChanged (block ∷ blocks)))))
 
 -- the changes of one slot more
 pub slot_more : (old new : DumpView) (slot : ℕ) → slot_changes old new slot ++ slot_change (row_at old slot) (row_at new slot) ≡ slot_changes old new (slot + 1)

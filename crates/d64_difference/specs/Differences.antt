@@ -1,8 +1,8 @@
 -- What is said of two dumps.
-use Rattle.std.specs.Prelude.{ℕ, ◌==◌, nat_eq, List, [], ◌++◌, length, Option, Some, None, is_some, if◌then◌else◌, codes}
+use Rattle.std.specs.Prelude.{ℕ, ◌==◌, nat_eq, List, [], ◌∷◌, ◌++◌, length, Option, Some, None, is_some, if◌then◌else◌, codes}
 use Rattle.std.specs.List.{flat_map}
 use Rattle.std.specs.Cmp.Lexicographic.{pointwise}
-use Rattle.d64_image.specs.Disk.{Bytes}
+use Rattle.d64_image.specs.Disk.{Bytes, Blocks}
 use Rattle.d64_survey.specs.Dump.{DumpView}
 use Rattle.d64_report.specs.Values.{line_of}
 use Rattle.d64_report.specs.DumpOf.{dump_of}
@@ -13,8 +13,8 @@ use Rattle.d64_collection.specs.declared.report.Verdict.TheVariants.{Clean, Amis
 use Rattle.d64_words.specs.declared.asked.DiffForm.{DiffForm}
 use Rattle.d64_words.specs.declared.asked.DiffForm.TheVariants.{Text, Json}
 use Rattle.d64_difference.specs.Changes.{Change, changes}
-use Rattle.d64_difference.specs.ChangeObject.{change_object}
-use Rattle.d64_difference.specs.ChangeText.{change_lines, heading}
+use Rattle.d64_difference.specs.ChangeObject.{blocks_object, change_object}
+use Rattle.d64_difference.specs.ChangeText.{blocks_line, change_lines, heading}
 
 -- what is printed of a change
 abbrev pub printed_change : DiffForm → Change → List ℕ
@@ -24,6 +24,16 @@ printed_change Json change = line_of (change_object change)
 -- what is printed of changes, in their order
 unfoldable pub printed_changes : DiffForm → List Change → List ℕ
 printed_changes form list = flat_map (printed_change form) list
+
+-- what is printed of blocks: a line that begins with this heading, or an object of the change of this word
+abbrev pub printed_list : DiffForm → List ℕ → List ℕ → Blocks → List ℕ
+printed_list Text heading word blocks = blocks_line heading blocks
+printed_list Json heading word blocks = line_of (blocks_object word blocks)
+
+-- and that where there are some
+abbrev pub printed_blocks : DiffForm → List ℕ → List ℕ → Blocks → List ℕ
+printed_blocks form heading word [] = []
+printed_blocks form heading word (block ∷ blocks) = printed_list form heading word (block ∷ blocks)
 
 -- the changes for people, with these lines: the names stand before them; files that differ where no line tells it differ in good read codes
 unfoldable pub under_names : Bytes → Bytes → List ℕ → List ℕ

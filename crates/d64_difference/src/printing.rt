@@ -1,12 +1,15 @@
 //! Printing what changed, in one of the two forms.
 ghost use Rattle.std.specs.Prelude.{◌≡◌, ◌∷◌, ◌++◌, codes, option_map, IfOk, OnOk};
 ghost use Rattle.d64_inventory.specs.Rows.{RowView};
-ghost use Rattle.d64_difference.specs.Changes.{DiskChanged, Added, Removed, FileChanged, BlocksChanged, CodesChanged, disk_change, slot_change, slot_count, slot_changes, where_any, changes};
-ghost use Rattle.d64_difference.specs.Differences.{printed_change, printed_changes, under_names, printed_difference};
+ghost use Rattle.d64_difference.specs.Changes.{DiskChanged, Added, Removed, FileChanged, disk_change, slot_change, slot_count, slot_changes, changes};
+ghost use Rattle.d64_difference.specs.Differences.{printed_change, printed_changes, printed_list, printed_blocks, under_names, printed_difference};
 
 use crate::blocks::{list_changed_blocks, list_changed_codes};
 use crate::drafts::Drafts;
-use crate::lines::{push_added, push_blocks, push_both, push_disks, push_heading, push_removed};
+use crate::lines::{
+    OTHER_BYTES, OTHER_CODES, push_added, push_blocks, push_both, push_disks, push_heading,
+    push_removed,
+};
 use crate::objects::{blocks_json, disks_json, slot_json};
 use crate::slots::slot_count;
 use d64_files::SlotNo;
@@ -195,61 +198,39 @@ fn print_slots(
     Ok(text)
 }
 
-/// Appends what is printed of blocks with other bytes.
-fn print_blocks_change(
+/// Appends what is printed of blocks: a line that begins with this heading, or an object of the change of this word.
+fn print_block_list(
     form: DiffForm,
+    heading: &[u8],
+    word: &str,
     blocks: &[BlockNo],
     out: Vec<u8>,
 ) -> Result<Vec<u8>, AllocError>
-    ensures { IfOk result (λ text. text.items ≡ out.items ++ printed_change form (BlocksChanged blocks.now)) }
+    ensures { IfOk result (λ text. text.items ≡ out.items ++ printed_list form heading.now word.now blocks.now) }
 {
     match form {
         DiffForm::Text => {
             let mut text = out;
-            push_blocks(&mut text, b"blocks that differ:", blocks)?;
+            push_blocks(&mut text, heading, blocks)?;
             Ok(text)
         }
-        DiffForm::Json => blocks_json("blocks", blocks, out),
+        DiffForm::Json => blocks_json(word, blocks, out),
     }
 }
 
-/// Appends what is printed of blocks with other bytes, where there are some.
-#[tactic(auto, unfolding(crate::specs::Differences::printed_changes))]
-fn print_blocks(form: DiffForm, blocks: &[BlockNo], out: Vec<u8>) -> Result<Vec<u8>, AllocError>
-    ensures { IfOk result (λ text. text.items ≡ out.items ++ printed_changes form (where_any BlocksChanged blocks.now)) }
-{
-    match blocks {
-        [] => Ok(out),
-        [_, ..] => print_blocks_change(form, blocks, out),
-    }
-}
-
-/// Appends what is printed of blocks with another read code.
-fn print_codes_change(
+/// Appends what is printed of blocks, where there are some.
+fn print_blocks(
     form: DiffForm,
+    heading: &[u8],
+    word: &str,
     blocks: &[BlockNo],
     out: Vec<u8>,
 ) -> Result<Vec<u8>, AllocError>
-    ensures { IfOk result (λ text. text.items ≡ out.items ++ printed_change form (CodesChanged blocks.now)) }
-{
-    match form {
-        DiffForm::Text => {
-            let mut text = out;
-            push_blocks(&mut text, b"blocks with another read code:", blocks)?;
-            Ok(text)
-        }
-        DiffForm::Json => blocks_json("codes", blocks, out),
-    }
-}
-
-/// Appends what is printed of blocks with another read code, where there are some.
-#[tactic(auto, unfolding(crate::specs::Differences::printed_changes))]
-fn print_codes(form: DiffForm, blocks: &[BlockNo], out: Vec<u8>) -> Result<Vec<u8>, AllocError>
-    ensures { IfOk result (λ text. text.items ≡ out.items ++ printed_changes form (where_any CodesChanged blocks.now)) }
+    ensures { IfOk result (λ text. text.items ≡ out.items ++ printed_blocks form heading.now word.now blocks.now) }
 {
     match blocks {
         [] => Ok(out),
-        [_, ..] => print_codes_change(form, blocks, out),
+        [_, ..] => print_block_list(form, heading, word, blocks, out),
     }
 }
 
@@ -266,9 +247,9 @@ pub(crate) fn print_changes(
     let disk = print_disk(form, drafts, old, new, out)?;
     let files = print_slots(form, drafts, old, new, disk)?;
     list_changed_blocks(old.image(), new.image(), &mut drafts.blocks)?;
-    let blocks = print_blocks(form, drafts.blocks.as_slice(), files)?;
+    let blocks = print_blocks(form, OTHER_BYTES, "blocks", drafts.blocks.as_slice(), files)?;
     list_changed_codes(old, new, &mut drafts.blocks)?;
-    print_codes(form, drafts.blocks.as_slice(), blocks)
+    print_blocks(form, OTHER_CODES, "codes", drafts.blocks.as_slice(), blocks)
 }
 
 /// Adds lines for people, with the names of the dumps before them.
