@@ -152,10 +152,3 @@ Stops-next {B} conduct same separator other a c came bytes i byte answer fault w
     (λ more. subst (λ (l : List ℕ). StopsInList conduct separator l fault a c) (came_all came bytes more i byte within is)
     (subst (λ (s : ℕ). StopsInList conduct s (((came ++ take i bytes) ++ byte ∷ []) ++ (drop (i + 1) bytes ++ more)) fault a c) is_other
     (subst (λ (r : Conduct). StopsInList r other (((came ++ take i bytes) ++ byte ∷ []) ++ (drop (i + 1) bytes ++ more)) fault a c) is_same (stops (drop (i + 1) bytes ++ more)))))
-
--- a run over a list stops in its bytes
-pub Runs-stopped_in : {A : Type 0} (conduct : Conduct) (separator : ℕ) (a c : Stand) (list : List ℕ) (result : Result A RunFault) (fault : RunFault)
-    → ((more : List ℕ) → StopsInList conduct separator (list ++ more) fault a c) → result ≡ Err fault → Runs conduct (map listed (names_in separator list)) a c result
-Runs-stopped_in {A} conduct separator a c list result fault stops is =
-    subst (λ (r : Result A RunFault). Runs conduct (map listed (names_in separator list)) a c r) (sym is)
-    (subst (λ (l : List ℕ). StopsInList conduct separator l fault a c) (append-nil list) (stops []))

@@ -45,30 +45,6 @@ impl ListDesk {
         self.desk.worst()
     }
 
-    /// Answers the files that the bytes of a list name.
-    pub fn answer_list<H: Host, C: Clerk, W: Write, F: Write>(
-        &mut self,
-        list: &[u8],
-        host: &mut H,
-        clerk: &mut C,
-        output: &mut OutputStream<'_, W>,
-        faults: &mut OutputStream<'_, F>,
-    ) -> Result<(), RunFault>
-        ensures separator { self.new.separator ≡ self.old.separator }
-        ensures output { output.new.writer.ghost_name ≡ output.old.writer.ghost_name }
-        ensures faults { faults.new.writer.ghost_name ≡ faults.old.writer.ghost_name }
-        ensures manner { C.manner clerk.new ≡ C.manner clerk.old }
-        ensures delivered { output.old.is_delivered ≡ true → OnOk result (output.new.is_delivered ≡ true) }
-        ensures unfailed { OnOk result (output.new.has_failed ≡ output.old.has_failed) }
-        ensures silent { KeepsQuiet (C.conduct (C.manner clerk.old)) → self.new.desk.worst ≡ Verdict.Clean → (self.old.desk.worst ≡ Verdict.Clean) × (faults.new ≡ faults.old) }
-        ensures answered { self.old.name ≡ [] → Runs (C.conduct (C.manner clerk.old)) (map listed (names_in self.old.separator list.now))
-            (stand_at H.state host.old W.contents output.old F.contents faults.old self.old.desk.worst)
-            (stand_at H.state host.new W.contents output.new F.contents faults.new self.new.desk.worst) result }
-    {
-        self.take(list, host, clerk, output, faults)?;
-        self.end(host, clerk, output, faults)
-    }
-
     /// Answers the files that an input names, each once its name is ended. `List` comes where the input cannot be read to its end: a read failed,
     /// or it has more than 16,777,216 bytes, or takes more than 1,000,000 reads.
     pub fn answer_stream<R: Read, H: Host, C: Clerk, W: Write, F: Write>(

@@ -4,10 +4,10 @@ use Rattle.std.proofs.lemmas.Simd.{map-map}
 use Rattle.std.specs.Prelude.{MatchBool}
 use Rattle.d64_host.specs.declared.host.HostFault.{HostFault}
 use Rattle.d64_script.specs.Output.{Account, account_of}
-use Rattle.d64_collection.specs.Names.{Asked, File, listed, names_in}
+use Rattle.d64_collection.specs.Names.{Asked, File}
 use Rattle.d64_collection.specs.Answers.{Conduct}
 use Rattle.d64_host.specs.Files.{HostState}
-use Rattle.d64_collection.specs.Runs.{Begins, IsFetched, Runs, Stand, stand_of, told_of}
+use Rattle.d64_collection.specs.Runs.{Begins, Runs, Stand, stand_of, told_of}
 use Rattle.d64_collection.specs.Lists.{RunsStream}
 use Rattle.d64_collection.specs.declared.desk.RunFault.{RunFault}
 use Rattle.d64_collection.specs.declared.desk.RunFault.TheVariants as stops
@@ -16,7 +16,7 @@ use Rattle.d64_collection.specs.declared.report.Verdict.TheVariants.{Clean}
 use Rattle.d64_shell.specs.Program.{EndedSurvey, Outside, Reports, first_stand}
 use Rattle.d64_shell.specs.declared.program_fault.ProgramFault.TheVariants.{Memory}
 use Rattle.d64_shell.specs.SurveyFiles.{SurveyFiles, files_in}
-use Rattle.d64_shell.specs.Surveys.{RunsListFile, RunsOver, Surveys, fault_of_list, is_input}
+use Rattle.d64_shell.specs.Surveys.{IsOpened, RunsListFile, RunsOver, Surveys, fault_of_list, is_input}
 use Rattle.d64_shell.specs.declared.file_names.FileNames.{FileNames}
 use Rattle.d64_shell.specs.declared.file_names.FileNames.TheVariants.{Given, Listed}
 
@@ -68,17 +68,17 @@ surveyed conduct same heading files reader left host before after error worst la
       (subst (λ (w : Verdict). RunsOver same files reader left (stand_of host (told_of after error w)) last ended) clean ran);
 }
 
--- a run over the names of a list that was fetched
-pub file_fetched : (conduct : Conduct) (separator : ℕ) (list : List ℕ) (first : Stand) (host : HostState) (bytes slice : List ℕ) (last : Stand) (ended : Result (Unit {0}) RunFault)
-    → slice ≡ bytes → IsFetched list first.host (Ok bytes) host → Runs conduct (map listed (names_in separator slice)) (stand_of host first.told) last ended
+-- a run over the names of a list that was opened
+pub file_opened : (conduct : Conduct) (separator : ℕ) (list : List ℕ) (first : Stand) (host : HostState) (reader begun left : Option (List ℕ)) (last : Stand) (ended : Result (Unit {0}) RunFault)
+    → begun ≡ reader → IsOpened list first.host (Ok reader) host → RunsStream conduct separator begun left (stand_of host first.told) last ended
     → RunsListFile conduct separator list first last ended
-file_fetched conduct separator list first host bytes slice last ended same fetched ran =
-    (Ok bytes, host, fetched, subst (λ (l : List ℕ). Runs conduct (map listed (names_in separator l)) (stand_of host first.told) last ended) same ran)
+file_opened conduct separator list first host reader begun left last ended same opened ran =
+    (Ok reader, host, opened, (left, subst (λ (r : Option (List ℕ)). RunsStream conduct separator r left (stand_of host first.told) last ended) same ran))
 
 -- and of one that was not
-pub file_unfetched : (conduct : Conduct) (separator : ℕ) (list : List ℕ) (first : Stand) (host : HostState) (fault : HostFault) (told : RunFault)
-    → told ≡ fault_of_list fault → IsFetched list first.host (Err fault) host → RunsListFile {A = Unit {0}} conduct separator list first (stand_of host first.told) (Err told)
-file_unfetched conduct separator list first host fault told is fetched = (Err fault, host, fetched, (ap Err is, refl))
+pub file_unopened : (conduct : Conduct) (separator : ℕ) (list : List ℕ) (first : Stand) (host : HostState) (fault : HostFault) (told : RunFault)
+    → told ≡ fault_of_list fault → IsOpened list first.host (Err fault) host → RunsListFile {A = Unit {0}} conduct separator list first (stand_of host first.told) (Err told)
+file_unopened conduct separator list first host fault told is opened = (Err fault, host, opened, (ap Err is, refl))
 
 -- where there is no memory to begin a survey, it has ended with nothing printed
 pub not_begun : (conduct : Conduct) (heading : List ℕ) (files : SurveyFiles) (old : Outside) (faults told : Account) (status : ℕ)

@@ -3,10 +3,11 @@ use Rattle.std.specs.Prelude.{◌≡◌, ℕ, List, Bool, MatchBool, bytes_eq, m
 use Rattle.d64_host.specs.declared.host.HostFault.{HostFault}
 use Rattle.d64_host.specs.declared.host.HostFault.TheVariants as refusals
 use Rattle.d64_script.specs.Output.{Account}
-use Rattle.d64_collection.specs.Names.{File, listed, names_in}
+use Rattle.d64_collection.specs.Names.{File}
 use Rattle.d64_collection.specs.Answers.{Conduct}
 use Rattle.d64_host.specs.Files.{HostState}
-use Rattle.d64_collection.specs.Runs.{Begins, IsFetched, Runs, Stand, stand_of, told_of}
+use Rattle.d64_host.specs.Host.{CountsDevice, Opens}
+use Rattle.d64_collection.specs.Runs.{Begins, Runs, Stand, stand_of, told_of}
 use Rattle.d64_collection.specs.Lists.{RunsStream}
 use Rattle.d64_collection.specs.declared.desk.RunFault.{RunFault}
 use Rattle.d64_collection.specs.declared.desk.RunFault.TheVariants as faults
@@ -17,20 +18,26 @@ use Rattle.d64_shell.specs.SurveyFiles.{SurveyFiles, Named, ListedIn}
 abbrev pub is_input : List ℕ → Bool
 is_input list = bytes_eq list (codes "-")
 
--- how the fault of a list that cannot be fetched is told: there is no memory, or the list cannot be read
+-- how the fault of a list that cannot be opened is told: there is no memory, or the list cannot be read
 abbrev pub fault_of_list : HostFault → RunFault
 fault_of_list (refusals.Memory error) = faults.Memory
 fault_of_list fault = faults.List
 
--- how a run over the names of a list of the host ends, which was fetched so
-abbrev pub RunsFetched : {A : Type 0} → Conduct → ℕ → Result (List ℕ) HostFault → Stand → Stand → Result A RunFault → Type 0
-RunsFetched conduct separator (Ok bytes) first last result = Runs conduct (map listed (names_in separator bytes)) first last result
-RunsFetched conduct separator (Err fault) first last result = (result ≡ Err (fault_of_list fault)) × (last ≡ first)
+-- a file was opened of the host, which keeps its files; the answer has the bytes that it tells
+abbrev pub IsOpened : List ℕ → HostState → Result (Option (List ℕ)) HostFault → HostState → Type 0
+IsOpened name old answer new =
+    Opens old.files name answer × (new.files ≡ old.files) × CountsDevice old.failures new.failures answer
+
+-- how a run over the names of a list of the host ends, which was opened so: it is read as it comes, and some of it may be
+-- left; or nothing is answered
+abbrev pub RunsOpened : {A : Type 0} → Conduct → ℕ → Result (Option (List ℕ)) HostFault → Stand → Stand → Result A RunFault → Type 0
+RunsOpened conduct separator (Ok reader) first last result = (left : Option (List ℕ)) × RunsStream conduct separator reader left first last result
+RunsOpened conduct separator (Err fault) first last result = (result ≡ Err (fault_of_list fault)) × (last ≡ first)
 
 -- how a run over the names of a list of the host ends
 abbrev pub RunsListFile : {A : Type 0} → Conduct → ℕ → List ℕ → Stand → Stand → Result A RunFault → Type 0
 RunsListFile conduct separator list first last result =
-    (fetched : Result (List ℕ) HostFault) × (host : HostState) × IsFetched list first.host fetched host × RunsFetched conduct separator fetched (stand_of host first.told) last result
+    (answer : Result (Option (List ℕ)) HostFault) × (host : HostState) × IsOpened list first.host answer host × RunsOpened conduct separator answer (stand_of host first.told) last result
 
 -- how a run over the files of a survey ends, and what it leaves of the input
 abbrev pub RunsOver : {A : Type 0} → Conduct → SurveyFiles → Option (List ℕ) → Option (List ℕ) → Stand → Stand → Result A RunFault → Type 0

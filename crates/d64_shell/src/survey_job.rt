@@ -3,10 +3,10 @@ ghost use Rattle.std.specs.Prelude.{◌≡◌, ◌≤◌, ℕ, List, Err, IfErr,
 ghost use Rattle.d64_host.specs.declared.host.HostFault.{HostFault};
 ghost use Rattle.d64_script.specs.Input.{IsUnread, reading_of};
 ghost use Rattle.d64_collection.specs.Answers.{KeepsQuiet, Rule, by_rule};
-ghost use Rattle.d64_collection.specs.Runs.{IsFetched, account_at, stand_at};
+ghost use Rattle.d64_collection.specs.Runs.{account_at, stand_at};
 ghost use Rattle.d64_shell.specs.Program.{EndedSurvey, TellsFault, outside_at};
 ghost use Rattle.d64_shell.specs.SurveyFiles.{files_in, list_name};
-ghost use Rattle.d64_shell.specs.Surveys.{Says, Surveys, fault_of_list};
+ghost use Rattle.d64_shell.specs.Surveys.{IsOpened, Says, Surveys, fault_of_list};
 ghost use Rattle.d64_collection.specs.declared.desk.RunFault.{RunFault};
 ghost use Rattle.d64_collection.specs.declared.report.Verdict.{Verdict};
 
@@ -21,16 +21,26 @@ use d64_wording::unread_line;
 use std::alloc::{AllocError, Global};
 use std::io::{Read, Write};
 
-/// The most bytes of a list that is a host file.
-const LIST_BYTES: usize = 16_777_216;
-
-/// How the fault of a list that cannot be fetched is told.
+/// How the fault of a list that cannot be opened is told.
 fn fault_of_list(fault: HostFault) -> RunFault
     ensures { result ≡ fault_of_list fault }
 {
     match fault {
         HostFault::Memory(_) => RunFault::Memory,
         HostFault::Missing | HostFault::Device | HostFault::TooLong => RunFault::List,
+    }
+}
+
+/// Opens a list of the host.
+fn open_list<H: Host>(list: &str, host: &mut H) -> Result<H::File, RunFault>
+    ensures opened { IfOk result (λ file. IsOpened list.now (H.state host.old)
+        (Ok (H.File.remaining file)) (H.state host.new)) }
+    ensures refused { IfErr result (λ told. (fault : HostFault) × IsOpened list.now (H.state host.old)
+        (Err fault) (H.state host.new) × (told ≡ fault_of_list fault)) }
+{
+    match host.open(list) {
+        Ok(file) => Ok(file),
+        Err(fault) => Err(fault_of_list(fault)),
     }
 }
 
@@ -148,25 +158,13 @@ impl<'n> SurveyJob<'n> {
                         Ok(desk.worst())
                     }
                     list => {
-                        let list = self.list_bytes(list, host)?;
-                        desk.answer_list(list.as_slice(), host, clerk, output, faults)?;
+                        let mut file = open_list(list, host)?;
+                        let mut list = InputStream::new(&mut file);
+                        desk.answer_stream(&mut list, host, clerk, output, faults)?;
                         Ok(desk.worst())
                     }
                 }
             }
-        }
-    }
-
-    /// The bytes of a list of the host.
-    fn list_bytes<H: Host>(&self, list: &str, host: &mut H) -> Result<Vec<u8>, RunFault>
-        ensures fetched { IfOk result (λ bytes. IsFetched list.now (H.state host.old)
-            (Ok bytes.items) (H.state host.new)) }
-        ensures refused { IfErr result (λ told. (fault : HostFault) × IsFetched list.now (H.state host.old)
-            (Err fault) (H.state host.new) × (told ≡ fault_of_list fault)) }
-    {
-        match host.fetch(self.alloc, list, LIST_BYTES) {
-            Ok(bytes) => Ok(bytes),
-            Err(fault) => Err(fault_of_list(fault)),
         }
     }
 

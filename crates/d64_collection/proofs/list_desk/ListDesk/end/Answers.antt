@@ -1,4 +1,4 @@
-use Rattle.std.proofs.Common.{rules, None, ◌≡◌, false, true}
+use Rattle.std.proofs.Common.{rules, ◌≡◌, false, true}
 use Rattle.d64_collection.specs.Names.{is_name}
 use Rattle.d64_collection.proofs.RunSteps.{EndsAt-never}
 use Rattle.d64_collection.proofs.ListSteps.{Runs-no_name, Runs-name, listed-file, listed-no_file}

@@ -1,6 +1,6 @@
-use Rattle.std.proofs.Common.{rules, ◌≡◌, ap, ◌∙◌, Ok, Err, true, false}
+use Rattle.std.proofs.Common.{rules, ◌≡◌, ap, ◌∙◌, None, Ok, Err, true, false}
 use Rattle.d64_shell.specs.Surveys.{is_input}
-use Rattle.d64_shell.proofs.SurveyRuns.{file_fetched, file_unfetched, over_file, over_given, over_input, surveyed}
+use Rattle.d64_shell.proofs.SurveyRuns.{file_opened, file_unopened, over_file, over_given, over_input, surveyed}
 use Rattle.d64_shell.proofs.survey_job.SurveyJob.answer.Goals as goal
 
 pub returns-in_err-answer_files-in-Given-clause-surveyed : goal.returns-in_err-answer_files-in-Given-clause-surveyed
@@ -45,41 +45,41 @@ returns-in-text-clause-surveyed g c =
       ap Ok c.worst-in-text.ensures,
     )
 
-pub returns-in_err-list-in_default-clause-surveyed : goal.returns-in_err-list-in_default-clause-surveyed
-returns-in_err-list-in_default-clause-surveyed g c =
+pub returns-in_err-file-in_default-clause-surveyed : goal.returns-in_err-file-in_default-clause-surveyed
+returns-in_err-file-in_default-clause-surveyed g c =
     let file : is_input c.in-Listed.list.now ≡ false = search (rules, c.in_default.not-text) in
-    let refused = c.in_err-list-in_default.ensures.refused in (
+    let refused = c.in_err-file-in_default.ensures.refused in (
       c.new-desk-in-Listed.result.desk.worst,
-      Err c.in_err-list-in_default.field-0.0,
+      Err c.in_err-file-in_default.field-0.0,
       surveyed _ _ _ _ _ _ _ _ _ _ c.new-desk-in-Listed.result.desk.worst _ c.in_ok-begin.field-0 _ c.in_ok-begin.ensures.begun
           (c.new-desk-in-Listed.ensures.worst ∙ c.begin.ensures.worst ∙ c.new-desk.ensures) (ap g.C.Clerk.conduct c.begin.ensures.manner)
           (over_file _ c.args.self.now.names c.in-Listed.list c.in-Listed.separator c.new-desk-in-Listed.result.separator _ _ _ _ c.in-Listed.is file
-          c.new-desk-in-Listed.ensures.separator (file_unfetched _ c.new-desk-in-Listed.result.separator c.in-Listed.list.now _ _ refused.0 _ refused.2 refused.1)),
+          c.new-desk-in-Listed.ensures.separator (file_unopened _ c.new-desk-in-Listed.result.separator c.in-Listed.list.now _ _ refused.0 _ refused.2 refused.1)),
       search rules,
     )
 
-pub returns-in_err-answer_list-in_default-clause-surveyed : goal.returns-in_err-answer_list-in_default-clause-surveyed
-returns-in_err-answer_list-in_default-clause-surveyed g c =
+pub returns-in_err-answer_stream-in_default-clause-surveyed : goal.returns-in_err-answer_stream-in_default-clause-surveyed
+returns-in_err-answer_stream-in_default-clause-surveyed g c =
     let file : is_input c.in-Listed.list.now ≡ false = search (rules, c.in_default.not-text) in (
-      c.answer_list.new.self.desk.worst,
-      Err c.in_err-answer_list-in_default.field-0.0,
+      c.answer_stream-in_default.new.self.desk.worst,
+      Err c.in_err-answer_stream-in_default.field-0.0,
       surveyed _ _ _ _ _ _ _ _ _ _ c.new-desk-in-Listed.result.desk.worst _ c.in_ok-begin.field-0 _ c.in_ok-begin.ensures.begun
           (c.new-desk-in-Listed.ensures.worst ∙ c.begin.ensures.worst ∙ c.new-desk.ensures) (ap g.C.Clerk.conduct c.begin.ensures.manner)
           (over_file _ c.args.self.now.names c.in-Listed.list c.in-Listed.separator c.new-desk-in-Listed.result.separator _ _ _ _ c.in-Listed.is file
-          c.new-desk-in-Listed.ensures.separator (file_fetched _ c.new-desk-in-Listed.result.separator c.in-Listed.list.now _ _ c.in_ok-list-in_default.list.items c.as_slice.result.now _ _
-          c.as_slice.ensures.value c.in_ok-list-in_default.ensures.fetched (c.in_err-answer_list-in_default.ensures.answered c.new-desk-in-Listed.ensures.fresh))),
+          c.new-desk-in-Listed.ensures.separator (file_opened _ c.new-desk-in-Listed.result.separator c.in-Listed.list.now _ _ _ _ _ _ _
+          (search (rules, c.new-list.ensures.kept)) c.in_ok-file-in_default.ensures.opened (c.in_err-answer_stream-in_default.ensures.answered c.new-desk-in-Listed.ensures.fresh))),
       search rules,
     )
 
 pub returns-clause-surveyed : goal.returns-clause-surveyed
 returns-clause-surveyed g c =
     let file : is_input c.in-Listed.list.now ≡ false = search (rules, c.in_default.not-text) in (
-      c.answer_list.new.self.desk.worst,
-      Ok c.in_ok-answer_list-in_default.field-0,
+      c.answer_stream-in_default.new.self.desk.worst,
+      Ok c.in_ok-answer_stream-in_default.field-0,
       surveyed _ _ _ _ _ _ _ _ _ _ c.new-desk-in-Listed.result.desk.worst _ c.in_ok-begin.field-0 _ c.in_ok-begin.ensures.begun
           (c.new-desk-in-Listed.ensures.worst ∙ c.begin.ensures.worst ∙ c.new-desk.ensures) (ap g.C.Clerk.conduct c.begin.ensures.manner)
           (over_file _ c.args.self.now.names c.in-Listed.list c.in-Listed.separator c.new-desk-in-Listed.result.separator _ _ _ _ c.in-Listed.is file
-          c.new-desk-in-Listed.ensures.separator (file_fetched _ c.new-desk-in-Listed.result.separator c.in-Listed.list.now _ _ c.in_ok-list-in_default.list.items c.as_slice.result.now _ _
-          c.as_slice.ensures.value c.in_ok-list-in_default.ensures.fetched (c.in_ok-answer_list-in_default.ensures.answered c.new-desk-in-Listed.ensures.fresh))),
+          c.new-desk-in-Listed.ensures.separator (file_opened _ c.new-desk-in-Listed.result.separator c.in-Listed.list.now _ _ _ _ None _ _
+          (search (rules, c.new-list.ensures.kept)) c.in_ok-file-in_default.ensures.opened (c.in_ok-answer_stream-in_default.ensures.answered c.new-desk-in-Listed.ensures.fresh))),
       ap Ok c.worst-in_default.ensures,
     )
