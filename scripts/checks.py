@@ -7,7 +7,7 @@ import time
 from crates import TOP
 
 PROGRAM = "crates/d64sh/out/d64sh"
-GROWTHS = "crates/growth_tests/out/growth_tests"
+GROWTHS = "crates/test_growths/out/test_growths"
 
 # The pages: their examples are run, and the names and links in them looked up.
 PAGES = [*sorted(glob.glob("*.md", root_dir=TOP)), *sorted(glob.glob("docs/*.md", root_dir=TOP))]
@@ -46,13 +46,14 @@ SWEEPS = [
     "scripts/sweep-catalogue",
     "scripts/sweep-survey-names",
     "scripts/sweep-extract",
+    "scripts/instructions",
 ]
 
 # Of the crates whose programs are run, the commands that wait for it.
 AFTER = [
     *((words, "d64sh") for words in SHORT),
     *(([sweep, PROGRAM], "d64sh") for sweep in SWEEPS),
-    (["scripts/sweep-calls", GROWTHS], "growth_tests"),
+    (["scripts/sweep-calls", GROWTHS], "test_growths"),
 ]
 
 
