@@ -51,6 +51,17 @@ pub fn fetch(bench: &Bench) -> Result<End, Fail> {
     })
 }
 
+/// The opening of a file, whose reader has a copy of its bytes.
+pub fn open(bench: &Bench) -> Result<End, Fail> {
+    let mut host = host(bench.alloc())?;
+    bench.begin()?;
+    Ok(match host.open("block") {
+        Ok(file) => End::Made(file.len()),
+        Err(HostFault::Memory(_)) => want_of_memory(&host),
+        Err(_) => End::Refused,
+    })
+}
+
 /// The storing of a file in place of another.
 pub fn store(bench: &Bench) -> Result<End, Fail> {
     let mut host = host(bench.alloc())?;

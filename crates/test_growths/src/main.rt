@@ -59,6 +59,7 @@ fn end_of_call(bench: &Bench) -> Result<End, Fail> {
         "list" => texts::list(bench),
         "MemoryHost::put" => hosts::put(bench),
         "MemoryHost::fetch" => hosts::fetch(bench),
+        "MemoryHost::open" => hosts::open(bench),
         "MemoryHost::store" => hosts::store(bench),
         "run" => scripts::run(bench, given),
         "petcat_run" => scripts::petcat_run(bench),
