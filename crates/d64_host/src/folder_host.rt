@@ -1,6 +1,7 @@
 //! A host over the files of the system, as they lie in the current folder.
 
-ghost use Rattle.std.specs.Prelude.{◌≡◌, ◌≢◌, ◌+◌, ◌<◌, ◌≤◌, ◌↔◌, ◌++◌, length, vec_len, None, IfOk, IfErr, IfSome, OnOk, OnErr};
+ghost use Rattle.std.specs.Prelude.{◌≡◌, ◌≢◌, ℕ, List, true, ◌+◌, ◌<◌, ◌≤◌, ◌↔◌, ◌++◌, length, vec_len, None, IfOk, IfErr, IfSome, OnOk, OnErr};
+ghost use Rattle.std.specs.Io.KnownBytes.{Consumes, IsAtEnd};
 ghost use Rattle.d64_host.specs.Folders.{failures_after_making};
 ghost use Rattle.d64_host.specs.Host.{failures_after};
 
@@ -17,14 +18,21 @@ use std::os::fd::AsFd;
 use std::path::Path;
 use std::rt::Files;
 
-/// How many bytes one read asks for: an image takes eleven of them. The buffer is cleared for each file, of which most are
-/// far smaller.
+/// How many bytes each of the first reads of a file asks for. A buffer is cleared before it is read
+/// into, and most files are small.
+const FIRST_READ_BYTES: usize = 4_096;
+
+/// How many reads of a file ask for so few: the second one tells that a small file has ended.
+const FIRST_READS: u64 = 2;
+
+/// How many bytes each read of a larger file asks for: an image takes eleven of them.
 const READ_BYTES: usize = 16_384;
 
 /// The files of the system, by their paths from the current folder.
 ///
-/// It tells a proof nothing of its files, since others write to them too. A store replaces a file that is
-/// there in one step, or leaves it as it was; a new file is removed again where its writing fails. What is made new waits for no disk.
+/// It tells a proof nothing of its files, since others write to them too. A store replaces a file
+/// that is there in one step, or leaves it as it was; a new file is removed again where its writing
+/// fails. What is made new waits for no disk.
 #[derive(Drop)]
 pub struct FolderHost<R> {
     rt: R,
@@ -170,7 +178,8 @@ fn open_file<R: Files>(rt: &R, path: &str) -> Result<Retrying<R::File>, HostFaul
     }
 }
 
-/// Why a file could not be opened: the system says of a path that it leads to no file, or has another fault.
+/// Why a file could not be opened: the system says of a path that it leads to no file, or has
+/// another fault.
 fn open_fault(kind: ErrorKind) -> HostFault
     ensures missing { (result ≡ HostFault.Missing) ↔ (kind ≡ ErrorKind.NotFound) }
     ensures device { kind ≢ ErrorKind.NotFound → result ≡ HostFault.Device }
@@ -189,15 +198,40 @@ fn read_to_end<F: Read>(file: &mut F, limit: usize, bytes: &mut Vec<u8>) -> Resu
     ensures never_missing { result ≢ Err HostFault.Missing }
 {
     bytes.clear();
-    let mut buffer = [0u8; READ_BYTES];
-    for _ in 0..u64::MAX {
-        match file.read(&mut buffer) {
-            Ok(0) => return Ok(()),
+    let is_small = read_pieces(file, &mut [0; FIRST_READ_BYTES], FIRST_READS, limit, bytes)?;
+    if is_small || read_pieces(file, &mut [0; READ_BYTES], u64::MAX, limit, bytes)? {
+        Ok(())
+    } else {
+        Err(HostFault::Device)
+    }
+}
+
+/// Adds what at most so many reads bring. Returns whether the file then has nothing left.
+fn read_pieces<F: Read>(
+    file: &mut F,
+    buffer: &mut [u8],
+    reads: u64,
+    limit: usize,
+    bytes: &mut Vec<u8>,
+) -> Result<bool, HostFault>
+    requires within { vec_len bytes.old ≤ limit }
+    requires has_room { 0 < length buffer.old }
+    ensures within { OnOk result (vec_len bytes.new ≤ limit) }
+    ensures added { OnOk result ((piece : List ℕ) × (bytes.new.items ≡ bytes.old.items ++ piece)
+        × Consumes (F.remaining file.old) (F.remaining file.new) piece) }
+    ensures at_end { IfOk result (λ is_over. is_over ≡ true → IsAtEnd (F.remaining file.new)) }
+    ensures too_long { result ≡ Err HostFault.TooLong →
+        IfSome (F.remaining file.old) (λ rest. limit < vec_len bytes.old + length rest) }
+    ensures never_missing { result ≢ Err HostFault.Missing }
+{
+    for _ in 0..reads {
+        match file.read(buffer) {
+            Ok(0) => return Ok(true),
             Ok(count) => add_piece(bytes, &buffer[..count], limit)?,
             Err(_) => return Err(HostFault::Device),
         }
     }
-    Err(HostFault::Device)
+    Ok(false)
 }
 
 /// Adds a piece that was read, where with it there are at most `limit` bytes.
