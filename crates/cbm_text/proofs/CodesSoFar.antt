@@ -10,8 +10,8 @@ use Rattle.cbm_text.specs.Keywords.{keywords, token_from}
 use Rattle.cbm_text.proofs.Keywords.{found, code_in, rest_in, token_shrinks, token_shown}
 use Rattle.cbm_text.specs.Modes.{after, crunches_anyhow, single_code, free_code, first_code, CrunchedFrom, expanded_from, shown}
 
--- what has been crunched of a text, and what is left, read in this mode: what the rest crunches to follows, and every
--- crunched form of the whole comes so
+-- what has been crunched of a text, and what is left, read in this mode: what the rest crunches to
+-- follows, and every crunched form of the whole comes so
 pub record CrunchedSoFar (text codes : List ℕ) (mode : Mode) (left : List ℕ) : Type 0 where
   pub completes : (more : List ℕ) → CrunchedFrom mode left more → CrunchedFrom Free text (codes ++ more)
   pub only : (all : List ℕ) → CrunchedFrom Free text all → (more : List ℕ) × CrunchedFrom mode left more
@@ -32,7 +32,8 @@ crunched_one : (mode : Mode) (left : List ℕ) (code : ℕ) (rest more : List �
 unfolding CrunchedFrom
 crunched_one mode left code rest more first crunched = (rest, first, crunched)
 
--- no text that has bytes crunches to nothing, and what it crunches to begins with its first crunched byte
+-- no text that has bytes crunches to nothing, and what it crunches to begins with its first
+-- crunched byte
 crunched_inverted : (mode : Mode) (left : List ℕ) (code : ℕ) (rest all : List ℕ) → left ≢ [] → first_code mode left ≡ Some (code, rest) → CrunchedFrom mode left all → (more : List ℕ) × CrunchedFrom (after mode code) rest more
 unfolding CrunchedFrom
 crunched_inverted mode left code rest [] some first nothing = absurd (some nothing)

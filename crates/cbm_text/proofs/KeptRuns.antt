@@ -44,7 +44,8 @@ parity_more before byte = ap (λ (n : ℕ). n % 2 == 0) (quotes_more before byte
     of_quote true = turned (quotes_in before)
     of_quote false = let same : quotes_in before + 0 ≡ quotes_in before = omega arith in ap (λ (n : ℕ). n % 2 == 0) same
 
--- behind `data`, by whether the quote marks so far are even, and whether the byte is a quote mark or a colon
+-- behind `data`, by whether the quote marks so far are even, and whether the byte is a quote mark
+-- or a colon
 data_step : (even is_quote is_colon next : Bool) → (is_quote ≡ true → is_colon ≡ false) → next ≡ cond is_quote (not even) even
     → cond even (cond is_quote QuotedData (cond is_colon Free Data)) (cond is_quote Data QuotedData) ≡ cond (is_colon && even) Free (cond next Data QuotedData)
 data_step even true true next apart is = let never = apart refl in absurd cc

@@ -155,8 +155,8 @@ no_zero_place rest none (k, within, is) =
 
 -- ---- line by line
 
--- what has been listed of the lines of a file, and what is left of them: with what the rest reads as, the whole reads,
--- and where the whole reads, the rest does
+-- what has been listed of the lines of a file, and what is left of them: with what the rest reads
+-- as, the whole reads, and where the whole reads, the rest does
 pub record ListedSoFar (lines text left : List ℕ) : Type 0 where
   pub before : Program
   pub listed : text ≡ listing before

@@ -13,8 +13,8 @@ use Rattle.cbm_text.specs.Modes.{CrunchesUpTo}
 use Rattle.cbm_text.specs.Program.{Line, Program, word, line_layout, lines_layout, address_behind}
 use Rattle.cbm_text.specs.BasicText.{IsLine, IsRead, IsTooLong, HasFault, AreLines, FaultsFirst, IsFileOf, IsFirstFault, IsOfMemory, TellsLine}
 
--- what has been crunched of a text, and the raw lines that are left: what these give completes the file, and their first
--- fault is the text's
+-- what has been crunched of a text, and the raw lines that are left: what these give completes the
+-- file, and their first fault is the text's
 pub record ProgramSoFar (start at place : ℕ) (text file : List ℕ) (raws : List (List ℕ)) : Type 0 where
   pub gives : (more : Program) → AreLines at raws more → IsFileOf start text (file ++ lines_layout at more)
   pub faults : (fault : BasicFault) → FaultsFirst at (place + 1) raws fault → IsFirstFault start text fault

@@ -31,7 +31,8 @@ pub record IsCrunched (text bytes codes : List ℕ) : Type 0 where
   pub read : IsRead text bytes
   pub crunched : Crunched bytes codes
 
--- A line of these crunched bytes is too long, or the link behind it is, where it stands at the address.
+-- A line of these crunched bytes is too long, or the link behind it is, where it stands at the
+-- address.
 abbrev pub IsTooLong : ℕ → List ℕ → Type 0
 IsTooLong at codes = (most_bytes < length codes) ⊎ (greatest_link < address_behind at codes)
 
@@ -54,15 +55,15 @@ HasFault at number text (ZeroByte line) = (line ≡ number) × (bytes codes : Li
 HasFault at number text (TooLong line) = (line ≡ number) × (bytes codes : List ℕ) × IsCrunched text bytes codes × ¬ (Contains bytes 0) × IsTooLong at codes
 HasFault at number text (Memory error) = ⊥
 
--- The raw lines of a text, where the first line that they give stands at the address, give this program. Empty lines,
--- lines of spaces and comments give nothing.
+-- The raw lines of a text, where the first line that they give stands at the address, give this
+-- program. Empty lines, lines of spaces and comments give nothing.
 unfoldable pub AreLines : ℕ → List (List ℕ) → Program → Type 0
 AreLines at [] program = program ≡ []
 AreLines at (raw ∷ raws) program = ((is_skipped (text_of raw) ≡ true) × AreLines at raws program)
     ⊎ ((is_skipped (text_of raw) ≡ false) × (line : Line) × (lines : Program) × (program ≡ line ∷ lines) × IsLine at (text_of raw) line × AreLines (address_behind at line.bytes) raws lines)
 
--- The fault of the first faulty one of the raw lines, the first of which has this number, where the first line that they
--- give stands at the address.
+-- The fault of the first faulty one of the raw lines, the first of which has this number, where the
+-- first line that they give stands at the address.
 unfoldable pub FaultsFirst : ℕ → ℕ → List (List ℕ) → BasicFault → Type 0
 FaultsFirst at number [] fault = ⊥
 FaultsFirst at number (raw ∷ raws) fault = ((is_skipped (text_of raw) ≡ true) × FaultsFirst at (number + 1) raws fault)
@@ -105,7 +106,7 @@ fault_line (ZeroByte line) = Some line
 fault_line (TooLong line) = Some line
 fault_line (Memory error) = None
 
--- A fault tells one of the text's lines, the first of which is 1, and a text has no more lines than bytes. Want of memory
--- tells none.
+-- A fault tells one of the text's lines, the first of which is 1, and a text has no more lines than
+-- bytes. Want of memory tells none.
 abbrev pub TellsLine : List ℕ → BasicFault → Type 0
 TellsLine text fault = MatchOption (fault_line fault) (IsOfMemory fault) (λ line. (1 ≤ line) × (line ≤ length (lines_of text)) × (line ≤ length text))

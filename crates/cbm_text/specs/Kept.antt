@@ -38,8 +38,9 @@ code_of DataWord = data_token
 abbrev pub quotes_in : List ℕ → ℕ
 quotes_in bytes = count_by (λ byte. byte == quote) bytes
 
--- A byte ends the run behind an opener, where these bytes of the run stand before it: behind a quote mark the next one,
--- behind `rem` none, behind `data` a colon that has an even number of quote marks before it in the run.
+-- A byte ends the run behind an opener, where these bytes of the run stand before it: behind a
+-- quote mark the next one, behind `rem` none, behind `data` a colon that has an even number of
+-- quote marks before it in the run.
 abbrev pub ends : Opener → List ℕ → ℕ → Bool
 ends QuoteMark before byte = byte == quote
 ends RemWord before byte = false
@@ -57,6 +58,7 @@ pub record EndsFirst (opener : Opener) (run : List ℕ) : Type 0 where
   pub no_end : HasNoEnd opener before
   pub end : ends opener before byte ≡ true
 
--- What is kept behind an opener is the run, and rest follows it: all up to and with the first byte that ends it, or all.
+-- What is kept behind an opener is the run, and rest follows it: all up to and with the first byte
+-- that ends it, or all.
 abbrev pub IsKept : Opener → List ℕ → List ℕ → Type 0
 IsKept opener run rest = EndsFirst opener run ⊎ (HasNoEnd opener run × (rest ≡ []))

@@ -20,7 +20,8 @@ keywords =
 unfoldable pub keyword : ℕ → Option (List ℕ)
 keyword token = if nat_le 128 token then slice_get keywords (token - 128) else None
 
--- The first of these words that a text begins with: its token, where that of the first word is given, and what follows.
+-- The first of these words that a text begins with: its token, where that of the first word is
+-- given, and what follows.
 abbrev pub token_from : ℕ → List (List ℕ) → List ℕ → Option (ℕ × List ℕ)
 token_from token [] text = None
 token_from token (word ∷ words) text = if starts_with nat_eq text word then Some (token, drop (length word) text) else token_from (token + 1) words text
@@ -30,7 +31,8 @@ abbrev pub begins_with : ℕ → List ℕ → Bool
 begins_with first [] = false
 begins_with first (byte ∷ rest) = first == byte
 
--- The tokens of those of these words that begin with a byte, where the token of the first word is given.
+-- The tokens of those of these words that begin with a byte, where the token of the first word is
+-- given.
 abbrev pub tokens_with : ℕ → ℕ → List (List ℕ) → List ℕ
 tokens_with first token [] = []
 tokens_with first token (word ∷ words) = if begins_with first word then token ∷ tokens_with first (token + 1) words else tokens_with first (token + 1) words

@@ -37,7 +37,8 @@ pub record ReadsOnce (file : List ℕ) : Type 0 where
   pub program : (program other : Program) → Reads file program → Reads file other → program ≡ other
   pub listing : (text other : List ℕ) → Lists file text → Lists file other → text ≡ other
 
--- A text stands for one program at most, has one file at most, and none where it has a fault; and it has one first fault at most.
+-- A text stands for one program at most, has one file at most, and none where it has a fault; and
+-- it has one first fault at most.
 pub record StandsOnce (start : ℕ) (text : List ℕ) : Type 0 where
   pub program : (program other : Program) → IsProgramOf start text program → IsProgramOf start text other → program ≡ other
   pub file : (file other : List ℕ) → IsFileOf start text file → IsFileOf start text other → file ≡ other
@@ -49,7 +50,8 @@ abbrev pub LinesHaveNoFreeQuestion : List ℕ → Type 0
 LinesHaveNoFreeQuestion text =
     All (λ raw. is_skipped (text_of raw) ≡ false → (bytes : List ℕ) → IsTextOf bytes (rest_of (text_of raw)) → HasNoFreeQuestion bytes) (lines_of text)
 
--- The file of a text lists, and its listing is the normal spelling of the text and has this file again.
+-- The file of a text lists, and its listing is the normal spelling of the text and has this file
+-- again.
 pub record ComesBackWhole (start : ℕ) (text file : List ℕ) : Type 0 where
   pub listed : (listing : List ℕ) × Lists file listing
   pub normal : (listing : List ℕ) → Lists file listing → IsNormalOf text listing

@@ -4,7 +4,8 @@ use Rattle.cbm_text.specs.declared.fault.ListFault.{ListFault}
 use Rattle.cbm_text.specs.declared.fault.ListFault.TheVariants.{NoAddress, Truncated, Memory}
 use Rattle.cbm_text.specs.Program.{Program, Reads}
 
--- The bytes have this fault: fewer than two have no load address, and others that read as no program are cut short.
+-- The bytes have this fault: fewer than two have no load address, and others that read as no
+-- program are cut short.
 abbrev pub ListsNot : List ℕ → ListFault → Type 0
 ListsNot file NoAddress = length file < 2
 ListsNot file Truncated = (2 ≤ length file) × ((program : Program) → ¬ (Reads file program))

@@ -1,5 +1,6 @@
--- How a line is crunched and listed byte after byte: a line is free at its start, and each crunched byte says how the next
--- place is read. Only private functions speak of this; `proofs` has that it agrees with the pieces of a line.
+-- How a line is crunched and listed byte after byte: a line is free at its start, and each crunched
+-- byte says how the next place is read. Only private functions speak of this; `proofs` has that it
+-- agrees with the pieces of a line.
 use Rattle.std.specs.Prelude.{◌≡◌, ℕ, ◌<◌, ◌||◌, ◌⊎◌, Bool, List, [], ◌∷◌, ◌++◌, length, Option, Some, None, nat_lt, ◌==◌, if◌then◌else◌}
 use Rattle.std.specs.Option.{is_some, option_map_or}
 use Rattle.std.specs.List.{flat_map, list_all}
@@ -12,8 +13,8 @@ use Rattle.cbm_text.specs.Crunching.{question, pi, Crunched}
 use Rattle.cbm_text.specs.Listing.{line_text}
 use Rattle.cbm_text.specs.Program.{Line, Program}
 
--- How the place behind a crunched byte is read. A quote is kept up to and with the next one, what follows `rem` to the
--- line's end, and what follows `data` up to and with a colon outside quotes.
+-- How the place behind a crunched byte is read. A quote is kept up to and with the next one, what
+-- follows `rem` to the line's end, and what follows `data` up to and with a colon outside quotes.
 abbrev pub after : Mode → ℕ → Mode
 after Free code = if code == quote then Quoted else if code == rem_token then Remark else if code == data_token then Data else Free
 after Quoted code = if code == quote then Free else Quoted
@@ -23,12 +24,13 @@ after QuotedData code = if code == quote then Data else QuotedData
 
 -- ---- crunching
 
--- A byte that is no keyword's start crunches to itself at a free place, but for `?` and the bytes that tokens are.
+-- A byte that is no keyword's start crunches to itself at a free place, but for `?` and the bytes
+-- that tokens are.
 abbrev pub single_code : ℕ → Option ℕ
 single_code byte = if byte == question then Some print_token else if nat_lt byte 128 || byte == pi then Some byte else None
 
--- The first crunched byte of a text at a free place, and what follows: the token of the first keyword in the table's
--- order that the text begins with, else that of its first byte.
+-- The first crunched byte of a text at a free place, and what follows: the token of the first
+-- keyword in the table's order that the text begins with, else that of its first byte.
 unfoldable pub free_code : List ℕ → Option (ℕ × List ℕ)
 free_code [] = None
 free_code (byte ∷ rest) = option_map_or (λ found. Some found) (token_from 128 keywords (byte ∷ rest)) (option_map_or (λ code. Some (code, rest)) (single_code byte) None)
@@ -48,7 +50,8 @@ CrunchedFrom mode text (code ∷ codes) = (rest : List ℕ) × (first_code mode 
 abbrev pub crunches_anyhow : List ℕ → Bool
 crunches_anyhow text = list_all (λ byte. is_some (single_code byte)) text
 
--- A text crunches to these bytes, or to more than so many bytes of which these are the first, more than so many too.
+-- A text crunches to these bytes, or to more than so many bytes of which these are the first, more
+-- than so many too.
 pub record CrunchesUpTo (most : ℕ) (text codes : List ℕ) : Type 0 where
   pub more : List ℕ
   pub crunched : Crunched text (codes ++ more)

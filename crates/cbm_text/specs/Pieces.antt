@@ -4,8 +4,8 @@ use Rattle.std.specs.Option.{option_map_or}
 use Rattle.cbm_text.specs.Keywords.{keyword}
 use Rattle.cbm_text.specs.Kept.{Opener, opening, code_of}
 
--- A piece: an opener and the run that is kept behind it; another keyword, by its token; a `?`, which is short for `print`;
--- another byte.
+-- A piece: an opener and the run that is kept behind it; another keyword, by its token; a `?`,
+-- which is short for `print`; another byte.
 pub data Piece : Type 0 where
   Kept : Opener → List ℕ → Piece
   Token : ℕ → Piece
@@ -30,7 +30,8 @@ crunched (Token token) = token ∷ []
 crunched Question = print_token ∷ []
 crunched (Single byte) = byte ∷ []
 
--- Bytes are these pieces, one after the other, where a relation says which piece bytes begin with and what follows it.
+-- Bytes are these pieces, one after the other, where a relation says which piece bytes begin with
+-- and what follows it.
 unfoldable pub AreCut : (List ℕ → Piece → List ℕ → Type 0) → List ℕ → List Piece → Type 0
 AreCut Begins bytes [] = bytes ≡ []
 AreCut Begins bytes (piece ∷ pieces) = (rest : List ℕ) × Begins bytes piece rest × AreCut Begins rest pieces

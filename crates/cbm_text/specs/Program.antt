@@ -14,11 +14,13 @@ Program = List Line
 abbrev pub word : ℕ → List ℕ
 word n = n % 256 ∷ n / 256 ∷ []
 
--- The address of what follows a line that stands at an address: its link, its number, its bytes and a $00 lie between.
+-- The address of what follows a line that stands at an address: its link, its number, its bytes and
+-- a $00 lie between.
 abbrev pub address_behind : ℕ → List ℕ → ℕ
 address_behind at bytes = at + length bytes + 5
 
--- The bytes of a line that stands at an address: the link to what follows it, its number, its bytes, $00.
+-- The bytes of a line that stands at an address: the link to what follows it, its number, its
+-- bytes, $00.
 abbrev pub line_layout : ℕ → Line → List ℕ
 line_layout at line = word (address_behind at line.bytes) ++ word line.number ++ line.bytes ++ 0 ∷ []
 
@@ -31,7 +33,8 @@ lines_layout at (line ∷ lines) = line_layout at line ++ lines_layout (address_
 abbrev pub layout : ℕ → Program → List ℕ
 layout start program = word start ++ lines_layout start program
 
--- The bytes begin with any link but $00 $00, the line's number, its bytes, and a $00, and go on with rest.
+-- The bytes begin with any link but $00 $00, the line's number, its bytes, and a $00, and go on
+-- with rest.
 pub record BeginsLine (bytes : List ℕ) (line : Line) (rest : List ℕ) : Type 0 where
   pub low : ℕ
   pub high : ℕ

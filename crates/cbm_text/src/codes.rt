@@ -18,8 +18,9 @@ const PRINT: u8 = 0x99;
 /// The byte of pi, which is no token.
 const PI: u8 = 0xff;
 
-/// The crunched bytes of a line, or `None` where a byte of $80 or more stands at a free place. Where they are more than
-/// `MOST_BYTES`, only the first may be there, but more than `MOST_BYTES` too.
+/// The crunched bytes of a line, or `None` where a byte of $80 or more stands at a free place.
+/// Where they are more than `MOST_BYTES`, only the first may be there, but more than `MOST_BYTES`
+/// too.
 pub(crate) fn crunch_bytes(alloc: Global, bytes: &[u8]) -> Result<Option<Vec<u8>>, AllocError>
     ensures { IfOk result (λ crunched. MatchOption crunched
         ((codes : List ℕ) → ¬ (Crunched bytes.now codes))
@@ -71,7 +72,8 @@ fn code_of_byte(byte: u8) -> Option<u8>
     }
 }
 
-/// Whether no byte of a text is one that crunches to nothing at a free place: then the text crunches, however it is read.
+/// Whether no byte of a text is one that crunches to nothing at a free place: then the text
+/// crunches, however it is read.
 fn crunches_anyhow(text: &[u8]) -> bool
     ensures { result ≡ crunches_anyhow text.now }
 {

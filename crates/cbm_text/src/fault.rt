@@ -10,8 +10,8 @@ use petscii::TextFault;
 use std::alloc::{AllocError, AllocFailed};
 use thiserror::Error;
 
-/// The first fault of a BASIC text: of its first faulty line, the fault that comes first here. Lines are counted from 1,
-/// skipped ones too.
+/// The first fault of a BASIC text: of its first faulty line, the fault that comes first here.
+/// Lines are counted from 1, skipped ones too.
 #[derive(Clone, Copy, Debug, PartialEq, Eq, Error)]
 pub enum BasicFault {
     /// The line begins with no number.

@@ -1,4 +1,5 @@
-//! The keywords of BASIC V2 and their tokens (Commodore 64 Programmer's Reference Guide, chapter 1).
+//! The keywords of BASIC V2 and their tokens (Commodore 64 Programmer's Reference Guide, chapter
+//! 1).
 
 ghost use Rattle.std.specs.Prelude.{◌≡◌, ◌+◌, ◌≤◌, ◌<◌, MatchOption};
 ghost use Rattle.std.specs.Option.{option_copied};

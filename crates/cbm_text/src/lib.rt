@@ -1,9 +1,9 @@
 //! BASIC V2 programs as text, and the text form of the bytes that they are made of.
 //!
-//! `crunch` makes a program file of a text, as the tokeniser of a Commodore 64 does, and `list` writes the text of a
-//! program file, as the command `LIST` shows it. Keywords and their tokens are in the Commodore 64 Programmer's
-//! Reference Guide, the lines of a program in memory in its chapter on BASIC; how bytes are written as text is this
-//! project's own (`petscii`).
+//! `crunch` makes a program file of a text, as the tokeniser of a Commodore 64 does, and `list`
+//! writes the text of a program file, as the command `LIST` shows it. Keywords and their tokens are
+//! in the Commodore 64 Programmer's Reference Guide, the lines of a program in memory in its
+//! chapter on BASIC; how bytes are written as text is this project's own (`petscii`).
 #![tactic(auto)]
 
 mod codes;

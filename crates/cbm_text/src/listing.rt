@@ -12,11 +12,13 @@ use itoa::Buffer;
 use petscii::to_text;
 use std::alloc::{AllocError, Global};
 
-/// The text of a program file: for each line its number, a space, and its bytes with the keyword of each token, in the
-/// text form of `to_text`. Between quotes, behind `rem` and behind `data` up to a colon outside quotes tokens are no
-/// keywords. Links are not believed, but that $00 $00 ends the program; what follows is ignored.
+/// The text of a program file: for each line its number, a space, and its bytes with the keyword of
+/// each token, in the text form of `to_text`. Between quotes, behind `rem` and behind `data` up to
+/// a colon outside quotes tokens are no keywords. Links are not believed, but that $00 $00 ends the
+/// program; what follows is ignored.
 ///
-/// `NoAddress` comes where there are fewer than two bytes, `Truncated` where others end before the program does.
+/// `NoAddress` comes where there are fewer than two bytes, `Truncated` where others end before the
+/// program does.
 pub fn list(alloc: Global, file: &[u8]) -> Result<Vec<u8>, ListFault>
     ensures { MatchResult result (λ text. Lists file.now text.items) (ListsNot file.now) }
 {

@@ -42,8 +42,8 @@ pub(crate) fn is_end(bytes: &[u8]) -> bool
     }
 }
 
-/// The first line of a program from its link on, and what follows the line; `None` where the bytes end before the line
-/// does. The link is not looked at.
+/// The first line of a program from its link on, and what follows the line; `None` where the bytes
+/// end before the line does. The link is not looked at.
 pub(crate) fn first_line(bytes: &[u8]) -> Option<(Line<'_>, &[u8])>
     requires { ¬ (LinesRead bytes.now []) }
     ensures { MatchOption result ((program : Program) → ¬ (LinesRead bytes.now program))

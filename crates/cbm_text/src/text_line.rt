@@ -9,7 +9,8 @@ ghost use Rattle.cbm_text.specs.BasicText.{IsNumbered, HasFault};
 use crate::fault::BasicFault;
 use std::str;
 
-/// The number of a text line, and what follows it and one space. The line's place in the text goes into a fault.
+/// The number of a text line, and what follows it and one space. The line's place in the text goes
+/// into a fault.
 pub(crate) fn split_number(text: &[u8], place: usize) -> Result<(u16, &[u8]), BasicFault>
     ensures { MatchResult result
         (λ found. IsNumbered text.now × (found.0 ≡ line_number text.now) × (found.1.now ≡ rest_of text.now))

@@ -10,7 +10,8 @@ use Rattle.d64_advice.specs.declared.command.Command.{Command}
 use Rattle.d64_advice.specs.declared.command.Command.TheVariants.{BlockRead, Keep, Read, Save}
 use Rattle.d64_advice.specs.declared.kept.Kept.{Kept}
 
--- what an accepted line does to the files that may hold the image: it stores the image in one, or something else, or neither
+-- what an accepted line does to the files that may hold the image: it stores the image in one, or
+-- something else, or neither
 pub data Effect : Type 0 where
   Holds : Bytes → Effect
   Replaces : Bytes → Effect
@@ -20,7 +21,8 @@ pub data Effect : Type 0 where
 abbrev pub kept_in : Disk → Bytes → Kept
 kept_in image name = record { image = sha256 (bytes_of image); file = sha256 name }
 
--- what is held after something else was stored in the file of a name: nothing where that one held it
+-- what is held after something else was stored in the file of a name: nothing where that one held
+-- it
 abbrev pub unless_replaced : Option Kept → Bytes → Option Kept
 unless_replaced None name = None
 unless_replaced (Some kept) name = if bytes_eq kept.file (sha256 name) then None else Some kept

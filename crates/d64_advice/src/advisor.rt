@@ -1,4 +1,5 @@
-//! Who tells a person at a terminal what is wrong with a refused line, and that changes are not saved.
+//! Who tells a person at a terminal what is wrong with a refused line, and that changes are not
+//! saved.
 ghost use Rattle.std.specs.Prelude.{◌≡◌, ℕ, List, if◌then◌else◌, ◌++◌, map, flat_map, false, true, [], OnOk, OnErr};
 ghost use Rattle.std.specs.Io.KnownBytes.{Appends};
 ghost use Rattle.d64_script.specs.HeldLine.{Says};
@@ -21,8 +22,8 @@ use std::io::Write;
 /// The line that tells that the last image is held by no file.
 const UNSAVED: &[u8] = b"d64sh: changes are not saved\n";
 
-/// Tells on an output, where it listens, what is wrong with each refused line, and at the end whether changes are not
-/// saved.
+/// Tells on an output, where it listens, what is wrong with each refused line, and at the end
+/// whether changes are not saved.
 #[derive(Drop)]
 pub struct Advisor<'w, W: Write> {
     output: OutputStream<'w, W>,

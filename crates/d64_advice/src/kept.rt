@@ -26,8 +26,8 @@ impl Kept {
     }
 }
 
-/// What is held after an accepted line of these words, which left this image, where `save` stores under `home` by
-/// default.
+/// What is held after an accepted line of these words, which left this image, where `save` stores
+/// under `home` by default.
 pub(crate) fn kept_after(
     kept: Option<Kept>,
     home: &str,

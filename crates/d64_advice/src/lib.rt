@@ -1,4 +1,5 @@
-//! Plain words for a person at a terminal: what is wrong with a refused line, and that changes are not saved.
+//! Plain words for a person at a terminal: what is wrong with a refused line, and that changes are
+//! not saved.
 #![tactic(auto)]
 
 mod advice;

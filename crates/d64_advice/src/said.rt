@@ -45,8 +45,8 @@ impl<'a> Said<'a> {
         }
     }
 
-    /// The words of a line that has come to its end: none where it is too long, or where a byte or a quote stands that
-    /// no line holds.
+    /// The words of a line that has come to its end: none where it is too long, or where a byte or
+    /// a quote stands that no line holds.
     pub(crate) fn of(line: &'a HeldLine) -> Said<'a>
         ensures { (raw : List ℕ) → Says line.now raw → result ≡ said_by raw }
     {

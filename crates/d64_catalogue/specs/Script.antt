@@ -6,7 +6,8 @@ use Rattle.d64_markup.specs.Markup.{element}
 unfoldable pub gathering : List ℕ
 gathering = codes "document.documentElement.className = \"opening\";\naddEventListener(\"DOMContentLoaded\", () => {\n  const all = (words, within = document) => [...within.querySelectorAll(words)];\n  const lower = (part) => part.textContent.toLowerCase();\n  const [field] = all(\"input\"), [count] = all(\"output\"), [tools] = all(\".tools\"), buttons = all(\"button\");\n  const disks = all(\"details, section\").map((box, place) => ({ box, hidden: box.hidden = place >= 100 }));\n  const known = (disk) => disk.files ? disk : Object.assign(disk, {\n    names: all(\".name, .host\", disk.box).map(lower),\n    files: all(\"tbody th\", disk.box).map((head) => ({ row: head.parentNode, name: lower(head), hidden: false })),\n  });\n  document.documentElement.className = \"\";\n"
 
--- what is shown: the sections and files whose name holds what is typed, of the state that is asked for
+-- what is shown: the sections and files whose name holds what is typed, of the state that is asked
+-- for
 unfoldable pub showing : List ℕ
 showing = codes "  let state = \"\", last = \"\", rest = [], frame;\n  const more = (most = 100) => {\n    for (const disk of rest.splice(0, most)) known(disk).box.hidden = disk.hidden = false;\n    frame = rest.length && requestAnimationFrame(() => more());\n  };\n  const show = () => {\n    const text = field.value.toLowerCase();\n    const kept = disks.filter((disk) => {\n      const whole = !text || known(disk).names.some((name) => name.includes(text)), files = disk.files || [];\n      for (const file of files) file.holds = whole || file.name.includes(text);\n      const found = (whole || files.some((file) => file.holds)) && (!state || disk.box.className === state);\n      if (!found && !disk.hidden) disk.box.hidden = disk.hidden = true;\n      if (found) for (const file of files) if (file.hidden === file.holds) file.row.hidden = file.hidden = !file.holds;\n      return found;\n    });\n    if (text !== last) for (const disk of disks) disk.box.open = text && kept.length <= 20;\n    last = text;\n    count.value = `${kept.length} of ${disks.length} disks`;\n    cancelAnimationFrame(frame);\n    rest = kept.filter((disk) => disk.hidden);\n    more();\n  };\n"
 

@@ -1,4 +1,5 @@
-//! What stands before the sections. The end tags of what it leaves open, `body` and `html`, may be left out in HTML.
+//! What stands before the sections. The end tags of what it leaves open, `body` and `html`, may be
+//! left out in HTML.
 ghost use Rattle.std.specs.Prelude.{◌≡◌, ◌++◌, OnOk};
 ghost use Rattle.d64_catalogue.specs.Head.{opening, search_head, page_head};
 
@@ -6,7 +7,8 @@ use crate::script::push_script;
 use crate::style::push_style;
 use std::alloc::AllocError;
 
-/// The beginning of the page: its language, what it may load, of scripts only its own (by its digest), and its title.
+/// The beginning of the page: its language, what it may load, of scripts only its own (by its
+/// digest), and its title.
 const OPENING: &[u8] = b"<!DOCTYPE html>\n\
 <html lang=\"en\">\n\
 <head>\n\

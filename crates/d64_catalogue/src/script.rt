@@ -17,7 +17,8 @@ addEventListener(\"DOMContentLoaded\", () => {\n\
 \x20 });\n\
 \x20 document.documentElement.className = \"\";\n";
 
-/// What is shown: the sections and files whose name holds what is typed, of the state that is asked for.
+/// What is shown: the sections and files whose name holds what is typed, of the state that is asked
+/// for.
 const SHOWING: &[u8] = b"  let state = \"\", last = \"\", rest = [], frame;\n\
 \x20 const more = (most = 100) => {\n\
 \x20   for (const disk of rest.splice(0, most)) known(disk).box.hidden = disk.hidden = false;\n\

@@ -51,7 +51,8 @@ answer_of form digest name bytes None =
 answer_of form digest name bytes (Some dump) =
     record { printed = printed_of form name dump (digest_of digest bytes); complaint = []; verdict = if is_amiss dump then Amiss else Clean }
 
--- what `check` answers of a file in a form, with digests or without: of its bytes, or that it cannot be read
+-- what `check` answers of a file in a form, with digests or without: of its bytes, or that it
+-- cannot be read
 abbrev pub check_rule : Format → Bool → Rule
 check_rule form digest name None = record { printed = printed_unread form digest name; complaint = unread_line name; verdict = Failed }
 check_rule form digest name (Some bytes) = answer_of form digest name bytes (dump_of bytes)

@@ -27,7 +27,8 @@ asks_last separator ended raw is_ended none =
     ∙ map-append listed (names_in separator ended) (names_in separator raw)
     ∙ ap (λ (l : List Asked). map listed (names_in separator ended) ++ l) (asked_by-piece separator raw none)
 
--- a separator ends the piece: what came until then asks for the same, and what comes after it for more
+-- a separator ends the piece: what came until then asks for the same, and what comes after it for
+-- more
 asks_ended : (separator : ℕ) (came more : List ℕ)
     → map listed (names_in separator (came ++ separator ∷ more)) ≡ map listed (names_in separator came) ++ map listed (names_in separator more)
 asks_ended separator came more =

@@ -4,7 +4,8 @@ use Rattle.d64_host.specs.Files.{HostState}
 use Rattle.d64_collection.specs.declared.report.Verdict.{Verdict}
 use Rattle.d64_collection.specs.declared.report.Verdict.TheVariants.{Clean, Amiss, Failed}
 
--- what is answered of a file: what goes to the output, what goes to the standard error, and the verdict
+-- what is answered of a file: what goes to the output, what goes to the standard error, and the
+-- verdict
 pub record Answer : Type 0 where
   pub printed : List ℕ
   pub complaint : List ℕ
@@ -17,8 +18,9 @@ answer_of printed complaint verdict = record { printed = printed; complaint = co
 abbrev pub Rule : Type 0
 Rule = List ℕ → Option (List ℕ) → Answer
 
--- what is done where a file of this name is answered, with these bytes, or with none where it cannot be read: what may be answered, and what
--- the host shows before and then; and what it may show where memory was wanting
+-- what is done where a file of this name is answered, with these bytes, or with none where it
+-- cannot be read: what may be answered, and what the host shows before and then; and what it may
+-- show where memory was wanting
 pub record Conduct : Type 1 where
   pub does : List ℕ → Option (List ℕ) → HostState → Answer → HostState → Type 0
   pub halts : List ℕ → Option (List ℕ) → HostState → HostState → Type 0

@@ -19,7 +19,8 @@ StopsInList conduct separator bytes fault old new = StopsIn conduct (map listed 
 abbrev pub IsEnded : ℕ → List ℕ → Type 0
 IsEnded separator bytes = (bytes ≡ []) ⊎ ((before : List ℕ) × (bytes ≡ before ++ separator ∷ []))
 
--- how far a list has come with these bytes: the names that are ended are answered, and of the one that is not this is kept
+-- how far a list has come with these bytes: the names that are ended are answered, and of the one
+-- that is not this is kept
 pub record HasCome (conduct : Conduct) (separator : ℕ) (first now : Stand) (held came : List ℕ) : Type 0 where
   pub ended : List ℕ
   pub raw : List ℕ
@@ -39,7 +40,8 @@ pub record AnswersStream (conduct : Conduct) (separator : ℕ) (reader : Option 
   pub all : IfSome reader (λ bytes. list ≡ bytes)
   pub answered : AnswersList conduct separator list old new
 
--- a list cannot be read to its end: all names that were ended before are answered; of bytes past the limit nothing is looked at
+-- a list cannot be read to its end: all names that were ended before are answered; of bytes past
+-- the limit nothing is looked at
 pub record LosesStream (conduct : Conduct) (separator : ℕ) (reader left : Option (List ℕ)) (old new : Stand) : Type 0 where
   pub consumed : List ℕ
   pub lost : Consumes reader left consumed

@@ -7,7 +7,8 @@ use Rattle.std.specs.Str.{is_utf8}
 abbrev pub name_limit : ℕ
 name_limit = 4096
 
--- what is kept of a name in a list: all of it, or the first bytes of one that is too long, one more than a name has
+-- what is kept of a name in a list: all of it, or the first bytes of one that is too long, one more
+-- than a name has
 abbrev pub kept : List ℕ → List ℕ
 kept name = take 4097 name
 
@@ -15,7 +16,8 @@ kept name = take 4097 name
 abbrev pub is_name : List ℕ → Bool
 is_name piece = nat_lt 0 (length piece)
 
--- the names of a list, as far as they are kept: its pieces between separators, but for the empty ones
+-- the names of a list, as far as they are kept: its pieces between separators, but for the empty
+-- ones
 unfoldable pub names_in : ℕ → List ℕ → List (List ℕ)
 names_in separator list = map kept (filter is_name (slice_split (nat_eq separator) list))
 
@@ -28,7 +30,8 @@ pub data Asked : Type 0 where
 abbrev pub is_file_name : List ℕ → Bool
 is_file_name name = is_utf8 name && nat_le (length name) name_limit
 
--- what is shown of a name of a list: all of it, or the first 64 bytes of one that is too long, and two full stops
+-- what is shown of a name of a list: all of it, or the first 64 bytes of one that is too long, and
+-- two full stops
 abbrev pub shortened : List ℕ → List ℕ
 shortened name = if nat_le (length name) name_limit then name else take 64 name ++ codes ".."
 

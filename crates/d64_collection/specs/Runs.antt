@@ -48,7 +48,8 @@ abbrev pub stand_at : {H W F : Type 0} → (H → HostState) → H → (W → Op
 stand_at state host written output complained faults worst =
     stand_of (state host) (told_at written output complained faults worst)
 
--- what a fetch gives a report: the bytes, or none where the file cannot be read; and nothing at all where memory was wanting
+-- what a fetch gives a report: the bytes, or none where the file cannot be read; and nothing at all
+-- where memory was wanting
 abbrev pub given_by : Result (List ℕ) HostFault → Option (Option (List ℕ))
 given_by (Ok bytes) = Some (Some bytes)
 given_by (Err Missing) = Some None
@@ -61,7 +62,8 @@ abbrev pub IsFetched : List ℕ → HostState → Result (List ℕ) HostFault �
 IsFetched name old answer new =
     Fetches old.files name file_limit answer × (new.files ≡ old.files) × CountsDevice old.failures new.failures answer
 
--- what was read for a report: the bytes of a file, or none where it cannot be read; of what is no file the host is asked nothing
+-- what was read for a report: the bytes of a file, or none where it cannot be read; of what is no
+-- file the host is asked nothing
 abbrev pub IsRead : Asked → HostState → Option (List ℕ) → HostState → Type 0
 IsRead (File name) old bytes new = (answer : Result (List ℕ) HostFault) × IsFetched name old answer new × (given_by answer ≡ Some bytes)
 IsRead (NoFile name) old bytes new = (bytes ≡ None) × (new ≡ old)
@@ -71,7 +73,8 @@ abbrev pub shown : Asked → List ℕ
 shown (File name) = name
 shown (NoFile name) = name
 
--- an answer was told: all of it went to the output, which was flushed, and to the standard error, unless that failed; and its verdict counts
+-- an answer was told: all of it went to the output, which was flushed, and to the standard error,
+-- unless that failed; and its verdict counts
 pub record IsTold (answer : Answer) (old new : Told) : Type 0 where
   pub printed : Appends old.output.contents new.output.contents answer.printed
   pub unfailed : new.output.has_failed ≡ old.output.has_failed
@@ -90,7 +93,8 @@ abbrev pub Tells : {A : Type 0} → Answer → Told → Told → Result A WriteF
 Tells answer old new (Ok done) = IsTold answer old new
 Tells answer old new (Err fault) = IsCut answer old new
 
--- how printing what stands before all answers ends: it is printed; or the output failed, and has a first part of it; or there was no memory
+-- how printing what stands before all answers ends: it is printed; or the output failed, and has a
+-- first part of it; or there was no memory
 abbrev pub Begins : {A : Type 0} → List ℕ → Account → Account → Result A RunFault → Type 0
 Begins heading old new (Ok done) = Appends old.contents new.contents heading × (new.has_failed ≡ old.has_failed)
 Begins heading old new (Err faults.Write) = AppendsPart old.contents new.contents heading × (new.has_failed ≡ true)

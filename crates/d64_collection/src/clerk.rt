@@ -6,8 +6,8 @@ use crate::report::{AnswerRoom, Report, Verdict};
 use d64_host::Host;
 use std::alloc::AllocError;
 
-/// Who answers files one after another, and may change the host as it does: it may make files, and look at what is there.
-/// A report is one that leaves the host as it is.
+/// Who answers files one after another, and may change the host as it does: it may make files, and
+/// look at what is there. A report is one that leaves the host as it is.
 pub trait Clerk {
     // What its words asked it to do, which stays as it is.
     ghost Manner: { Type 0 };
@@ -25,8 +25,9 @@ pub trait Clerk {
         ensures same { manner self.new ≡ manner self.old }
         ensures heading { OnOk result (room.new.printed.items ≡ heading self.old) };
 
-    /// Does what is to be done with the file of this name, shown so, with these bytes, or with none where it cannot be read; and puts into the room,
-    /// in the place of what that had, what is told of it. Where memory is wanting, the host may have changed.
+    /// Does what is to be done with the file of this name, shown so, with these bytes, or with none
+    /// where it cannot be read; and puts into the room, in the place of what that had, what is told
+    /// of it. Where memory is wanting, the host may have changed.
     fn answer<H: Host>(
         &mut self,
         name: &[u8],

@@ -170,8 +170,9 @@ impl Desk {
         Ok(())
     }
 
-    /// Answers files of the host, one after another, and returns the worst verdict. `Write` comes where the output fails, and nothing is
-    /// answered after that; a file that cannot be read stops nothing.
+    /// Answers files of the host, one after another, and returns the worst verdict. `Write` comes
+    /// where the output fails, and nothing is answered after that; a file that cannot be read stops
+    /// nothing.
     pub fn answer_files<H: Host, C: Clerk, W: Write, F: Write>(
         &mut self,
         names: &[String],
@@ -196,8 +197,9 @@ impl Desk {
         Ok(())
     }
 
-    /// Writes and delivers what is in the room, and counts the verdict. Where there is no complaint, the standard error is left alone; where that
-    /// fails, the rest of a complaint is dropped.
+    /// Writes and delivers what is in the room, and counts the verdict. Where there is no
+    /// complaint, the standard error is left alone; where that fails, the rest of a complaint is
+    /// dropped.
     pub fn tell<W: Write, F: Write>(
         &mut self,
         verdict: Verdict,

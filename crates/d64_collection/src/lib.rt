@@ -1,4 +1,5 @@
-//! A run over many files: each is read, told of and flushed before the next one, in memory that is kept from file to file.
+//! A run over many files: each is read, told of and flushed before the next one, in memory that is
+//! kept from file to file.
 //!
 //! Nothing here knows what the files hold: a `Report` tells of one.
 #![tactic(auto)]

@@ -16,7 +16,8 @@ use d64_script::output::OutputStream;
 use d64_script::script::{READ_BYTES, SCRIPT_BYTES, SCRIPT_READS};
 use std::io::{Read, Write};
 
-/// A desk, and the name of a list that has not come to its end. Names stand between separators; an empty one is none.
+/// A desk, and the name of a list that has not come to its end. Names stand between separators; an
+/// empty one is none.
 #[derive(Drop)]
 pub struct ListDesk {
     separator: u8,
@@ -45,8 +46,9 @@ impl ListDesk {
         self.desk.worst()
     }
 
-    /// Answers the files that an input names, each once its name is ended. `List` comes where the input cannot be read to its end: a read failed,
-    /// or it has more than 16,777,216 bytes, or takes more than 1,000,000 reads.
+    /// Answers the files that an input names, each once its name is ended. `List` comes where the
+    /// input cannot be read to its end: a read failed, or it has more than 16,777,216 bytes, or
+    /// takes more than 1,000,000 reads.
     pub fn answer_stream<R: Read, H: Host, C: Clerk, W: Write, F: Write>(
         &mut self,
         input: &mut InputStream<'_, R>,

@@ -63,7 +63,8 @@ impl OpenName {
         !self.bytes.is_empty()
     }
 
-    /// The name as a file's, or None where it can be no file's: it is no UTF-8, or has more than 4,096 bytes.
+    /// The name as a file's, or None where it can be no file's: it is no UTF-8, or has more than
+    /// 4,096 bytes.
     pub(crate) fn file_name(&self) -> Option<&str>
         ensures { MatchOption result (is_file_name self.now ≡ false) (λ name. (is_file_name self.now ≡ true) × (name.now ≡ self.now)) }
     {
@@ -76,7 +77,8 @@ impl OpenName {
         }
     }
 
-    /// Keeps what is shown of a name: all of it, or the first 64 bytes of one that is too long, and two full stops.
+    /// Keeps what is shown of a name: all of it, or the first 64 bytes of one that is too long, and
+    /// two full stops.
     pub(crate) fn shorten(&mut self)
         ensures { self.new ≡ shortened self.old }
     {

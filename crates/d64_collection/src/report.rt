@@ -70,7 +70,8 @@ impl AnswerRoom {
     }
 }
 
-/// What a command tells of a file, by its name and its bytes. The answer is the same whatever was answered before.
+/// What a command tells of a file, by its name and its bytes. The answer is the same whatever was
+/// answered before.
 pub trait Report {
     // The rule by which it answers.
     ghost rule: { Self → List ℕ → Option (List ℕ) → Answer };
@@ -83,8 +84,8 @@ pub trait Report {
         ensures same { rule self.new ≡ rule self.old }
         ensures heading { OnOk result (room.new.printed.items ≡ heading self.old) };
 
-    /// Puts into the room, in the place of what that had, what is told of the file of this name, shown so, with these bytes, or with none where
-    /// it cannot be read.
+    /// Puts into the room, in the place of what that had, what is told of the file of this name,
+    /// shown so, with these bytes, or with none where it cannot be read.
     fn answer(
         &mut self,
         name: &[u8],

@@ -1,4 +1,5 @@
--- What is printed of a change for people: lines of the old dump behind `-`, lines of the new one behind `+`.
+-- What is printed of a change for people: lines of the old dump behind `-`, lines of the new one
+-- behind `+`.
 use Rattle.std.specs.Prelude.{ℕ, nat_eq, if◌then◌else◌, Bool, List, [], ◌++◌, length, is_some, codes, decimal}
 use Rattle.std.specs.List.{flat_map}
 use Rattle.std.specs.Cmp.Lexicographic.{pointwise}

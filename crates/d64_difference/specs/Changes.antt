@@ -1,4 +1,5 @@
--- What changed from one dump to another, as a list in order: the disk, then the files, the blocks, and the read codes.
+-- What changed from one dump to another, as a list in order: the disk, then the files, the blocks,
+-- and the read codes.
 use Rattle.std.specs.Prelude.{ℕ, ◌&&◌, ◌||◌, max, min, not, nat_eq, nat_lt, Bool, if◌then◌else◌, List, [], ◌∷◌, ◌++◌, filter, length, Option, Some, None, is_some, codes}
 use Rattle.std.specs.List.{flat_map, range_with_len}
 use Rattle.std.specs.Cmp.Lexicographic.{pointwise}

@@ -25,7 +25,8 @@ printed_change Json change = line_of (change_object change)
 unfoldable pub printed_changes : DiffForm → List Change → List ℕ
 printed_changes form list = flat_map (printed_change form) list
 
--- what is printed of blocks: a line that begins with this heading, or an object of the change of this word
+-- what is printed of blocks: a line that begins with this heading, or an object of the change of
+-- this word
 abbrev pub printed_list : DiffForm → List ℕ → List ℕ → Blocks → List ℕ
 printed_list Text heading word blocks = blocks_line heading blocks
 printed_list Json heading word blocks = line_of (blocks_object word blocks)
@@ -35,7 +36,8 @@ abbrev pub printed_blocks : DiffForm → List ℕ → List ℕ → Blocks → Li
 printed_blocks form heading word [] = []
 printed_blocks form heading word (block ∷ blocks) = printed_list form heading word (block ∷ blocks)
 
--- the changes for people, with these lines: the names stand before them; files that differ where no line tells it differ in good read codes
+-- the changes for people, with these lines: the names stand before them; files that differ where no
+-- line tells it differ in good read codes
 unfoldable pub under_names : Bytes → Bytes → List ℕ → List ℕ
 under_names old_name new_name lines = if length lines == 0 then codes "only good read codes differ\n" else heading old_name new_name ++ lines
 
@@ -44,7 +46,8 @@ abbrev pub printed_difference : DiffForm → Bytes → Bytes → DumpView → Du
 printed_difference Text old_name new_name old new = under_names old_name new_name (printed_changes Text (changes old new))
 printed_difference Json old_name new_name old new = printed_changes Json (changes old new)
 
--- the line on standard error of a file that isn't answered: it cannot be read, or no dump has its length
+-- the line on standard error of a file that isn't answered: it cannot be read, or no dump has its
+-- length
 abbrev pub fault_line : Bytes → Option Bytes → List ℕ
 fault_line name None = unread_line name
 fault_line name (Some bytes) = if is_some (dump_of bytes) then [] else wrong_length_line name bytes
@@ -68,14 +71,16 @@ amiss_with printed = record { printed = printed; complaint = []; verdict = Amiss
 abbrev pub silence : Answer
 silence = record { printed = []; complaint = []; verdict = Clean }
 
--- what is answered of two files by the dumps that their bytes are: nothing where the bytes are equal, and else what changed
+-- what is answered of two files by the dumps that their bytes are: nothing where the bytes are
+-- equal, and else what changed
 abbrev pub difference_by : DiffForm → Bytes → Bytes → Bytes → Bytes → Option DumpView → Option DumpView → Answer
 difference_by form old_name old new_name new (Some old_dump) (Some new_dump) =
     if pointwise nat_eq old new then silence else amiss_with (printed_difference form old_name new_name old_dump new_dump)
 difference_by form old_name old new_name new (Some old_dump) None = unanswered form old_name (Some old) new_name (Some new)
 difference_by form old_name old new_name new None new_dump = unanswered form old_name (Some old) new_name (Some new)
 
--- what `diff` answers of an old file and a new one in a form: of their bytes, or that they cannot be read
+-- what `diff` answers of an old file and a new one in a form: of their bytes, or that they cannot
+-- be read
 abbrev pub difference_rule : DiffForm → Bytes → Option Bytes → Bytes → Option Bytes → Answer
 difference_rule form old_name (Some old) new_name (Some new) = difference_by form old_name old new_name new (dump_of old) (dump_of new)
 difference_rule form old_name (Some old) new_name None = unanswered form old_name (Some old) new_name None

@@ -18,7 +18,8 @@ fn keep_if(blocks: &mut Vec<BlockNo>, block: BlockNo, is_kept: bool) -> Result<(
     Ok(())
 }
 
-/// Lists the blocks of an image whose bytes another one hasn't, ascending, in the place of what the list had.
+/// Lists the blocks of an image whose bytes another one hasn't, ascending, in the place of what the
+/// list had.
 fn list_differences(
     image: &Image,
     other: &Image,

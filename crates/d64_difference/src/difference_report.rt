@@ -77,7 +77,8 @@ impl DifferenceReport {
         }
     }
 
-    /// Says of two files, with these bytes or with none where one cannot be read, why they aren't answered.
+    /// Says of two files, with these bytes or with none where one cannot be read, why they aren't
+    /// answered.
     fn tell_unanswered(
         &mut self,
         old_name: &[u8],

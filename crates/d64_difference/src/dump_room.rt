@@ -24,7 +24,8 @@ impl DumpRoom {
         })
     }
 
-    /// Puts the dump with these bytes in the place of the one that was there, and whether there is such a dump.
+    /// Puts the dump with these bytes in the place of the one that was there, and whether there is
+    /// such a dump.
     pub(crate) fn refill(&mut self, bytes: &[u8]) -> Result<bool, AllocError>
         ensures { IfOk result (λ is_dump. dump_of bytes.now ≡ (if is_dump then Some self.new.dump else None)) }
     {

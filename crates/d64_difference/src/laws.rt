@@ -1,7 +1,8 @@
 //! Laws of differences: each function's contract is a law, and its body is empty.
 ghost use Rattle.d64_difference.specs.Laws.{NoChangeToItself, EqualBytesAreSilent, EachByteOfImagesIsTold};
 
-/// Nothing changes from a dump to itself, and nothing is said of two files with the same bytes of a dump.
+/// Nothing changes from a dump to itself, and nothing is said of two files with the same bytes of a
+/// dump.
 pub fn equal_bytes_are_silent()
     ensures changes { NoChangeToItself }
     ensures silent { EqualBytesAreSilent }

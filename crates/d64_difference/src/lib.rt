@@ -1,4 +1,5 @@
-//! What changed from one dump of a disk to another: in the disk's label, its files, its blocks and their read codes.
+//! What changed from one dump of a disk to another: in the disk's label, its files, its blocks and
+//! their read codes.
 #![tactic(auto)]
 
 mod blocks;

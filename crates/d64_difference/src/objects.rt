@@ -225,7 +225,8 @@ fn put_files(
     put_file(scratch, writer, "new", new)
 }
 
-/// Adds the line of a change of a slot to a text, with the file before and after, where there is one.
+/// Adds the line of a change of a slot to a text, with the file before and after, where there is
+/// one.
 pub(crate) fn slot_json(
     scratch: &mut Vec<u8>,
     slot: usize,

@@ -140,7 +140,8 @@ fn print_changed(
     }
 }
 
-/// Appends the change of a file in a slot that is used in both dumps, where something else is told of it.
+/// Appends the change of a file in a slot that is used in both dumps, where something else is told
+/// of it.
 #[tactic(auto, unfolding(crate::specs::Differences::printed_changes))]
 fn print_file(
     form: DiffForm,
@@ -198,7 +199,8 @@ fn print_slots(
     Ok(text)
 }
 
-/// Appends what is printed of blocks: a line that begins with this heading, or an object of the change of this word.
+/// Appends what is printed of blocks: a line that begins with this heading, or an object of the
+/// change of this word.
 fn print_block_list(
     form: DiffForm,
     heading: &[u8],

@@ -1,4 +1,5 @@
--- The rows of the slots along a walk, the name of the slot of a number, and what a listing has beside its rows.
+-- The rows of the slots along a walk, the name of the slot of a number, and what a listing has
+-- beside its rows.
 use Rattle.std.proofs.Common.{◌≡◌, ℕ, suc, ◌+◌, ◌≤◌, Bool, true, false, cond, List, [], ◌∷◌, length, take, drop, get_or, Option, Some, refl, sym, ap, ◌∙◌, arith}
 use Rattle.std.specs.Prelude.{map, filter, find, slice_get, slice_range, option_map}
 use Rattle.std.specs.Option.{option_map_or}

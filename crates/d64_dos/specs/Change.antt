@@ -1,4 +1,5 @@
--- Commands as definitions see them: names and bytes are lists, so that a definition can say a command that no code has made.
+-- Commands as definitions see them: names and bytes are lists, so that a definition can say a
+-- command that no code has made.
 use Rattle.std.specs.Prelude.{ℕ, List}
 use Rattle.d64_image.specs.Disk.{Bytes}
 use Rattle.d64_files.specs.declared.kind.Kind.{Kind}

@@ -23,14 +23,16 @@ pub data Start : Type 0 where
   AnyDisk : Start
   SoundDisk : Start
 
--- what a file command promises of a disk: from which disks on, and, of what the disk shows, what is answered and what it shows then
+-- what a file command promises of a disk: from which disks on, and, of what the disk shows, what is
+-- answered and what it shows then
 pub record Promise : Type 0 where
   pub start : Start
   pub reply : View → Reply
   pub shows : View → View
 
--- a command: of an image, the first refusal that applies, the image that it leaves, in which every byte that the command does not name is
--- as before, and the reply; and the block that a command names by itself, where it names one
+-- a command: of an image, the first refusal that applies, the image that it leaves, in which every
+-- byte that the command does not name is as before, and the reply; and the block that a command
+-- names by itself, where it names one
 pub record Row : Type 0 where
   pub refusal : Disk → Option Refusal
   pub effect : Disk → Disk
@@ -90,7 +92,8 @@ promise_of (Rename old new) = Some (record { start = SoundDisk; reply = λ shown
 promise_of Validate = Some (record { start = AnyDisk; reply = λ old. Done; shows = validated_view })
 promise_of (BlockWrite at block) = None
 
--- the first refusal of a command that applies to the image, and none where the command is to be accepted
+-- the first refusal of a command that applies to the image, and none where the command is to be
+-- accepted
 abbrev pub refusal_of : Disk → Change → Option Refusal
 refusal_of image change = (row change).refusal image
 

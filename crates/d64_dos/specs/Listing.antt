@@ -21,7 +21,8 @@ pub record RowView : Type 0 where
   pub kind : Kind
   pub locked : Bool
 
--- a directory: the disk's name up to its first shifted space, its id, its DOS version, a row for each used slot, and the number of free blocks that it shows
+-- a directory: the disk's name up to its first shifted space, its id, its DOS version, a row for
+-- each used slot, and the number of free blocks that it shows
 pub record ListingView : Type 0 where
   pub name : Bytes
   pub id : Bytes
@@ -61,7 +62,8 @@ shown_listing listing = record {
   free = listing.free;
 }
 
--- a formatted disk lists its name, its id, the DOS version `2A`, no file, and all blocks outside track 18 free
+-- a formatted disk lists its name, its id, the DOS version `2A`, no file, and all blocks outside
+-- track 18 free
 abbrev pub FormattedDiskLists : Type 0
 FormattedDiskLists =
     (count : ℕ) (name id : Bytes) → IsSize count → IsName name → AreTwoBytes id

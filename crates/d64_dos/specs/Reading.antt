@@ -19,7 +19,8 @@ abbrev pub found_refusal : Disk → Option ℕ → Option Refusal
 found_refusal image None = Some NotFound
 found_refusal image (Some slot) = option_map of_read_fault (slot_refusal image (slice_get (slots image) slot))
 
--- why a file can't be read by a pattern: what is wrong with the directory, or else with the first used slot whose name the pattern matches
+-- why a file can't be read by a pattern: what is wrong with the directory, or else with the first
+-- used slot whose name the pattern matches
 unfoldable pub read_refusal : Disk → Bytes → Option Refusal
 read_refusal image pattern = option_or (directory_refusal image) (found_refusal image (first_named pattern (slots image)))
 
@@ -27,7 +28,8 @@ read_refusal image pattern = option_or (directory_refusal image) (found_refusal 
 abbrev pub name_at : Disk → ℕ → Bytes
 name_at image slot = option_map_or name_of (slice_get (slots image) slot) []
 
--- a file that was read: the name and the content of the first used slot whose name the pattern matches
+-- a file that was read: the name and the content of the first used slot whose name the pattern
+-- matches
 pub record IsReadBack (image : Disk) (pattern name bytes : Bytes) : Type 0 where
   pub slot : ℕ
   pub found : first_named pattern (slots image) ≡ Some slot

@@ -10,7 +10,8 @@ abbrev pub cause_of : Refusal → Option Refusal
 cause_of Memory = None
 cause_of refusal = Some refusal
 
--- the refusal that was answered with a cause in the image: none where the request was accepted or memory was wanting
+-- the refusal that was answered with a cause in the image: none where the request was accepted or
+-- memory was wanting
 abbrev pub refused_by : {T : Type 0} → Result T Refusal → Option Refusal
 refused_by (Ok value) = None
 refused_by (Err refusal) = cause_of refusal

@@ -15,7 +15,8 @@ use Rattle.d64_dos.specs.declared.write.Space.{Space}
 abbrev pub StandsIn : Disk → ℕ → ℕ → ℕ → Type 0
 StandsIn image block index slot = (block ≡ slot_block image slot) × (index ≡ slot % 8)
 
--- the place of a new entry: the first unused slot, or where there is none the first slot of the block that the directory takes after its last one
+-- the place of a new entry: the first unused slot, or where there is none the first slot of the
+-- block that the directory takes after its last one
 abbrev pub IsPlace : Disk → BlockSet → Place → Type 0
 IsPlace image free (Vacant block index) = MatchOption (first_unused (slots image)) ⊥ (StandsIn image block index)
 IsPlace image free (New last block) =

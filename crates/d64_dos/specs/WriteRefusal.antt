@@ -25,7 +25,8 @@ has_room image bytes =
     nat_le (blocks_for bytes) (room (free_blocks image))
     && (is_some (first_unused (slots image)) || is_some (next_of_directory (free_blocks image) (dir_last image)))
 
--- the first refusal of a write that applies: the kind, then the first condition of a sound image that fails, then the name, then the room
+-- the first refusal of a write that applies: the kind, then the first condition of a sound image
+-- that fails, then the name, then the room
 unfoldable pub write_refusal : Disk → Bytes → Kind → ℕ → Option Refusal
 write_refusal image name kind bytes =
     if not (is_writable kind)

@@ -19,32 +19,34 @@ use d64_image::{BLOCK_BYTES, BlockNo, Image, Patch, known_bytes};
 /// A change of an image.
 #[derive(Debug, Drop)]
 pub enum Command {
-    /// Makes the disk an empty one with this name and id (1541 User's Guide, "New"). Nothing of the image before stays.
+    /// Makes the disk an empty one with this name and id (1541 User's Guide, "New"). Nothing of the
+    /// image before stays.
     Format {
         name: Name,
         id: [u8; 2],
     },
-    /// Writes a file of these bytes and closes it: into free blocks outside track 18, and with an entry in the first empty slot,
-    /// for which the directory takes one more block of track 18 where there is none. No other file changes.
+    /// Writes a file of these bytes and closes it: into free blocks outside track 18, and with an
+    /// entry in the first empty slot, for which the directory takes one more block of track 18
+    /// where there is none. No other file changes.
     Write {
         name: Name,
         kind: Kind,
         bytes: Vec<u8>,
     },
-    /// Deletes each file that is closed and not locked and whose name one of the patterns matches or more (1541 User's
-    /// Guide, "Scratch"): its slot is unused then, and the blocks of its chain and of its side chain are free. Where there
-    /// is no such file, nothing is written.
+    /// Deletes each file that is closed and not locked and whose name one of the patterns matches
+    /// or more (1541 User's Guide, "Scratch"): its slot is unused then, and the blocks of its chain
+    /// and of its side chain are free. Where there is no such file, nothing is written.
     Delete {
         patterns: Vec<Pattern>,
     },
-    /// Gives the first used slot of one name another (1541 User's Guide, "Rename"). Every other byte of its entry stays, and
-    /// the file may be locked or unclosed.
+    /// Gives the first used slot of one name another (1541 User's Guide, "Rename"). Every other
+    /// byte of its entry stays, and the file may be locked or unclosed.
     Rename {
         old: Name,
         new: Name,
     },
-    /// Drops the files that were never closed, and writes the map anew: free is what no file, directory or map owns (1541
-    /// User's Guide, "Validate").
+    /// Drops the files that were never closed, and writes the map anew: free is what no file,
+    /// directory or map owns (1541 User's Guide, "Validate").
     Validate,
     /// Replaces the 256 bytes of one block.
     BlockWrite {
@@ -61,22 +63,27 @@ pub enum Reply {
     Scratched(usize),
 }
 
-/// Changes the image as a command asks, and answers it. The patch, empty before, keeps each block that the command
-/// changed, once and ascending, with its bytes from before. The image has the block that a block write names.
+/// Changes the image as a command asks, and answers it. The patch, empty before, keeps each block
+/// that the command changed, once and ascending, with its bytes from before. The image has the
+/// block that a block write names.
 ///
-/// The first refusal that applies is answered, and want of memory only where none does; then the image is as it was,
-/// and the patch is empty. Neither a format nor a block write has a refusal of its own. The others have these, in order:
+/// The first refusal that applies is answered, and want of memory only where none does; then the
+/// image is as it was, and the patch is empty. Neither a format nor a block write has a refusal of
+/// its own. The others have these, in order:
 ///
-/// - A write `WrongType`, where the kind is DEL or REL; `Directory` with the first condition of a sound image that fails;
-///   `Exists`, where a used slot has exactly the name; `DiskFull`, where fewer blocks outside track 18 are free than the
-///   file takes, or no slot is empty and no block of track 18 is free.
+/// - A write `WrongType`, where the kind is DEL or REL; `Directory` with the first condition of a
+///   sound image that fails; `Exists`, where a used slot has exactly the name; `DiskFull`, where
+///   fewer blocks outside track 18 are free than the file takes, or no slot is empty and no block
+///   of track 18 is free.
 /// - A deletion `Directory`, as a write.
-/// - A renaming `Directory`, as a write; `NotFound`, where no used slot has the old name; `Exists`, where one has the new
-///   name, be it the same.
-/// - A validation `Directory` with the first condition that fails of those on the directory, the files and their chains.
+/// - A renaming `Directory`, as a write; `NotFound`, where no used slot has the old name; `Exists`,
+///   where one has the new name, be it the same.
+/// - A validation `Directory` with the first condition that fails of those on the directory, the
+///   files and their chains.
 ///
-/// The image keeps its number of tracks. An accepted file command leaves a sound disk, which shows the command's change and nothing else: a format always, a
-/// validation too, the others where the disk was sound.
+/// The image keeps its number of tracks. An accepted file command leaves a sound disk, which shows
+/// the command's change and nothing else: a format always, a validation too, the others where the
+/// disk was sound.
 pub fn apply(image: &mut Image, patch: &mut Patch, command: &Command) -> Result<Reply, Refusal>
     requires patch { patch.old ≡ [] }
     requires block { IsWithin image.old (said command.now) }
@@ -127,8 +134,8 @@ fn known_command(command: &Command)
     }
 }
 
-/// Changes the image as a command asks, byte for byte. After a refusal in the middle some blocks may be written; the image
-/// with the patch put back is the one from before in any case.
+/// Changes the image as a command asks, byte for byte. After a refusal in the middle some blocks
+/// may be written; the image with the patch put back is the one from before in any case.
 fn carried_out(image: &mut Image, patch: &mut Patch, command: &Command) -> Result<Reply, Refusal>
     requires { IsWithin image.old (said command.now) }
     ensures refused { refused_by result ≡ refusal_of image.old (said command.now) }

@@ -38,7 +38,8 @@ fn is_named_by(patterns: &[Pattern], name: &[u8]) -> bool
     patterns.iter().any(|pattern| matches(pattern, name))
 }
 
-/// Whether patterns scratch the file of an entry: it is closed and not locked, and one of them matches its name or more.
+/// Whether patterns scratch the file of an entry: it is closed and not locked, and one of them
+/// matches its name or more.
 fn is_scratched(patterns: &[Pattern], entry: &Entry) -> bool
     ensures { result ≡ is_scratched_slot patterns.now entry.now.bytes }
 {
@@ -84,7 +85,8 @@ fn find_scratched(directory: &Directory, patterns: &[Pattern]) -> Scratched
 
 /// Makes the slots of these places unused ones.
 ///
-/// Refused where there is no memory to keep the bytes of a block. The caller knows that the directory has these slots.
+/// Refused where there is no memory to keep the bytes of a block. The caller knows that the
+/// directory has these slots.
 pub(crate) fn clear_slots(
     image: &mut Image,
     patch: &mut Patch,
@@ -103,14 +105,14 @@ pub(crate) fn clear_slots(
     Ok(())
 }
 
-/// Deletes the files that are closed and not locked and whose names one of the patterns matches or more, and answers how
-/// many: their slots become unused, and the blocks of their chains and side chains free. Where there is none, nothing is
-/// written. It takes memory for nothing but the patch.
+/// Deletes the files that are closed and not locked and whose names one of the patterns matches or
+/// more, and answers how many: their slots become unused, and the blocks of their chains and side
+/// chains free. Where there is none, nothing is written. It takes memory for nothing but the patch.
 ///
-/// Refused with `Directory` and the first condition of a sound image that fails, and else with `Memory` where there is no
-/// memory to keep the bytes of a block. After a refusal some blocks may be written; the image with the patch put back
-/// stays the same in any case.
-/// Apart, so that the room for the places of all slots is no part of the frames of its callers.
+/// Refused with `Directory` and the first condition of a sound image that fails, and else with
+/// `Memory` where there is no memory to keep the bytes of a block. After a refusal some blocks may
+/// be written; the image with the patch put back stays the same in any case. Apart, so that the
+/// room for the places of all slots is no part of the frames of its callers.
 #[inline(never)]
 pub(crate) fn scratch(
     image: &mut Image,

@@ -26,10 +26,12 @@ fn header_of(image: &Image) -> &[u8; BLOCK_BYTES]
     image.sector(map_block())
 }
 
-/// What the directory of an image lists. Neither the map's counts nor the files' chains need be as they should.
+/// What the directory of an image lists. Neither the map's counts nor the files' chains need be as
+/// they should.
 ///
-/// Refused with `Directory` where there is no chain of blocks from track 18, sector 1 (`NoDirectory`), or else the low
-/// four bits of a slot's type byte are above 4 (`UnknownKind`); then with `Memory`.
+/// Refused with `Directory` where there is no chain of blocks from track 18, sector 1
+/// (`NoDirectory`), or else the low four bits of a slot's type byte are above 4 (`UnknownKind`);
+/// then with `Memory`.
 pub fn listing(alloc: Global, image: &Image) -> Result<Listing, Refusal>
     ensures refused { refused_by result ≡ directory_refusal image.now }
     ensures listing { IfOk result (λ listing. shown_listing listing ≡ listing_of image.now) }

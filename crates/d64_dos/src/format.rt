@@ -11,7 +11,8 @@ use d64_image::{BLOCK_BYTES, BlockNo, BlockSet, Image, Patch};
 use d64_map::{DIRECTORY_TRACK, map_block, put_map};
 use std::alloc::AllocError;
 
-/// What begins the map's block: the link to the directory's first block, and the mark of the 1541's format.
+/// What begins the map's block: the link to the directory's first block, and the mark of the 1541's
+/// format.
 const LINK_AND_FORMAT: [u8; 4] = [DIRECTORY_TRACK, DIRECTORY_SECTOR, 0x41, 0x00];
 
 /// The DOS version and the format, as a directory shows them: `2A`.
@@ -49,7 +50,8 @@ fn header(name: &Name, id: &[u8; 2]) -> [u8; BLOCK_BYTES]
     header
 }
 
-/// The free blocks of the disk when it is formatted, as many tracks as it has: all but those of the map and of the directory.
+/// The free blocks of the disk when it is formatted, as many tracks as it has: all but those of the
+/// map and of the directory.
 fn free_when_formatted(image: &Image) -> BlockSet
     ensures { result ≡ free_when_formatted (length image.now) }
 {
@@ -65,7 +67,8 @@ fn free_when_formatted(image: &Image) -> BlockSet
     free
 }
 
-/// Writes zeros into a block of the image, where it has other bytes: what a patch need not keep takes no memory.
+/// Writes zeros into a block of the image, where it has other bytes: what a patch need not keep
+/// takes no memory.
 fn blank_block(image: &mut Image, patch: &mut Patch, block: BlockNo) -> Result<(), AllocError>
     requires { block < length image.old }
     ensures blank { OnOk result (image.new ≡ with_sector image.old block (replicate BLOCK_BYTES 0)) }
@@ -94,8 +97,9 @@ fn blank(image: &mut Image, patch: &mut Patch) -> Result<(), AllocError>
     Ok(())
 }
 
-/// Makes the disk an empty one with that name and id. Refused where there is no memory to keep what stood there: then some
-/// blocks may be written, and the image with the patch put back is still the one from before.
+/// Makes the disk an empty one with that name and id. Refused where there is no memory to keep what
+/// stood there: then some blocks may be written, and the image with the patch put back is still the
+/// one from before.
 pub(crate) fn format(
     image: &mut Image,
     patch: &mut Patch,

@@ -9,7 +9,8 @@ pub fn file_commands_keep_disks_sound()
     ensures { FileCommandsKeepDisksSound }
 {}
 
-/// A formatted disk lists its name, its id, the DOS version `2A`, no file, and 664 free blocks on 35 tracks or 749 on 40.
+/// A formatted disk lists its name, its id, the DOS version `2A`, no file, and 664 free blocks on
+/// 35 tracks or 749 on 40.
 pub fn formatted_disk_lists()
     ensures { FormattedDiskLists }
 {}

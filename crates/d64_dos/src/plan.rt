@@ -10,8 +10,8 @@ use arrayvec::ArrayVec;
 use d64_image::{BLOCKS, BlockNo, BlockSet};
 use d64_map::{pick_first, pick_next};
 
-/// The free block that a file takes after the one that it took last, or as its first one. None where no block outside
-/// track 18 is free.
+/// The free block that a file takes after the one that it took last, or as its first one. None
+/// where no block outside track 18 is free.
 fn pick_after(free: &BlockSet, last: Option<BlockNo>) -> Option<BlockNo>
     ensures { result ≡ find (set.contains free.now) (order_after last) }
 {
@@ -21,8 +21,8 @@ fn pick_after(free: &BlockSet, last: Option<BlockNo>) -> Option<BlockNo>
     }
 }
 
-/// Takes the blocks of a file of so many blocks from the free ones, in the file's order. None where too few blocks outside
-/// track 18 are free: then some of them may be taken.
+/// Takes the blocks of a file of so many blocks from the free ones, in the file's order. None where
+/// too few blocks outside track 18 are free: then some of them may be taken.
 pub(crate) fn take_plan(free: &mut BlockSet, count: usize) -> Option<ArrayVec<BlockNo, BLOCKS>>
     requires { count ≤ BLOCKS }
     ensures plan { option_map (λ blocks. blocks.items) result ≡ plan free.old count }

@@ -17,13 +17,15 @@ pub struct ReadBack {
     pub bytes: Vec<u8>,
 }
 
-/// Reads the first used slot, in the order of the directory, whose name the pattern matches: its name, and the content
-/// of its file (1541 User's Guide). A REL file is read without its side blocks.
+/// Reads the first used slot, in the order of the directory, whose name the pattern matches: its
+/// name, and the content of its file (1541 User's Guide). A REL file is read without its side
+/// blocks.
 ///
-/// Refused, in this order: with `Directory` where there is no chain of blocks from track 18, sector 1 (`NoDirectory`),
-/// or the low four bits of a slot's type byte are above 4 (`UnknownKind`); with `NotFound`; with `NotClosed`; with
-/// `WrongType` for a DEL entry; with `Directory` where there is no chain from the file's first block (`NoChain`); with
-/// `Memory` where the name or the content has no room.
+/// Refused, in this order: with `Directory` where there is no chain of blocks from track 18, sector
+/// 1 (`NoDirectory`), or the low four bits of a slot's type byte are above 4 (`UnknownKind`); with
+/// `NotFound`; with `NotClosed`; with `WrongType` for a DEL entry; with `Directory` where there is
+/// no chain from the file's first block (`NoChain`); with `Memory` where the name or the content
+/// has no room.
 pub fn read(alloc: Global, image: &Image, pattern: &Pattern) -> Result<ReadBack, Refusal>
     ensures refused { refused_by result ≡ read_refusal image.now pattern.now }
     ensures back { IfOk result (λ back. IsReadBack image.now pattern.now back.name.items back.bytes.items) }

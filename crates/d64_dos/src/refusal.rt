@@ -3,7 +3,8 @@ use d64_files::{DirFault, ReadFault};
 use std::alloc::AllocError;
 use thiserror::Error;
 
-/// Why a command or a request is refused. The numbers of the 1541 User's Guide stand in the shell's status lines.
+/// Why a command or a request is refused. The numbers of the 1541 User's Guide stand in the shell's
+/// status lines.
 #[derive(Clone, Copy, Debug, PartialEq, Eq, Error)]
 pub enum Refusal {
     /// The file was never closed, so its end isn't known.
@@ -21,7 +22,8 @@ pub enum Refusal {
     /// The disk fails this condition of a sound disk.
     #[error("{0}")]
     Directory(DirFault),
-    /// Too few blocks outside track 18 are free, or there is no slot for the entry and no block of track 18 for one more.
+    /// Too few blocks outside track 18 are free, or there is no slot for the entry and no block of
+    /// track 18 for one more.
     #[error("there is no room on the disk or in its directory")]
     DiskFull,
     #[error("out of memory")]

@@ -40,12 +40,13 @@ fn slot_to_rename(image: &Image, old: &Name, new: &Name) -> Result<SlotNo, Refus
     Ok(first)
 }
 
-/// Gives the first used slot of one name another. Every other byte of its entry stays, and the file may be locked or
-/// unclosed. It takes memory for nothing but the patch.
+/// Gives the first used slot of one name another. Every other byte of its entry stays, and the file
+/// may be locked or unclosed. It takes memory for nothing but the patch.
 ///
-/// The first refusal that applies is answered: `Directory` with the first condition of a sound image that fails,
-/// `NotFound` where no used slot has the old name, and `Exists` where one has the new name, be it the same. `Memory`
-/// comes only where none does. The image with the patch put back stays the same in any case.
+/// The first refusal that applies is answered: `Directory` with the first condition of a sound
+/// image that fails, `NotFound` where no used slot has the old name, and `Exists` where one has the
+/// new name, be it the same. `Memory` comes only where none does. The image with the patch put back
+/// stays the same in any case.
 pub(crate) fn rename(
     image: &mut Image,
     patch: &mut Patch,

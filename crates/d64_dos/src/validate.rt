@@ -46,13 +46,13 @@ fn all_but(image: &Image, owned: &BlockSet) -> BlockSet
     others
 }
 
-/// Drops the files that were never closed, and writes the map anew: free is exactly what neither the map, nor the
-/// directory, nor a file owns. It takes memory for nothing but the patch.
+/// Drops the files that were never closed, and writes the map anew: free is exactly what neither
+/// the map, nor the directory, nor a file owns. It takes memory for nothing but the patch.
 ///
-/// Refused with `Directory` and the first condition that fails of those on the directory, the files and their chains,
-/// whatever the map says, and else with `Memory` where there is no memory to keep the bytes of a block. After a refusal
-/// some blocks may be written; the image with the patch put back stays the same in any case.
-/// Apart, as `scratch` is.
+/// Refused with `Directory` and the first condition that fails of those on the directory, the files
+/// and their chains, whatever the map says, and else with `Memory` where there is no memory to keep
+/// the bytes of a block. After a refusal some blocks may be written; the image with the patch put
+/// back stays the same in any case. Apart, as `scratch` is.
 #[inline(never)]
 pub(crate) fn validate(image: &mut Image, patch: &mut Patch) -> Result<(), Refusal>
     ensures refused { refused_by result ≡ validate_refusal image.old }

@@ -49,7 +49,8 @@ fn is_writable(kind: Kind) -> bool
     }
 }
 
-/// The place of one more entry, where the directory can take one of the free blocks. None where there is no such place.
+/// The place of one more entry, where the directory can take one of the free blocks. None where
+/// there is no such place.
 fn find_place(directory: &Directory, free: &BlockSet) -> Option<Place>
     ensures { MatchOption result (NoPlace directory.now free.now) (IsPlace directory.now free.now) }
 {
@@ -156,11 +157,12 @@ fn put_file(
 
 /// Writes a file.
 ///
-/// The first refusal that applies is answered, and then nothing is written: `WrongType` for a DEL or a REL file,
-/// `Directory` with the first condition of a sound image that fails, `Exists` where a used slot has the name, and
-/// `DiskFull` where too few blocks outside track 18 are free, or where no slot is empty and no block of track 18 is free.
-/// `Memory` comes only where none does: then some blocks may be written, and the image with the patch put back is still
-/// the one from before.
+/// The first refusal that applies is answered, and then nothing is written: `WrongType` for a DEL
+/// or a REL file, `Directory` with the first condition of a sound image that fails, `Exists` where
+/// a used slot has the name, and `DiskFull` where too few blocks outside track 18 are free, or
+/// where no slot is empty and no block of track 18 is free. `Memory` comes only where none does:
+/// then some blocks may be written, and the image with the patch put back is still the one from
+/// before.
 pub(crate) fn write(
     image: &mut Image,
     patch: &mut Patch,

@@ -1,4 +1,5 @@
--- slots that become unused: what they own, lack and show afterwards, and which blocks they give back
+-- slots that become unused: what they own, lack and show afterwards, and which blocks they give
+-- back
 use Rattle.std.proofs.Common.{◌≡◌, ℕ, zero, suc, ◌+◌, ◌<◌, ◌≤◌, ◌&&◌, ◌||◌, ◌==◌, Bool, true, false, not, cond, nat_eq, List, [], ◌∷◌, ◌++◌, length, map, get_or, Option, Some, None, refl, sym, ap, ap₂, ◌∙◌, inl, inr, arith, append_assoc}
 use Rattle.std.specs.Prelude.{All, filter, slice_get}
 use Rattle.std.specs.List.{list_any, flat_map, enumerate_from}

@@ -90,7 +90,8 @@ other_cell bytes entry i j long full ismall jsmall apart =
       | inr above ↦ get_or-written_past bytes entry (32 * i + 2) (32 * j + k) (omega arith) (let more : i < j = omega arith in omega arith)
     ])
 
--- the slot that is written keeps its first two bytes, the link in a block's first slot, and then holds the entry
+-- the slot that is written keeps its first two bytes, the link in a block's first slot, and then
+-- holds the entry
 same_cell : (bytes entry : List ℕ) (i : ℕ) → length bytes ≡ BLOCK_BYTES → length entry ≡ 30 → i < 8
     → cell (written_at bytes (32 * i + 2) entry) i ≡ take 2 (cell bytes i) ++ entry
 same_cell bytes entry i long full small =

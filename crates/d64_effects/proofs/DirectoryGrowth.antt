@@ -315,7 +315,8 @@ slots-grown_all image new entry is some inside fresh full =
     (flat_map-cons (λ (b : ℕ). cells (sector_at after b)) new [] ∙ append-nil (cells (sector_at after new))
     ∙ ap cells (sector_at-grown_new image new entry inside full) ∙ cells-first_entry entry full)
 
--- beyond the link, the slots are as before, and then those of the new block: the entry and seven empty ones
+-- beyond the link, the slots are as before, and then those of the new block: the entry and seven
+-- empty ones
 pub slots-grown : (image : List (List ℕ)) (new : ℕ) (entry : List ℕ) → IsImage image → directory image ≢ [] → new < length image
     → list_any (eqb new) (directory image) ≡ false → length entry ≡ 30
     → map (drop 2) (slots (grown_with image new entry)) ≡ map (drop 2) (slots image) ++ (entry ∷ replicate 7 (replicate 30 0))

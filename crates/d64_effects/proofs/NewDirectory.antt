@@ -23,7 +23,8 @@ use Rattle.d64_effects.proofs.Occurrences.{occurs, occurs-append, occurs-present
 use Rattle.d64_effects.proofs.Rows.{with_row}
 use Rattle.d64_effects.proofs.TakenBlocks.{growth_by, grown_free, free_is_block, free_not_owned, occurs-owned}
 
--- an image with one more entry: in a slot that is there, or in the first slot of one more block of the directory
+-- an image with one more entry: in a slot that is there, or in the first slot of one more block of
+-- the directory
 pub record NewEntry (image other : List (List ℕ)) (place : Option ℕ) (grown entry : List ℕ) : Type 0 where
   pub is_image : IsImage other
   pub long : length other ≡ length image

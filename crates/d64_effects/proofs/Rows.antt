@@ -9,7 +9,8 @@ use Rattle.std.proofs.lemmas.List.Folds.{flat_map-map}
 use Rattle.std.proofs.lemmas.Iterator.Adapters.{position_from-zero}
 use Rattle.d64_effects.proofs.Occurrences.{occurs, occurs-append, occurs-set, joined}
 
--- rows with a new one in the place of another, or as the first of eight more, of which the others are blank
+-- rows with a new one in the place of another, or as the first of eight more, of which the others
+-- are blank
 abbrev pub with_row : {A : Type 0} → List A → Option ℕ → A → A → List A
 with_row rows (Some place) new blank = set rows place new
 with_row rows None new blank = rows ++ (new ∷ replicate 7 blank)

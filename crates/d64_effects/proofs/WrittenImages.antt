@@ -48,7 +48,8 @@ pub record LeftByWriting (image other : List (List ℕ)) (place : Option ℕ) (t
   pub name : disk_field other ≡ disk_field image
   pub id : disk_id other ≡ disk_id image
 
--- the blocks of the directory, its new one and those of the file: none is the map's, and the file's are none of the directory
+-- the blocks of the directory, its new one and those of the file: none is the map's, and the file's
+-- are none of the directory
 pub record Apart (image : List (List ℕ)) (taken grown : List ℕ) : Type 0 where
   pub map_not_taken : occurs map_block taken ≡ 0
   pub map_not_listed : occurs map_block (directory image ++ grown) ≡ 0

@@ -1,11 +1,13 @@
--- What commands make of the directory's list of names and contents: what a case does not name stays as it was, in its order.
+-- What commands make of the directory's list of names and contents: what a case does not name stays
+-- as it was, in its order.
 use Rattle.std.specs.Prelude.{ℕ, true, false, if◌then◌else◌, List, [], ◌∷◌, ◌++◌, take, drop, bytes_eq, Bool, Option, Some, None}
 use Rattle.d64_image.specs.Disk.{Bytes}
 use Rattle.d64_effects.specs.Contents.{ListedFile}
 use Rattle.d64_effects.specs.Delete.{is_scratched}
 use Rattle.d64_files.specs.declared.kind.Kind.{Kind}
 
--- a list with a new file: at the place of the first empty slot, before which all are used, or else at its end
+-- a list with a new file: at the place of the first empty slot, before which all are used, or else
+-- at its end
 abbrev pub list_with : List ListedFile → Option ℕ → ListedFile → List ListedFile
 list_with rows (Some place) row = take place rows ++ (row ∷ drop place rows)
 list_with rows None row = rows ++ (row ∷ [])

@@ -1,4 +1,5 @@
--- What the commands make of the directory's list of names and contents: on disks, and on views, whose steps are these steps on that list.
+-- What the commands make of the directory's list of names and contents: on disks, and on views,
+-- whose steps are these steps on that list.
 use Rattle.std.specs.Prelude.{◌≡◌, ℕ, not, List, [], length, filter}
 use Rattle.d64_image.specs.Disk.{Disk, Bytes}
 use Rattle.d64_image.specs.Image.{IsSize, IsImage}
@@ -55,7 +56,8 @@ abbrev pub FormattedDiskLists : Type 0
 FormattedDiskLists =
     (count : ℕ) (name id : Bytes) → IsSize count → IsName name → AreTwoBytes id → files_of (formatted count name id) ≡ []
 
--- a sound disk with a new file lists that file, of as many blocks as its bytes need, beside the others
+-- a sound disk with a new file lists that file, of as many blocks as its bytes need, beside the
+-- others
 abbrev pub WrittenDiskLists : Type 0
 WrittenDiskLists =
     (image : Disk) (name : Bytes) (kind : Kind) (bytes : Bytes)

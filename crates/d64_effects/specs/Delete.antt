@@ -8,7 +8,8 @@ use Rattle.d64_files.specs.Pattern.{matches}
 use Rattle.d64_files.specs.Slot.{is_used, is_closed, is_locked, name_of}
 use Rattle.d64_effects.specs.Clear.{slots_where, with_cleared, with_freed}
 
--- whether patterns scratch a file with these flags and this name: one that is closed and not locked, and that one pattern or more matches
+-- whether patterns scratch a file with these flags and this name: one that is closed and not
+-- locked, and that one pattern or more matches
 abbrev pub is_scratched : List Bytes → Bool → Bool → Bytes → Bool
 is_scratched patterns closed locked name = closed && (not locked && list_any (λ pattern. matches pattern name) patterns)
 
@@ -24,7 +25,8 @@ scratched_slots image patterns = slots_where (is_scratched_slot patterns) (slots
 abbrev pub scratched_count : Disk → List Bytes → ℕ
 scratched_count image patterns = length (scratched_slots image patterns)
 
--- the image without the files of these slots, whose blocks are free; where there are none, nothing is written
+-- the image without the files of these slots, whose blocks are free; where there are none, nothing
+-- is written
 abbrev pub without_files : Disk → List ℕ → Disk
 without_files image [] = image
 without_files image (slot ∷ others) =

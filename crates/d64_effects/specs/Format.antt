@@ -13,8 +13,8 @@ use Rattle.d64_files.specs.Writing.{empty_directory}
 abbrev pub directory_start : ℕ
 directory_start = 358
 
--- the map's block before the map is written, part after part: the directory's first track and sector, the format `A`, no
--- map yet, the name, the id, the DOS version `2A`, and nothing more
+-- the map's block before the map is written, part after part: the directory's first track and
+-- sector, the format `A`, no map yet, the name, the id, the DOS version `2A`, and nothing more
 unfoldable pub header : Bytes → Bytes → Bytes
 header name id =
     (0x12 ∷ 0x01 ∷ [])
@@ -36,7 +36,8 @@ free_when_formatted count = set.remove (set.remove (all_of count) map_block) dir
 unfoldable pub blank : ℕ → Disk
 blank count = replicate count (replicate BLOCK_BYTES 0)
 
--- the blank image of so many blocks with the map's block and the directory's first one, and the map of the free blocks
+-- the blank image of so many blocks with the map's block and the directory's first one, and the map
+-- of the free blocks
 unfoldable pub formatted : ℕ → Bytes → Bytes → Disk
 formatted count name id =
     with_map (with_sector (with_sector (blank count) map_block (header name id)) directory_start empty_directory) (free_when_formatted count)

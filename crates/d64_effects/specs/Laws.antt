@@ -28,7 +28,8 @@ AreTwoBytes id = (length id ≡ 2) × All (λ byte. byte < 256) id
 abbrev pub FormattedIsImage : Type 0
 FormattedIsImage = (count : ℕ) (name id : Bytes) → IsSize count → IsName name → AreTwoBytes id → IsImage (formatted count name id)
 
--- its map marks free all blocks but its own and the directory's first one, whatever its name and its id are
+-- its map marks free all blocks but its own and the directory's first one, whatever its name and
+-- its id are
 abbrev pub FormattedIsFree : Type 0
 FormattedIsFree = (count : ℕ) (name id : Bytes) → IsSize count → free_blocks (formatted count name id) ≡ free_when_formatted count
 
@@ -36,7 +37,8 @@ FormattedIsFree = (count : ℕ) (name id : Bytes) → IsSize count → free_bloc
 abbrev pub FormattedCountsFit : Type 0
 FormattedCountsFit = (count : ℕ) (name id : Bytes) → IsSize count → CountsFit (formatted count name id)
 
--- how many blocks the directory of a formatted disk of so many shows as free: all but those of track 18, so 664 on 35 tracks, and 749 on 40
+-- how many blocks the directory of a formatted disk of so many shows as free: all but those of
+-- track 18, so 664 on 35 tracks, and 749 on 40
 abbrev pub free_count_of : ℕ → ℕ
 free_count_of count = count - sectors_on 18
 
@@ -112,7 +114,8 @@ abbrev pub ScratchedShows : Type 0
 ScratchedShows =
     (image : Disk) (patterns : List Bytes) → IsImage image → IsSound image → view (scratched image patterns) ≡ scratched_view (view image) patterns
 
--- and as many slots are scratched as files of the directory's list are closed, not locked, and matched by a pattern or more
+-- and as many slots are scratched as files of the directory's list are closed, not locked, and
+-- matched by a pattern or more
 abbrev pub ScratchedAreCounted : Type 0
 ScratchedAreCounted =
     (image : Disk) (patterns : List Bytes)
@@ -123,7 +126,8 @@ ScratchedAreCounted =
 abbrev pub ValidatedIsImage : Type 0
 ValidatedIsImage = (image : Disk) → IsImage image → AllHold image 2 5 → IsImage (validated image)
 
--- a validation gives a sound image from any whose directory, files and chains are in order, whatever its map says
+-- a validation gives a sound image from any whose directory, files and chains are in order,
+-- whatever its map says
 abbrev pub ValidatedIsSound : Type 0
 ValidatedIsSound = (image : Disk) → IsImage image → AllHold image 2 5 → IsSound (validated image)
 

@@ -1,4 +1,5 @@
--- What a disk shows: its view. The view of a sound image holds all that the image says of names, files and free blocks.
+-- What a disk shows: its view. The view of a sound image holds all that the image says of names,
+-- files and free blocks.
 use Rattle.std.specs.Prelude.{ℕ, Bool, if◌then◌else◌, List, [], length, map, slice_range, Option, Some, None}
 use Rattle.std.specs.List.{slice_get}
 use Rattle.std.specs.Option.{option_map_or}
@@ -12,8 +13,8 @@ use Rattle.d64_files.specs.Ownership.{roots, chain_at}
 use Rattle.d64_files.specs.Slot.{is_used, is_closed, is_locked, kind_of, field_of, size_of}
 use Rattle.d64_files.specs.declared.kind.Kind.{Kind}
 
--- a used slot of the directory: what it says of a file, and the file's blocks, side blocks and content. A DEL entry and one that isn't
--- closed have none of these three
+-- a used slot of the directory: what it says of a file, and the file's blocks, side blocks and
+-- content. A DEL entry and one that isn't closed have none of these three
 pub record FileView : Type 0 where
   pub field : Bytes
   pub kind : Kind
@@ -24,7 +25,8 @@ pub record FileView : Type 0 where
   pub side_blocks : Blocks
   pub content : Bytes
 
--- a disk: how many blocks it has, the 16 bytes of its name, its id, the directory's blocks in order, its slots with None for an unused one, and the free blocks
+-- a disk: how many blocks it has, the 16 bytes of its name, its id, the directory's blocks in
+-- order, its slots with None for an unused one, and the free blocks
 pub record View : Type 0 where
   pub count : ℕ
   pub name : Bytes

@@ -12,7 +12,8 @@ use Rattle.d64_effects.specs.Validate.{all_but}
 use Rattle.d64_effects.specs.Write.{taken_by, grown_by, without}
 use Rattle.d64_files.specs.declared.kind.Kind.{Kind}
 
--- after a format of a disk of so many blocks: the name and the id, eight unused slots in one block, and all blocks free but two
+-- after a format of a disk of so many blocks: the name and the id, eight unused slots in one block,
+-- and all blocks free but two
 unfoldable pub formatted_view : ℕ → Bytes → Bytes → View
 formatted_view count name id = record {
   count = count;
@@ -46,7 +47,8 @@ abbrev pub slots_with : List (Option FileView) → Option ℕ → FileView → L
 slots_with slots (Some place) file = slice_set slots place (Some file)
 slots_with slots None file = slots ++ (Some file ∷ replicate 7 None)
 
--- after the writing of a file into these blocks, where the directory takes those: the first unused slot holds it
+-- after the writing of a file into these blocks, where the directory takes those: the first unused
+-- slot holds it
 abbrev pub view_with : View → Option ℕ → FileView → Blocks → Blocks → View
 view_with old vacant file taken grown = record old {
   directory = old.directory ++ grown;
@@ -82,7 +84,8 @@ blocks_if goes (Some file) = if goes file then file.blocks ++ file.side_blocks e
 abbrev pub is_scratched_file : List Bytes → FileView → Bool
 is_scratched_file patterns file = is_scratched patterns file.closed file.locked (name_in file.field)
 
--- after the deleting of the files that patterns match: their slots are unused, and their blocks are free
+-- after the deleting of the files that patterns match: their slots are unused, and their blocks are
+-- free
 unfoldable pub scratched_view : View → List Bytes → View
 scratched_view old patterns = record old {
   slots = map (emptied_if (is_scratched_file patterns)) old.slots;

@@ -14,7 +14,8 @@ ghost use Rattle.d64_effects.specs.ContentsLaws.{FormattedListsNothing, WrittenL
 ghost use Rattle.d64_effects.specs.ContentsLaws.{RenamedListsTheName, ValidatedListsTheClosed};
 ghost use Rattle.d64_effects.specs.ContentsLaws.{FormattedDiskLists, WrittenDiskLists, ScratchedDiskLists, RenamedDiskLists, ValidatedDiskLists};
 
-/// A formatted disk is a sound image with 664 blocks free on 35 tracks, or 749 on 40, which shows its name and id and no file.
+/// A formatted disk is a sound image with 664 blocks free on 35 tracks, or 749 on 40, which shows
+/// its name and id and no file.
 pub fn formatted_disk_is_sound_and_empty()
     ensures image { FormattedIsImage }
     ensures free { FormattedIsFree }
@@ -24,23 +25,24 @@ pub fn formatted_disk_is_sound_and_empty()
     ensures view { FormattedShows }
 {}
 
-/// A sound image with room for a file is sound after the file is written, and shows that file beside all that it showed before.
+/// A sound image with room for a file is sound after the file is written, and shows that file
+/// beside all that it showed before.
 pub fn written_disk_is_sound()
     ensures image { WrittenIsImage }
     ensures sound { WrittenIsSound }
     ensures view { WrittenShows }
 {}
 
-/// A sound image stays sound under the renaming of a file, and shows the other name and nothing else that is new. Where no file has
-/// the old name, all stays as it was.
+/// A sound image stays sound under the renaming of a file, and shows the other name and nothing
+/// else that is new. Where no file has the old name, all stays as it was.
 pub fn renamed_disk_is_sound()
     ensures image { RenamedIsImage }
     ensures sound { RenamedIsSound }
     ensures view { RenamedShows }
 {}
 
-/// While slots of an image are cleared one after another, it stays an image, and its directory keeps its blocks and the number of its
-/// slots; and which slots pass a test is known slot by slot.
+/// While slots of an image are cleared one after another, it stays an image, and its directory
+/// keeps its blocks and the number of its slots; and which slots pass a test is known slot by slot.
 pub fn clearing_keeps_the_directory()
     ensures image { ClearingKeepsTheImage }
     ensures directory { ClearingKeepsTheDirectory }
@@ -49,8 +51,9 @@ pub fn clearing_keeps_the_directory()
     ensures below { SlotsWhereAreSlots }
 {}
 
-/// A sound image stays sound under the deleting of files, and shows empty slots in their places, and their blocks, those of their side
-/// chains too, among the free ones. As many are scratched as files of the directory's list are closed, not locked, and matched.
+/// A sound image stays sound under the deleting of files, and shows empty slots in their places,
+/// and their blocks, those of their side chains too, among the free ones. As many are scratched as
+/// files of the directory's list are closed, not locked, and matched.
 pub fn scratched_disk_is_sound()
     ensures image { ScratchedIsImage }
     ensures sound { ScratchedIsSound }
@@ -58,17 +61,18 @@ pub fn scratched_disk_is_sound()
     ensures count { ScratchedAreCounted }
 {}
 
-/// A validation gives a sound image from any that meets conditions 2 to 5 of a sound one, whatever its map says. It drops the unclosed
-/// files, and free is exactly what nobody owns.
+/// A validation gives a sound image from any that meets conditions 2 to 5 of a sound one, whatever
+/// its map says. It drops the unclosed files, and free is exactly what nobody owns.
 pub fn validated_disk_is_sound()
     ensures image { ValidatedIsImage }
     ensures sound { ValidatedIsSound }
     ensures view { ValidatedShows }
 {}
 
-/// A file that a command doesn't name keeps its slot, its blocks and its content, and all else that a disk shows of it: under the
-/// writing of a file every file, under the deleting of files those that are locked, not closed or matched by no pattern, under the
-/// renaming of a file those of other names, and under a validation those that are closed.
+/// A file that a command doesn't name keeps its slot, its blocks and its content, and all else that
+/// a disk shows of it: under the writing of a file every file, under the deleting of files those
+/// that are locked, not closed or matched by no pattern, under the renaming of a file those of
+/// other names, and under a validation those that are closed.
 pub fn files_that_are_not_named_stay()
     ensures writing { WritingKeepsFiles }
     ensures deleting { DeletingKeepsOtherFiles }
@@ -76,7 +80,8 @@ pub fn files_that_are_not_named_stay()
     ensures validating { ValidatingKeepsClosedFiles }
 {}
 
-/// The step of each file command on what a disk shows is its step on the directory's list of names and contents.
+/// The step of each file command on what a disk shows is its step on the directory's list of names
+/// and contents.
 pub fn steps_change_the_list_of_files()
     ensures formatted { FormattedListsNothing }
     ensures written { WrittenListsTheFile }
@@ -85,9 +90,11 @@ pub fn steps_change_the_list_of_files()
     ensures validated { ValidatedListsTheClosed }
 {}
 
-/// Each file command changes the directory's list of names and contents as it says, on a sound disk: a formatted disk lists nothing;
-/// a written file stands at the place of the first empty slot, or at the end; deleted files are gone, a renamed one has its new name,
-/// and after a validation the closed files are left. The other files of the list stay as they were, in their order.
+/// Each file command changes the directory's list of names and contents as it says, on a sound
+/// disk: a formatted disk lists nothing; a written file stands at the place of the first empty
+/// slot, or at the end; deleted files are gone, a renamed one has its new name, and after a
+/// validation the closed files are left. The other files of the list stay as they were, in their
+/// order.
 pub fn commands_change_the_list_of_files()
     ensures formatted { FormattedDiskLists }
     ensures written { WrittenDiskLists }

@@ -45,7 +45,8 @@ parts_change_nothing image cell = by_content (written_as Content (content_of ima
     by_content None part = tt
     by_content (Some file) part = refl
 
--- what is written, from whether there is a content, whether parts are wanted, and whether there is a part
+-- what is written, from whether there is a content, whether parts are wanted, and whether there is
+-- a part
 pub from_both : (image : List (List ℕ)) (cell : List ℕ) (with_parts wanted : Bool) (content part : Option (List ℕ)) → content ≡ content_of image cell → wanted ≡ with_parts → part ≡ part_of image cell
     → option_or (written_as Content content) (cond wanted (written_as Part part) None) ≡ portion with_parts image cell
 unfolding portion

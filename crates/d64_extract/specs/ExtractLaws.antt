@@ -7,7 +7,8 @@ use Rattle.d64_extract.specs.Portions.{Portion, portion}
 use Rattle.d64_extract.specs.Limits.{written, byte_counts}
 use Rattle.d64_extract.specs.declared.extent.Extent.TheVariants.{Content}
 
--- where parts aren't wanted, the file of a used slot is written exactly where reading it isn't refused, with what is read
+-- where parts aren't wanted, the file of a used slot is written exactly where reading it isn't
+-- refused, with what is read
 abbrev pub WrittenIsWhatIsRead : Type 0
 WrittenIsWhatIsRead =
     (image : Disk) (cell : Bytes) → is_used cell ≡ true

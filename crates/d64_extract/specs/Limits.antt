@@ -8,7 +8,8 @@ use Rattle.d64_extract.specs.Portions.{Portion, portion}
 abbrev pub limit : ℕ
 limit = 16777216
 
--- how many bytes later files may have after one of so many; none where with this one there are too many, or were before
+-- how many bytes later files may have after one of so many; none where with this one there are too
+-- many, or were before
 abbrev pub less : Option ℕ → ℕ → Option ℕ
 less None count = None
 less (Some left) count = if nat_le count left then Some (left - count) else None

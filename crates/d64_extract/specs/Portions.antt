@@ -26,18 +26,20 @@ written_as extent bytes = option_map (λ bytes. record { bytes = bytes; extent =
 abbrev pub all_along : Disk → Blocks → Bytes
 all_along image blocks = flat_map (λ block. slice_range (sector_at image block) 2 256) blocks
 
--- what is there along a way: the data of its blocks, where it is a whole chain, and else all that stands in them; nothing where it has none
+-- what is there along a way: the data of its blocks, where it is a whole chain, and else all that
+-- stands in them; nothing where it has none
 abbrev pub found_along : Disk → Blocks × WayEnd → Option Bytes
 found_along image way =
     if length way.0 == 0 then None
     else (if is_whole way.1 then Some (data_along image way.0) else Some (all_along image way.0))
 
--- what is there of the file of a slot, whether or not it was closed: that along the way from its first block. A slot that isn't used or
--- has no kind has no file
+-- what is there of the file of a slot, whether or not it was closed: that along the way from its
+-- first block. A slot that isn't used or has no kind has no file
 abbrev pub part_of : Disk → Bytes → Option Bytes
 part_of image cell = if is_used cell && has_kind cell then found_along image (way image (first_pair cell)) else None
 
--- what is written of the file of a slot: its content, and where it has none, if parts are wanted too, what is there of it
+-- what is written of the file of a slot: its content, and where it has none, if parts are wanted
+-- too, what is there of it
 unfoldable pub portion : Bool → Disk → Bytes → Option Portion
 portion with_parts image cell =
     option_or (written_as Content (content_of image cell)) (if with_parts then written_as Part (part_of image cell) else None)

@@ -5,8 +5,8 @@ ghost use Rattle.d64_extract.specs.ExtractLaws.{WrittenIsWhatIsRead, NothingOfUn
 
 use d64_inventory::content_laws::contents_are_what_is_read;
 
-/// Where parts aren't wanted, exactly the files are written whose reading isn't refused, with what is read, and so none
-/// that wasn't closed.
+/// Where parts aren't wanted, exactly the files are written whose reading isn't refused, with what
+/// is read, and so none that wasn't closed.
 pub fn contents_are_written()
     ensures read { WrittenIsWhatIsRead }
     ensures unclosed { NothingOfUnclosed }

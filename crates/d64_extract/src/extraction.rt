@@ -10,12 +10,12 @@ use d64_survey::Survey;
 use std::alloc::AllocError;
 use std::marker::Model;
 
-/// The most bytes that the files of an image may have together. A sound disk has at most 190,246; slots that share
-/// blocks may have many times as many.
+/// The most bytes that the files of an image may have together. A sound disk has at most 190,246;
+/// slots that share blocks may have many times as many.
 pub const LIMIT: usize = 16_777_216;
 
-/// The extraction of the files of an image, one after another: what is written of each, as long as they don't have too
-/// many bytes together.
+/// The extraction of the files of an image, one after another: what is written of each, as long as
+/// they don't have too many bytes together.
 #[derive(Drop)]
 pub struct Extraction {
     /// How many bytes later files may have; None once there were too many.
@@ -48,10 +48,11 @@ impl Extraction {
         Extraction { left: Some(LIMIT) }
     }
 
-    /// Puts what is written of the file of the next slot into a list, in the place of what that had, and says how much
-    /// of the file that is: its content, or a part, where parts are wanted too. None, and the list has nothing that is
-    /// told, where nothing is written: there is no such slot or nothing to write of it, or with this file, or with one
-    /// before it, there are too many bytes.
+    /// Puts what is written of the file of the next slot into a list, in the place of what that
+    /// had, and says how much of the file that is: its content, or a part, where parts are wanted
+    /// too. None, and the list has nothing that is told, where nothing is written: there is no such
+    /// slot or nothing to write of it, or with this file, or with one before it, there are too many
+    /// bytes.
     pub fn next(
         &mut self,
         survey: &Survey,

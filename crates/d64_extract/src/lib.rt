@@ -1,4 +1,5 @@
-//! What of an image is written to a host: the content of each file, or what is there of it, and not too much of all.
+//! What of an image is written to a host: the content of each file, or what is there of it, and not
+//! too much of all.
 #![tactic(auto)]
 
 mod data;

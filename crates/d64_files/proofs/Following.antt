@@ -35,7 +35,8 @@ part_from image start (first ∷ next ∷ rest) block h found =
       | inr t ↦ let p = part_from image next (next ∷ rest) block h.3 t in let s = p.short in record { part = p.part; chain = p.chain; short = omega arith }
     ]
 
--- a block that is linked to a chain isn't in it: the chain from the block would be a part of the chain, and longer
+-- a block that is linked to a chain isn't in it: the chain from the block would be a part of the
+-- chain, and longer
 linked_apart : (image : List (List ℕ)) (block next : ℕ) (blocks : List ℕ) → link_of image block ≡ To next → Chain image next blocks
     → list_any (eqb block) blocks ≡ true → ⊥
 linked_apart image block next blocks link h found =
@@ -65,7 +66,8 @@ pub record Left (image : List (List ℕ)) (last : ℕ) (path blocks : List ℕ) 
   pub is : blocks ≡ path ++ rest
   pub chain : Chain image last rest
 
--- a walk has followed `count` links from the start to the block `last`, and claimed the blocks before that
+-- a walk has followed `count` links from the start to the block `last`, and claimed the blocks
+-- before that
 pub record Followed (image : List (List ℕ)) (start last count : ℕ) (old new : Claims) : Type 0 where
   pub path : List ℕ
   pub counted : length path ≡ count
@@ -130,7 +132,8 @@ chain_at-broken image root start last count old new root_is w link =
     at_block image root start root_is
     ∙ chain-none image start (λ blocks h. let left = w.only blocks h in no_broken_chain image last left.rest link left.chain)
 
--- a walk that has followed as many links as the image has blocks, and come to no end, leaves no chain
+-- a walk that has followed as many links as the image has blocks, and come to no end, leaves no
+-- chain
 pub chain_at-endless : (image : List (List ℕ)) (root : ℕ × ℕ) (start last count : ℕ) (old new : Claims) → Some start ≡ block_in image root.0 root.1
     → Followed image start last count old new → length image ≤ count → chain_at image root ≡ []
 chain_at-endless image root start last count old new root_is w long =

@@ -20,7 +20,8 @@ pub record Remains (image : List (List ℕ)) (last : ℕ) (path blocks : List �
   pub after : Chain image last (last ∷ rest)
   pub fresh : (q : ℕ) → list_any (eqb q) rest ≡ true → list_any (eqb q) path ≡ false
 
--- a walk has followed `count` links along the path to its block `last`, and its blocks are those that it has seen
+-- a walk has followed `count` links along the path to its block `last`, and its blocks are those
+-- that it has seen
 pub record Walked (image : List (List ℕ)) (start last count limit : ℕ) (path : List ℕ) (seen : set.FinSet nat_cmp) : Type 0 where
   pub counted : length path ≡ count + 1
   pub distinct : IsDistinct eqb path

@@ -29,7 +29,8 @@ abbrev pub link_to : Option ℕ → Link
 link_to None = Broken
 link_to (Some block) = To block
 
--- where a link leads: a track of 0 ends the chain, every other link leads to the block that it names
+-- where a link leads: a track of 0 ends the chain, every other link leads to the block that it
+-- names
 unfoldable pub led_by : Disk → ℕ × ℕ → Link
 led_by image link = if link.0 == 0 then End else link_to (block_in image link.0 link.1)
 
@@ -37,8 +38,9 @@ led_by image link = if link.0 == 0 then End else link_to (block_in image link.0 
 abbrev pub link_of : Disk → ℕ → Link
 link_of image block = led_by image (link_at image block)
 
--- the list is the chain from a block that the image has: that block alone, where its link ends the chain, or that block and then the
--- chain from the block to which its link leads, if it isn't among those
+-- the list is the chain from a block that the image has: that block alone, where its link ends the
+-- chain, or that block and then the chain from the block to which its link leads, if it isn't among
+-- those
 unfoldable pub Chain : Disk → ℕ → Blocks → Type 0
 Chain image start [] = ⊥
 Chain image start (block ∷ []) = (block ≡ start) × (start < length image) × (link_of image start ≡ End)

@@ -10,7 +10,8 @@ use Rattle.d64_files.specs.Slot.{is_closed, kind_of, first_pair, side_pair}
 use Rattle.d64_files.specs.declared.kind.Kind.{Kind}
 use Rattle.d64_files.specs.declared.kind.Kind.TheVariants.{Del, Seq, Prg, Usr, Rel}
 
--- the track and the sector from which each chain of a closed file leads: a REL file has a second one, unless its side track is 0
+-- the track and the sector from which each chain of a closed file leads: a REL file has a second
+-- one, unless its side track is 0
 abbrev pub roots_of : Kind → Bytes → List (ℕ × ℕ)
 roots_of Del cell = []
 roots_of Seq cell = first_pair cell ∷ []

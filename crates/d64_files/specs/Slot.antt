@@ -6,7 +6,8 @@ use Rattle.d64_files.specs.Name.{name_in}
 use Rattle.d64_files.specs.declared.kind.Kind.{Kind}
 use Rattle.d64_files.specs.declared.kind.Kind.TheVariants.{Del, Seq, Prg, Usr, Rel}
 
--- an entry of a directory: the number of its slot, from 0, the 32 bytes there, and the image that it stands in
+-- an entry of a directory: the number of its slot, from 0, the 32 bytes there, and the image that
+-- it stands in
 pub record EntryView : Type 0 where
   pub slot : ℕ
   pub bytes : Bytes

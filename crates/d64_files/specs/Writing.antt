@@ -47,7 +47,8 @@ number_of_kind Prg = 2
 number_of_kind Usr = 3
 number_of_kind Rel = 4
 
--- the entry of a closed file, the bytes of its slot from the type byte on: its kind, its first block, its name, no side blocks, and its size in blocks
+-- the entry of a closed file, the bytes of its slot from the type byte on: its kind, its first
+-- block, its name, no side blocks, and its size in blocks
 unfoldable pub entry_bytes : Bytes → Kind → ℕ → ℕ → Bytes
 entry_bytes name kind first blocks =
     (0x80 + number_of_kind kind) ∷ (pair_bytes first ++ filled name ++ replicate 9 0 ++ ((blocks % 256) ∷ (blocks / 256) ∷ []))

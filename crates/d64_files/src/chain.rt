@@ -50,7 +50,8 @@ impl Link {
     }
 }
 
-/// The chain from a block of the image, or None where there is none: where a link leads off the disk, or back to a block of the chain.
+/// The chain from a block of the image, or None where there is none: where a link leads off the
+/// disk, or back to a block of the chain.
 ///
 /// It ends after at most as many blocks as the image has, and takes no memory.
 pub(crate) fn chain(image: &Image, start: BlockNo) -> Option<BlockList>
@@ -80,8 +81,8 @@ pub(crate) fn chain(image: &Image, start: BlockNo) -> Option<BlockList>
     None
 }
 
-/// The chain from the block of a track (from 1) and a sector (from 0), or None where the image has no such block or no
-/// chain from it.
+/// The chain from the block of a track (from 1) and a sector (from 0), or None where the image has
+/// no such block or no chain from it.
 pub(crate) fn chain_from(image: &Image, track: u8, sector: u8) -> Option<BlockList>
     ensures value { unwrap_or result [] ≡ chain_of_pair image.now track sector }
     ensures exists { IsSome result ↔ (chain_of_pair image.now track sector ≢ []) }

@@ -10,7 +10,8 @@ pub fn chains_are_unique()
     ensures function { ChainIsThatChain }
 {}
 
-/// A chain begins with its start, and holds only blocks of the image, none of them twice and so no more than there are.
+/// A chain begins with its start, and holds only blocks of the image, none of them twice and so no
+/// more than there are.
 pub fn chains_are_bounded()
     ensures start { ChainBeginsWithItsStart }
     ensures distinct { ChainHasNoRepeats }

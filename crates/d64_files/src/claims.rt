@@ -49,8 +49,8 @@ impl Claims {
         }
     }
 
-    /// Claims the chain from the block of a track (from 1) and a sector (from 0), or answers `NoChain` where there is
-    /// none.
+    /// Claims the chain from the block of a track (from 1) and a sector (from 0), or answers
+    /// `NoChain` where there is none.
     pub(crate) fn claim_chain(&mut self, image: &Image, root: (u8, u8)) -> Result<(), DirFault>
         ensures chain { MatchResult result (λ _. chain_at image.now root ≢ []) (λ fault. (fault ≡ NoChain) × (chain_at image.now root ≡ [])) }
         ensures claimed { OnOk result ((before : List ℕ) → self.old ≡ claims_of before → self.new ≡ claims_of (before ++ chain_at image.now root)) }
@@ -71,8 +71,8 @@ impl Claims {
         Err(DirFault::NoChain)
     }
 
-    /// Claims what an entry owns: the chain of a closed SEQ, PRG, USR or REL file, and the side chain of a REL file that
-    /// has one. Answers `NoChain` where one of them is missing.
+    /// Claims what an entry owns: the chain of a closed SEQ, PRG, USR or REL file, and the side
+    /// chain of a REL file that has one. Answers `NoChain` where one of them is missing.
     pub(crate) fn claim_file(&mut self, image: &Image, entry: &Entry) -> Result<(), DirFault>
         ensures chains { MatchResult result (λ _. HasItsChains image.now entry.now.bytes) (λ fault. (fault ≡ NoChain) × ¬ (HasItsChains image.now entry.now.bytes)) }
         ensures claimed { OnOk result ((before : List ℕ) → self.old ≡ claims_of before → self.new ≡ claims_of (before ++ owned_by image.now entry.now.bytes)) }

@@ -1,4 +1,5 @@
-//! The writers that change a slot of the directory in place (the VICE manual, "The D64 disk image format").
+//! The writers that change a slot of the directory in place (the VICE manual, "The D64 disk image
+//! format").
 //!
 //! They write through a patch, so that what they write can be taken back.
 ghost use Rattle.std.specs.Prelude.{◌≡◌, ◌+◌, ◌<◌, ◌≤◌, length, OnOk};
@@ -54,11 +55,11 @@ fn filled(name: &Name) -> [u8; MAX_LEN]
     field
 }
 
-/// Makes a slot of the directory an unused one: its type byte becomes $00. The rest of its entry stays, and so does
-/// every other byte of the image.
+/// Makes a slot of the directory an unused one: its type byte becomes $00. The rest of its entry
+/// stays, and so does every other byte of the image.
 ///
-/// Refused where there is no memory to keep the bytes of the slot's block; then the image stays. The caller knows that
-/// the directory has that slot.
+/// Refused where there is no memory to keep the bytes of the slot's block; then the image stays.
+/// The caller knows that the directory has that slot.
 #[tactic(auto, unfolding(crate::specs::Clearing::with_cleared_slot))]
 pub fn clear_slot(image: &mut Image, patch: &mut Patch, slot: SlotNo) -> Result<(), AllocError>
     requires { slot < length (slots image.old) }
@@ -69,11 +70,11 @@ pub fn clear_slot(image: &mut Image, patch: &mut Patch, slot: SlotNo) -> Result<
     write_in_slot(image, patch, slot, 0, &[0])
 }
 
-/// Writes a name into the field of a slot of the directory, filled with shifted spaces. Every other byte of the image
-/// stays.
+/// Writes a name into the field of a slot of the directory, filled with shifted spaces. Every other
+/// byte of the image stays.
 ///
-/// Refused where there is no memory to keep the bytes of the slot's block; then the image stays. The caller knows that
-/// the directory has that slot.
+/// Refused where there is no memory to keep the bytes of the slot's block; then the image stays.
+/// The caller knows that the directory has that slot.
 #[tactic(auto, unfolding(crate::specs::Clearing::with_name))]
 pub fn set_name(
     image: &mut Image,

@@ -16,7 +16,8 @@ use std::marker::Model;
 /// The sector of the directory's first block on its track.
 pub const DIRECTORY_SECTOR: u8 = 1;
 
-/// The directory of an image: the blocks of its chain, walked once, each of whose slots has a kind of file.
+/// The directory of an image: the blocks of its chain, walked once, each of whose slots has a kind
+/// of file.
 ///
 /// In clauses it is the image itself.
 #[derive(Drop)]
@@ -40,8 +41,8 @@ impl<'a> Model for Directory<'a> {
 impl<'a> Directory<'a> {
     /// The directory of an image. It takes no memory.
     ///
-    /// Refused with `NoDirectory` where there is no chain of blocks from track 18, sector 1, and else with
-    /// `UnknownKind` where the low four bits of a slot's type byte are above 4.
+    /// Refused with `NoDirectory` where there is no chain of blocks from track 18, sector 1, and
+    /// else with `UnknownKind` where the low four bits of a slot's type byte are above 4.
     pub fn of(image: &'a Image) -> Result<Directory<'a>, DirFault>
         ensures image { IfOk result (λ directory. directory ≡ image.now) }
         ensures conditions { MatchResult result (λ _. AllHold image.now 2 3) (IsFirstFault image.now 2 3) }

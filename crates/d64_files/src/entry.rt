@@ -55,8 +55,8 @@ impl SlotNo {
     }
 }
 
-/// An entry of the directory: the 32 bytes of a slot, borrowed from the image (the VICE manual, "The D64 disk image
-/// format").
+/// An entry of the directory: the 32 bytes of a slot, borrowed from the image (the VICE manual,
+/// "The D64 disk image format").
 #[derive(Drop)]
 pub struct Entry<'a> {
     slot: SlotNo,
@@ -105,14 +105,16 @@ impl<'a> Entry<'a> {
         self.bytes[2]
     }
 
-    /// Whether the low four bits of the type byte are the number of a kind. In each slot of a `Directory` they are.
+    /// Whether the low four bits of the type byte are the number of a kind. In each slot of a
+    /// `Directory` they are.
     pub fn has_kind(&self) -> bool
         ensures { result ≡ has_kind self.now.bytes }
     {
         self.bytes[2] % 16 <= LAST_KIND
     }
 
-    /// The kind of the file, the low four bits of the type byte; DEL where there is no kind of that number.
+    /// The kind of the file, the low four bits of the type byte; DEL where there is no kind of that
+    /// number.
     pub fn kind(&self) -> Kind
         ensures { result ≡ kind_of self.now.bytes }
     {
@@ -167,7 +169,8 @@ impl<'a> Entry<'a> {
         &field[..len] == bytes
     }
 
-    /// The first block of the file, or None where the image that the entry stands in has no block of that track and sector.
+    /// The first block of the file, or None where the image that the entry stands in has no block
+    /// of that track and sector.
     pub fn start(&self) -> Option<BlockNo>
         ensures { result ≡ block_in self.now.image (first_pair self.now.bytes).0 (first_pair self.now.bytes).1 }
     {
@@ -182,8 +185,8 @@ impl<'a> Entry<'a> {
         (self.bytes[3], self.bytes[4])
     }
 
-    /// The track (from 1) and the sector (from 0) of the first side block of a REL file, as they stand in the entry, or
-    /// None where the track is 0: then there are no side blocks.
+    /// The track (from 1) and the sector (from 0) of the first side block of a REL file, as they
+    /// stand in the entry, or None where the track is 0: then there are no side blocks.
     pub fn side_pair(&self) -> Option<(u8, u8)>
         ensures { result ≡ side_pair self.now.bytes }
     {

@@ -1,10 +1,12 @@
-//! Laws of the conditions of a sound image: each function's contract is a law, and its body is empty.
+//! Laws of the conditions of a sound image: each function's contract is a law, and its body is
+//! empty.
 //!
 //! A caller whose proof needs a law calls the function.
 ghost use Rattle.d64_files.specs.FirstFault.{reading_conditions, owning_conditions, sound_conditions};
 ghost use Rattle.d64_files.specs.FirstFaultLaws.{TellsFirst};
 
-/// The tests of the conditions find a fault exactly where one of them fails, and the first that does.
+/// The tests of the conditions find a fault exactly where one of them fails, and the first that
+/// does.
 pub fn first_fault_is_the_first()
     ensures sound { TellsFirst sound_conditions 1 6 }
     ensures owning { TellsFirst owning_conditions 2 5 }

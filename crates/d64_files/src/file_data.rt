@@ -6,8 +6,8 @@ ghost use Rattle.d64_files.specs.FileData.{data_of as data_in, data_along as dat
 use d64_image::{BLOCK_BYTES, BlockNo, Image};
 use std::alloc::{AllocError, Global};
 
-/// The data of a block of a file: bytes 2 to 255. In the last block of a chain, whose link's track is 0, they end with
-/// the last byte used, whose index is byte 1; an index below 2 means no data.
+/// The data of a block of a file: bytes 2 to 255. In the last block of a chain, whose link's track
+/// is 0, they end with the last byte used, whose index is byte 1; an index below 2 means no data.
 pub fn data_of(sector: &[u8; BLOCK_BYTES]) -> &[u8]
     ensures value { result.now ≡ data_in sector.now }
     ensures len { length result.now ≤ 254 }

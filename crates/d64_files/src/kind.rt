@@ -2,7 +2,8 @@
 ghost use Rattle.std.specs.Prelude.{◌≡◌};
 ghost use Rattle.d64_files.specs.Writing.{number_of_kind};
 
-/// The kind of a file, the low four bits of its entry's type byte (the VICE manual, "The D64 disk image format").
+/// The kind of a file, the low four bits of its entry's type byte (the VICE manual, "The D64 disk
+/// image format").
 #[derive(Clone, Copy, Debug, PartialEq, Eq, Hash)]
 pub enum Kind {
     /// DEL, number 0: a deleted file.

@@ -10,7 +10,8 @@ use crate::pattern::{Pattern, matches};
 use d64_image::Image;
 
 impl<'a> Directory<'a> {
-    /// The entry of the first used slot whose name the pattern matches, or None where there is none.
+    /// The entry of the first used slot whose name the pattern matches, or None where there is
+    /// none.
     pub fn named(&self, pattern: &Pattern) -> Option<Entry<'a>>
         ensures { result ≡ find (λ (entry : EntryView). is_named pattern.now entry.bytes) (entries self.now (slots self.now)) }
     {
@@ -23,10 +24,11 @@ impl<'a> Directory<'a> {
     }
 }
 
-/// The first used slot whose name the pattern matches, or None where there is none. It takes no memory.
+/// The first used slot whose name the pattern matches, or None where there is none. It takes no
+/// memory.
 ///
-/// Refused with `NoDirectory` where there is no chain of blocks from track 18, sector 1, and else with `UnknownKind`
-/// where the low four bits of a slot's type byte are above 4.
+/// Refused with `NoDirectory` where there is no chain of blocks from track 18, sector 1, and else
+/// with `UnknownKind` where the low four bits of a slot's type byte are above 4.
 pub fn find(image: &Image, pattern: &Pattern) -> Result<Option<SlotNo>, DirFault>
     ensures slot { IfOk result (λ slot. slot ≡ first_named pattern.now (slots image.now)) }
     ensures conditions { MatchResult result (λ _. AllHold image.now 2 3) (IsFirstFault image.now 2 3) }

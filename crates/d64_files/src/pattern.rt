@@ -10,8 +10,8 @@ use std::marker::Model;
 /// The bytes that no pattern holds: those that no name holds, but for the wildcards.
 const FORBIDDEN: &[u8; 6] = b"=:,\"\r\xA0";
 
-/// A pattern that selects files by their names (1541 User's Guide): 1 to 16 bytes of PETSCII, none of them one of `=`
-/// `:` `,` `"`, $0D and $A0.
+/// A pattern that selects files by their names (1541 User's Guide): 1 to 16 bytes of PETSCII, none
+/// of them one of `=` `:` `,` `"`, $0D and $A0.
 #[derive(Clone, Debug, Drop, PartialEq, Eq, Hash)]
 pub struct Pattern {
     text: ArrayVec<u8, MAX_LEN>,
@@ -33,8 +33,8 @@ impl Model for Pattern {
 impl Pattern {
     /// The pattern of these bytes. It takes no memory.
     ///
-    /// Refused with `Empty` where there is no byte, with `TooLong` where there are more than 16, and else with
-    /// `Forbidden` where one of them is `=` `:` `,` `"`, $0D or $A0.
+    /// Refused with `Empty` where there is no byte, with `TooLong` where there are more than 16,
+    /// and else with `Forbidden` where one of them is `=` `:` `,` `"`, $0D or $A0.
     pub fn new(bytes: &[u8]) -> Result<Pattern, BadName>
         ensures accepted { IsOk result ↔ IsPattern bytes.now }
         ensures test { is_ok result ≡ is_pattern bytes.now }
@@ -54,8 +54,8 @@ impl Pattern {
     }
 }
 
-/// Whether the pattern matches the name (1541 User's Guide): `?` stands for exactly one byte, `*` for any rest, and
-/// every other byte for itself. What follows a `*` is ignored.
+/// Whether the pattern matches the name (1541 User's Guide): `?` stands for exactly one byte, `*`
+/// for any rest, and every other byte for itself. What follows a `*` is ignored.
 pub fn matches(pattern: &Pattern, name: &[u8]) -> bool
     ensures cases { IsTrue result ↔ Matches pattern.now name.now }
     ensures test { result ≡ is_match pattern.now name.now }

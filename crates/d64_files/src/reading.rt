@@ -101,11 +101,12 @@ fn readable_chain(image: &Image, entry: &Entry) -> Result<BlockList, ReadFault>
     }
 }
 
-/// The content of the file of an entry: the data of its chain of blocks, without a REL file's side blocks.
+/// The content of the file of an entry: the data of its chain of blocks, without a REL file's side
+/// blocks.
 ///
-/// Refused, in this order: with `NotFound` where the slot isn't used; with `NotClosed`; with `WrongType` for a DEL
-/// entry; with `Directory` where there is no chain from the file's first block (`NoChain`); with `Memory` where the
-/// content has no room.
+/// Refused, in this order: with `NotFound` where the slot isn't used; with `NotClosed`; with
+/// `WrongType` for a DEL entry; with `Directory` where there is no chain from the file's first
+/// block (`NoChain`); with `Memory` where the content has no room.
 pub fn entry_content(alloc: Global, image: &Image, entry: &Entry) -> Result<Vec<u8>, ReadFault>
     ensures refused { refused_by result ≡ file_refusal image.now entry.now.bytes }
     ensures bytes { IfOk result (λ bytes. bytes.items ≡ file_content image.now entry.now.bytes) }
@@ -114,12 +115,14 @@ pub fn entry_content(alloc: Global, image: &Image, entry: &Entry) -> Result<Vec<
     Ok(data_along(alloc, image, blocks.as_slice())?)
 }
 
-/// The content of the file of a slot: the data of its chain of blocks, without a REL file's side blocks.
+/// The content of the file of a slot: the data of its chain of blocks, without a REL file's side
+/// blocks.
 ///
-/// Refused, in this order: with `Directory` where there is no chain of blocks from track 18, sector 1
-/// (`NoDirectory`), or where the low four bits of a slot's type byte are above 4 (`UnknownKind`); with `NotFound` where
-/// the slot isn't there or isn't used; with `NotClosed`; with `WrongType` for a DEL entry; with `Directory` where there
-/// is no chain from the file's first block (`NoChain`); with `Memory` where the content has no room.
+/// Refused, in this order: with `Directory` where there is no chain of blocks from track 18, sector
+/// 1 (`NoDirectory`), or where the low four bits of a slot's type byte are above 4 (`UnknownKind`);
+/// with `NotFound` where the slot isn't there or isn't used; with `NotClosed`; with `WrongType` for
+/// a DEL entry; with `Directory` where there is no chain from the file's first block (`NoChain`);
+/// with `Memory` where the content has no room.
 pub fn content(alloc: Global, image: &Image, slot: SlotNo) -> Result<Vec<u8>, ReadFault>
     ensures refused { refused_by result ≡ content_refusal image.now slot }
     ensures bytes { IfOk result (λ bytes. bytes.items ≡ content_at image.now slot) }

@@ -73,8 +73,8 @@ pub(crate) fn kinds_are_known(block: &[u8; BLOCK_BYTES]) -> bool
 impl<'a> Slots<'a> {
     /// All slots of the directory. It takes no memory.
     ///
-    /// Refused with `NoDirectory` where there is no chain of blocks from track 18, sector 1, and else with
-    /// `UnknownKind` where the low four bits of a slot's type byte are above 4.
+    /// Refused with `NoDirectory` where there is no chain of blocks from track 18, sector 1, and
+    /// else with `UnknownKind` where the low four bits of a slot's type byte are above 4.
     pub fn of(image: &'a Image) -> Result<Slots<'a>, DirFault>
         ensures slots { IfOk result (λ walk. walk ≡ entries image.now (slots image.now)) }
         ensures len { IfOk result (λ walk. length walk ≤ 8 * BLOCKS) }
@@ -83,7 +83,8 @@ impl<'a> Slots<'a> {
         Ok(Directory::of(image)?.slots())
     }
 
-    /// The slots of blocks of the image, eight a block, whether or not each has a kind. It takes no memory.
+    /// The slots of blocks of the image, eight a block, whether or not each has a kind. It takes no
+    /// memory.
     pub fn along(image: &'a Image, blocks: BlockList) -> Slots<'a>
         requires { LieIn image.now blocks }
         ensures slots { result ≡ entries image.now (slots_in image.now blocks) }

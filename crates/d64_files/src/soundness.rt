@@ -14,10 +14,11 @@ use d64_image::{BlockSet, Image};
 use d64_map::{counts_fit, map_block, none_is_free};
 
 impl Directory<'_> {
-    /// The blocks that are owned: the map's block, the directory's, and the chains of the closed files other than DEL.
+    /// The blocks that are owned: the map's block, the directory's, and the chains of the closed
+    /// files other than DEL.
     ///
-    /// Refused with `NoChain`, where a closed file's chain or side chain is missing, or else with `CrossLinked`, where a
-    /// block would be owned twice.
+    /// Refused with `NoChain`, where a closed file's chain or side chain is missing, or else with
+    /// `CrossLinked`, where a block would be owned twice.
     fn owned(&self) -> Result<BlockSet, DirFault>
         ensures { MatchResult result (λ blocks. AllHold self.now 2 5 × (blocks ≡ set.from_list (owned_blocks self.now))) (IsFirstFault self.now 2 5) }
     {
@@ -29,12 +30,13 @@ impl Directory<'_> {
     }
 }
 
-/// The blocks that are owned: the map's block, the directory's chain, and the chains of the closed files other than DEL.
-/// It takes no memory.
+/// The blocks that are owned: the map's block, the directory's chain, and the chains of the closed
+/// files other than DEL. It takes no memory.
 ///
-/// Refused with the first of these conditions that fails: `NoDirectory`, where there is no chain of blocks from track
-/// 18, sector 1; `UnknownKind`, where the low four bits of a slot's type byte are above 4; `NoChain`, where a closed
-/// file's chain or side chain is missing; `CrossLinked`, where a block would be owned twice.
+/// Refused with the first of these conditions that fails: `NoDirectory`, where there is no chain of
+/// blocks from track 18, sector 1; `UnknownKind`, where the low four bits of a slot's type byte are
+/// above 4; `NoChain`, where a closed file's chain or side chain is missing; `CrossLinked`, where a
+/// block would be owned twice.
 pub fn owned(image: &Image) -> Result<BlockSet, DirFault>
     ensures verdict { MatchResult result (λ blocks. AllHold image.now 2 5 × (blocks ≡ set.from_list (owned_blocks image.now))) (IsFirstFault image.now 2 5) }
     ensures first { err_of result ≡ first_fault image.now owning_conditions }
@@ -64,8 +66,9 @@ pub fn checked(image: &Image) -> Result<(Directory<'_>, BlockSet), DirFault>
 
 /// The blocks that are owned, of a sound image. It takes no memory.
 ///
-/// Refused with `WrongCounts` where a track's count of free blocks isn't the number of its blocks that the map marks
-/// free; then as `owned` is; and then with `MarkedFree` where the map marks a block free that is owned.
+/// Refused with `WrongCounts` where a track's count of free blocks isn't the number of its blocks
+/// that the map marks free; then as `owned` is; and then with `MarkedFree` where the map marks a
+/// block free that is owned.
 pub fn check(image: &Image) -> Result<BlockSet, DirFault>
     ensures verdict { MatchResult result (λ blocks. AllHold image.now 1 6 × (blocks ≡ set.from_list (owned_blocks image.now))) (IsFirstFault image.now 1 6) }
     ensures first { err_of result ≡ first_fault image.now sound_conditions }
@@ -86,8 +89,8 @@ fn blocks_of(image: &Image, entry: &Entry) -> BlockSet
     }
 }
 
-/// The blocks that a slot of a sound image owns: those of its chain and of its side chain, and none where it owns nothing
-/// or isn't there. It takes no memory.
+/// The blocks that a slot of a sound image owns: those of its chain and of its side chain, and none
+/// where it owns nothing or isn't there. It takes no memory.
 ///
 /// The caller knows that `check` accepts the image.
 pub fn slot_blocks(image: &Image, slot: SlotNo) -> BlockSet

@@ -1,9 +1,10 @@
-//! The writers of files: their entries in the directory, and their chains of blocks (the VICE manual, "The D64 disk image
-//! format").
+//! The writers of files: their entries in the directory, and their chains of blocks (the VICE
+//! manual, "The D64 disk image format").
 //!
-//! They write through a patch, which keeps the blocks that they replace: the image with the patch put back stays the
-//! same. They are refused where there is no memory to keep what stood there. Then some blocks may be written, and the
-//! image with the patch put back is still the one from before.
+//! They write through a patch, which keeps the blocks that they replace: the image with the patch
+//! put back stays the same. They are refused where there is no memory to keep what stood there.
+//! Then some blocks may be written, and the image with the patch put back is still the one from
+//! before.
 ghost use Rattle.std.specs.Prelude.{◌≡◌, ◌≢◌, ◌+◌, ◌*◌, ◌<◌, ◌≤◌, [], length, OnOk};
 ghost use Rattle.d64_image.specs.Image.{sector_at};
 ghost use Rattle.d64_image.specs.Patch.{IsPatchOf, back};
@@ -27,18 +28,20 @@ const DATA_BYTES: usize = BLOCK_BYTES - 2;
 /// The bit of the type byte that says that a file is closed.
 const CLOSED: u8 = 0x80;
 
-/// How many bytes of an entry stand between its name and its size: those of a REL file's side blocks and records, and
-/// others without a use here.
+/// How many bytes of an entry stand between its name and its size: those of a REL file's side
+/// blocks and records, and others without a use here.
 const SIDE_BYTES: usize = 9;
 
-/// How many blocks a file of so many bytes takes: as few as hold them, 254 bytes a block, and at least one.
+/// How many blocks a file of so many bytes takes: as few as hold them, 254 bytes a block, and at
+/// least one.
 pub fn blocks_for(bytes: usize) -> usize
     ensures { result ≡ blocks_for bytes }
 {
     bytes.div_ceil(DATA_BYTES).max(1)
 }
 
-/// Writes the entry of a closed file into a block of the directory, from the type byte of its slot on.
+/// Writes the entry of a closed file into a block of the directory, from the type byte of its slot
+/// on.
 fn write_entry(
     block: &mut [u8; BLOCK_BYTES],
     start: usize,
@@ -72,12 +75,12 @@ pub struct ClosedFile<'n> {
     pub blocks: u16,
 }
 
-/// Writes the entry of a closed file into one of the eight slots of a block of the directory, which the image has, which are counted from 0:
-/// its kind, its first block, its name, no side blocks, and the size in blocks that the directory shows. Every other
-/// byte of the image stays.
+/// Writes the entry of a closed file into one of the eight slots of a block of the directory, which
+/// the image has, which are counted from 0: its kind, its first block, its name, no side blocks,
+/// and the size in blocks that the directory shows. Every other byte of the image stays.
 ///
-/// Refused where there is no memory to keep what stood there: the image with the patch put back is still the one from
-/// before.
+/// Refused where there is no memory to keep what stood there: the image with the patch put back is
+/// still the one from before.
 pub fn put_entry_at(
     image: &mut Image,
     patch: &mut Patch,
@@ -104,12 +107,12 @@ pub fn put_entry_at(
     patch.write(image, block, &bytes)
 }
 
-/// Writes the entry of a closed file into a slot of the directory: its kind, its first block, its name, no side blocks,
-/// and the size in blocks that the directory shows. The first two bytes of the slot stay, and so does every other byte
-/// of the image.
+/// Writes the entry of a closed file into a slot of the directory: its kind, its first block, its
+/// name, no side blocks, and the size in blocks that the directory shows. The first two bytes of
+/// the slot stay, and so does every other byte of the image.
 ///
-/// Refused where there is no memory to keep what stood there: the image with the patch put back is still the one from
-/// before. The caller knows that the directory has that slot.
+/// Refused where there is no memory to keep what stood there: the image with the patch put back is
+/// still the one from before. The caller knows that the directory has that slot.
 pub fn put_entry(
     image: &mut Image,
     patch: &mut Patch,
@@ -136,7 +139,8 @@ pub fn put_entry(
     put_entry_at(image, patch, block, index, &file)
 }
 
-/// A block of a file that another one follows: the link to that one, and the first 254 of the bytes.
+/// A block of a file that another one follows: the link to that one, and the first 254 of the
+/// bytes.
 fn linked_block(next: BlockNo, bytes: &[u8]) -> [u8; BLOCK_BYTES]
     requires { 254 ≤ length bytes.now }
     ensures { result ≡ linked_block next bytes.now }
@@ -158,10 +162,12 @@ fn last_block(bytes: &[u8]) -> [u8; BLOCK_BYTES]
     block
 }
 
-/// Writes the data of a file into blocks of the image, each linked to the next. No other block changes.
+/// Writes the data of a file into blocks of the image, each linked to the next. No other block
+/// changes.
 ///
-/// Refused where there is no memory to keep what stood there: then some blocks may be written, and the image with the
-/// patch put back is still the one from before. The caller knows that there are as many blocks as the file takes.
+/// Refused where there is no memory to keep what stood there: then some blocks may be written, and
+/// the image with the patch put back is still the one from before. The caller knows that there are
+/// as many blocks as the file takes.
 pub fn put_chain(
     image: &mut Image,
     patch: &mut Patch,
@@ -204,11 +210,12 @@ fn linked_last(image: &Image, last: BlockNo, next: BlockNo) -> [u8; BLOCK_BYTES]
     bytes
 }
 
-/// Appends a block of the image to the directory: the last one's link names it, and its eight slots are empty. No other byte of the
-/// image changes.
+/// Appends a block of the image to the directory: the last one's link names it, and its eight slots
+/// are empty. No other byte of the image changes.
 ///
-/// Refused where there is no memory to keep what stood there: then the link may be written, and the image with the
-/// patch put back is still the one from before. The caller knows which block is the last one.
+/// Refused where there is no memory to keep what stood there: then the link may be written, and the
+/// image with the patch put back is still the one from before. The caller knows which block is the
+/// last one.
 pub fn grow_after(
     image: &mut Image,
     patch: &mut Patch,
@@ -225,7 +232,8 @@ pub fn grow_after(
     patch.write(image, new, &empty_directory())
 }
 
-/// Appends a block to the directory, as `grow_after` does after its last block, and refused as there.
+/// Appends a block to the directory, as `grow_after` does after its last block, and refused as
+/// there.
 ///
 /// The caller knows that there is a directory.
 pub fn grow(image: &mut Image, patch: &mut Patch, new: BlockNo) -> Result<(), AllocError>

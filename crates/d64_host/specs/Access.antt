@@ -11,8 +11,9 @@ for_group mode = mode / 0o10 % 0o10
 abbrev pub for_others : ℕ → ℕ
 for_others mode = mode % 0o10
 
--- the mode of a file that stands for one of this mode: the nine bits of who may use it, and no other, as those that give
--- a program its owner's rights; under another group, that one and all others may do what both could do before
+-- the mode of a file that stands for one of this mode: the nine bits of who may use it, and no
+-- other, as those that give a program its owner's rights; under another group, that one and all
+-- others may do what both could do before
 abbrev pub kept_mode : ℕ → Bool → ℕ
 kept_mode mode has_group =
     if has_group then mode % 0o1000 else for_owner mode * 0o100 + bit_and (for_group mode) (for_others mode) * 0o11

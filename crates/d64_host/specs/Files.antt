@@ -4,12 +4,13 @@ use Rattle.std.specs.Ordering.{nat_cmp}
 use Rattle.std.specs.Cmp.Lexicographic.{slice_cmp}
 use Rattle.std.specs.FinMap.{FinMap}
 
--- a host's files: from names, as the bytes of their texts, to the files' bytes; a folder stands among them as in archives, as a file
--- of no bytes whose name ends with a slash
+-- a host's files: from names, as the bytes of their texts, to the files' bytes; a folder stands
+-- among them as in archives, as a file of no bytes whose name ends with a slash
 abbrev pub Files : Type 0
 Files = FinMap (slice_cmp nat_cmp) (List ℕ)
 
--- what a host shows: its files, where it tells them, and how many of its calls failed, up to the greatest number that it can count to
+-- what a host shows: its files, where it tells them, and how many of its calls failed, up to the
+-- greatest number that it can count to
 pub record HostState : Type 0 where
   pub files : Option Files
   pub failures : ℕ

@@ -7,7 +7,8 @@ use Rattle.d64_host.specs.Host.{one_more_failure}
 use Rattle.d64_host.specs.declared.host.FolderFault.{FolderFault}
 use Rattle.d64_host.specs.declared.host.FolderFault.TheVariants.{Exists, Device}
 
--- the name that stands for a folder among a host's files, as in archives: its path and a slash, with no bytes
+-- the name that stands for a folder among a host's files, as in archives: its path and a slash,
+-- with no bytes
 abbrev pub folder_name : List ℕ → List ℕ
 folder_name path = path ++ 47 ∷ []
 
@@ -36,8 +37,9 @@ abbrev pub with_moved : List ℕ → List ℕ → Files → Files
 with_moved from to files =
     fold (λ all entry. insert all (moved_name (folder_name from) (folder_name to) entry.0) entry.1) empty (entries files)
 
--- what a host may answer to a call that makes something new at a path, and the files then, where it tells them: accepted, nothing was
--- there, and they are changed so; refused, something was there, or the device failed, and they are as before
+-- what a host may answer to a call that makes something new at a path, and the files then, where it
+-- tells them: accepted, nothing was there, and they are changed so; refused, something was there,
+-- or the device failed, and they are as before
 abbrev pub Makes : {A : Type 0} → (Files → Files) → Option Files → List ℕ → Result A FolderFault → Option Files → Type 0
 Makes change files path (Ok done) after = IfSome files (λ all. is_at all path ≡ false) × (after ≡ option_map change files)
 Makes change files path (Err Exists) after = IfSome files (λ all. is_at all path ≡ true) × (after ≡ files)
@@ -48,6 +50,7 @@ abbrev pub failures_after_making : {A : Type 0} → ℕ → Result A FolderFault
 failures_after_making count (Err Device) = one_more_failure count
 failures_after_making count answer = count
 
--- the count of failures rises by one exactly where such a call answers the device's fault, up to its greatest value
+-- the count of failures rises by one exactly where such a call answers the device's fault, up to
+-- its greatest value
 abbrev pub CountsMaking : {A : Type 0} → ℕ → ℕ → Result A FolderFault → Type 0
 CountsMaking before after answer = after ≡ failures_after_making before answer

@@ -23,7 +23,8 @@ filled (Ok done) bytes = Ok bytes.items
 filled (Err fault) bytes = Err fault
 
 -- what a fetch of a name may answer where these are the files: the file, of at most `limit` bytes;
--- that it is not there; that it is longer; and in place of any of these the device's fault or want of memory
+-- that it is not there; that it is longer; and in place of any of these the device's fault or want
+-- of memory
 abbrev pub FetchesOf : Files → List ℕ → ℕ → Result (List ℕ) HostFault → Type 0
 FetchesOf files name limit (Ok bytes) = (get files name ≡ Some bytes) × (length bytes ≤ limit)
 FetchesOf files name limit (Err Missing) = get files name ≡ None
@@ -31,7 +32,8 @@ FetchesOf files name limit (Err TooLong) = IsSomeAnd (get files name) (λ bytes.
 FetchesOf files name limit (Err Device) = ⊤
 FetchesOf files name limit (Err (Memory error)) = ⊤
 
--- what a host may answer to a fetch: where it tells nothing, an accepted one has at most `limit` bytes
+-- what a host may answer to a fetch: where it tells nothing, an accepted one has at most `limit`
+-- bytes
 abbrev pub Fetches : Option Files → List ℕ → ℕ → Result (List ℕ) HostFault → Type 0
 Fetches (Some files) name limit answer = FetchesOf files name limit answer
 Fetches None name limit (Ok bytes) = length bytes ≤ limit
@@ -42,8 +44,8 @@ abbrev pub opened : {F : Type 0} → (F → Option (List ℕ)) → Result F Host
 opened remaining (Ok file) = Ok (remaining file)
 opened remaining (Err fault) = Err fault
 
--- what an opening of a name may answer where these are the files: all bytes of the file, which it tells; that it is not
--- there; and in place of either the device's fault or want of memory
+-- what an opening of a name may answer where these are the files: all bytes of the file, which it
+-- tells; that it is not there; and in place of either the device's fault or want of memory
 abbrev pub OpensOf : Files → List ℕ → Result (Option (List ℕ)) HostFault → Type 0
 OpensOf files name (Ok rest) = IsSomeAnd rest (λ bytes. get files name ≡ Some bytes)
 OpensOf files name (Err Missing) = get files name ≡ None
@@ -63,8 +65,9 @@ IsOfDeviceOrMemory (Memory error) = ⊤
 IsOfDeviceOrMemory Missing = ⊥
 IsOfDeviceOrMemory TooLong = ⊥
 
--- what a host may answer to a store, and the files then, where it tells them: accepted, the named file alone has the
--- new bytes; refused, by the device's fault or for want of memory, no file has changed
+-- what a host may answer to a store, and the files then, where it tells them: accepted, the named
+-- file alone has the new bytes; refused, by the device's fault or for want of memory, no file has
+-- changed
 abbrev pub Stores : {A : Type 0} → Option Files → List ℕ → List ℕ → Result A HostFault → Option Files → Type 0
 Stores files name bytes (Ok done) after = after ≡ option_map (λ all. insert all name bytes) files
 Stores files name bytes (Err fault) after = (after ≡ files) × IsOfDeviceOrMemory fault
@@ -78,8 +81,8 @@ abbrev pub failures_after : {A : Type 0} → ℕ → Result A HostFault → ℕ
 failures_after count (Err Device) = one_more_failure count
 failures_after count answer = count
 
--- the count of failures never falls, and rises by one exactly where the device's fault is answered, up to its greatest
--- value
+-- the count of failures never falls, and rises by one exactly where the device's fault is answered,
+-- up to its greatest value
 abbrev pub CountsDevice : {A : Type 0} → ℕ → ℕ → Result A HostFault → Type 0
 CountsDevice before after answer = after ≡ failures_after before answer
 

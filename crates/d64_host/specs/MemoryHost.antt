@@ -7,8 +7,8 @@ use Rattle.d64_host.specs.Host.{one_more_failure}
 use Rattle.d64_host.specs.declared.host.HostFault.{HostFault}
 use Rattle.d64_host.specs.declared.host.HostFault.TheVariants.{Missing, Device, TooLong}
 
--- what a host in memory is seen as: its files, the number of the call from now on that will fail, where 1 is the
--- next and 0 is none, and how many have failed
+-- what a host in memory is seen as: its files, the number of the call from now on that will fail,
+-- where 1 is the next and 0 is none, and how many have failed
 pub record MemoryFiles : Type 0 where
   pub files : Files
   pub countdown : ℕ
@@ -26,8 +26,8 @@ memory_files_code =
 abbrev pub files_of : {A B : Type 0} → List (String A × Vec ℕ B) → Files
 files_of entries = from_entries (map (λ entry. (string_bytes entry.0, entry.1.items)) entries)
 
--- what a fetch or a store does to a host beside the files: the countdown falls, and where it stood at 1 the call
--- fails, and the failures rise up to the greatest number of 64 bits
+-- what a fetch or a store does to a host beside the files: the countdown falls, and where it stood
+-- at 1 the call fails, and the failures rise up to the greatest number of 64 bits
 abbrev pub after_call : MemoryFiles → MemoryFiles
 after_call host = record host {
   countdown = host.countdown - 1;
@@ -48,7 +48,8 @@ file_refusal (Some bytes) limit = if nat_lt limit (length bytes) then Some TooLo
 abbrev pub fetch_refusal : MemoryFiles → List ℕ → ℕ → Option HostFault
 fetch_refusal host name limit = if host.countdown == 1 then Some Device else file_refusal (get host.files name) limit
 
--- why opening what stands under a name is refused, want of memory aside: the call that was to fail, or there is no file
+-- why opening what stands under a name is refused, want of memory aside: the call that was to fail,
+-- or there is no file
 abbrev pub open_refusal : MemoryFiles → List ℕ → Option HostFault
 open_refusal host name =
     if host.countdown == 1 then Some Device else if contains_key host.files name then None else Some Missing

@@ -1,8 +1,8 @@
 -- A file that is replaced by a new one beside it, step by step.
 use Rattle.std.specs.Prelude.{◌≡◌, Bool, true, false, ℕ, List, Option, Some, None, option_map, unwrap_or, IsSome}
 
--- a file that is to be replaced, as the system has it: the bytes that its name stands for, those of the new file beside
--- it, where there is one, and whether the new file's bytes are on the disk
+-- a file that is to be replaced, as the system has it: the bytes that its name stands for, those of
+-- the new file beside it, where there is one, and whether the new file's bytes are on the disk
 pub record Place : Type 0 where
   pub content : List ℕ
   pub beside : Option (List ℕ)

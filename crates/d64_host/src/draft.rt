@@ -7,8 +7,8 @@ use crate::host::HostFault;
 
 /// A new file beside the one that it is to replace.
 ///
-/// A draft may tell a proof what the system holds, as one made for tests does, or tell nothing, as one
-/// over a disk.
+/// A draft may tell a proof what the system holds, as one made for tests does, or tell nothing, as
+/// one over a disk.
 pub trait Draft {
     // The file and what stands beside it, where the draft tells them.
     ghost place: { Self → Option Place };

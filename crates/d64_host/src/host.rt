@@ -28,7 +28,8 @@ pub enum HostFault {
 }
 
 impl HostFault {
-    /// The number by which answers name the fault: 1 missing, 2 device, 3 too long, 4 out of memory.
+    /// The number by which answers name the fault: 1 missing, 2 device, 3 too long, 4 out of
+    /// memory.
     pub fn number(self) -> u8
         ensures { result ≡ fault_number self }
     {
@@ -44,10 +45,12 @@ impl HostFault {
 /// Why a host makes no new file or folder.
 #[derive(Clone, Copy, Debug, PartialEq, Eq, Error)]
 pub enum FolderFault {
-    /// Something is at the path already: a file, a folder, or a link, also one that leads to nothing.
+    /// Something is at the path already: a file, a folder, or a link, also one that leads to
+    /// nothing.
     #[error("is there already")]
     Exists,
-    /// The system beneath the host failed, as where the folder of the new one is missing, or a disk is full.
+    /// The system beneath the host failed, as where the folder of the new one is missing, or a disk
+    /// is full.
     #[error("cannot be written")]
     Device,
 }
@@ -70,45 +73,48 @@ pub trait Host {
         ensures files_kept { (state self.new).files ≡ (state self.old).files }
         ensures counted { CountsDevice (state self.old).failures (state self.new).failures result };
 
-    /// Puts the bytes of the named file in the place of what `bytes` has, in the memory that it has, where that is enough. It is
-    /// refused as `fetch` is; `bytes` then has no content that is told.
+    /// Puts the bytes of the named file in the place of what `bytes` has, in the memory that it
+    /// has, where that is enough. It is refused as `fetch` is; `bytes` then has no content that is
+    /// told.
     fn fill(&mut self, name: &str, limit: usize, bytes: &mut Vec<u8>) -> Result<(), HostFault>
         ensures answer { Fetches (state self.old).files name.now limit (filled result bytes.new) }
         ensures files_kept { (state self.new).files ≡ (state self.old).files }
         ensures counted { CountsDevice (state self.old).failures (state self.new).failures result };
 
-    /// Opens the named file, to be read from its first byte on. `Missing` where there is no such file, and else only `Device` or
-    /// `Memory`. What is read is the file's, whatever becomes of the host.
+    /// Opens the named file, to be read from its first byte on. `Missing` where there is no such
+    /// file, and else only `Device` or `Memory`. What is read is the file's, whatever becomes of
+    /// the host.
     fn open(&mut self, name: &str) -> Result<Self::File, HostFault>
         ensures answer { Opens (state self.old).files name.now (opened Self.File.remaining result) }
         ensures files_kept { (state self.new).files ≡ (state self.old).files }
         ensures counted { CountsDevice (state self.old).failures (state self.new).failures result };
 
-    /// Makes these bytes the content of the named file, which need not be there. Refused, it answers
-    /// `Device` or `Memory` and, where the host tells its files, changes none of them.
+    /// Makes these bytes the content of the named file, which need not be there. Refused, it
+    /// answers `Device` or `Memory` and, where the host tells its files, changes none of them.
     fn store(&mut self, alloc: Global, name: &str, bytes: &[u8]) -> Result<(), HostFault>
         ensures stored { Stores (state self.old).files name.now bytes.now result (state self.new).files }
         ensures counted { CountsDevice (state self.old).failures (state self.new).failures result };
 
-    /// Whether something is at this path: a file, a folder, or a link, also one that leads to nothing. Where the system does not
-    /// say, nothing is.
+    /// Whether something is at this path: a file, a folder, or a link, also one that leads to
+    /// nothing. Where the system does not say, nothing is.
     fn is_there(&self, path: &str) -> bool
         ensures answer { Looks (state self.now).files path.now result };
 
-    /// Makes a folder. It is refused where something is at the path already, and by the device, as where the folder around it is
-    /// missing.
+    /// Makes a folder. It is refused where something is at the path already, and by the device, as
+    /// where the folder around it is missing.
     fn make_folder(&mut self, path: &str) -> Result<(), FolderFault>
         ensures made { Makes (with_folder path.now) (state self.old).files path.now result (state self.new).files }
         ensures counted { CountsMaking (state self.old).failures (state self.new).failures result };
 
-    /// Makes a file of these bytes. It is refused as `make_folder` is; where its writing fails, it is taken away again, as far as
-    /// the system lets it.
+    /// Makes a file of these bytes. It is refused as `make_folder` is; where its writing fails, it
+    /// is taken away again, as far as the system lets it.
     fn make_file(&mut self, path: &str, bytes: &[u8]) -> Result<(), FolderFault>
         ensures made { Makes (with_file path.now bytes.now) (state self.old).files path.now result (state self.new).files }
         ensures counted { CountsMaking (state self.old).failures (state self.new).failures result };
 
-    /// Gives a folder, with all that is in it, another path, in one step. It is refused as `make_folder` is. On a system an empty
-    /// folder that others make at the new path at that very moment is replaced.
+    /// Gives a folder, with all that is in it, another path, in one step. It is refused as
+    /// `make_folder` is. On a system an empty folder that others make at the new path at that very
+    /// moment is replaced.
     fn rename_folder(&mut self, from: &str, to: &str) -> Result<(), FolderFault>
         ensures was { OnOk result (IfSome (state self.old).files (λ all. contains_key all (folder_name from.now) ≡ true)) }
         ensures made { Makes (with_moved from.now to.now) (state self.old).files to.now result (state self.new).files }

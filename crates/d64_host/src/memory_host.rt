@@ -11,8 +11,8 @@ use std::alloc::{AllocError, Global};
 use std::collections::{BTreeMap, VecDeque};
 use std::marker::Model;
 
-/// Files in memory, by name. One of its calls can be made to fail, as a disk would. A folder is a file of no bytes whose name ends with a
-/// slash; a file needs none around it.
+/// Files in memory, by name. One of its calls can be made to fail, as a disk would. A folder is a
+/// file of no bytes whose name ends with a slash; a file needs none around it.
 #[derive(Drop)]
 pub struct MemoryHost {
     alloc: Global,
@@ -62,12 +62,14 @@ impl MemoryHost {
         self.entries.get(name).map(|bytes| bytes.as_slice())
     }
 
-    /// Makes the `k`-th call from now on, but for those that look, answer `Device` and change no file, where 1 is the
-    /// next; none where `k` is 0. It takes the place of what an earlier call of this asked for.
+    /// Makes the `k`-th call from now on, but for those that look, answer `Device` and change no
+    /// file, where 1 is the next; none where `k` is 0. It takes the place of what an earlier call
+    /// of this asked for.
     pub fn fail_at(&mut self, k: u64)
         ensures countdown { self.new ≡ record self.old { countdown = k } }
 
-        // After any number of fetches and stores, the next one is to fail exactly if it is the k-th.
+        // After any number of fetches and stores, the next one is to fail exactly if it is the
+        // k-th.
         ensures exactly { (calls : ℕ) → (countdown_after calls self.new.countdown ≡ 1) ↔ (calls + 1 ≡ k) }
     {
         self.countdown = k;
@@ -86,7 +88,8 @@ impl MemoryHost {
         fails
     }
 
-    /// Counts a call that makes something new at this path, and refuses it where it is the one to fail, or something is there.
+    /// Counts a call that makes something new at this path, and refuses it where it is the one to
+    /// fail, or something is there.
     fn begin_making(&mut self, path: &str) -> Result<(), FolderFault>
         ensures due { self.old.countdown ≡ 1 → result ≡ Err FolderFault.Device }
         ensures countdown { self.new.countdown ≡ self.old.countdown - 1 }

@@ -20,8 +20,8 @@ pub fn make_folder<R: Files>(rt: &R, path: &str) -> Result<(), FolderFault> {
     fs::create_dir(rt, path).map_err(|error| entry_fault(error.kind()))
 }
 
-/// Makes a file of these bytes, where the limit lets a file have so many, or takes it away again where its writing
-/// fails. It waits for no disk.
+/// Makes a file of these bytes, where the limit lets a file have so many, or takes it away again
+/// where its writing fails. It waits for no disk.
 pub fn make_file<R: Files>(
     rt: &R,
     limit: SizeLimit,
@@ -40,7 +40,8 @@ pub fn make_file<R: Files>(
     Ok(())
 }
 
-/// Gives a folder another path, where nothing is at that. The system itself would put it in the place of an empty folder.
+/// Gives a folder another path, where nothing is at that. The system itself would put it in the
+/// place of an empty folder.
 pub fn rename_folder<R: Files>(rt: &R, from: &str, to: &str) -> Result<(), FolderFault> {
     if is_there(rt, to) {
         return Err(FolderFault::Exists);

@@ -7,7 +7,8 @@ ghost use Rattle.std.specs.IoError.{error_kind};
 
 use std::io::{self, ErrorKind, Read, Write};
 
-/// A reader that reads again where a read is interrupted, or a writer that writes again where a write is.
+/// A reader that reads again where a read is interrupted, or a writer that writes again where a
+/// write is.
 #[derive(Drop)]
 pub struct Retrying<R>(pub R);
 

@@ -180,7 +180,8 @@ kept_records records taken all digest within ends next =
     subst (λ (all_names : List (List ℕ)). All (IsRecord all_names) (records ++ taken ∷ [])) (sym (kept_names records taken))
     (All-push (IsRecord names) records taken (All-weaker (IsRecord (names_of records)) (IsRecord names) (still_record (names_of records) name) records all) new)
 
--- once a name is kept that is the first free one, the names up to it that are made of a record are taken
+-- once a name is kept that is the first free one, the names up to it that are made of a record are
+-- taken
 pub tried_all : (records : List Taken) (name new : List ℕ) (stem_len place : ℕ) (d : Taken) (ending : Ending) (is_part : Bool)
     → AreRecords records → stem_len ≤ length name → drop stem_len name ≡ tail ending is_part → place < length records
     → is_same_name (get_or records place d).name.items name ≡ true

@@ -78,7 +78,8 @@ is_reserved name = list_any (is_same_name name) devices || is_port name
 abbrev pub unreserved : List ℕ → List ℕ
 unreserved name = if is_reserved (before_dot name) then underscore ∷ name else name
 
--- what the host name of a file begins with whose name is this text: the rules are applied one after another
+-- what the host name of a file begins with whose name is this text: the rules are applied one after
+-- another
 unfoldable pub stem : List ℕ → List ℕ
 stem text = unreserved (filled (closed (shown (allowed text))))
 
@@ -98,7 +99,8 @@ part_text is_part = if is_part then codes ".part" else []
 unfoldable pub tail : Ending → Bool → List ℕ
 tail ending is_part = ending_text ending ++ part_text is_part
 
--- what stands before the ending of the name that is tried in this place: of the first one nothing, then ` (2)`, ` (3)` and so on
+-- what stands before the ending of the name that is tried in this place: of the first one nothing,
+-- then ` (2)`, ` (3)` and so on
 unfoldable pub mark : ℕ → List ℕ
 mark number = if number == 1 then [] else codes " (" ++ (decimal number ++ codes ")")
 

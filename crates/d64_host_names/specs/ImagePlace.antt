@@ -1,4 +1,5 @@
--- Where the files of an image go: folders below the one that is asked for, and in the last of them a folder of their own.
+-- Where the files of an image go: folders below the one that is asked for, and in the last of them
+-- a folder of their own.
 use Rattle.std.specs.Prelude.{ℕ, ◌-◌, ◌==◌, not, Bool, List, [], ◌∷◌, ◌++◌, length, take, filter, slice_index_or, codes}
 use Rattle.std.specs.List.{list_any, slice_split}
 use Rattle.std.specs.Str.{bytes_eq}

@@ -10,7 +10,8 @@ use Rattle.d64_host_names.specs.ImagePlace.{folders_of, image_name, partial_name
 abbrev pub AreCounted : List (List ℕ) → Type 0
 AreCounted taken = length taken + 1 < 2 ^ 64
 
--- a name that names something in the folder that it stands in: it isn't empty, `.` or `..`, and has no `/`
+-- a name that names something in the folder that it stands in: it isn't empty, `.` or `..`, and has
+-- no `/`
 pub record StaysInFolder (name : List ℕ) : Type 0 where
   pub some : name ≢ []
   pub not_here : name ≢ codes "."

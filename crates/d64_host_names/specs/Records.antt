@@ -19,7 +19,8 @@ abbrev pub AreTried : List (List ℕ) → Taken → ℕ → Type 0
 AreTried names taken next = (number : ℕ) → 1 ≤ number → number < next
     → is_taken names (numbered (take taken.stem_len taken.name.items) (drop taken.stem_len taken.name.items) number) ≡ true
 
--- what a record says of a name: its digest, where its ending begins, and up to which number the names that are made of it are taken
+-- what a record says of a name: its digest, where its ending begins, and up to which number the
+-- names that are made of it are taken
 pub record IsRecord (names : List (List ℕ)) (taken : Taken) : Type 0 where
   pub digest : taken.digest ≡ digest_of taken.name.items
   pub within : taken.stem_len ≤ length taken.name.items

@@ -12,7 +12,8 @@ is_taken taken name = list_any (is_same_name name) taken
 abbrev pub is_free : List (List ℕ) → List ℕ → List ℕ → ℕ → Bool
 is_free taken front back number = not (is_taken taken (numbered front back number))
 
--- the place of the first name that is not taken: where the first ones, as many as are taken, all are, it is the next one
+-- the place of the first name that is not taken: where the first ones, as many as are taken, all
+-- are, it is the next one
 unfoldable pub first_free : List (List ℕ) → List ℕ → List ℕ → ℕ
 first_free taken front back = unwrap_or (find (is_free taken front back) (range_with_len 1 (length taken))) (length taken + 1)
 

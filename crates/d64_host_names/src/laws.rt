@@ -1,8 +1,8 @@
 //! Laws of names and folders: empty functions, whose contracts are the laws.
 ghost use Rattle.d64_host_names.specs.Laws.{NamesStayInTheirFolder, NamesAreTakenByHosts, NamesArePrinted, NamesKeepTheirEnding, NamesAreFree, NoTwoNamesAreTheSame, FoldersLeadDown, ImagesStayInTheirFolder};
 
-/// Each name of a file names something in the folder that it stands in, and each host takes it. It is printed ASCII
-/// where the text is that it is made of, as each text form is.
+/// Each name of a file names something in the folder that it stands in, and each host takes it. It
+/// is printed ASCII where the text is that it is made of, as each text form is.
 #[inline]
 pub fn names_are_safe()
     ensures stays { NamesStayInTheirFolder }

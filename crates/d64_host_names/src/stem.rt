@@ -93,7 +93,8 @@ fn first_dot(name: &[u8]) -> Option<usize>
     name.iter().position(|byte| *byte == b'.')
 }
 
-/// Puts what the host name of a file with this name in text form begins with in the place of the name.
+/// Puts what the host name of a file with this name in text form begins with in the place of the
+/// name.
 #[tactic(auto, unfolding(crate::specs::HostName::stem))]
 pub(crate) fn put_stem(name: &mut Vec<u8>, text: &[u8]) -> Result<(), AllocError>
     ensures { OnOk result (name.new.items ≡ stem text.now) }

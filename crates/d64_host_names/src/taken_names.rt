@@ -24,8 +24,8 @@ pub(crate) struct Taken {
     next: usize,
 }
 
-/// The names that the files of an image got so far, in order. No two are the same, small and capital letters taken as
-/// one.
+/// The names that the files of an image got so far, in order. No two are the same, small and
+/// capital letters taken as one.
 #[derive(Drop)]
 pub struct TakenNames {
     alloc: Global,
@@ -61,10 +61,12 @@ impl TakenNames {
         self.names.clear();
     }
 
-    /// Puts the host name of the next file, whose name in text form is this text, in the place of `name`: the first one
-    /// that is not taken. It is taken from then on. The work is that of looking at each taken name two or three times.
+    /// Puts the host name of the next file, whose name in text form is this text, in the place of
+    /// `name`: the first one that is not taken. It is taken from then on. The work is that of
+    /// looking at each taken name two or three times.
     ///
-    /// An `Err` comes only where there is no memory for the name. It is not taken then, and `name` is any bytes.
+    /// An `Err` comes only where there is no memory for the name. It is not taken then, and `name`
+    /// is any bytes.
     pub fn take(
         &mut self,
         text: &[u8],
@@ -138,7 +140,8 @@ fn has_name(taken: &Taken, digest: u32, name: &[u8]) -> bool
     taken.digest == digest && taken.name.eq_ignore_ascii_case(name)
 }
 
-/// The number from which on a name may be free that is made of the one at this place; 1 where there is none.
+/// The number from which on a name may be free that is made of the one at this place; 1 where there
+/// is none.
 fn first_number(names: &[Taken], found: Option<usize>) -> usize
     requires { IfSome found (λ place. place < length names.now) }
     ensures { MatchOption found (result ≡ 1) (λ place. HoldsAt (λ taken. result ≡ taken.next) names.now place) }
@@ -174,7 +177,8 @@ fn keep(
     Ok(())
 }
 
-/// Notes that the names with numbers below this one that are made of the name at this place are taken.
+/// Notes that the names with numbers below this one that are made of the name at this place are
+/// taken.
 fn pass(names: &mut [Taken], place: usize, next: usize)
     requires within { place < length names.old }
     requires records { AreRecords names.old }
@@ -186,7 +190,8 @@ fn pass(names: &mut [Taken], place: usize, next: usize)
     names[place].next = next;
 }
 
-/// Puts the first name in the place of `name` that is free, from this number on, and tells its number.
+/// Puts the first name in the place of `name` that is free, from this number on, and tells its
+/// number.
 fn put_free(
     names: &[Taken],
     name: &mut Vec<u8>,

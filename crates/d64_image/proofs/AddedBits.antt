@@ -99,7 +99,8 @@ outside first bits block fit other beyond =
           ap₂ (λ (b : Bool) (n : ℕ). b && nat_eq n 1) (let e : true ≡ leb first block = grind (arith, nat_tests) in e) (sym none)
     ]
 
--- of the bits that are shifted to the place of the first block, one word has some and the next one the others
+-- of the bits that are shifted to the place of the first block, one word has some and the next one
+-- the others
 in_two_words : (first bits block : ℕ) → bits < 2 ^ 32
     → ((nat_eq (block / 32) (first / 32) && nat_eq (bit_at (bits * 2 ^ (first % 32) % 2 ^ 32) (block % 32)) 1)
     || (nat_eq (block / 32) (first / 32 + 1) && nat_eq (bit_at (bits * 2 ^ (first % 32) / 2 ^ 32) (block % 32)) 1))

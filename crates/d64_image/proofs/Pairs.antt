@@ -12,7 +12,8 @@ use Rattle.d64_image.specs.Zone.{LiesIn}
 use Rattle.d64_image.specs.declared.block.Zone.{Zone}
 use Rattle.d64_image.proofs.Zones.{equal_below, Placed, placed, counted_below}
 
--- on the tracks up to n, the pair of a track and a sector stands after the pairs of the tracks before it
+-- on the tracks up to n, the pair of a track and a sector stands after the pairs of the tracks
+-- before it
 get_or-tracks : (n i s : ℕ) → i < n → s < sectors_on (1 + i)
     → get_or (flat_map pairs_on (range_with_len 1 n)) (length (flat_map pairs_on (take i (range_with_len 1 n))) + s) (0, 0) ≡ (1 + i, s)
 get_or-tracks n i s h k =

@@ -360,7 +360,8 @@ trimmed-from (suc n) low high (entry ∷ patch) before after e r held others = e
       (λ b h a. others b (omega arith) ((λ same. absurd (omega arith)), a)))
 ]
 
--- the patch after a trim has the blocks in which the image differs from the one with the patch put back
+-- the patch after a trim has the blocks in which the image differs from the one with the patch put
+-- back
 pub trimmed-changed : (patch : Kept) (image : List (List ℕ)) → RisesBetween 0 (length image) patch → trimmed image patch ≡ changed (back image patch) image
 unfolding changed with_bytes differ
 trimmed-changed patch image r =

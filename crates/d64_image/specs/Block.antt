@@ -11,7 +11,8 @@ sectors_on track =
 abbrev pub pairs_on : ℕ → List (ℕ × ℕ)
 pairs_on track = map (λ sector. (track, sector)) (range_with_len 0 (sectors_on track))
 
--- the pairs of track and sector that a disk may have: track by track from 1 to 40, on each track by sector from 0
+-- the pairs of track and sector that a disk may have: track by track from 1 to 40, on each track by
+-- sector from 0
 unfoldable pub pairs : List (ℕ × ℕ)
 pairs = flat_map pairs_on (range_with_len 1 40)
 

@@ -10,7 +10,8 @@ use Rattle.d64_image.specs.declared.block.TheConstants.{BLOCKS}
 abbrev pub BlockSet : Type 0
 BlockSet = set.FinSet nat_cmp
 
--- whether a block is marked: each word has the bits of 32 blocks, the lowest bit for the first of them
+-- whether a block is marked: each word has the bits of 32 blocks, the lowest bit for the first of
+-- them
 abbrev pub is_marked : List ℕ → ℕ → Bool
 is_marked words block = bit_at (slice_index words (block / 32)) (block % 32) == 1
 

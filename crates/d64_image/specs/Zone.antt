@@ -3,7 +3,8 @@ use Rattle.std.specs.Prelude.{◌≡◌, ℕ, ◌+◌, ◌-◌, ◌*◌, ◌<◌
 use Rattle.d64_image.specs.Block.{sectors_on, first_block}
 use Rattle.d64_image.specs.declared.block.Zone.{Zone}
 
--- a track lies in a zone: it has the zone's number of sectors, and the zone's tracks before it have as many blocks as lie between
+-- a track lies in a zone: it has the zone's number of sectors, and the zone's tracks before it have
+-- as many blocks as lie between
 pub record LiesIn (zone : Zone) (track : ℕ) : Type 0 where
   pub starts : zone.first_track ≤ track
   pub within : track < 41

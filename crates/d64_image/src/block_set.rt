@@ -101,7 +101,8 @@ impl BlockSet {
         bits_within(word, next, first % WORD_BITS)
     }
 
-    /// For the contract alone, and does nothing: what each set is, which a caller knows only from the contract of a call.
+    /// For the contract alone, and does nothing: what each set is, which a caller knows only from
+    /// the contract of a call.
     pub fn known_members(&self)
         ensures { MembersAreBlocks self.now }
     {

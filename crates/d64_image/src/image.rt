@@ -31,8 +31,8 @@ pub enum ImageFault {
     Memory(AllocError),
 }
 
-/// The content of a disk: its blocks of 256 bytes, 683 on 35 tracks or 768 on 40, in one buffer. What is written to it goes
-/// through a `Patch`.
+/// The content of a disk: its blocks of 256 bytes, 683 on 35 tracks or 768 on 40, in one buffer.
+/// What is written to it goes through a `Patch`.
 #[derive(Debug, Drop)]
 pub struct Image {
     sectors: Vec<[u8; BLOCK_BYTES]>,
@@ -54,7 +54,8 @@ fn known_lengths(_sectors: &[[u8; BLOCK_BYTES]])
     ensures { All (λ sector. length sector ≡ BLOCK_BYTES) _sectors.now }
 {}
 
-/// For the contract alone, and does nothing: what each byte of a slice is, which a caller knows only from the contract of a call.
+/// For the contract alone, and does nothing: what each byte of a slice is, which a caller knows
+/// only from the contract of a call.
 pub fn known_bytes(_bytes: &[u8])
     ensures { All (λ byte. byte < 256) _bytes.now }
 {}
@@ -100,8 +101,8 @@ fn blank(alloc: Global, count: usize) -> Result<Vec<[u8; BLOCK_BYTES]>, AllocErr
 impl Image {
     ghost use Rattle.d64_image.specs.Lending.{LendsSector};
 
-    /// The image with these bytes, as they lie in a D64 file. Refused where they are neither 174,848, as of 35
-    /// tracks, nor 196,608, as of 40.
+    /// The image with these bytes, as they lie in a D64 file. Refused where they are neither
+    /// 174,848, as of 35 tracks, nor 196,608, as of 40.
     pub fn from_bytes(alloc: Global, bytes: &[u8]) -> Result<Image, ImageFault>
         ensures refused { wrong_length result ≡ (if is_image_length (length bytes.now) then None else Some (length bytes.now)) }
         ensures kept { IfOk result (λ image. bytes_of image ≡ bytes.now) }
@@ -113,8 +114,9 @@ impl Image {
         })
     }
 
-    /// Puts the image with these bytes, as `from_bytes` takes them, in the place of this one. Where that is refused the image is
-    /// as before. Memory is asked for only where the new image has more blocks than each one before it.
+    /// Puts the image with these bytes, as `from_bytes` takes them, in the place of this one. Where
+    /// that is refused the image is as before. Memory is asked for only where the new image has
+    /// more blocks than each one before it.
     pub fn refill(&mut self, bytes: &[u8]) -> Result<(), ImageFault>
         ensures refused { wrong_length result ≡ (if is_image_length (length bytes.now) then None else Some (length bytes.now)) }
         ensures filled { OnOk result (bytes_of self.new ≡ bytes.now) }
@@ -172,7 +174,8 @@ impl Image {
         bytes
     }
 
-    /// For the contract alone, and does nothing: what each image is, which a caller knows only from the contract of a call.
+    /// For the contract alone, and does nothing: what each image is, which a caller knows only from
+    /// the contract of a call.
     pub fn known_image(&self)
         ensures size { IsSize (length self.now) }
         ensures image { IsImage self.now }
@@ -192,7 +195,8 @@ impl Image {
         }
     }
 
-    /// Whether the image has a block: all of 35 tracks are in each image, and those of tracks 36 to 40 in one of 40 tracks.
+    /// Whether the image has a block: all of 35 tracks are in each image, and those of tracks 36 to
+    /// 40 in one of 40 tracks.
     pub fn holds(&self, block: BlockNo) -> bool
         ensures value { result ≡ nat_lt block (length self.now) }
         ensures size { IsSize (length self.now) }

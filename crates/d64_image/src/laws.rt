@@ -1,4 +1,5 @@
-//! Laws of blocks, images, patches and sets of blocks: each function's contract is a law, and its body is empty.
+//! Laws of blocks, images, patches and sets of blocks: each function's contract is a law, and its
+//! body is empty.
 //!
 //! A caller whose proof needs a law calls the function.
 ghost use Rattle.std.specs.Prelude.{◌≡◌, length};
@@ -8,7 +9,8 @@ ghost use Rattle.d64_image.specs.Laws.{EmptyPatchPutsNothingBack, ChangesPutBack
 ghost use Rattle.d64_image.specs.Laws.{DifferencesTell, AlikeImagesAreEqual, AlikeSetsAreEqual, SameMembersTells};
 ghost use Rattle.d64_image.specs.declared.block.TheConstants.{BLOCKS};
 
-/// Blocks and legal pairs of track and sector stand for one another, and an image has the blocks of its tracks.
+/// Blocks and legal pairs of track and sector stand for one another, and an image has the blocks of
+/// its tracks.
 pub fn blocks_stand_for_pairs()
     ensures count { length pairs ≡ BLOCKS }
     ensures pair { EachBlockHasItsPair }
@@ -29,7 +31,8 @@ pub fn alike_sets_are_equal()
     ensures test { SameMembersTells }
 {}
 
-/// The patch of all blocks that changed puts back the image from before, and an empty patch puts back nothing.
+/// The patch of all blocks that changed puts back the image from before, and an empty patch puts
+/// back nothing.
 pub fn changes_put_back()
     ensures empty { EmptyPatchPutsNothingBack }
     ensures back { ChangesPutBack }

@@ -1,7 +1,7 @@
 //! Disk images of the Commodore 1541 as blocks of 256 bytes.
 //!
-//! A D64 image is the plain copy of a disk of 35 or 40 tracks: its 683 or 768 blocks, track by track (the VICE manual,
-//! "The D64 disk image format"). Nothing here knows what the blocks mean.
+//! A D64 image is the plain copy of a disk of 35 or 40 tracks: its 683 or 768 blocks, track by
+//! track (the VICE manual, "The D64 disk image format"). Nothing here knows what the blocks mean.
 #![tactic(auto)]
 
 mod block;

@@ -10,10 +10,12 @@ use std::alloc::{AllocError, Global};
 use std::marker::Model;
 use std::mem;
 
-/// Blocks of an image that were written over, each once and ascending, with their 256 bytes from before.
+/// Blocks of an image that were written over, each once and ascending, with their 256 bytes from
+/// before.
 ///
-/// What writes to an image through a patch can be taken back: the image with the patch put back is the one from
-/// before. A patch that is exchanged with its image keeps the bytes from after, so that a second exchange redoes.
+/// What writes to an image through a patch can be taken back: the image with the patch put back is
+/// the one from before. A patch that is exchanged with its image keeps the bytes from after, so
+/// that a second exchange redoes.
 #[derive(Debug, Drop)]
 pub struct Patch {
     kept: Vec<(BlockNo, [u8; BLOCK_BYTES])>,
@@ -29,7 +31,8 @@ impl Model for Patch {
     ghost invariant = { λ patch. IsPatch patch.kept.items × HaveBlocks patch.kept.items };
 }
 
-/// Makes room for one more. Where there is none, room for one is asked for first, and then for as many again as there are.
+/// Makes room for one more. Where there is none, room for one is asked for first, and then for as
+/// many again as there are.
 fn make_room(kept: &mut Vec<(BlockNo, [u8; BLOCK_BYTES])>) -> Result<(), AllocError>
     ensures same { kept.new.items ≡ kept.old.items }
     ensures room { OnOk result (vec_len kept.new < vec_capacity kept.new) }
@@ -105,7 +108,8 @@ impl Patch {
         Ok(())
     }
 
-    /// Keeps a block that lies above all that are kept, with these bytes. Refused where there is no memory to keep them.
+    /// Keeps a block that lies above all that are kept, with these bytes. Refused where there is no
+    /// memory to keep them.
     pub fn push(&mut self, block: BlockNo, bytes: &[u8; BLOCK_BYTES]) -> Result<(), AllocError>
         requires above { RisesBetween 0 block self.old }
         ensures kept { OnOk result (self.new ≡ self.old ++ (block, bytes.now) ∷ []) }
@@ -117,9 +121,9 @@ impl Patch {
         Ok(())
     }
 
-    /// Writes a block that the image has, and keeps the bytes that stood there if the block isn't kept yet. Refused where
-    /// there is no memory to keep them: then the block wasn't kept, and neither image nor patch is changed. A block that
-    /// is kept already takes no memory.
+    /// Writes a block that the image has, and keeps the bytes that stood there if the block isn't
+    /// kept yet. Refused where there is no memory to keep them: then the block wasn't kept, and
+    /// neither image nor patch is changed. A block that is kept already takes no memory.
     pub fn write(
         &mut self,
         image: &mut Image,
@@ -142,7 +146,8 @@ impl Patch {
         Ok(())
     }
 
-    /// Writes the bytes of each kept block into the image, which has each of them, and goes on keeping them. Takes no memory.
+    /// Writes the bytes of each kept block into the image, which has each of them, and goes on
+    /// keeping them. Takes no memory.
     pub fn put_back(&self, image: &mut Image)
         requires { IsPatchOf image.old self.now }
         ensures { image.new ≡ back image.old self.now }
@@ -152,7 +157,8 @@ impl Patch {
         }
     }
 
-    /// Exchanges the bytes of each kept block with those that the image has there: it has each of them. Takes no memory.
+    /// Exchanges the bytes of each kept block with those that the image has there: it has each of
+    /// them. Takes no memory.
     pub fn swap(&mut self, image: &mut Image)
         requires { IsPatchOf image.old self.old }
         ensures image { image.new ≡ back image.old self.old }
@@ -168,8 +174,8 @@ impl Patch {
         }
     }
 
-    /// Forgets the blocks whose kept bytes the image has: those in which it doesn't differ from the image with the patch
-    /// put back. The image has each kept block. Takes no memory.
+    /// Forgets the blocks whose kept bytes the image has: those in which it doesn't differ from the
+    /// image with the patch put back. The image has each kept block. Takes no memory.
     pub fn trim(&mut self, image: &Image)
         requires { IsPatchOf image.now self.old }
         ensures kept { self.new ≡ trimmed image.now self.old }

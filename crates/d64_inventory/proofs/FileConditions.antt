@@ -55,7 +55,8 @@ any_or f g (x ∷ xs) = ap (λ (t : Bool). (f x || g x) || t) (any_or f g xs) �
     turned false true false d = refl
     turned false false c d = refl
 
--- one of the first so many numbers passes a test and is in a list of such where one of the list passes
+-- one of the first so many numbers passes a test and is in a list of such where one of the list
+-- passes
 any_in : (p : ℕ → Bool) (n : ℕ) (list : List ℕ) → ((b : ℕ) → list_any (eqb b) list ≡ true → b < n)
     → list_any (λ b. p b && list_any (eqb b) list) (range_with_len 0 n) ≡ list_any p list
 any_in p n [] below = any_never (λ b. p b && false) (λ b. and_none (p b)) (range_with_len 0 n)

@@ -19,7 +19,8 @@ is_part_of slot (File other part) = slot == other
 abbrev pub owns : Disk → ℕ → ℕ → Bool
 owns image slot block = list_any (is_part_of slot) (owners_of image block)
 
--- a fault names a slot: it is one of the slot, of a part of its file, or of a block that its file owns
+-- a fault names a slot: it is one of the slot, of a part of its file, or of a block that its file
+-- owns
 abbrev pub names : Disk → ℕ → Fault → Bool
 names image slot (WrongCount track count marked) = false
 names image slot (BrokenDirectory at end) = false

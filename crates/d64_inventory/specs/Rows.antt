@@ -83,7 +83,8 @@ row_of dump slot = record {
   read_errors = error_count dump slot.1;
 }
 
--- the row of the slot of this number; none where the directory's way has no such slot, or it isn't used
+-- the row of the slot of this number; none where the directory's way has no such slot, or it isn't
+-- used
 abbrev pub row_at : DumpView → ℕ → Option RowView
 row_at dump slot = option_and_then (λ cell. if is_used cell then Some (row_of dump (slot, cell)) else None) (slot_cell dump.image slot)
 

@@ -13,7 +13,8 @@ use d64_image::{BLOCKS, BlockNo, Image};
 use d64_survey::{data_pair, walk};
 use sha2::{Digest, Sha256};
 
-/// What is told of the contents along ways, by the first block of each. Ways from one block are one way.
+/// What is told of the contents along ways, by the first block of each. Ways from one block are one
+/// way.
 #[derive(Drop)]
 pub(crate) struct ContentTable {
     contents: [Option<Content>; BLOCKS],
@@ -38,7 +39,8 @@ fn digest_along(image: &Image, blocks: &[BlockNo]) -> Content
     }
 }
 
-/// What is told of the content along the way from a track and a sector, or None where that isn't a whole chain.
+/// What is told of the content along the way from a track and a sector, or None where that isn't a
+/// whole chain.
 fn digest_from(image: &Image, track: u8, sector: u8) -> Option<Content>
     ensures { result ≡ digested_along image.now (way image.now (track, sector)) }
 {
@@ -61,8 +63,8 @@ impl ContentTable {
         }
     }
 
-    /// What is told of the content of a slot's file, or None where it has none. The content is digested only where what is told of
-    /// it isn't kept for its first block.
+    /// What is told of the content of a slot's file, or None where it has none. The content is
+    /// digested only where what is told of it isn't kept for its first block.
     pub(crate) fn content(&mut self, image: &Image, entry: &Entry) -> Option<Content>
         requires { TellsContents image.now self.old.contents }
         ensures content { result ≡ option_map digested (content_of image.now entry.now.bytes) }

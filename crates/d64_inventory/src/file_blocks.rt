@@ -25,7 +25,8 @@ pub(crate) struct FileBlocks {
 }
 
 impl FileBlocks {
-    /// The blocks of a slot's file, data and side blocks, by the set of those that the map marks free.
+    /// The blocks of a slot's file, data and side blocks, by the set of those that the map marks
+    /// free.
     pub(crate) fn of(survey: &Survey, free: &BlockSet, entry: &Entry) -> FileBlocks
         requires { free.now ≡ free_blocks survey.now }
         ensures members { (block : ℕ) → set.contains result.members block ≡ is_of_file survey.now entry.now.bytes block }

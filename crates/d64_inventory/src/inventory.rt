@@ -23,8 +23,8 @@ const SLOT_BYTES: usize = BLOCK_BYTES / SLOTS_PER_BLOCK;
 /// The place in a slot of the length of a REL file's records.
 const RECORD_LENGTH: usize = 0x17;
 
-/// The inventory of a dump: what is told of each file in its directory. It keeps the digests of contents, so that each way is
-/// digested once, and takes no memory of its own.
+/// The inventory of a dump: what is told of each file in its directory. It keeps the digests of
+/// contents, so that each way is digested once, and takes no memory of its own.
 ///
 /// In clauses it is the dump itself.
 #[derive(Drop)]
@@ -48,7 +48,8 @@ impl<'a> Model for Inventory<'a> {
         × TellsContents inventory.inspection.now.image inventory.contents.contents };
 }
 
-/// The kind of the file of a slot, or None where the low four bits of its type byte are no kind's number.
+/// The kind of the file of a slot, or None where the low four bits of its type byte are no kind's
+/// number.
 fn known_kind(entry: &Entry) -> Option<Kind>
     ensures { result ≡ known_kind entry.now.bytes }
 {
@@ -68,7 +69,8 @@ fn field_of(entry: &Entry) -> [u8; 16]
     field
 }
 
-/// The length of a record of the file of a slot, as it stands there, or None where its kind isn't REL.
+/// The length of a record of the file of a slot, as it stands there, or None where its kind isn't
+/// REL.
 fn record_length(survey: &Survey, entry: &Entry) -> Option<u8>
     requires { slot_cell survey.now entry.now.slot ≡ Some entry.now.bytes }
     ensures { result ≡ record_length_by (kind_of entry.now.bytes) entry.now.bytes }
@@ -114,8 +116,8 @@ impl<'a> Inventory<'a> {
         SLOTS_PER_BLOCK * self.inspection.survey().directory().len()
     }
 
-    /// What is told of a slot and of its file, or None where the directory's way has no such slot, or it isn't used. It walks the
-    /// ways of the file at most twice.
+    /// What is told of a slot and of its file, or None where the directory's way has no such slot,
+    /// or it isn't used. It walks the ways of the file at most twice.
     pub fn row(&mut self, slot: SlotNo) -> Option<FileRow>
         ensures row { result ≡ row_at self.old slot }
         ensures same { self.new ≡ self.old }

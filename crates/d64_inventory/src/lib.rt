@@ -1,4 +1,5 @@
-//! The inventory of a disk: what is told of each file in its directory, with the digest of its content.
+//! The inventory of a disk: what is told of each file in its directory, with the digest of its
+//! content.
 #![tactic(auto)]
 
 mod conditions;

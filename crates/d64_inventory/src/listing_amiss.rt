@@ -26,8 +26,9 @@ fn is_directory_unreadable(all: &Inspection) -> bool
     is_read_error(code_of(codes, map_block())) || any_unreadable(codes, all.survey().directory())
 }
 
-/// Whether the list of the files of a dump is amiss: a used slot's file isn't whole (one of which that isn't known is none), the
-/// directory's way isn't a whole chain, or 18/0 or a block of that way couldn't be read well: then files may be missing.
+/// Whether the list of the files of a dump is amiss: a used slot's file isn't whole (one of which
+/// that isn't known is none), the directory's way isn't a whole chain, or 18/0 or a block of that
+/// way couldn't be read well: then files may be missing.
 pub fn is_amiss(all: &Inspection) -> bool
     ensures { result ≡ is_listing_amiss all.now }
 {

@@ -17,7 +17,8 @@ pub struct Content {
 pub struct FileRow {
     /// The number of the slot, from 0 along the directory's way.
     pub slot: usize,
-    /// The field of the name: the name, then a shifted space ($A0) where it is shorter than 16 bytes.
+    /// The field of the name: the name, then a shifted space ($A0) where it is shorter than 16
+    /// bytes.
     pub field: [u8; 16],
     /// None where the low four bits of the type byte are above 4.
     pub kind: Option<Kind>,

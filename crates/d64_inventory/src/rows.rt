@@ -16,7 +16,8 @@ struct Found {
     next: usize,
 }
 
-/// The rows of a dump that are left of a walk along its slots: one for each used slot, in their order. It takes no memory.
+/// The rows of a dump that are left of a walk along its slots: one for each used slot, in their
+/// order. It takes no memory.
 #[derive(Drop)]
 pub struct Rows<'a> {
     inventory: Inventory<'a>,

@@ -50,7 +50,8 @@ pub data Call : Type 0 where
   -- room for what comes next; it gives no bytes
   Room : Call
 
--- an act: it gives a value, it is refused with a status, or a call comes first and the rest goes by what that gives
+-- an act: it gives a value, it is refused with a status, or a call comes first and the rest goes by
+-- what that gives
 pub data Act (A : Type 0) : Type 0 where
   Give : A → Act A
   Refuse : Status → Act A
@@ -98,7 +99,8 @@ pub record Ending : Type 0 where
 abbrev pub IsSpelled : (Bytes → Bool) → Bytes → Bytes → Type 0
 IsSpelled test word bytes = IsTextOf bytes word × (test bytes ≡ true)
 
--- what a host may answer to a fetch, and what it shows then; whatever it tells of its files, a file is made of bytes
+-- what a host may answer to a fetch, and what it shows then; whatever it tells of its files, a file
+-- is made of bytes
 pub record FetchesFile (old : HostState) (name : Bytes) (limit : ℕ) (fetched : Result Bytes HostFault) (new : HostState) : Type 0 where
   pub answer : Fetches old.files name limit fetched
   pub bytes : IfOk fetched AreBytes
@@ -132,7 +134,8 @@ Gives (Crunch text) old given new = Crunches text given × (new ≡ old)
 Gives (Expand file) old given new = Expands file given × (new ≡ old)
 Gives Room old given new = (given ≡ Ok []) × (new ≡ old)
 
--- an act of a line is done: from a world, with an answer, to a world. Before each call memory may be wanting
+-- an act of a line is done: from a world, with an answer, to a world. Before each call memory may
+-- be wanting
 unfoldable pub Does : Act Ending → World → LineAnswer → World → Type 0
 Does (Give ending) world answer after = (answer ≡ ending.answer) × (after ≡ record world { history = ending.history })
 Does (Refuse status) world answer after = (answer ≡ plain status) × (after ≡ world)

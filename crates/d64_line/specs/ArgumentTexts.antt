@@ -23,13 +23,15 @@ abbrev pub items : {T A E : Type 0} → Result (Vec T A) E → Result (List T) E
 items (Ok values) = Ok values.items
 items (Err fault) = Err fault
 
--- a word was read: the bytes that it stands for, which pass a test; or it stands for no such bytes, or memory was wanting
+-- a word was read: the bytes that it stands for, which pass a test; or it stands for no such bytes,
+-- or memory was wanting
 abbrev pub Reads : (Bytes → Bool) → Bytes → Result Bytes Status → Type 0
 Reads test word (Ok bytes) = IsSpelled test word bytes
 Reads test word (Err status) =
     ((status ≡ BadName) × ((bytes : Bytes) → IsSpelled test word bytes → ⊥)) ⊎ (status ≡ OutOfMemory)
 
--- words were read from left to right: the bytes that each stands for, which pass a test; or some were, and the next was not
+-- words were read from left to right: the bytes that each stands for, which pass a test; or some
+-- were, and the next was not
 abbrev pub ReadsEach : (Bytes → Bool) → List Bytes → Result (List Bytes) Status → Type 0
 ReadsEach test words (Ok texts) = AllZip (IsSpelled test) words texts
 ReadsEach test words (Err status) =

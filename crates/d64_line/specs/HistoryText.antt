@@ -5,7 +5,8 @@ use Rattle.std.specs.Fmt.{decimal}
 use Rattle.std.specs.List.{flat_map, range_with_len}
 use Rattle.d64_undo.specs.History.{History, record_len}
 
--- the line of a record: its number from 1, in how many blocks the images before and after it differ, and whether it is done
+-- the line of a record: its number from 1, in how many blocks the images before and after it
+-- differ, and whether it is done
 unfoldable pub record_line : History → ℕ → Bytes
 record_line history number =
     decimal (number + 1) ++ codes " " ++ decimal (unwrap_or (record_len history number) 0)

@@ -110,7 +110,8 @@ write_program history name text = do
   file ← ask (Crunch text)
   run history (changes.Write name Prg file)
 
--- `crunch`: a BASIC text of the host is written to the disk as a program, under the name of a word, or by default under its own
+-- `crunch`: a BASIC text of the host is written to the disk as a program, under the name of a word,
+-- or by default under its own
 abbrev pub crunch_act : History → Bytes × Option Bytes → Act Ending
 crunch_act history (host, word) = do
   source ← valid (host_in host)
@@ -169,7 +170,8 @@ petcat_act history name = do
 abbrev pub quit_act : History → Act Ending
 quit_act history = Give (record { answer = record (plain Done) { closes = true }; history = history })
 
--- the file that a pattern finds is stored in the host file of a word, or by default, in text form, in that of its own name
+-- the file that a pattern finds is stored in the host file of a word, or by default, in text form,
+-- in that of its own name
 abbrev pub read_to : History → Bytes → Option Bytes → Act Ending
 read_to history pattern None = do
   allowed (read_refusal (present history) pattern)
@@ -218,7 +220,8 @@ undo_act history = do
 abbrev pub validate_act : History → Act Ending
 validate_act history = run history changes.Validate
 
--- `write`: a host file is written to the disk, under the name and with the kind of a word, or by default under its own name and as PRG
+-- `write`: a host file is written to the disk, under the name and with the kind of a word, or by
+-- default under its own name and as PRG
 abbrev pub write_act : History → Bytes × Option Bytes → Act Ending
 write_act history (host, word) = do
   source ← valid (host_in host)

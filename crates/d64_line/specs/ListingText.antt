@@ -25,7 +25,8 @@ unfoldable pub header_line : ListingView → Bytes
 header_line listing =
     codes "0 \"" ++ padded 16 (spelling listing.name) ++ codes "\" " ++ spelling listing.id ++ codes " " ++ spelling listing.dos ++ codes "\n"
 
--- the line of a file: its size in blocks, its name between quotes, whether it is closed, its kind, and whether it is locked
+-- the line of a file: its size in blocks, its name between quotes, whether it is closed, its kind,
+-- and whether it is locked
 unfoldable pub row_line : RowView → Bytes
 row_line row =
     padded 5 (decimal row.blocks) ++ codes " " ++ padded 18 (codes "\"" ++ spelling row.name ++ codes "\"")

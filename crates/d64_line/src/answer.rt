@@ -23,11 +23,12 @@ use d64_undo::Session;
 use std::alloc::Global;
 use std::str;
 
-/// The most words that a command takes, its own counted, but for `delete`. A room for so many is made sooner than one for
-/// all that a line may have.
+/// The most words that a command takes, its own counted, but for `delete`. A room for so many is
+/// made sooner than one for all that a line may have.
 const FEW_WORDS: usize = 4;
 
-/// The response to a line that has come to its end, or None where it is skipped: an empty line, or a comment.
+/// The response to a line that has come to its end, or None where it is skipped: an empty line, or
+/// a comment.
 ///
 /// `home` is the name of the host file in which `save` stores by default, or empty.
 pub fn answer_line<H: Host>(

@@ -36,7 +36,8 @@ pub(crate) fn number_in(word: &str) -> Result<u8, Status>
     number(word.as_bytes()).ok_or(Status::SyntaxError)
 }
 
-/// The block of an image at a track and a sector. Both words are read before the image is looked at.
+/// The block of an image at a track and a sector. Both words are read before the image is looked
+/// at.
 #[tactic(auto, unfolding(crate::specs::Arguments::block_in, d64_files::specs::Chain::block_in))]
 pub(crate) fn block_in(image: &Image, track: &str, sector: &str) -> Result<BlockNo, Status>
     ensures block { result ≡ block_in image.now track.now sector.now }
@@ -81,7 +82,8 @@ pub(crate) fn pattern_in(alloc: Global, word: &str) -> Result<Pattern, Status>
     }
 }
 
-/// The patterns that words stand for, from left to right. The first word that stands for none is refused.
+/// The patterns that words stand for, from left to right. The first word that stands for none is
+/// refused.
 pub(crate) fn patterns_in(alloc: Global, words: &[&str]) -> Result<Vec<Pattern>, Status>
     ensures { ReadsEach is_pattern (map (λ word. word.now) words.now) (items result) }
 {
@@ -139,7 +141,8 @@ fn kind_of_letter(word: &[u8]) -> Option<Kind>
     }
 }
 
-/// The name and the kind of a file in a word that may be cut at its first comma. The kind is PRG where it isn't.
+/// The name and the kind of a file in a word that may be cut at its first comma. The kind is PRG
+/// where it isn't.
 fn name_and_kind_in(word: &[u8]) -> Result<(&[u8], Kind), Status>
     ensures { named result ≡ name_and_kind_in word.now }
 {
@@ -172,8 +175,8 @@ pub(crate) fn name_word<'a>(host: &'a str, word: Option<&'a str>) -> &'a [u8]
     }
 }
 
-/// The name and the kind of a new file, from a word. Where there is none, the name is that of its host file without the
-/// folders, and the kind is PRG.
+/// The name and the kind of a new file, from a word. Where there is none, the name is that of its
+/// host file without the folders, and the kind is PRG.
 pub(crate) fn name_and_kind_of<'a>(
     host: &'a str,
     word: Option<&'a str>,

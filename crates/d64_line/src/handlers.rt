@@ -115,7 +115,8 @@ fn run_command(session: &mut Session, command: &Command) -> Result<Response, Sta
     }
 }
 
-/// `crunch`: a BASIC text of the host written to the disk as a program, by default under its own name.
+/// `crunch`: a BASIC text of the host written to the disk as a program, by default under its own
+/// name.
 pub(crate) fn crunch<H: Host>(
     alloc: Global,
     host: &mut H,
@@ -171,7 +172,8 @@ pub(crate) fn delete(
     run_command(session, &Command::Delete { patterns })
 }
 
-/// `format`: the disk made an empty one. The word is cut at its first comma, into the name and the id.
+/// `format`: the disk made an empty one. The word is cut at its first comma, into the name and the
+/// id.
 pub(crate) fn format(alloc: Global, session: &mut Session, word: &str) -> Result<Response, Status>
     ensures { RespondsAlone (format_act session.old word.now) session.old result session.new }
 {
@@ -332,7 +334,8 @@ pub(crate) fn rename(
     run_command(session, &Command::Rename { old, new })
 }
 
-/// `save`: the image stored in a host file, by default its own. Where it has none, a word is missed.
+/// `save`: the image stored in a host file, by default its own. Where it has none, a word is
+/// missed.
 pub(crate) fn save<H: Host>(
     alloc: Global,
     host: &mut H,

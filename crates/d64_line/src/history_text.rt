@@ -6,8 +6,8 @@ use d64_undo::Session;
 use itoa::Buffer;
 use std::alloc::{AllocError, Global};
 
-/// The lines that show the records of a session, oldest first: of each its number from 1, how many blocks it changed,
-/// and whether it is done or undone.
+/// The lines that show the records of a session, oldest first: of each its number from 1, how many
+/// blocks it changed, and whether it is done or undone.
 ///
 /// An `Err` comes only where there is no memory for the text.
 pub(crate) fn history_text(alloc: Global, session: &Session) -> Result<Vec<u8>, AllocError>

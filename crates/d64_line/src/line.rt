@@ -86,8 +86,8 @@ impl<'a> Line<'a> {
     ghost use Rattle.d64_line.specs.Line.{act_of_words};
     ghost use Rattle.d64_line.specs.LineValue.{asked};
 
-    /// What the words of a line ask for. The first stands for a command, in small letters, and then so many follow as that
-    /// takes.
+    /// What the words of a line ask for. The first stands for a command, in small letters, and then
+    /// so many follow as that takes.
     pub(crate) fn of(words: &'a [&'a str]) -> Result<Line<'a>, Status>
         ensures { (home : Bytes) (history : History) → asked home history result ≡ act_of_words home history (map (λ word. word.now) words.now) }
     {

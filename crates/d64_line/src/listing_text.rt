@@ -20,9 +20,9 @@ const SIZE_PLACES: u8 = 5;
 /// The places of a file's name with its quotes.
 const FILE_NAME_PLACES: u8 = 18;
 
-/// The lines that show a directory (1541 User's Guide, "Viewing the directory"): the disk's name with its id and its
-/// DOS version, a line for each file, and the number of free blocks. Names are in text form and are filled with spaces;
-/// what follows a longer one stands further to the right.
+/// The lines that show a directory (1541 User's Guide, "Viewing the directory"): the disk's name
+/// with its id and its DOS version, a line for each file, and the number of free blocks. Names are
+/// in text form and are filled with spaces; what follows a longer one stands further to the right.
 ///
 /// An `Err` comes only where there is no memory for the text.
 #[tactic(auto, unfolding(crate::specs::ListingText::listing_text, crate::specs::ListingText::free_line))]

@@ -13,7 +13,8 @@ use std::io::Write;
 #[derive(Drop)]
 pub enum Output {
     Nothing,
-    /// The sixteen lines that show a block of the present image. Its number costs less to hand on than its bytes.
+    /// The sixteen lines that show a block of the present image. Its number costs less to hand on
+    /// than its bytes.
     Block(BlockNo),
     /// Other lines.
     Text(Vec<u8>),
@@ -69,7 +70,8 @@ impl Response {
         }
     }
 
-    /// What a line answers: the response of an accepted one, or the status of a refusal with no output.
+    /// What a line answers: the response of an accepted one, or the status of a refusal with no
+    /// output.
     pub(crate) fn of(answer: Result<Response, Status>) -> Response
         ensures { (image : List (List ℕ)) → shown image result ≡ answer_of image answer }
     {
@@ -90,8 +92,8 @@ impl Response {
         }
     }
 
-    /// Writes the output and the status line, where this is the present image. Where a write fails, a part of them is
-    /// written.
+    /// Writes the output and the status line, where this is the present image. Where a write fails,
+    /// a part of them is written.
     pub fn write<W: Write>(
         &self,
         output: &mut OutputStream<'_, W>,

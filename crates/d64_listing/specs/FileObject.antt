@@ -58,7 +58,8 @@ way_members row = (codes "blocks", numeral_or_null row.blocks) ∷ (codes "side"
 abbrev pub content_members : RowView → List Field
 content_members row = (codes "bytes", bytes_value row.content) ∷ (codes "sha256", digest_value row.content) ∷ []
 
--- whether the file is whole, why not, the conditions that it breaks, and how many of its blocks have a read error
+-- whether the file is whole, why not, the conditions that it breaks, and how many of its blocks
+-- have a read error
 abbrev pub state_members : RowView → List Field
 state_members row =
     (codes "whole", boolean_or_null row.whole) ∷ (codes "why", array_of (map flaw_value row.why)) ∷ (codes "conditions", array_of (map numeral row.conditions))

@@ -58,7 +58,8 @@ abbrev pub content_fields : RowView → List (List ℕ)
 content_fields row =
     option_map_or (λ (content : Content). decimal content.bytes) row.content [] ∷ option_map_or (λ (content : Content). encode_lower content.digest) row.content [] ∷ []
 
--- whether the file is whole, why not, the conditions that it breaks, and how many of its blocks have a read error
+-- whether the file is whole, why not, the conditions that it breaks, and how many of its blocks
+-- have a read error
 abbrev pub state_fields : RowView → List (List ℕ)
 state_fields row = truth_or_empty row.whole ∷ spaced flaw_word row.why ∷ spaced decimal row.conditions ∷ decimal row.read_errors ∷ []
 

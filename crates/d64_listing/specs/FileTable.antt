@@ -36,7 +36,8 @@ left_in width text = text ++ spaces (width - length text)
 unfoldable pub head_line : Bytes → Disk → List ℕ
 head_line name image = shown name ++ (codes " " ++ (label_text image ++ codes "\n"))
 
--- how many blocks of a file are there: those of its data way and of its side way, as far as 64 bits count
+-- how many blocks of a file are there: those of its data way and of its side way, as far as 64 bits
+-- count
 abbrev pub blocks_there : RowView → ℕ
 blocks_there row = min (unwrap_or row.blocks 0 + unwrap_or row.side 0) (2 ^ 64 - 1)
 

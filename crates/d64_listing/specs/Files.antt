@@ -61,7 +61,8 @@ heading_of Text = []
 heading_of Json = []
 heading_of Csv = header_row
 
--- what is answered of bytes: of a dump, its files, amiss where one isn't whole or some may be missing; and else that they are of a wrong length
+-- what is answered of bytes: of a dump, its files, amiss where one isn't whole or some may be
+-- missing; and else that they are of a wrong length
 abbrev pub answer_of : Format → Bytes → Bytes → Option DumpView → Answer
 answer_of form name bytes None = record { printed = printed_wrong_length form name (length bytes); complaint = wrong_length_line name bytes; verdict = Failed }
 answer_of form name bytes (Some dump) =

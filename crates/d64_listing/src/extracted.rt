@@ -1,4 +1,5 @@
-//! What is printed of a file that is written to the host: what `files` prints, and the path of the host file.
+//! What is printed of a file that is written to the host: what `files` prints, and the path of the
+//! host file.
 ghost use Rattle.std.specs.Prelude.{◌≡◌, [], ◌∷◌, ◌++◌, option_map, OnOk, IfOk};
 ghost use Rattle.d64_report.specs.Values.{line_of, member_tokens};
 ghost use Rattle.d64_listing.specs.Extracted.{path_member, path_text, extracted_object, extracted_row, extracted_line, extracted_header, unextracted_row};

@@ -171,7 +171,8 @@ fn put_state(writer: &mut Writer, row: &FileRow) -> Result<(), AllocError>
     put_number(writer, "read_errors", row.read_errors as u64)
 }
 
-/// Prints what is told of a file, but for the image and the slot: the members from its name to its read errors.
+/// Prints what is told of a file, but for the image and the slot: the members from its name to its
+/// read errors.
 pub fn put_file_members(
     scratch: &mut Vec<u8>,
     writer: &mut Writer,

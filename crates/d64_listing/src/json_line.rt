@@ -23,7 +23,8 @@ pub fn put_place(
     put_number(writer, "slot", row.slot as u64)
 }
 
-/// Adds the line of a file to a text: an object of JSON with the name of its image and all that is told of it.
+/// Adds the line of a file to a text: an object of JSON with the name of its image and all that is
+/// told of it.
 pub fn file_json(
     scratch: &mut Scratch,
     name: &[u8],

@@ -1,4 +1,5 @@
-//! The files on a disk, told one by one: as objects of JSON, as rows of CSV, and as a table for people.
+//! The files on a disk, told one by one: as objects of JSON, as rows of CSV, and as a table for
+//! people.
 #![tactic(auto)]
 
 mod csv_line;

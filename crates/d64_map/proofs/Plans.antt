@@ -31,7 +31,8 @@ use Rattle.d64_map.proofs.Searching.{next_order-directory, next_order-other, dir
 abbrev pub is_among : List ℕ → ℕ → Bool
 is_among xs x = list_any (λ y. nat_eq y x) xs
 
--- what a search finds passes and is among the list, and where it finds nothing all that is among the list fails
+-- what a search finds passes and is among the list, and where it finds nothing all that is among
+-- the list fails
 record Finds (p : ℕ → Bool) (xs : List ℕ) (x : ℕ) : Type 0 where
   passes : p x ≡ true
   among : is_among xs x ≡ true
@@ -277,7 +278,8 @@ room-is free n e = ap (count_by (for_files free)) (sym (all_blocks n e))
 outside_from : (block : ℕ) → is_file_track (pair_at block).0 ≡ true → is_outside block ≡ true
 outside_from block h = let f = file_track (pair_at block).0 h in ap not (ne_eqb (pair_at block).0 18 f.outside)
 
--- where a search in a whole order finds nothing there is no room, and a block that it finds takes room for one
+-- where a search in a whole order finds nothing there is no room, and a block that it finds takes
+-- room for one
 no_room : (free : set.FinSet nat_cmp) (order : List ℕ) → IsFileOrder order → find (set.contains free) order ≡ None → room free ≡ 0
 no_room free order is none =
     room-is free BLOCKS refl

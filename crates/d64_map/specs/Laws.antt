@@ -25,7 +25,8 @@ abbrev pub WrittenCountsFit : Type 0
 WrittenCountsFit =
     (image : Disk) (free : BlockSet) → IsImage image → MembersAreBelow (length image) free → CountsFit (with_map image free)
 
--- a written map leaves an image, with the same other blocks, and in the map's block the same bytes outside the entries
+-- a written map leaves an image, with the same other blocks, and in the map's block the same bytes
+-- outside the entries
 abbrev pub OnlyEntriesChange : Type 0
 OnlyEntriesChange =
     (image : Disk) (free : BlockSet)
@@ -53,7 +54,8 @@ PlanIsThere = (free : BlockSet) (count : ℕ) → is_some (plan free count) ≡ 
 abbrev pub IsFreeForDirectory : BlockSet → ℕ → Type 0
 IsFreeForDirectory free block = (set.contains free block ≡ true) × (block < BLOCKS) × ((pair_at block).0 ≡ 18)
 
--- a pick for the directory is a free block of track 18; where there is none, no block of track 18 is free
+-- a pick for the directory is a free block of track 18; where there is none, no block of track 18
+-- is free
 abbrev pub DirPickIsOnTrack18 : Type 0
 DirPickIsOnTrack18 =
     (free : BlockSet) (last : ℕ)

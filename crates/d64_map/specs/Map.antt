@@ -15,7 +15,8 @@ use Rattle.d64_map.specs.Track.{has_sector, members_on}
 abbrev pub map_block : ℕ
 map_block = 357
 
--- where a track's entry of four bytes begins in the map's block: from $04 on, and from $C0 on for tracks 36 to 40
+-- where a track's entry of four bytes begins in the map's block: from $04 on, and from $C0 on for
+-- tracks 36 to 40
 unfoldable pub entry_of : ℕ → ℕ
 entry_of track = if nat_lt track 36 then 4 * track else 4 * track + 0x30
 
@@ -27,7 +28,8 @@ IsOfTrack track place = (entry_of track ≤ place) × (place < entry_of track + 
 abbrev pub count_of : Disk → ℕ → ℕ
 count_of image track = slice_index (sector_at image map_block) (entry_of track)
 
--- the bit of a sector in the map's block: in the three bytes after its track's count, eight sectors a byte
+-- the bit of a sector in the map's block: in the three bytes after its track's count, eight sectors
+-- a byte
 abbrev pub bit_in : Bytes → ℕ → ℕ → ℕ
 bit_in bytes track sector = bit_at (slice_index bytes (entry_of track + 1 + sector / 8)) (sector % 8)
 
@@ -83,14 +85,14 @@ map_byte free place =
     then members_on free (entry_track place)
     else bits_for free (entry_track place) (8 * (place % 4 - 1))
 
--- whether a place in the map's block of a disk of so many tracks belongs to a track's entry: from $04 to $8F, and on 40 tracks
--- from $C0 to $D3 besides
+-- whether a place in the map's block of a disk of so many tracks belongs to a track's entry: from
+-- $04 to $8F, and on 40 tracks from $C0 to $D3 besides
 abbrev pub is_entry : ℕ → ℕ → Bool
 is_entry tracks place =
     (nat_le 0x04 place && nat_lt place 0x90) || ((tracks == 40) && (nat_le 0xC0 place && nat_lt place 0xD4))
 
--- the map's block of a disk of so many tracks, rewritten for a set of free blocks: its entries are new, all its other bytes are the
--- old ones
+-- the map's block of a disk of so many tracks, rewritten for a set of free blocks: its entries are
+-- new, all its other bytes are the old ones
 unfoldable pub map_for : ℕ → Bytes → BlockSet → Bytes
 map_for tracks bytes free =
     map (λ place. if is_entry tracks place then map_byte free place else slice_index bytes place) (range_with_len 0 BLOCK_BYTES)

@@ -8,7 +8,8 @@ use Rattle.d64_image.specs.Block.{pair_at}
 use Rattle.d64_map.specs.Map.{blocks}
 use Rattle.d64_map.specs.Search.{first_order, next_order}
 
--- so many next blocks after a block that was taken last, each removed from the free ones at once; none where a pick is none
+-- so many next blocks after a block that was taken last, each removed from the free ones at once;
+-- none where a pick is none
 unfoldable pub plan_after : BlockSet → ℕ → ℕ → Option Blocks
 plan_after free last zero = Some []
 plan_after free last (suc count) =

@@ -13,13 +13,14 @@ lower_tracks = map (λ distance. 18 - distance) (range_with_len 1 17)
 unfoldable pub upper_tracks : List ℕ
 upper_tracks = map (λ distance. 18 + distance) (range_with_len 1 22)
 
--- the order for a file's first block: tracks 17, 19, 16, 20, and so on to 1, 35, then 36 to 40, on each track sectors rising
+-- the order for a file's first block: tracks 17, 19, 16, 20, and so on to 1, 35, then 36 to 40, on
+-- each track sectors rising
 unfoldable pub first_order : Blocks
 first_order =
     flat_map (λ distance. blocks_on (18 - distance) ++ blocks_on (18 + distance)) (range_with_len 1 17) ++ flat_map blocks_on (range_with_len 36 5)
 
--- the sector at which the search goes on after a sector of a track: so many sectors further on, and where that is past the
--- track's end, counted from its beginning and one less
+-- the sector at which the search goes on after a sector of a track: so many sectors further on, and
+-- where that is past the track's end, counted from its beginning and one less
 abbrev pub sector_after : ℕ → ℕ → ℕ → ℕ
 sector_after interleave sectors sector =
     if nat_lt (sector + interleave) sectors then sector + interleave else one_less (sector + interleave - sectors)
@@ -31,8 +32,8 @@ sector_after interleave sectors sector =
 abbrev pub rotated : ℕ → List ℕ → List ℕ
 rotated place list = drop place list ++ take place list
 
--- the tracks after a track other than 18: away from 18 to the end of its side, then the other side outward from 18, then the
--- rest of the first side outward from 18 up to the track's neighbour
+-- the tracks after a track other than 18: away from 18 to the end of its side, then the other side
+-- outward from 18, then the rest of the first side outward from 18 up to the track's neighbour
 unfoldable pub tracks_after : ℕ → List ℕ
 tracks_after track =
     if nat_lt track 18

@@ -23,7 +23,8 @@ reach Upper = 22
 unfoldable pub tracks_along : Side → ℕ → ℕ → List ℕ
 tracks_along side from count = map (track_at side) (range_with_len from count)
 
--- the tracks beyond one of a side, then the other side, and then the rest of the side up to that track
+-- the tracks beyond one of a side, then the other side, and then the rest of the side up to that
+-- track
 abbrev pub tracks_beyond : Side → ℕ → List ℕ
 tracks_beyond side distance =
     tracks_along side (distance + 1) (reach side - distance) ++ tracks_along (other_side side) 1 (reach (other_side side)) ++ tracks_along side 1 (distance - 1)

@@ -77,7 +77,8 @@ pub fn is_free(image: &Image, block: BlockNo) -> bool
     marks_free(bits, block.sector())
 }
 
-/// The count byte of a track of the image, which counts from 1: how many of its sectors are free, as the map says.
+/// The count byte of a track of the image, which counts from 1: how many of its sectors are free,
+/// as the map says.
 pub fn free_count(image: &Image, track: u8) -> u8
     requires track { (1 ≤ track) × (track ≤ tracks_of (length image.now)) }
     ensures count { result ≡ count_of image.now track }
@@ -177,10 +178,11 @@ fn put_entry(map: &mut [u8; BLOCK_BYTES], free: &BlockSet, track: u8)
     map[entry + 3] = ((bits >> 16) % 256) as u8;
 }
 
-/// Writes the map for a set of free blocks of the image: the count and the bits of each track. No other byte of the image changes.
+/// Writes the map for a set of free blocks of the image: the count and the bits of each track. No
+/// other byte of the image changes.
 ///
-/// The patch keeps the map's block: the image with the patch put back stays the same. Refused where there is no memory
-/// to keep it.
+/// The patch keeps the map's block: the image with the patch put back stays the same. Refused where
+/// there is no memory to keep it.
 pub fn put_map(image: &mut Image, patch: &mut Patch, free: &BlockSet) -> Result<(), AllocError>
     requires members { MembersAreBelow (length image.old) free.now }
     ensures written { OnOk result (image.new ≡ with_map image.old free.now) }

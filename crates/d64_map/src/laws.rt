@@ -9,20 +9,23 @@ pub fn free_blocks_have_their_bit()
     ensures { FreeBlocksHaveTheirBit }
 {}
 
-/// The map that is written for a set of blocks says that set, by its bits and by its counts, and nothing else changes.
+/// The map that is written for a set of blocks says that set, by its bits and by its counts, and
+/// nothing else changes.
 pub fn written_map_is_the_set()
     ensures set { MapIsTheSet }
     ensures counts { WrittenCountsFit }
     ensures others { OnlyEntriesChange }
 {}
 
-/// A plan takes as many blocks as it is asked for, distinct and free ones outside track 18, and there is one exactly where there is room.
+/// A plan takes as many blocks as it is asked for, distinct and free ones outside track 18, and
+/// there is one exactly where there is room.
 pub fn plan_takes_free_blocks()
     ensures blocks { PlanTakesFreeBlocks }
     ensures there { PlanIsThere }
 {}
 
-/// A pick for the directory is a free block of track 18, and there is none exactly where no block of track 18 is free.
+/// A pick for the directory is a free block of track 18, and there is none exactly where no block
+/// of track 18 is free.
 pub fn dir_pick_is_on_track_18()
     ensures { DirPickIsOnTrack18 }
 {}

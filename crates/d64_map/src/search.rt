@@ -138,7 +138,8 @@ fn pick_along(free: &BlockSet, side: Side, start: u8, end: u8) -> Option<BlockNo
     None
 }
 
-/// The first free block on the tracks beyond one of a side, then on the other side, then on the rest of the side.
+/// The first free block on the tracks beyond one of a side, then on the other side, then on the
+/// rest of the side.
 fn pick_beyond(free: &BlockSet, side: Side, distance: u8) -> Option<BlockNo>
     requires { (1 ≤ distance) × (distance ≤ reach side) }
     ensures { result ≡ find (set.contains free.now) (flat_map blocks_on (tracks_beyond side distance)) }
@@ -187,8 +188,8 @@ fn pick_outward(free: &BlockSet) -> Option<BlockNo>
     None
 }
 
-/// The free block that a file's first block takes: on the tracks nearest to track 18 first, 17 before 19, by sectors rising.
-/// None where no block outside track 18 is free.
+/// The free block that a file's first block takes: on the tracks nearest to track 18 first, 17
+/// before 19, by sectors rising. None where no block outside track 18 is free.
 pub fn pick_first(free: &BlockSet) -> Option<BlockNo>
     ensures { result ≡ find (set.contains free.now) first_order }
 {
@@ -198,9 +199,9 @@ pub fn pick_first(free: &BlockSet) -> Option<BlockNo>
     }
 }
 
-/// The free block that a file's next block takes after the block that was taken last: ten sectors further on the same track,
-/// around its end, then on the tracks away from track 18, then on the other side, then on the rest of the first side.
-/// None where no block outside track 18 is free.
+/// The free block that a file's next block takes after the block that was taken last: ten sectors
+/// further on the same track, around its end, then on the tracks away from track 18, then on the
+/// other side, then on the rest of the first side. None where no block outside track 18 is free.
 pub fn pick_next(free: &BlockSet, last: BlockNo) -> Option<BlockNo>
     ensures { result ≡ find (set.contains free.now) (next_order last) }
 {
@@ -217,8 +218,8 @@ pub fn pick_next(free: &BlockSet, last: BlockNo) -> Option<BlockNo>
     pick_beyond(free, side, distance)
 }
 
-/// The free block that the directory's next block takes after its last one: three sectors further on track 18, around its end.
-/// None where no block of track 18 is free.
+/// The free block that the directory's next block takes after its last one: three sectors further
+/// on track 18, around its end. None where no block of track 18 is free.
 pub fn pick_dir(free: &BlockSet, last: BlockNo) -> Option<BlockNo>
     ensures { result ≡ find (set.contains free.now) (dir_order last) }
 {

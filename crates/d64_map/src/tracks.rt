@@ -42,7 +42,8 @@ pub fn first_block(track: u8) -> usize
     }
 }
 
-/// The bits of a track's sectors: bit s is 1 where the block of sector s is a member. Bits that stand for no sector are 0.
+/// The bits of a track's sectors: bit s is 1 where the block of sector s is a member. Bits that
+/// stand for no sector are 0.
 pub fn member_bits(blocks: &BlockSet, track: u8) -> u32
     requires track { (1 ≤ track) × (track < 41) }
     ensures bits { (count : ℕ) → sectors_on track ≤ count → result ≡ sum_by (λ s. if has_sector blocks.now track s then 2 ^ s else 0) (range_with_len 0 count) }

@@ -3,7 +3,8 @@ use Rattle.std.proofs.Common.{◌≡◌, ℕ, ◌+◌, ◌-◌, ◌<◌, ◌≤�
 use Rattle.std.specs.Prelude.{if◌then◌else◌}
 use Rattle.std.specs.List.{flat_map, enumerate_from}
 
--- what is left of the rows: those of the items that a test finds, each with its place, of which there are at most so many
+-- what is left of the rows: those of the items that a test finds, each with its place, of which
+-- there are at most so many
 abbrev pub rows_left : {A : Type 0} → (ℕ × A → List ℕ) → (A → Bool) → ℕ → ℕ → List A → List ℕ
 rows_left row test limit place items = flat_map row (take (limit - place) (enumerate_from place (filter test items)))
 

@@ -62,7 +62,8 @@ cell_title dump block = element (codes "title") [] (escaped_within 80 (cell_text
 unfoldable pub square_of : Colour → ℕ → ℕ → List ℕ
 square_of colour x y = attribute (codes "class") (class_of colour) ++ path_from (x + 2) (y + 2) (codes "h16v16h-16z")
 
--- the mark of a state on a square: a dot where nothing owns the block, a triangle with `!` for a fault, and a box with a cross for a read error
+-- the mark of a state on a square: a dot where nothing owns the block, a triangle with `!` for a
+-- fault, and a box with a cross for a read error
 unfoldable pub mark_at : ℕ → ℕ → BlockState → List ℕ
 mark_at x y Free = []
 mark_at x y File = []

@@ -59,7 +59,8 @@ shown_files = 144
 abbrev pub rows_beside : ℕ
 rows_beside = 30
 
--- where the row at a place in the list of files stands: beside the grid, and from the thirtieth on below it, three side by side
+-- where the row at a place in the list of files stands: beside the grid, and from the thirtieth on
+-- below it, three side by side
 unfoldable pub row_x : ℕ → ℕ
 row_x place = if nat_lt place rows_beside then 532 else 46 + 243 * ((place - rows_beside) % 3)
 

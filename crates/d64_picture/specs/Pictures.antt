@@ -25,7 +25,8 @@ answer_of form name dump = record { printed = picture_of form name dump; complai
 abbrev pub failed_with : List ℕ → Answer
 failed_with line = record { printed = []; complaint = line; verdict = Failed }
 
--- what `map` answers of a file in a form: that it cannot be read; or of its bytes, as the dump that they are, or that they are of a wrong length
+-- what `map` answers of a file in a form: that it cannot be read; or of its bytes, as the dump that
+-- they are, or that they are of a wrong length
 abbrev pub map_rule : PictureForm → Rule
 map_rule form name None = failed_with (unread_line name)
 map_rule form name (Some bytes) = option_map_or (answer_of form name) (dump_of bytes) (failed_with (wrong_length_line name bytes))

@@ -1,4 +1,5 @@
-//! The map of a disk as a picture: which blocks are free, whose the others are, and where something is wrong.
+//! The map of a disk as a picture: which blocks are free, whose the others are, and where something
+//! is wrong.
 #![tactic(auto)]
 
 mod block_state;

@@ -16,7 +16,8 @@ const BASIC_RULES: &[u8] = b".disk text{font:12px sans-serif;fill:#2d3440}\n\
 .disk .unowned{fill:#cdd2d9;stroke:#cdd2d9}\n\
 .disk .system{fill:#4b5563;stroke:#4b5563}\n";
 
-/// The colours of files: eight that can be told apart without seeing all colours (Paul Tol's light scheme), and these again in a frame.
+/// The colours of files: eight that can be told apart without seeing all colours (Paul Tol's light
+/// scheme), and these again in a frame.
 const COLOUR_RULES: &[u8] = b".disk .c0{fill:#7ad;stroke:#7ad}\n\
 .disk .c1{fill:#e86;stroke:#e86}\n\
 .disk .c2{fill:#4b9;stroke:#4b9}\n\

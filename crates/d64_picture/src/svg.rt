@@ -251,8 +251,9 @@ fn push_content(
     push_legend(out, inspection)
 }
 
-/// Adds the map as a picture in SVG 1.1: a cell for each block, in the colour of its file, with a mark where something is wrong with
-/// it, and a title that says whose it is; a legend. No name makes markup in it.
+/// Adds the map as a picture in SVG 1.1: a cell for each block, in the colour of its file, with a
+/// mark where something is wrong with it, and a title that says whose it is; a legend. No name
+/// makes markup in it.
 #[tactic(auto, unfolding(crate::specs::Svg::svg_of, crate::specs::Svg::picture, d64_markup::specs::Markup::element, d64_markup::specs::Markup::tag))]
 pub fn map_svg(name: &[u8], inspection: &Inspection, out: &mut Vec<u8>) -> Result<(), AllocError>
     ensures { OnOk result (out.new.items ≡ out.old.items ++ svg_of name.now inspection.now) }

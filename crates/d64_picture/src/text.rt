@@ -76,8 +76,8 @@ fn push_tracks(out: &mut Vec<u8>, inspection: &Inspection) -> Result<(), AllocEr
     Ok(())
 }
 
-/// Adds the map as text: a head line, the numbers of the sectors, a line a track with a character for each sector that it has, and
-/// what the characters stand for.
+/// Adds the map as text: a head line, the numbers of the sectors, a line a track with a character
+/// for each sector that it has, and what the characters stand for.
 #[tactic(auto, unfolding(crate::specs::MapText::map_text))]
 pub fn map_text(name: &[u8], inspection: &Inspection, out: &mut Vec<u8>) -> Result<(), AllocError>
     ensures { OnOk result (out.new.items ≡ out.old.items ++ map_text_of name.now inspection.now) }

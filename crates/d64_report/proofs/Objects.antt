@@ -25,7 +25,8 @@ members_written old first last fields more begun done =
     ∙ append_assoc old (member_tokens fields) (member_tokens more)
     ∙ ap (λ (ts : List Token). old ++ ts) (sym (flat_map-append (λ (field : Field). key field.0 ∷ json_tokens field.1) fields more))
 
--- an object is written where its bracket is opened, its members are written, and the bracket is closed
+-- an object is written where its bracket is opened, its members are written, and the bracket is
+-- closed
 pub object_written : (old opened last closed : List Token) (fields : List Field) → opened ≡ old ++ begin_object ∷ [] → last ≡ opened ++ member_tokens fields → closed ≡ last ++ end_object ∷ []
     → closed ≡ old ++ json_tokens (object_of fields)
 object_written old opened last closed fields opens written closes =

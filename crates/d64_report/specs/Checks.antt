@@ -28,7 +28,8 @@ dump_members dump name = image_member name ∷ (codes "tracks", numeral (tracks_
 abbrev pub label_members : Disk → List Field
 label_members image = (codes "name", name_value (disk_name image)) ∷ (codes "id", name_value (disk_id image)) ∷ (codes "dos", name_value (disk_dos image)) ∷ []
 
--- how many slots are used, how many files are whole, how many blocks are free, and how many are neither free nor owned
+-- how many slots are used, how many files are whole, how many blocks are free, and how many are
+-- neither free nor owned
 abbrev pub count_members : DumpView → List Field
 count_members dump =
     (codes "entries", numeral (entry_count dump.image)) ∷ (codes "whole", numeral (whole_count dump)) ∷ (codes "free", numeral (blocks_free dump.image))
@@ -68,12 +69,14 @@ dump_fields dump name = name ∷ decimal (tracks_of (length dump.image)) ∷ tru
 abbrev pub label_fields : Disk → List (List ℕ)
 label_fields image = spelling (disk_name image) ∷ spelling (disk_id image) ∷ spelling (disk_dos image) ∷ []
 
--- how many slots are used, how many files are whole, how many blocks are free, and how many are neither free nor owned
+-- how many slots are used, how many files are whole, how many blocks are free, and how many are
+-- neither free nor owned
 abbrev pub count_fields : DumpView → List (List ℕ)
 count_fields dump =
     decimal (entry_count dump.image) ∷ decimal (whole_count dump) ∷ decimal (blocks_free dump.image) ∷ decimal (unowned dump.image) ∷ []
 
--- whether the image is sound, whether something is amiss, and how many faults and read errors there are
+-- whether the image is sound, whether something is amiss, and how many faults and read errors there
+-- are
 abbrev pub state_fields : DumpView → List (List ℕ)
 state_fields dump =
     truth_text (is_sound dump.image) ∷ truth_text (is_amiss dump) ∷ decimal (length (faults dump.image)) ∷ decimal (length (read_errors dump)) ∷ []

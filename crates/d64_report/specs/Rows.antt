@@ -17,7 +17,8 @@ truth_text value = if value then codes "true" else codes "false"
 abbrev pub field_where : Option (List ℕ) → List (List ℕ)
 field_where field = option_map_or (λ text. text ∷ []) field []
 
--- a row on a line of its own: what stands before the digest, the digest where there is a column for it, and the error
+-- a row on a line of its own: what stands before the digest, the digest where there is a column for
+-- it, and the error
 abbrev pub row_of : List (List ℕ) → Option (List ℕ) → List ℕ → List ℕ
 row_of fields digest error = row_text default_writer (fields ++ (field_where digest ++ error ∷ []))
 

@@ -37,7 +37,8 @@ fn push_label(scratch: &mut Vec<u8>, row: &mut ByteRecord, image: &Image) -> Res
     push_name(scratch, row, disk_dos(image))
 }
 
-/// Adds how many slots are used, how many files are whole, and how many blocks are free, and are neither free nor owned, to a row.
+/// Adds how many slots are used, how many files are whole, and how many blocks are free, and are
+/// neither free nor owned, to a row.
 fn push_counts(row: &mut ByteRecord, inspection: &Inspection) -> Result<(), AllocError>
     requires { partial_of row.old ≡ [] }
     ensures fields { OnOk result (fields_of row.new ≡ fields_of row.old ++ count_fields inspection.now) }
@@ -49,7 +50,8 @@ fn push_counts(row: &mut ByteRecord, inspection: &Inspection) -> Result<(), Allo
     push_number(row, inspection.unowned() as u64)
 }
 
-/// Adds whether the image is sound, whether something is amiss, and how many faults and read errors there are, to a row.
+/// Adds whether the image is sound, whether something is amiss, and how many faults and read errors
+/// there are, to a row.
 fn push_state(row: &mut ByteRecord, inspection: &Inspection) -> Result<(), AllocError>
     requires { partial_of row.old ≡ [] }
     ensures fields { OnOk result (fields_of row.new ≡ fields_of row.old ++ state_fields inspection.now) }
@@ -93,8 +95,8 @@ fn push_digest(
     }
 }
 
-/// Adds the row of a dump to a text: the name of its file, what is on the disk, how much is wrong with it, and the SHA-256 digest of the
-/// file's bytes where there is one.
+/// Adds the row of a dump to a text: the name of its file, what is on the disk, how much is wrong
+/// with it, and the SHA-256 digest of the file's bytes where there is one.
 pub fn check_csv(
     scratch: &mut Scratch,
     name: &[u8],

@@ -62,7 +62,8 @@ fn put_end(writer: &mut Writer, key: &str, end: WayEnd) -> Result<(), AllocError
     }
 }
 
-/// Prints the members of the end of a way: its last block, the word for its end, and the pair there.
+/// Prints the members of the end of a way: its last block, the word for its end, and the pair
+/// there.
 fn put_way(writer: &mut Writer, at: LastBlock, end: WayEnd) -> Result<(), AllocError>
     ensures before { writer.new.before ≡ writer.old.before }
     ensures tokens { OnOk result (writer.new.tokens ≡ writer.old.tokens ++ member_tokens (end_members at end)) }

@@ -40,7 +40,8 @@ fn put_label(scratch: &mut Vec<u8>, writer: &mut Writer, image: &Image) -> Resul
     put_name(scratch, writer, "dos", disk_dos(image))
 }
 
-/// Prints how many slots are used, how many files are whole, and how many blocks are free, and are neither free nor owned.
+/// Prints how many slots are used, how many files are whole, and how many blocks are free, and are
+/// neither free nor owned.
 fn put_counts(writer: &mut Writer, inspection: &Inspection) -> Result<(), AllocError>
     ensures before { writer.new.before ≡ writer.old.before }
     ensures tokens { OnOk result (writer.new.tokens ≡ writer.old.tokens ++ member_tokens (count_members inspection.now)) }
@@ -119,8 +120,8 @@ fn put_digest(
     }
 }
 
-/// Adds the line of a dump to a text: an object of JSON with the name of its file, what is on the disk, what is wrong with it, and the
-/// SHA-256 digest of the file's bytes where there is one.
+/// Adds the line of a dump to a text: an object of JSON with the name of its file, what is on the
+/// disk, what is wrong with it, and the SHA-256 digest of the file's bytes where there is one.
 pub fn check_json(
     scratch: &mut Scratch,
     name: &[u8],

@@ -181,7 +181,8 @@ unfolding Transcript
 some_lines manner first stand [] after ran some = absurd (omega (arith, some, ap (λ p. p.accepted + p.refused) ran.told.1))
 some_lines manner first stand (line ∷ lines) after ran some = omega arith
 
--- a flush failed after a line was answered: the last line is the one at which the run stopped, its answer written whole
+-- a flush failed after a line was answered: the last line is the one at which the run stopped, its
+-- answer written whole
 StoppedAt-flush : (manner : Manner) (first stand : Stand) (lines : List (List ℕ)) (after : Progress) (flushed : Option (List ℕ))
     → RanLines manner first stand lines after → after.closed ≡ false → 0 < after.accepted + after.refused → Keeps stand.writer flushed
     → StoppedAt manner first (flushed_stand stand flushed) lines
@@ -253,7 +254,8 @@ pub length-read : (bytes more : List ℕ) (count least room : ℕ) → length by
 length-read bytes more count least room full held fits is =
     omega (arith, full, held, fits, is, length-append bytes (take least more), length-take least more)
 
--- a run that ends with its script has read it without a failure, and is a fault where a write has failed
+-- a run that ends with its script has read it without a failure, and is a fault where a write has
+-- failed
 pub EndsWith-last : (manner : Manner) (first stand : Stand) (script : List ℕ) (ended : Result Outcome ShellFault) (input : Reading) (old new : Bool)
     → EndsRun manner first stand script ended → input.has_failed ≡ false → old ≡ false → FailsWith ended old new → EndsWith ended input new
 EndsWith-last manner first stand script (Ok outcome) input old new ends read written same = (read, same ∙ written)

@@ -17,13 +17,15 @@ use Rattle.d64_runner.specs.declared.runner.ShellFault.TheVariants.{Write}
 abbrev pub progress_of : Tally → World → Progress
 progress_of tally world = record { world = world; closed = tally.closed; accepted = tally.outcome.accepted; refused = tally.outcome.refused }
 
--- the first bytes of a script are cut: into lines that are ended, and the begin of a line that goes on with whatever comes next
+-- the first bytes of a script are cut: into lines that are ended, and the begin of a line that goes
+-- on with whatever comes next
 pub record AreCutInto (bytes : List ℕ) (lines : List (List ℕ)) (begun : List ℕ) : Type 0 where
   pub ended : filter is_ended lines ≡ lines
   pub is_open : IsOpen begun
   pub goes_on : (more : List ℕ) → lines_of (bytes ++ more) ≡ lines ++ lines_of (begun ++ more)
 
--- an open run has come through the first bytes of a script: their ended lines have run, and what has come of the next is held
+-- an open run has come through the first bytes of a script: their ended lines have run, and what
+-- has come of the next is held
 pub record HasCome (manner : Manner) (first stand : Stand) (tally : Tally) (line : HeldLine) (bytes : List ℕ) : Type 0 where
   pub lines : List (List ℕ)
   pub begun : List ℕ
@@ -55,7 +57,8 @@ pub record RunsLine (manner : Manner) (line : List ℕ) (old new : Stand) (befor
   pub told : Line manner line (progress_of before old.world) said (progress_of after new.world)
   pub written : Appends old.writer new.writer said
 
--- a write failed at a line of an open run: a part of what it prints was written, and the world is that after it
+-- a write failed at a line of an open run: a part of what it prints was written, and the world is
+-- that after it
 pub record StopsInLine (manner : Manner) (line : List ℕ) (old new : Stand) (before : Tally) : Type 0 where
   pub said : List ℕ
   pub after : Progress

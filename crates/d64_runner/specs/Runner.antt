@@ -16,7 +16,8 @@ use Rattle.d64_runner.specs.declared.manners.Manner.{Manner as CodeManner}
 abbrev pub manner_of : CodeManner → Manner
 manner_of manner = record { home = manner.home.now; refusals = manner.refusals }
 
--- what a run writes to, and what it works on: the writer's bytes, where they are known, and the world
+-- what a run writes to, and what it works on: the writer's bytes, where they are known, and the
+-- world
 pub record Stand : Type 0 where
   pub writer : Option (List ℕ)
   pub world : World
@@ -40,7 +41,8 @@ abbrev pub Counts : Tally → Progress → Type 0
 Counts tally after =
     (tally.outcome.accepted ≡ after.accepted) × (tally.outcome.refused ≡ after.refused) × (tally.closed ≡ after.closed)
 
--- a write failed at a line: what was written is what the lines before it print, and a part of its answer; the world is that after it
+-- a write failed at a line: what was written is what the lines before it print, and a part of its
+-- answer; the world is that after it
 pub record StoppedAt (manner : Manner) (old new : Stand) (lines : List (List ℕ)) : Type 0 where
   pub before : List (List ℕ)
   pub line : List ℕ
@@ -89,8 +91,9 @@ Ran manner reader left old new (Err Read) = RanRead manner reader left old new
 Ran manner reader left old new (Err Write) = RanUpTo manner reader old new
 Ran manner reader left old new (Err (Memory error)) = ⊥
 
--- how the streams of a run stand, by how it ends: well where no read, no write and no flush failed; as a fault of reading where a read
--- failed or a limit was passed, and no write or flush failed; and as a fault of writing where a write or a flush failed, and no read
+-- how the streams of a run stand, by how it ends: well where no read, no write and no flush failed;
+-- as a fault of reading where a read failed or a limit was passed, and no write or flush failed;
+-- and as a fault of writing where a write or a flush failed, and no read
 abbrev pub EndsWith : Result Outcome ShellFault → Reading → Bool → Type 0
 EndsWith (Ok outcome) input output_failed = (input.has_failed ≡ false) × (output_failed ≡ false)
 EndsWith (Err Read) input output_failed = IsUnreadable input × (output_failed ≡ false)

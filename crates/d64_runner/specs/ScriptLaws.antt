@@ -15,7 +15,8 @@ pub record IsReachedIn (most : ℕ) (before after : History) : Type 0 where
   pub few : length requests ≤ most
   pub run : Run before requests answers after
 
--- what the lines of a script leave of the history is what a run of requests leaves, at most one a line
+-- what the lines of a script leave of the history is what a run of requests leaves, at most one a
+-- line
 abbrev pub ScriptsAreRuns : Type 0
 ScriptsAreRuns =
     (manner : Manner) (lines : List (List ℕ)) (progress : Progress) (out : List ℕ) (after : Progress)

@@ -7,7 +7,8 @@ use Rattle.d64_script.specs.declared.status.Status.{Status}
 use Rattle.d64_runner.specs.declared.manners.Refusals.{Refusals}
 use Rattle.d64_runner.specs.declared.manners.Refusals.TheVariants.{GoOn, Stop}
 
--- how a script is run: with the name of the host file in which `save` stores by default, and with what a refused line does
+-- how a script is run: with the name of the host file in which `save` stores by default, and with
+-- what a refused line does
 pub record Manner : Type 0 where
   pub home : List ℕ
   pub refusals : Refusals
@@ -21,7 +22,8 @@ abbrev pub ends_script : Refusals → Status → Bool
 ends_script GoOn status = false
 ends_script Stop status = not (is_accepted status)
 
--- how far a run has come: the world, whether it has ended, by an accepted `quit` or a refused line, and how many lines were accepted and refused
+-- how far a run has come: the world, whether it has ended, by an accepted `quit` or a refused line,
+-- and how many lines were accepted and refused
 pub record Progress : Type 0 where
   pub world : World
   pub closed : Bool

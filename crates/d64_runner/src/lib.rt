@@ -1,4 +1,5 @@
-//! The run of a script over a disk image, from the bytes of a reader to those of a writer, line by line.
+//! The run of a script over a disk image, from the bytes of a reader to those of a writer, line by
+//! line.
 #![tactic(auto)]
 
 pub mod laws;

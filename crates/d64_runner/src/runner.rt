@@ -39,19 +39,21 @@ pub struct Outcome {
 /// Why a script did not run to its end.
 #[derive(Clone, Copy, Debug, PartialEq, Eq, Error)]
 pub enum ShellFault {
-    /// A read failed, or the script has more than 16,777,216 bytes or takes more than 1,000,000 reads.
-    /// Every line that was ended before has run, and no other.
+    /// A read failed, or the script has more than 16,777,216 bytes or takes more than 1,000,000
+    /// reads. Every line that was ended before has run, and no other.
     #[error("the script cannot be read to its end")]
     Read,
     /// A write failed, or took nothing. A part of the answers was written.
     #[error("the answers cannot be written")]
     Write,
-    /// There is no memory but for a command, whose line answers that. It never comes, since reading takes no memory.
+    /// There is no memory but for a command, whose line answers that. It never comes, since reading
+    /// takes no memory.
     #[error("out of memory")]
     Memory(AllocError),
 }
 
-/// How far a run has come: its counts, and whether it has ended, by an accepted `quit` or a refused line.
+/// How far a run has come: its counts, and whether it has ended, by an accepted `quit` or a refused
+/// line.
 #[derive(Clone, Copy)]
 struct Tally {
     outcome: Outcome,
@@ -92,8 +94,8 @@ impl Tally {
     }
 }
 
-/// How far a run has come in its script: what came of the next line, and what the lines before it counted; and who is told
-/// of it.
+/// How far a run has come in its script: what came of the next line, and what the lines before it
+/// counted; and who is told of it.
 #[derive(Drop)]
 struct RunState<'l, L: Listener> {
     line: HeldLine,
@@ -121,7 +123,8 @@ impl<'l, L: Listener> RunState<'l, L> {
         }
     }
 
-    /// Writes the answer to the line, where this is the present image, and tells it to a listener once it is delivered.
+    /// Writes the answer to the line, where this is the present image, and tells it to a listener
+    /// once it is delivered.
     fn write_answer<W: Write>(
         &mut self,
         home: &str,
@@ -157,9 +160,10 @@ struct LineRunner<'n> {
 
 /// Runs a script. `home` is the name of the host file in which `save` stores by default, or empty.
 ///
-/// The answers are those of the transcript, however the script is cut into reads. A line is answered, and the writer
-/// flushed, before the next read, so that a person at a terminal sees an answer before typing on. After an accepted `quit`
-/// nothing more is read. Reading takes no memory: one line is held, and what one read gave.
+/// The answers are those of the transcript, however the script is cut into reads. A line is
+/// answered, and the writer flushed, before the next read, so that a person at a terminal sees an
+/// answer before typing on. After an accepted `quit` nothing more is read. Reading takes no memory:
+/// one line is held, and what one read gave.
 pub fn run<R: Read, W: Write, H: Host>(
     alloc: Global,
     reader: &mut R,
@@ -178,10 +182,12 @@ pub fn run<R: Read, W: Write, H: Host>(
     run_on(alloc, &mut input, &mut output, host, home, session)
 }
 
-/// Runs the script of an input of which nothing was read yet, and prints on an output that has not failed.
+/// Runs the script of an input of which nothing was read yet, and prints on an output that has not
+/// failed.
 ///
-/// `Read` comes where a read failed or a limit was reached, and `Write` where a write or a flush failed; no read is made
-/// while something printed has not been delivered, nor after a call that failed or an accepted `quit`.
+/// `Read` comes where a read failed or a limit was reached, and `Write` where a write or a flush
+/// failed; no read is made while something printed has not been delivered, nor after a call that
+/// failed or an accepted `quit`.
 pub fn run_on<R: Read, W: Write, H: Host>(
     alloc: Global,
     input: &mut InputStream<'_, R>,
@@ -208,8 +214,8 @@ pub fn run_on<R: Read, W: Write, H: Host>(
     run_script(alloc, input, output, host, manner, session)
 }
 
-/// Runs the script of an input of which nothing was read yet in this manner, and prints on an output that has not failed.
-/// Nobody listens to it.
+/// Runs the script of an input of which nothing was read yet in this manner, and prints on an
+/// output that has not failed. Nobody listens to it.
 pub fn run_script<R: Read, W: Write, H: Host>(
     alloc: Global,
     input: &mut InputStream<'_, R>,
@@ -247,12 +253,14 @@ pub struct ScriptRunner<'n, 'l, L: Listener> {
 }
 
 impl<'n, 'l, L: Listener> ScriptRunner<'n, 'l, L> {
-    /// Runs the script of an input of which nothing was read yet, and prints on an output that has not failed.
+    /// Runs the script of an input of which nothing was read yet, and prints on an output that has
+    /// not failed.
     ///
-    /// `Read` comes where a read failed or a limit was reached, and `Write` where a write or a flush failed; no read is made
-    /// while something printed has not been delivered, nor after a call that failed, an accepted `quit`, or
-    /// a refused line that ends the script. All this is the same with every listener, which is told of the session's begin,
-    /// of each answer, and of the session's end, however that comes.
+    /// `Read` comes where a read failed or a limit was reached, and `Write` where a write or a
+    /// flush failed; no read is made while something printed has not been delivered, nor after a
+    /// call that failed, an accepted `quit`, or a refused line that ends the script. All this is
+    /// the same with every listener, which is told of the session's begin, of each answer, and of
+    /// the session's end, however that comes.
     pub fn run<R: Read, W: Write, H: Host>(
         self,
         input: &mut InputStream<'_, R>,
@@ -377,7 +385,8 @@ impl<'n> LineRunner<'n> {
         }
     }
 
-    /// Runs the lines that end in the next piece of the script, up to the run's end, and holds what comes after the last.
+    /// Runs the lines that end in the next piece of the script, up to the run's end, and holds what
+    /// comes after the last.
     fn run_piece<W: Write, H: Host, L: Listener>(
         self,
         output: &mut OutputStream<'_, W>,

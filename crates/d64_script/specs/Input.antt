@@ -2,7 +2,8 @@
 use Rattle.std.specs.Prelude.{◌≡◌, ℕ, ◌<◌, ◌≤◌, Bool, true, false, ◌⊎◌}
 use Rattle.d64_script.specs.Script.{script_limit}
 
--- how an input was read so far: the reads that were made, the bytes that they gave, and whether one of them failed
+-- how an input was read so far: the reads that were made, the bytes that they gave, and whether one
+-- of them failed
 pub record Reading : Type 0 where
   pub reads : ℕ
   pub came : ℕ
@@ -27,6 +28,7 @@ IsUnread input = input ≡ reading_of 0 0 false
 abbrev pub MayBeRead : Reading → Type 0
 MayBeRead input = (input.has_failed ≡ false) × (input.reads < reads_limit) × (input.came ≤ script_limit)
 
--- the input cannot be read to its end: a read failed, or more bytes came than a script may have, or all reads were made that may be
+-- the input cannot be read to its end: a read failed, or more bytes came than a script may have, or
+-- all reads were made that may be
 abbrev pub IsUnreadable : Reading → Type 0
 IsUnreadable input = (input.has_failed ≡ true) ⊎ ((script_limit < input.came) ⊎ (input.reads ≡ reads_limit))

@@ -9,7 +9,8 @@ pub record AppendsPart (old new : Option (List ℕ)) (bytes : List ℕ) : Type 0
   pub all : part ++ rest ≡ bytes
   pub gained : Appends old new part
 
--- what is known of an output: the bytes of its writer, where they are known, and whether a write or a flush of it has failed
+-- what is known of an output: the bytes of its writer, where they are known, and whether a write or
+-- a flush of it has failed
 pub record Account : Type 0 where
   pub contents : Option (List ℕ)
   pub has_failed : Bool
@@ -17,7 +18,8 @@ pub record Account : Type 0 where
 abbrev pub account_of : Option (List ℕ) → Bool → Account
 account_of contents has_failed = record { contents = contents; has_failed = has_failed }
 
--- all of the bytes were written and no write failed, or a write failed and a first part of them was written
+-- all of the bytes were written and no write failed, or a write failed and a first part of them was
+-- written
 abbrev pub Writes : Account → Account → List ℕ → Type 0
 Writes old new bytes =
     (Appends old.contents new.contents bytes × (new.has_failed ≡ old.has_failed))

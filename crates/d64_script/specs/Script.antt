@@ -7,7 +7,8 @@ use Rattle.d64_script.specs.declared.script.Script.{Script}
 abbrev pub script_limit : ℕ
 script_limit = 16777216
 
--- the script holds the first bytes, up to the limit, of those that the reader lost, and is whole only where the reader has no more and lost no more than that
+-- the script holds the first bytes, up to the limit, of those that the reader lost, and is whole
+-- only where the reader has no more and lost no more than that
 pub record IsReadFrom (old new : Option (List ℕ)) (script : Script) : Type 0 where
   pub consumed : List ℕ
   pub lost : Consumes old new consumed

@@ -47,7 +47,8 @@ abbrev pub first_word : List ℕ → Option (List ℕ × List ℕ)
 first_word [] = None
 first_word (b ∷ rest) = if b == quote then quoted_word rest else bare_word (b ∷ rest)
 
--- the words of a text of at most so many bytes: spaces are passed over, a word is taken, and then the words of the rest
+-- the words of a text of at most so many bytes: spaces are passed over, a word is taken, and then
+-- the words of the rest
 abbrev pub words_within : ℕ → List ℕ → Option (List (List ℕ))
 words_within size [] = Some []
 words_within zero (b ∷ rest) = None
@@ -67,7 +68,8 @@ words_left text = unwrap_or (split_words text) []
 unfoldable pub words_of : List ℕ → Option (List (List ℕ))
 words_of line = if list_all is_printable line then split_words line else None
 
--- the rule of words: spaces are passed over, and a word is a run of other bytes than spaces and quotes, or what stands between two quotes, each before a space or the line's end
+-- the rule of words: spaces are passed over, and a word is a run of other bytes than spaces and
+-- quotes, or what stands between two quotes, each before a space or the line's end
 pub data Spells : List ℕ → List (List ℕ) → Type 0 where
   no_word : Spells [] []
   space_before : {rest : List ℕ} {words : List (List ℕ)} → Spells rest words → Spells (space ∷ rest) words

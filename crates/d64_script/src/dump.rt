@@ -21,8 +21,8 @@ const DIGITS: &[u8; 512] =
 /// The room for the lines of a block, in bytes: 52 for each line.
 pub const DUMP_LEN: usize = 832;
 
-/// The lines that show a block: the offset in two hexadecimal digits, a colon, and sixteen bytes, each as a space and
-/// two digits, all in small letters. It takes no memory.
+/// The lines that show a block: the offset in two hexadecimal digits, a colon, and sixteen bytes,
+/// each as a space and two digits, all in small letters. It takes no memory.
 #[tactic(auto, unfolding(crate::specs::Dump::dump))]
 pub fn dump(block: &[u8; 256]) -> ArrayVec<u8, DUMP_LEN>
     ensures { result.items ≡ dump block.now }

@@ -8,8 +8,8 @@ ghost use Rattle.d64_script.specs.HeldLine.{Holds, IsOpen, Says};
 use crate::raw_lines::LINE_BYTES;
 use arrayvec::ArrayVec;
 
-/// The bytes of a line before its LF, as far as they have come. A line of more than `LINE_BYTES` bytes is passed over, and
-/// only that it is too long is held.
+/// The bytes of a line before its LF, as far as they have come. A line of more than `LINE_BYTES`
+/// bytes is passed over, and only that it is too long is held.
 #[derive(Drop)]
 pub struct HeldLine {
     bytes: ArrayVec<u8, LINE_BYTES>,

@@ -8,7 +8,8 @@ ghost use Rattle.d64_script.specs.Input.{IsUnread, MayBeRead, read_limit, readin
 use crate::output::OutputStream;
 use std::io::{Read, Result, Write};
 
-/// A reader, with how many reads were made of it, how many bytes they gave, and whether one of them failed.
+/// A reader, with how many reads were made of it, how many bytes they gave, and whether one of them
+/// failed.
 #[derive(Drop)]
 pub struct InputStream<'r, R: Read> {
     reader: &'r mut R,

@@ -9,8 +9,8 @@ use std::str;
 /// The most digits of a number.
 const MAX_DIGITS: usize = 3;
 
-/// The number that a word spells: one to three decimal digits, leading zeros among them, of value at most 255. It is
-/// `None` for every other word. It takes no memory.
+/// The number that a word spells: one to three decimal digits, leading zeros among them, of value
+/// at most 255. It is `None` for every other word. It takes no memory.
 #[tactic(auto, unfolding(crate::specs::Number::number_of))]
 pub fn number(word: &[u8]) -> Option<u8>
     ensures { result ≡ number_of word.now }

@@ -12,7 +12,8 @@ use thiserror::Error;
 #[error("the output took no more bytes")]
 pub struct WriteFault;
 
-/// A writer, with whether all that was written to it has been delivered, and whether a call of it has failed.
+/// A writer, with whether all that was written to it has been delivered, and whether a call of it
+/// has failed.
 #[derive(Drop)]
 pub struct OutputStream<'w, W: Write> {
     writer: &'w mut W,
@@ -42,7 +43,8 @@ impl<'w, W: Write> OutputStream<'w, W> {
         self.is_delivered
     }
 
-    /// Writes all of the bytes. Where a write fails or takes nothing, a first part of them is written.
+    /// Writes all of the bytes. Where a write fails or takes nothing, a first part of them is
+    /// written.
     pub fn write(&mut self, bytes: &[u8]) -> Result<(), WriteFault>
         ensures same { self.new.writer.ghost_name ≡ self.old.writer.ghost_name }
         ensures ok { OnOk result (Appends (W.contents self.old.writer.now) (W.contents self.new.writer.now) bytes.now) }

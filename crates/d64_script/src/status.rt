@@ -13,15 +13,16 @@ pub const MAX_STATUS_LINE: usize = 128;
 /// The least number of a refusal.
 const FIRST_REFUSAL: u8 = 30;
 
-/// What a line of a script is answered. The numbers to 72 are those of the drive's error channel (1541 User's Guide);
-/// those from 80 on are this project's own.
+/// What a line of a script is answered. The numbers to 72 are those of the drive's error channel
+/// (1541 User's Guide); those from 80 on are this project's own.
 #[derive(Clone, Copy, Debug, PartialEq, Eq)]
 pub enum Status {
     /// 00: the line was accepted.
     Done,
     /// 01: the line was accepted, and so many files were deleted.
     FilesScratched { count: usize },
-    /// 30: a byte or a quote that no line holds, too many words, or a word that isn't what its command takes.
+    /// 30: a byte or a quote that no line holds, too many words, or a word that isn't what its
+    /// command takes.
     SyntaxError,
     /// 31: the first word is no command.
     UnknownCommand,

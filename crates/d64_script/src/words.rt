@@ -17,7 +17,8 @@ pub const MAX_WORDS: usize = 512;
 #[error("a byte or a quote stands where no line holds it")]
 pub struct NoWords;
 
-/// The words that are left of a walk along those of a line, in order, without the quotes round a quoted word.
+/// The words that are left of a walk along those of a line, in order, without the quotes round a
+/// quoted word.
 #[derive(Drop)]
 pub struct Words<'a> {
     rest: &'a [u8],
@@ -37,8 +38,9 @@ impl<'a> Model for Words<'a> {
 }
 
 impl<'a> Words<'a> {
-    /// The words of a line. Spaces separate words. It is refused where the line has more than `LINE_BYTES` bytes, where a
-    /// byte is no printable ASCII character, or where a quote neither begins a word nor ends it. It takes no memory.
+    /// The words of a line. Spaces separate words. It is refused where the line has more than
+    /// `LINE_BYTES` bytes, where a byte is no printable ASCII character, or where a quote neither
+    /// begins a word nor ends it. It takes no memory.
     #[tactic(auto, unfolding(crate::specs::Words::words_of))]
     pub fn of(line: &'a [u8]) -> Result<Words<'a>, NoWords>
         ensures words { IfOk result (λ words. Some words ≡ (if nat_le (length line.now) line_limit then words_of line.now else None)) }
@@ -85,8 +87,8 @@ impl<'a> Iterator for Words<'a> {
     }
 }
 
-/// The words of a line are those of the rule: runs of bytes other than spaces and quotes, and what stands between two
-/// quotes, each before a space or the line's end. At most one list of words is.
+/// The words of a line are those of the rule: runs of bytes other than spaces and quotes, and what
+/// stands between two quotes, each before a space or the line's end. At most one list of words is.
 #[inline]
 pub fn words_of_rule(line: &[u8])
     ensures { HasWordsOfRule line.now }

@@ -7,7 +7,8 @@ use Rattle.d64_collection.specs.Runs.{IsCut, IsRead, IsTold, Stand}
 use Rattle.d64_shell.specs.declared.difference_job.DifferenceFault.{DifferenceFault}
 use Rattle.d64_shell.specs.declared.difference_job.DifferenceFault.TheVariants.{Write, Memory}
 
--- what is answered of an old file and a new one: of the name of each, and of its bytes, or of none where it cannot be read
+-- what is answered of an old file and a new one: of the name of each, and of its bytes, or of none
+-- where it cannot be read
 abbrev pub PairRule : Type 0
 PairRule = List ℕ → Option (List ℕ) → List ℕ → Option (List ℕ) → Answer
 
@@ -38,7 +39,8 @@ AreReadSoFar old_name new_name first last =
     ⊎ (((old : Option (List ℕ)) × IsRead (File old_name) first old last)
     ⊎ ((old : Option (List ℕ)) × (new : Option (List ℕ)) × AreRead old_name new_name first old new last))
 
--- how a comparison ends: both files are read and told of, unless the output failed, or there was no memory, and nothing was told
+-- how a comparison ends: both files are read and told of, unless the output failed, or there was no
+-- memory, and nothing was told
 abbrev pub Compares : {A : Type 0} → PairRule → List ℕ → List ℕ → Stand → Stand → Result A DifferenceFault → Type 0
 Compares rule old_name new_name first last (Ok done) = AreCompared rule old_name new_name first last
 Compares rule old_name new_name first last (Err Write) = AreCut rule old_name new_name first last

@@ -20,7 +20,8 @@ use Rattle.d64_shell.specs.SurveyFiles.{SurveyFiles, Named, files_of}
 use Rattle.d64_shell.specs.declared.tools.Tool.{Tool}
 use Rattle.d64_shell.specs.declared.tools.Tool.TheVariants as tools
 
--- what a script begins with: a blank image of so many tracks, the image of a host file, or the session of one
+-- what a script begins with: a blank image of so many tracks, the image of a host file, or the
+-- session of one
 pub data Beginning : Type 0 where
   Blank : ℕ → Beginning
   ImageFile : List ℕ → Beginning
@@ -64,9 +65,10 @@ refusals_of stops = if stops then Stop else GoOn
 abbrev pub setup_of : AskedExtraction → Format → SetupView
 setup_of asked format = record { into = string_bytes asked.into; with_parts = asked.part; skips = asked.skip_existing; form = format }
 
--- what a job does: it runs a script of some source in a manner, from a beginning; runs a tool on the input, or on the host file of a name, to
--- the output, or to the host file of a second name; surveys files, by a rule, with what
--- stands before all answers; unpacks files, as is asked for, with what stands before all answers; or compares the files of two names, by a rule
+-- what a job does: it runs a script of some source in a manner, from a beginning; runs a tool on
+-- the input, or on the host file of a name, to the output, or to the host file of a second name;
+-- surveys files, by a rule, with what stands before all answers; unpacks files, as is asked for,
+-- with what stands before all answers; or compares the files of two names, by a rule
 pub data Work : Type 0 where
   Script : Beginning → Source → Manner → Work
   Conversion : Tool → Option (List ℕ) → Option (List ℕ) → Work

@@ -56,7 +56,8 @@ use Rattle.d64_shell.specs.declared.program_fault.ProgramFault.TheVariants.{Unre
 abbrev pub file_limit : ℕ
 file_limit = 16777216
 
--- what the program works on: the bytes that its input still has and those of its output, where they are known, and its host
+-- what the program works on: the bytes that its input still has and those of its output, where they
+-- are known, and its host
 pub record Outside : Type 0 where
   pub reader : Option (List ℕ)
   pub writer : Option (List ℕ)
@@ -65,7 +66,8 @@ pub record Outside : Type 0 where
 abbrev pub outside_of : Option (List ℕ) → Option (List ℕ) → HostState → Outside
 outside_of reader writer host = record { reader = reader; writer = writer; host = host }
 
--- what the program works on: two streams, of whose reader and writer these tell the bytes, and a host, whose state this tells
+-- what the program works on: two streams, of whose reader and writer these tell the bytes, and a
+-- host, whose state this tells
 abbrev pub outside_at : {R W H : Type 0} → (R → Option (List ℕ)) → InputStream R → (W → Option (List ℕ)) → OutputStream W → (H → HostState) → H → Outside
 outside_at remaining input written output state host = outside_of (remaining input.reader.now) (written output.writer.now) (state host)
 
@@ -84,7 +86,8 @@ IsFirstHistory old (ImageFile name) history new =
     (image : List (List ℕ)) × IsImage image × FetchesFile old name file_limit (Ok (bytes_of image)) new × (history ≡ begun image)
 IsFirstHistory old (SessionFile name) history new = IsSession history × FetchesFile old name session_limit (Ok (file_of history)) new
 
--- a script has run that comes from the input, or from the words: then nothing of the input was read, and a reader of the text was
+-- a script has run that comes from the input, or from the words: then nothing of the input was
+-- read, and a reader of the text was
 abbrev pub RanFrom : Source → Manner → Option (List ℕ) → Option (List ℕ) → RunStand → RunStand → Result Outcome ShellFault → Type 0
 RanFrom Input manner reader left old new ended = Ran manner reader left old new ended
 RanFrom (Given text) manner reader left old new ended = (left ≡ reader) × (rest : Option (List ℕ)) × Ran manner (Some text) rest old new ended
@@ -107,7 +110,8 @@ HasNotBegun old new = (new.reader ≡ old.reader) × Keeps old.writer new.writer
 abbrev pub status_of : Outcome → ℕ
 status_of outcome = if outcome.refused == 0 then 0 else 1
 
--- how the fault of a file that cannot be fetched is told: the file is unreadable, or there is no memory
+-- how the fault of a file that cannot be fetched is told: the file is unreadable, or there is no
+-- memory
 abbrev pub fault_of_file : ProgramFault → HostFault → ProgramFault
 fault_of_file unreadable (files.Memory error) = Memory
 fault_of_file unreadable fault = unreadable
@@ -153,13 +157,14 @@ fault_text fault = fault_words fault ++ fault_digits fault
 unfoldable pub told_line : List ℕ → List ℕ
 told_line text = codes "d64sh: " ++ text ++ codes "\n"
 
--- why a host file that was fetched so gives no image: it was not fetched, or is of another length, or there is no memory
+-- why a host file that was fetched so gives no image: it was not fetched, or is of another length,
+-- or there is no memory
 abbrev pub GivesNoImage : Result (List ℕ) HostFault → ProgramFault → Type 0
 GivesNoImage (Err fault) told = told ≡ fault_of_file UnreadableImage fault
 GivesNoImage (Ok bytes) told = ((told ≡ WrongLength (length bytes)) × (is_image_length (length bytes) ≡ false)) ⊎ (told ≡ Memory)
 
--- why a host file that was fetched so gives no session: it was not fetched, or its bytes are no session file, of which the first fault
--- is told, or there is no memory
+-- why a host file that was fetched so gives no session: it was not fetched, or its bytes are no
+-- session file, of which the first fault is told, or there is no memory
 abbrev pub GivesNoSession : Result (List ℕ) HostFault → ProgramFault → Type 0
 GivesNoSession (Err fault) told = told ≡ fault_of_file UnreadableSession fault
 GivesNoSession (Ok bytes) told = ((fault : ResumeFault) × (first_fault bytes ≡ Some fault) × (told ≡ fault_of_resume fault)) ⊎ (told ≡ Memory)
@@ -179,18 +184,21 @@ abbrev pub HasNoText : ProgramFault → Source → Outside → Outside → Type 
 HasNoText fault Input old new = ⊥
 HasNoText fault (Given text) old new = (fault ≡ Memory) × (new ≡ old)
 
--- why a run that ended so is told as this fault: it was stopped by it, or the output takes no more bytes
+-- why a run that ended so is told as this fault: it was stopped by it, or the output takes no more
+-- bytes
 abbrev pub IsToldOf : Result Outcome ShellFault → ProgramFault → Type 0
 IsToldOf (Ok outcome) told = told ≡ Write
 IsToldOf (Err fault) told = (told ≡ fault_of_run fault) ⊎ (told ≡ Write)
 
--- what a fault says of the run: no line has run for want of a text or of a session; or the script has run to some end, and is told of by this fault
+-- what a fault says of the run: no line has run for want of a text or of a session; or the script
+-- has run to some end, and is told of by this fault
 abbrev pub StoppedBy : ProgramFault → Beginning → Source → Manner → Outside → Outside → Type 0
 StoppedBy fault beginning source manner old new =
     HasNoText fault source old new ⊎ (HasNotBegunFor fault beginning old new
     ⊎ ((ended : Result Outcome ShellFault) × RanShell beginning source manner old new ended × IsToldOf ended fault))
 
--- the program answered with a fault that is told by this text: status 2, and its line, whole unless writing it failed
+-- the program answered with a fault that is told by this text: status 2, and its line, whole unless
+-- writing it failed
 abbrev pub ReportsText : List ℕ → Account → Account → ℕ → Type 0
 ReportsText text faults told status = (status ≡ 2) × Writes faults told (told_line text)
 
@@ -225,8 +233,8 @@ RanToolOn tool None old new answer = RanTool tool old.reader new.reader old.writ
 RanToolOn tool (Some name) old new answer = (new.reader ≡ old.reader)
     × (fetched : Result (List ℕ) HostFault) × FetchesFile old.host name file_limit fetched new.host × WritesFetched tool fetched old.writer new.writer answer
 
--- how a tool's answer is told: status 0 and nothing where it wrote its result; 1 and a status line, whole unless writing it failed, where it
--- refused its input; and else 2 and the line of a fault
+-- how a tool's answer is told: status 0 and nothing where it wrote its result; 1 and a status line,
+-- whole unless writing it failed, where it refused its input; and else 2 and the line of a fault
 abbrev pub TellsAnswer : {A : Type 0} → Result A ToolFault → Account → Account → ℕ → Type 0
 TellsAnswer (Ok done) faults told status = (status ≡ 0) × (told ≡ faults)
 TellsAnswer (Err (tool_faults.Text fault)) faults told status =
@@ -236,19 +244,22 @@ TellsAnswer (Err tool_faults.Read) faults told status = Reports Read faults told
 TellsAnswer (Err tool_faults.Write) faults told status = Reports Write faults told status
 TellsAnswer (Err (tool_faults.Memory error)) faults told status = Reports Memory faults told status
 
--- a tool has had the bytes that it works on, of the input or of the host file of this name; or it has not, for this fault
+-- a tool has had the bytes that it works on, of the input or of the host file of this name; or it
+-- has not, for this fault
 abbrev pub TakesInput : Option (List ℕ) → Outside → Outside → Result (List ℕ) ToolFault → Type 0
 TakesInput None old new (Ok bytes) = HasRead old.reader new.reader bytes × (new.host ≡ old.host) × (new.writer ≡ old.writer)
 TakesInput None old new (Err fault) = ReadsNot old.reader new.reader fault × (new.host ≡ old.host) × (new.writer ≡ old.writer)
 TakesInput (Some name) old new taken = (new.reader ≡ old.reader) × (new.writer ≡ old.writer)
     × (fetched : Result (List ℕ) HostFault) × FetchesFile old.host name file_limit fetched new.host × (taken ≡ taken_of fetched)
 
--- what a tool has stored of the bytes that it works on, which were had so; nothing is stored where they were not
+-- what a tool has stored of the bytes that it works on, which were had so; nothing is stored where
+-- they were not
 abbrev pub StoresTaken : Tool → Result (List ℕ) ToolFault → List ℕ → HostState → HostState → Result (Unit {0}) ToolFault → Type 0
 StoresTaken tool (Ok bytes) target old new answer = HasStored tool bytes target old new answer
 StoresTaken tool (Err fault) target old new answer = (answer ≡ Err fault) × (new ≡ old)
 
--- a tool has run on the input, or on the host file of this name, to the host file of a second name; nothing was written
+-- a tool has run on the input, or on the host file of this name, to the host file of a second name;
+-- nothing was written
 pub record RanToolTo (tool : Tool) (name : Option (List ℕ)) (target : List ℕ) (old new : Outside) (answer : Result (Unit {0}) ToolFault) : Type 0 where
   pub taken : Result (List ℕ) ToolFault
   pub middle : Outside
@@ -291,7 +302,8 @@ TellsFault list run_faults.List error told status = ((status ≡ 2) × Writes er
 TellsFault list run_faults.Write error told status = Reports Write error told status
 TellsFault list run_faults.Memory error told status = Reports Memory error told status
 
--- how the end of a survey is told, of which this was told: by the status of the worst verdict, or as a fault
+-- how the end of a survey is told, of which this was told: by the status of the worst verdict, or
+-- as a fault
 abbrev pub TellsEnd : List ℕ → Result (Unit {0}) RunFault → Told → Account → ℕ → Type 0
 TellsEnd list (Ok done) old told status = (told ≡ old.error) × (status ≡ verdict_status old.worst)
 TellsEnd list (Err fault) old told status = TellsFault list fault old.error told status
@@ -309,7 +321,8 @@ pub record EndedSurvey (conduct : Conduct) (heading : List ℕ) (files : SurveyF
   pub writer : new.writer ≡ last.told.output.contents
   pub tells : TellsEnd (list_name files) ended last.told told status
 
--- how the end of a comparison is told, of which this was told: by the status of the verdict, or by the line of a fault
+-- how the end of a comparison is told, of which this was told: by the status of the verdict, or by
+-- the line of a fault
 abbrev pub TellsComparison : Result (Unit {0}) DifferenceFault → Told → Account → ℕ → Type 0
 TellsComparison (Ok done) old told status = (told ≡ old.error) × (status ≡ verdict_status old.worst)
 TellsComparison (Err comparisons.Write) old told status = Reports Write old.error told status
@@ -334,13 +347,15 @@ EndedWork (Survey rule heading files) old new faults told status = EndedSurvey (
 EndedWork (Extraction setup heading files) old new faults told status = EndedSurvey (unpacks setup) heading files old new faults told status
 EndedWork (Comparison rule old_name new_name) old new faults told status = EndedComparison rule old_name new_name old new faults told status
 
--- help or the version was written, whole; or there was a fault: a first part of it was written, or there was no memory
+-- help or the version was written, whole; or there was a fault: a first part of it was written, or
+-- there was no memory
 abbrev pub HasShown : Option (List ℕ) → Option (List ℕ) → Account → Account → ℕ → Type 0
 HasShown old new faults told status =
     ((text : List ℕ) × Appends old new text × (told ≡ faults) × (status ≡ 0))
     ⊎ (((text : List ℕ) × AppendsPart old new text × Reports Write faults told status) ⊎ (Keeps old new × Reports Memory faults told status))
 
--- what is wrong with the words was told, whole unless writing it failed, with status 2; or there was no memory
+-- what is wrong with the words was told, whole unless writing it failed, with status 2; or there
+-- was no memory
 abbrev pub HasTold : Account → Account → ℕ → Type 0
 HasTold faults told status = ((text : List ℕ) × Writes faults told text × (status ≡ 2)) ⊎ Reports Memory faults told status
 
@@ -349,7 +364,8 @@ abbrev pub ShowsOrTells : JobFault → Option (List ℕ) → Option (List ℕ) �
 ShowsOrTells fault old new faults told status =
     (WasAskedFor fault × HasShown old new faults told status) ⊎ (¬ (WasAskedFor fault) × (new ≡ old) × HasTold faults told status)
 
--- how words are answered that ask for no job: by the text of the fault, and, where it is clap's, by what they asked to see or by what is wrong
+-- how words are answered that ask for no job: by the text of the fault, and, where it is clap's, by
+-- what they asked to see or by what is wrong
 abbrev pub AnswersWords : JobFault → Option (List ℕ) → Option (List ℕ) → Account → Account → ℕ → Type 0
 AnswersWords fault old new faults told status =
     MatchOption (text_of fault) (ShowsOrTells fault old new faults told status) (λ text. (new ≡ old) × ReportsText text faults told status)
@@ -366,8 +382,8 @@ AsksForShell after = (job : Job) × IsJob (named after) job × IsScript (work_of
 abbrev pub AsksToPassOver : List (List ℕ) → Type 0
 AsksToPassOver after = (job : Job) × IsJob (named after) job × PassesOver (work_of job)
 
--- what the program has done, and its status: the job that the words ask for has ended; or they ask for none, and were
--- answered so, with nothing read and no file touched
+-- what the program has done, and its status: the job that the words ask for has ended; or they ask
+-- for none, and were answered so, with nothing read and no file touched
 abbrev pub Ended : List (List ℕ) → Outside → Outside → Account → Account → ℕ → Type 0
 Ended after old new faults told status =
     ((job : Job) × IsJob (named after) job × EndedWork (work_of job) old new faults told status)

@@ -13,7 +13,8 @@ input_name name = unwrap_or name (codes "-")
 abbrev pub status_text : Status → List ℕ
 status_text status = take (length (status_line status) - 1) (status_line status)
 
--- the line of a refusal: the input, the line of it that is refused, where it is one, the status, and words for people
+-- the line of a refusal: the input, the line of it that is refused, where it is one, the status,
+-- and words for people
 unfoldable pub refusal_line : Option (List ℕ) → Option ℕ → Status → List ℕ → List ℕ
 refusal_line name line status words =
     shown (input_name name) ++ (option_map_or (λ number. codes ":" ++ decimal number) line []

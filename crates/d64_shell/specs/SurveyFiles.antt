@@ -7,7 +7,8 @@ use Rattle.d64_words.specs.declared.asked.Separator.TheVariants.{LineFeed, Nul}
 use Rattle.d64_shell.specs.declared.file_names.FileNames.{FileNames}
 use Rattle.d64_shell.specs.declared.file_names.FileNames.TheVariants as code
 
--- the files of a survey: those of these names, or those that a list names, with this byte between the names
+-- the files of a survey: those of these names, or those that a list names, with this byte between
+-- the names
 pub data SurveyFiles : Type 0 where
   Named : List (List ℕ) → SurveyFiles
   ListedIn : List ℕ → ℕ → SurveyFiles

@@ -18,7 +18,8 @@ use Rattle.d64_shell.specs.SurveyFiles.{SurveyFiles, Named, ListedIn}
 abbrev pub is_input : List ℕ → Bool
 is_input list = bytes_eq list (codes "-")
 
--- how the fault of a list that cannot be opened is told: there is no memory, or the list cannot be read
+-- how the fault of a list that cannot be opened is told: there is no memory, or the list cannot be
+-- read
 abbrev pub fault_of_list : HostFault → RunFault
 fault_of_list (refusals.Memory error) = faults.Memory
 fault_of_list fault = faults.List
@@ -28,8 +29,8 @@ abbrev pub IsOpened : List ℕ → HostState → Result (Option (List ℕ)) Host
 IsOpened name old answer new =
     Opens old.files name answer × (new.files ≡ old.files) × CountsDevice old.failures new.failures answer
 
--- how a run over the names of a list of the host ends, which was opened so: it is read as it comes, and some of it may be
--- left; or nothing is answered
+-- how a run over the names of a list of the host ends, which was opened so: it is read as it comes,
+-- and some of it may be left; or nothing is answered
 abbrev pub RunsOpened : {A : Type 0} → Conduct → ℕ → Result (Option (List ℕ)) HostFault → Stand → Stand → Result A RunFault → Type 0
 RunsOpened conduct separator (Ok reader) first last result = (left : Option (List ℕ)) × RunsStream conduct separator reader left first last result
 RunsOpened conduct separator (Err fault) first last result = (result ≡ Err (fault_of_list fault)) × (last ≡ first)
@@ -47,7 +48,8 @@ RunsOver conduct (ListedIn list separator) reader left first last result =
     (RunsStream conduct separator reader left first last result)
     ((left ≡ reader) × RunsListFile conduct separator list first last result)
 
--- how a survey goes on after what stands before all answers: over the files, or not at all where that was not printed
+-- how a survey goes on after what stands before all answers: over the files, or not at all where
+-- that was not printed
 abbrev pub GoesOn : {A B : Type 0} → Conduct → SurveyFiles → Option (List ℕ) → Option (List ℕ) → Result B RunFault → Stand → Stand → Result A RunFault → Type 0
 GoesOn conduct files reader left (Ok done) first last result = RunsOver conduct files reader left first last result
 GoesOn conduct files reader left (Err fault) first last result = (left ≡ reader) × (last ≡ first) × (result ≡ Err fault)

@@ -29,7 +29,8 @@ IsNoProgram input list_faults.NoAddress = ListsNot input list_faults.NoAddress
 IsNoProgram input list_faults.Truncated = ListsNot input list_faults.Truncated
 IsNoProgram input (list_faults.Memory error) = ⊥
 
--- why the tool makes nothing of an input: it is no program or no text of one, for this fault, or there is no memory
+-- why the tool makes nothing of an input: it is no program or no text of one, for this fault, or
+-- there is no memory
 abbrev pub Refuses : Tool → List ℕ → ToolFault → Type 0
 Refuses Petcat input (NotBasic fault) = IsNoProgram input fault
 Refuses Petcat input (Text fault) = ⊥
@@ -42,7 +43,8 @@ Refuses (Crunch start) input (Memory error) = ⊤
 Refuses (Crunch start) input Read = ⊥
 Refuses (Crunch start) input Write = ⊥
 
--- what the tool writes of an input: all that it makes of it, or a first part where a write fails, and else nothing
+-- what the tool writes of an input: all that it makes of it, or a first part where a write fails,
+-- and else nothing
 abbrev pub HasWritten : {A : Type 0} → Tool → List ℕ → Option (List ℕ) → Option (List ℕ) → Result A ToolFault → Type 0
 HasWritten tool input old new (Ok done) = (output : List ℕ) × Makes tool input output × Appends old new output
 HasWritten tool input old new (Err Read) = ⊥
@@ -61,7 +63,8 @@ abbrev pub answer_of_store : {A : Type 0} → Result A HostFault → Result A To
 answer_of_store (Ok done) = Ok done
 answer_of_store (Err fault) = Err (fault_of_store fault)
 
--- what the tool stores of an input under a name: all that it makes of it, as the host answers; or nothing, where it refuses the input
+-- what the tool stores of an input under a name: all that it makes of it, as the host answers; or
+-- nothing, where it refuses the input
 abbrev pub HasStored : Tool → List ℕ → List ℕ → HostState → HostState → Result (Unit {0}) ToolFault → Type 0
 HasStored tool input name old new answer =
     ((output : List ℕ) × Makes tool input output × (stored : Result (Unit {0}) HostFault) × StoresFile old name output stored new × (answer ≡ answer_of_store stored))
@@ -73,7 +76,8 @@ pub record HasRead (reader left : Option (List ℕ)) (input : List ℕ) : Type 0
   pub ended : IsAtEnd left
   pub within : length input ≤ script_limit
 
--- the reader's bytes were not had to their end: some were read; or there is no memory, and nothing is known of those left
+-- the reader's bytes were not had to their end: some were read; or there is no memory, and nothing
+-- is known of those left
 abbrev pub ReadsNot : Option (List ℕ) → Option (List ℕ) → ToolFault → Type 0
 ReadsNot reader left Read = (consumed : List ℕ) × Consumes reader left consumed
 ReadsNot reader left (Memory error) = ⊤
@@ -111,7 +115,8 @@ WritesWith (Err (Memory error)) old new = new ≡ old
 WritesWith (Err (Text fault)) old new = new ≡ old
 WritesWith (Err (NotBasic fault)) old new = new ≡ old
 
--- a tool tells a fault of reading where its input cannot be read to its end, and nowhere else; where memory runs out, it may not have got so far
+-- a tool tells a fault of reading where its input cannot be read to its end, and nowhere else;
+-- where memory runs out, it may not have got so far
 abbrev pub ReadsWith : {A : Type 0} → Result A ToolFault → Reading → Type 0
 ReadsWith (Ok done) input = input.has_failed ≡ false
 ReadsWith (Err Read) input = IsUnreadable input

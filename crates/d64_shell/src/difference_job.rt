@@ -79,8 +79,9 @@ impl<'n> DifferenceJob<'n> {
         }
     }
 
-    /// Reads both files, tells what changed, and returns the exit status: 0 where they are the same, 1 where they differ, and 2 where one of them is
-    /// no dump or cannot be read, the output takes no more bytes, or memory is wanting.
+    /// Reads both files, tells what changed, and returns the exit status: 0 where they are the
+    /// same, 1 where they differ, and 2 where one of them is no dump or cannot be read, the output
+    /// takes no more bytes, or memory is wanting.
     pub(crate) fn run<W: Write, F: Write, H: Host>(
         &self,
         output: &mut OutputStream<'_, W>,

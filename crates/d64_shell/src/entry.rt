@@ -42,16 +42,19 @@ pub(crate) const SOME_REFUSED: u8 = 1;
 /// The exit status where the words are no use of the program, or it did not come to an end.
 pub(crate) const NOT_RUN: u8 = 2;
 
-/// Does what the words after the program's name ask for, and answers the exit status: 0 where all lines of the script or a
-/// tool's input were accepted, and after help; 1 where some line was refused, or a tool's input, which a status line on
-/// `faults` tells; 2 after a fault, or where the words are no use of the program, which `faults` is told.
+/// Does what the words after the program's name ask for, and answers the exit status: 0 where all
+/// lines of the script or a tool's input were accepted, and after help; 1 where some line was
+/// refused, or a tool's input, which a status line on `faults` tells; 2 after a fault, or where the
+/// words are no use of the program, which `faults` is told.
 ///
-/// `shell` runs the script that `reader` gives on a blank image, of 40 tracks after `--tracks 40`; `shell IMAGE` runs it on the image that the host has
-/// under this name, which is also where `save` stores it by default; `shell --resume FILE` runs it on the session that the host
-/// has in this file, and an IMAGE beside it is where `save` stores by default, and isn't read. `petcat` and `crunch` work on what `reader` gives, or on
-/// the file that the host has under the name that they are given. The writer is flushed before a status comes; each answer
-/// is a few writes, so a writer that buffers is the faster one. Of plain streams no contract can say whether a call of theirs failed:
-/// `program_on` takes streams that can.
+/// `shell` runs the script that `reader` gives on a blank image, of 40 tracks after `--tracks 40`;
+/// `shell IMAGE` runs it on the image that the host has under this name, which is also where `save`
+/// stores it by default; `shell --resume FILE` runs it on the session that the host has in this
+/// file, and an IMAGE beside it is where `save` stores by default, and isn't read. `petcat` and
+/// `crunch` work on what `reader` gives, or on the file that the host has under the name that they
+/// are given. The writer is flushed before a status comes; each answer is a few writes, so a writer
+/// that buffers is the faster one. Of plain streams no contract can say whether a call of theirs
+/// failed: `program_on` takes streams that can.
 pub fn program<R: Read, W: Write, F: Write, H: Host>(
     alloc: Global,
     words: &[&str],
@@ -74,9 +77,10 @@ pub fn program<R: Read, W: Write, F: Write, H: Host>(
     program_on(alloc, words, &mut input, &mut output, &mut told, host)
 }
 
-/// Does what the words ask for on an input of which nothing was read yet and on an output that has not failed, and answers
-/// the exit status. Status 0 comes only where all that was printed was delivered, and the line of a fault, a tool's status
-/// line and what is wrong with the words are written whole unless writing them fails.
+/// Does what the words ask for on an input of which nothing was read yet and on an output that has
+/// not failed, and answers the exit status. Status 0 comes only where all that was printed was
+/// delivered, and the line of a fault, a tool's status line and what is wrong with the words are
+/// written whole unless writing them fails.
 pub fn program_on<R: Read, W: Write, F: Write, H: Host>(
     alloc: Global,
     words: &[&str],

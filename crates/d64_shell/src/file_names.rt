@@ -9,7 +9,8 @@ use d64_words::{Names, Separator};
 pub(crate) enum FileNames<'n> {
     /// These.
     Given(&'n [String]),
-    /// Those that a list holds, with this byte between them. The list is a host file; `-` is the standard input.
+    /// Those that a list holds, with this byte between them. The list is a host file; `-` is the
+    /// standard input.
     Listed { list: &'n str, separator: u8 },
 }
 

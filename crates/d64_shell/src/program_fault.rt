@@ -21,7 +21,8 @@ use thiserror::Error;
 /// The room for the line that tells a fault, in bytes.
 const MAX_FAULT_LINE: usize = 64;
 
-/// Why the program ends with status 2, beside a fault of its words. Each is told by one line on the standard error.
+/// Why the program ends with status 2, beside a fault of its words. Each is told by one line on the
+/// standard error.
 #[derive(Clone, Copy, Debug, PartialEq, Eq, Error)]
 #[error("{}", self.text())]
 pub enum ProgramFault {
@@ -37,8 +38,8 @@ pub enum ProgramFault {
     /// The bytes of the session file are none of one, for the fault of this number in reading them.
     #[error("{}{}", self.text(), .0)]
     NoSession(u8),
-    /// The input cannot be read to its end, or a tool's file cannot be read. Of a script, the lines that were ended before
-    /// have run.
+    /// The input cannot be read to its end, or a tool's file cannot be read. Of a script, the lines
+    /// that were ended before have run.
     Read,
     /// The output takes no more bytes.
     Write,
@@ -46,8 +47,9 @@ pub enum ProgramFault {
 }
 
 impl ProgramFault {
-    /// Writes the line that tells the fault, and returns the exit status. Where a write fails or takes nothing, the rest
-    /// of the line is dropped. Of a plain writer no contract can say whether one has: `report_on` is for a stream that can.
+    /// Writes the line that tells the fault, and returns the exit status. Where a write fails or
+    /// takes nothing, the rest of the line is dropped. Of a plain writer no contract can say
+    /// whether one has: `report_on` is for a stream that can.
     pub fn report<F: Write>(self, faults: &mut F) -> u8
         ensures { (failed : Bool) × Reports self (account_of (F.contents faults.old) false) (account_of (F.contents faults.new) failed) result }
     {
@@ -55,7 +57,8 @@ impl ProgramFault {
         self.report_on(&mut stream)
     }
 
-    /// Writes the line that tells the fault, whole unless writing it fails, and returns the exit status.
+    /// Writes the line that tells the fault, whole unless writing it fails, and returns the exit
+    /// status.
     pub fn report_on<F: Write>(self, faults: &mut OutputStream<'_, F>) -> u8
         ensures faults { faults.new.writer.ghost_name ≡ faults.old.writer.ghost_name }
         ensures reported { Reports self (account_at F.contents faults.old)
@@ -107,7 +110,8 @@ impl ProgramFault {
     }
 }
 
-/// Writes the line that tells a fault by this text, whole unless writing it fails, and returns the exit status.
+/// Writes the line that tells a fault by this text, whole unless writing it fails, and returns the
+/// exit status.
 pub(crate) fn report_text<F: Write>(text: &str, faults: &mut OutputStream<'_, F>) -> u8
     requires { length text.now ≤ 56 }
     ensures faults { faults.new.writer.ghost_name ≡ faults.old.writer.ghost_name }

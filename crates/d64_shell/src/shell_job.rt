@@ -37,8 +37,8 @@ pub(crate) struct ShellJob<'n> {
 }
 
 impl<'n> ShellJob<'n> {
-    /// Runs the script on its session, and then flushes the output. Where the words give the script, nothing of the input
-    /// is read, and the listener hears nothing.
+    /// Runs the script on its session, and then flushes the output. Where the words give the
+    /// script, nothing of the input is read, and the listener hears nothing.
     pub(crate) fn run<R: Read, W: Write, H: Host, L: Listener>(
         self,
         alloc: Global,
@@ -111,7 +111,8 @@ struct Script<'n> {
 }
 
 impl<'n> Script<'n> {
-    /// Runs it on a session. Where it has a text, nothing of the input is read, and the listener hears nothing.
+    /// Runs it on a session. Where it has a text, nothing of the input is read, and the listener
+    /// hears nothing.
     fn run<R: Read, W: Write, H: Host, L: Listener>(
         self,
         input: &mut InputStream<'_, R>,

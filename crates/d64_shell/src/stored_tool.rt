@@ -1,4 +1,5 @@
-//! The tools' job where the result goes to a host file: it is stored whole or not at all, and a refused input is told in the form of compilers.
+//! The tools' job where the result goes to a host file: it is stored whole or not at all, and a
+//! refused input is told in the form of compilers.
 ghost use Rattle.std.specs.Prelude.{◌≡◌, ◌-◌, ◌≤◌, ◌⊎◌, ◌++◌, ℕ, List, IfErr, IfOk, OnOk, Ok, Err, [], length, codes, decimal, Option, option_copied};
 ghost use Rattle.std.specs.Option.{option_map_or};
 ghost use Rattle.d64_script.specs.Input.{IsUnread, reading_of};
@@ -33,8 +34,9 @@ pub(crate) struct StoredTool<'n> {
 }
 
 impl<'n> StoredTool<'n> {
-    /// Stores what the tool makes of its file, or of the input: all of it, or nothing where it refuses the input, the input cannot be read,
-    /// memory is wanting, or the store is refused, which it answers as `Write`.
+    /// Stores what the tool makes of its file, or of the input: all of it, or nothing where it
+    /// refuses the input, the input cannot be read, memory is wanting, or the store is refused,
+    /// which it answers as `Write`.
     pub(crate) fn run<R: Read, H: Host>(
         self,
         alloc: Global,
@@ -115,7 +117,8 @@ impl<'n> StoredTool<'n> {
         }
     }
 
-    /// Tells a refusal of the input in these words, where there was memory for them, and answers the exit status.
+    /// Tells a refusal of the input in these words, where there was memory for them, and answers
+    /// the exit status.
     fn tell_refusal<F: Write>(
         self,
         alloc: Global,

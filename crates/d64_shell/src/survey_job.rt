@@ -59,8 +59,9 @@ impl<'n> SurveyJob<'n> {
         SurveyJob { alloc, names }
     }
 
-    /// Answers the files by a report, where there was memory to make one, and returns the exit status: that of the worst verdict, or 2 where the
-    /// list cannot be read, the output takes no more bytes, or memory is wanting.
+    /// Answers the files by a report, where there was memory to make one, and returns the exit
+    /// status: that of the worst verdict, or 2 where the list cannot be read, the output takes no
+    /// more bytes, or memory is wanting.
     pub(crate) fn run<R: Read, W: Write, F: Write, H: Host, P: Report + Drop>(
         &self,
         report: Result<P, AllocError>,
@@ -87,8 +88,9 @@ impl<'n> SurveyJob<'n> {
         self.run_by(report, input, output, faults, host)
     }
 
-    /// Answers the files by a clerk, where there was memory to make one, and returns the exit status: that of the worst verdict, or 2 where the
-    /// list cannot be read, the output takes no more bytes, or memory is wanting.
+    /// Answers the files by a clerk, where there was memory to make one, and returns the exit
+    /// status: that of the worst verdict, or 2 where the list cannot be read, the output takes no
+    /// more bytes, or memory is wanting.
     pub(crate) fn run_by<R: Read, W: Write, F: Write, H: Host, C: Clerk + Drop>(
         &self,
         clerk: Result<C, AllocError>,
@@ -168,7 +170,8 @@ impl<'n> SurveyJob<'n> {
         }
     }
 
-    /// Tells the fault of a run, and returns the exit status. Where a write fails, the rest of the line is dropped.
+    /// Tells the fault of a run, and returns the exit status. Where a write fails, the rest of the
+    /// line is dropped.
     fn tell<F: Write>(&self, fault: RunFault, faults: &mut OutputStream<'_, F>) -> u8
         ensures faults { faults.new.writer.ghost_name ≡ faults.old.writer.ghost_name }
         ensures status { result ≡ 2 }

@@ -69,7 +69,8 @@ impl<'n> ToolJob<'n> {
     }
 }
 
-/// Runs the tool on the file that the host has under this name, or on the input, and flushes the output.
+/// Runs the tool on the file that the host has under this name, or on the input, and flushes the
+/// output.
 fn run_tool<R: Read, W: Write, H: Host>(
     alloc: Global,
     tool: Tool,
@@ -143,7 +144,8 @@ fn tell_answer<F: Write>(answer: Result<(), ToolFault>, faults: &mut OutputStrea
     }
 }
 
-/// Writes the status line of a refusal, and answers the exit status. Where a write fails, the rest of the line is dropped.
+/// Writes the status line of a refusal, and answers the exit status. Where a write fails, the rest
+/// of the line is dropped.
 fn tell_refusal<F: Write>(status: Status, faults: &mut OutputStream<'_, F>) -> u8
     ensures faults { faults.new.writer.ghost_name ≡ faults.old.writer.ghost_name }
     ensures status { result ≡ 1 }

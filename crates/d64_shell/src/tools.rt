@@ -1,4 +1,5 @@
-//! The tools: the listing of a BASIC program, and the program of a BASIC text, from all of an input to all of an output.
+//! The tools: the listing of a BASIC program, and the program of a BASIC text, from all of an input
+//! to all of an output.
 
 ghost use Rattle.std.specs.Prelude.{◌≡◌, ◌≤◌, false, length, IfOk, IfErr, OnOk};
 ghost use Rattle.d64_script.specs.Input.{IsUnread, IsUnreadable, reading_of};
@@ -26,7 +27,8 @@ pub(crate) enum Tool {
 /// Why a tool has not written all that it makes of its input.
 #[derive(Clone, Copy, Debug, PartialEq, Eq, Error)]
 pub enum ToolFault {
-    /// A read failed, or the input has more than 16,777,216 bytes or takes more than 1,000,000 reads. Nothing is written.
+    /// A read failed, or the input has more than 16,777,216 bytes or takes more than 1,000,000
+    /// reads. Nothing is written.
     #[error("the input cannot be read to its end")]
     Read,
     /// A write failed, or took nothing. A first part of the result is written.

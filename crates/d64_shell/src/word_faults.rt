@@ -30,8 +30,8 @@ pub(crate) fn asked(alloc: Global, words: &[&str]) -> Result<Job, JobFault>
     job(alloc, all.as_slice())
 }
 
-/// Answers words that ask for no job, and answers the exit status: what they asked to see goes to the output, and what is
-/// wrong with them to `faults`.
+/// Answers words that ask for no job, and answers the exit status: what they asked to see goes to
+/// the output, and what is wrong with them to `faults`.
 pub(crate) fn answer_words<W: Write, F: Write>(
     alloc: Global,
     fault: JobFault,

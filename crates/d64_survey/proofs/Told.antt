@@ -16,7 +16,8 @@ use Rattle.d64_survey.specs.declared.way_end.WayEnd.TheVariants.{End, Off, Loop}
 use Rattle.d64_survey.proofs.Steps.{from_block, off, loops, fresh_step, ends, goes_on}
 use Rattle.d64_survey.proofs.Trails.{Trail, begun, added, some_left}
 
--- the way's blocks are distinct ones of the image; where it ends after a last block they are the chain, and else there is none
+-- the way's blocks are distinct ones of the image; where it ends after a last block they are the
+-- chain, and else there is none
 pub record Told (image : List (List ℕ)) (start : ℕ) (told : List ℕ × WayEnd) : Type 0 where
   pub left : ℕ
   pub trail : Trail image left told.0
@@ -50,7 +51,8 @@ has_added : (seen : set.FinSet nat_cmp) (walked : List ℕ) (block q limit : ℕ
     → ((q : ℕ) → list_any (eqb q) (walked ++ block ∷ []) ≡ true → q < limit) → set.contains (set.insert seen block) q ≡ true → q < limit
 has_added seen walked block q limit members below found = below q (sym (longer_members walked block seen q (members q)) ∙ found)
 
--- what the way on from a block tells that a walk has come to, and whose link has another track than 0
+-- what the way on from a block tells that a walk has come to, and whose link has another track than
+-- 0
 tells : (left : ℕ) (image : List (List ℕ)) (start last count : ℕ) (walked : List ℕ) (seen : set.FinSet nat_cmp) (block : Option ℕ)
     → Walked image start last count (length image) walked seen → Trail image left walked → last < length image → eqb (link_at image last).0 0 ≡ false
     → block_at image (link_at image last) ≡ block → Told image start (way_on left image walked (link_at image last) block)

@@ -35,7 +35,8 @@ code_bytes codes = option_map_or (λ bytes. bytes) codes []
 abbrev pub dump_bytes : DumpView → Bytes
 dump_bytes dump = bytes_of dump.image ++ code_bytes dump.codes
 
--- how many bytes the image has in a dump of so many, without codes or with them; none where no dump has so many
+-- how many bytes the image has in a dump of so many, without codes or with them; none where no dump
+-- has so many
 abbrev pub image_bytes : ℕ → Option ℕ
 image_bytes len =
     if len == 174848 then Some 174848

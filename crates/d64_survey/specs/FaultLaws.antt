@@ -24,8 +24,8 @@ FirstFaultIsTheLeast =
 abbrev pub WaysAreItsChains : Disk → Bytes → Type 0
 WaysAreItsChains image cell = (part : Part) → blocks_from image (pair_of part cell) ≡ option_map_or (chain_at image) (pair_of part cell) []
 
--- where there is no fault, the directory's way is the directory, what has an owner are the owned blocks, and each slot has its chains,
--- which are its ways
+-- where there is no fault, the directory's way is the directory, what has an owner are the owned
+-- blocks, and each slot has its chains, which are its ways
 abbrev pub WaysAreChainsWhereSound : Type 0
 WaysAreChainsWhereSound =
     (image : Disk)

@@ -17,7 +17,8 @@ use Rattle.d64_survey.specs.declared.flaw.Flaw.TheVariants.{Unclosed, Kindless, 
 abbrev pub is_del_entry : Bytes → Bool
 is_del_entry cell = kind_number cell == 0
 
--- a GEOS file: of the kind USR, with a type, and with a pair of the image where a REL file has its side blocks
+-- a GEOS file: of the kind USR, with a type, and with a pair of the image where a REL file has its
+-- side blocks
 abbrev pub is_geos : Disk → Bytes → Bool
 is_geos image cell = (kind_number cell == 3) && (not (geos_type cell == 0) && option_map_or (λ pair. is_some (block_at image pair)) (side_pair cell) false)
 
@@ -37,7 +38,8 @@ any_shared image blocks = list_any (is_shared image) blocks
 abbrev pub any_unreadable : Option Bytes → Blocks → Bool
 any_unreadable codes blocks = list_any (λ block. is_read_error (code_of codes block)) blocks
 
--- the file has a data way, its ways are whole chains, and the shown size isn't the sum of their lengths
+-- the file has a data way, its ways are whole chains, and the shown size isn't the sum of their
+-- lengths
 abbrev pub is_missized : Disk → Bytes → Bool
 is_missized image cell =
     is_some (pair_of Data cell) && (not (is_broken image cell) && not (length (slot_blocks image cell) == size_of cell))
@@ -64,7 +66,8 @@ is_whole_with [] = Some true
 is_whole_with (Geos ∷ flaws) = None
 is_whole_with (flaw ∷ flaws) = Some false
 
--- whether the file of a slot with these flaws is whole; not known of an entry that marks a deleted file
+-- whether the file of a slot with these flaws is whole; not known of an entry that marks a deleted
+-- file
 abbrev pub wholeness_by : Bytes → List Flaw → Option Bool
 wholeness_by cell flaws = if is_del_entry cell then None else is_whole_with flaws
 

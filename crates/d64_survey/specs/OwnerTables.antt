@@ -27,7 +27,8 @@ told_by row = record { shown = map owner_kept (take row.count row.first); count 
 abbrev pub row_of : OwnerTable → ℕ → Row
 row_of table block = slice_index_or table.rows block (record { first = []; count = 0 })
 
--- the second table tells of each block what the first does and, after that, that it has these owners
+-- the second table tells of each block what the first does and, after that, that it has these
+-- owners
 abbrev pub Adds : OwnerTable → List (ℕ × Owner) → OwnerTable → Type 0
 Adds old owned new =
     (block : ℕ)

@@ -43,7 +43,8 @@ part_owners image slot part = owned_as (File slot.0 part) (blocks_from image (pa
 abbrev pub slot_owners : Disk → ℕ × Bytes → List (ℕ × Owner)
 slot_owners image slot = part_owners image slot Data ++ part_owners image slot Side
 
--- each block that has an owner, with its owner: the map's block, the directory's way, and then the files by their slots
+-- each block that has an owner, with its owner: the map's block, the directory's way, and then the
+-- files by their slots
 unfoldable pub owners : Disk → List (ℕ × Owner)
 owners image = (map_block, Map) ∷ (owned_as Directory (directory_way image).0 ++ flat_map (slot_owners image) (numbered (way_slots image)))
 

@@ -16,9 +16,9 @@ is_whole (Loop track sector) = false
 abbrev pub block_at : Disk → ℕ × ℕ → Option ℕ
 block_at image pair = block_in image pair.0 pair.1
 
--- the way of which these blocks are walked, with so many blocks of the image left, and on from a pair and its block: it ends where
--- the image has no such block, where that block is walked already, as each one is where none is left, and after a block whose link
--- has track 0
+-- the way of which these blocks are walked, with so many blocks of the image left, and on from a
+-- pair and its block: it ends where the image has no such block, where that block is walked
+-- already, as each one is where none is left, and after a block whose link has track 0
 unfoldable pub way_on : ℕ → Disk → Blocks → ℕ × ℕ → Option ℕ → Blocks × WayEnd
 way_on left image walked pair None = (walked, Off pair.0 pair.1)
 way_on zero image walked pair (Some block) = (walked, Loop pair.0 pair.1)

@@ -28,8 +28,8 @@ pub enum DumpFault {
     Memory(AllocError),
 }
 
-/// What a disk was read into: an image and, where the reader noted them, one read code a block (the VICE manual, "The D64 disk
-/// image format").
+/// What a disk was read into: an image and, where the reader noted them, one read code a block (the
+/// VICE manual, "The D64 disk image format").
 #[derive(Debug, Drop)]
 pub struct Dump {
     image: Image,
@@ -81,8 +81,8 @@ pub fn is_read_error(code: u8) -> bool
     code > 1
 }
 
-/// The drive's status of a read code: 20 to 29 for the codes 2 to 11, and 74 for 15 (the 1541 User's Guide, "Error messages").
-/// The others have none.
+/// The drive's status of a read code: 20 to 29 for the codes 2 to 11, and 74 for 15 (the 1541
+/// User's Guide, "Error messages"). The others have none.
 pub fn drive_status(code: u8) -> Option<u8>
     ensures { result ≡ drive_status code }
 {
@@ -93,7 +93,8 @@ pub fn drive_status(code: u8) -> Option<u8>
     }
 }
 
-/// Makes a list at least as long as another one, by bytes of that. Memory is asked for only where the list was never so long.
+/// Makes a list at least as long as another one, by bytes of that. Memory is asked for only where
+/// the list was never so long.
 fn lengthen(list: &mut Vec<u8>, other: &[u8]) -> Result<(), AllocError>
     ensures kept { take (length list.old.items) list.new.items ≡ list.old.items }
     ensures long { OnOk result (length other.now ≤ length list.new.items) }
@@ -116,8 +117,9 @@ fn overwrite(list: &mut Vec<u8>, bytes: &[u8])
 }
 
 impl Dump {
-    /// The dump with these bytes. Refused where there are as many as no dump has: it has 174,848 bytes or 196,608, those of an
-    /// image, or 175,531 or 197,376, where 683 or 768 codes follow them.
+    /// The dump with these bytes. Refused where there are as many as no dump has: it has 174,848
+    /// bytes or 196,608, those of an image, or 175,531 or 197,376, where 683 or 768 codes follow
+    /// them.
     pub fn from_bytes(alloc: Global, bytes: &[u8]) -> Result<Dump, DumpFault>
         ensures refused { wrong_length result ≡ (if is_some (image_bytes_in (length bytes.now)) then None else Some (length bytes.now)) }
         ensures kept { IfOk result (λ dump. dump_bytes dump ≡ bytes.now) }
@@ -145,8 +147,9 @@ impl Dump {
         }
     }
 
-    /// Puts the dump with these bytes, as `from_bytes` takes them, in the place of this one. Where that is refused the dump is as
-    /// before. Memory is asked for only where the new dump has more blocks or codes than each one before it.
+    /// Puts the dump with these bytes, as `from_bytes` takes them, in the place of this one. Where
+    /// that is refused the dump is as before. Memory is asked for only where the new dump has more
+    /// blocks or codes than each one before it.
     pub fn refill(&mut self, bytes: &[u8]) -> Result<(), DumpFault>
         ensures refused { wrong_length result ≡ (if is_some (image_bytes_in (length bytes.now)) then None else Some (length bytes.now)) }
         ensures filled { OnOk result (dump_bytes self.new ≡ bytes.now) }

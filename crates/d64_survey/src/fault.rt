@@ -25,7 +25,8 @@ pub enum Fault {
     BrokenDirectory(LastBlock, WayEnd),
     /// The low four bits of this slot's type byte are no kind's number.
     UnknownKind(SlotNo, u8),
-    /// The way of this part of this slot's file has this last block, or none, and doesn't end as a chain.
+    /// The way of this part of this slot's file has this last block, or none, and doesn't end as a
+    /// chain.
     BrokenFile(SlotNo, Part, LastBlock, WayEnd),
     /// This block has more than one owner.
     Shared(BlockNo),

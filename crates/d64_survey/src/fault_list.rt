@@ -123,8 +123,9 @@ fn list_free(survey: &Survey, faults: &mut Vec<Fault>) -> Result<(), AllocError>
 }
 
 impl Survey<'_> {
-    /// Lists the faults of the image, by the numbers of their conditions, in the place of what the list had; within a number
-    /// tracks, slots and blocks rise, and a slot's data comes before its side blocks. The list alone takes memory.
+    /// Lists the faults of the image, by the numbers of their conditions, in the place of what the
+    /// list had; within a number tracks, slots and blocks rise, and a slot's data comes before its
+    /// side blocks. The list alone takes memory.
     pub fn list_faults(&self, faults: &mut Vec<Fault>) -> Result<(), AllocError>
         ensures { OnOk result (faults.new.items ≡ faults_of self.now) }
     {

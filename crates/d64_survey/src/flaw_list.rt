@@ -102,7 +102,8 @@ fn look_at(survey: &Survey, codes: Option<&[u8]>, ways: &WayTable, entry: &Entry
     }
 }
 
-/// Whether the ways of a slot's file are whole chains, and aren't as long as the directory shows. A GEOS file isn't asked.
+/// Whether the ways of a slot's file are whole chains, and aren't as long as the directory shows. A
+/// GEOS file isn't asked.
 fn is_missized(survey: &Survey, entry: &Entry, sight: &Sight, is_geos: bool) -> bool
     requires blocks { sight.now.blocks ≡ length (slot_blocks survey.now entry.now.bytes) }
     requires broken { sight.now.is_broken ≡ is_broken survey.now entry.now.bytes }
@@ -129,7 +130,8 @@ fn flaw_if(list: &mut ArrayVec<Flaw, FLAWS>, flaw: Flaw, is_asked: bool)
 }
 
 impl Survey<'_> {
-    /// Why the file of a slot is not whole, by the read codes of the dump, where there are some. A DEL entry has no such reasons.
+    /// Why the file of a slot is not whole, by the read codes of the dump, where there are some. A
+    /// DEL entry has no such reasons.
     pub fn why(&self, codes: Option<&[u8]>, entry: &Entry) -> ArrayVec<Flaw, FLAWS>
         ensures { result.items ≡ why self.now (option_map (λ codes. codes.now) codes.entry) entry.now.bytes }
     {
@@ -164,7 +166,8 @@ impl Survey<'_> {
     }
 }
 
-/// Whether a file with these flaws is whole, or None where that isn't known: of a DEL entry, and of a GEOS file without others.
+/// Whether a file with these flaws is whole, or None where that isn't known: of a DEL entry, and of
+/// a GEOS file without others.
 pub fn wholeness(entry: &Entry, flaws: &[Flaw]) -> Option<bool>
     ensures { result ≡ wholeness_by entry.now.bytes flaws.now }
 {

@@ -22,8 +22,8 @@ use d64_image::Image;
 use std::alloc::AllocError;
 use std::marker::Model;
 
-/// All that is told of a dump: its survey, its read codes, and in lists and numbers what is wrong with it. What it lists stands in
-/// lists of the caller, which another inspection fills again.
+/// All that is told of a dump: its survey, its read codes, and in lists and numbers what is wrong
+/// with it. What it lists stands in lists of the caller, which another inspection fills again.
 ///
 /// In clauses it is the dump itself.
 #[derive(Drop)]
@@ -57,7 +57,8 @@ impl<'a> Model for Inspection<'a> {
 }
 
 impl<'a> Inspection<'a> {
-    /// The inspection of a dump. It fills the two lists, in the place of what they had; they alone take memory.
+    /// The inspection of a dump. It fills the two lists, in the place of what they had; they alone
+    /// take memory.
     pub fn of(
         dump: &'a Dump,
         faults: &'a mut Vec<Fault>,
@@ -132,7 +133,8 @@ impl<'a> Inspection<'a> {
         self.files.whole
     }
 
-    /// How many files aren't whole. Of those of which that isn't known none is counted here, nor as whole.
+    /// How many files aren't whole. Of those of which that isn't known none is counted here, nor as
+    /// whole.
     pub fn unwhole(&self) -> usize
         ensures { result ≡ unwhole_count self.now }
     {
@@ -146,7 +148,8 @@ impl<'a> Inspection<'a> {
         self.survey.why_along(self.codes, &self.ways, entry)
     }
 
-    /// How many blocks the way of a part of a slot's file has, or None where the slot has no such part.
+    /// How many blocks the way of a part of a slot's file has, or None where the slot has no such
+    /// part.
     pub fn way_length(&self, entry: &Entry, part: Part) -> Option<usize>
         ensures { result ≡ option_map (λ pair. length (way self.now.image pair).0) (pair_of part entry.now.bytes) }
     {

@@ -27,8 +27,8 @@ pub enum Owner {
     File(SlotNo, Part),
 }
 
-/// The track and the sector from which the data of a slot's file leads, or None where the slot has none: closed SEQ, PRG, USR
-/// and REL files have data.
+/// The track and the sector from which the data of a slot's file leads, or None where the slot has
+/// none: closed SEQ, PRG, USR and REL files have data.
 pub fn data_pair(entry: &Entry) -> Option<(u8, u8)>
     ensures { result ≡ slice_get (roots entry.now.bytes) 0 }
 {
@@ -41,8 +41,8 @@ pub fn data_pair(entry: &Entry) -> Option<(u8, u8)>
     }
 }
 
-/// The track and the sector from which the side blocks of a slot's file lead, or None where the slot has none: a closed REL file
-/// has some, unless their track is 0.
+/// The track and the sector from which the side blocks of a slot's file lead, or None where the
+/// slot has none: a closed REL file has some, unless their track is 0.
 pub fn side_pair(entry: &Entry) -> Option<(u8, u8)>
     ensures { result ≡ slice_get (roots entry.now.bytes) 1 }
 {
@@ -55,7 +55,8 @@ pub fn side_pair(entry: &Entry) -> Option<(u8, u8)>
     }
 }
 
-/// The track and the sector from which a part of a slot's file leads, or None where the slot has no such part.
+/// The track and the sector from which a part of a slot's file leads, or None where the slot has no
+/// such part.
 pub fn pair_of(part: Part, entry: &Entry) -> Option<(u8, u8)>
     ensures { result ≡ pair_of part entry.now.bytes }
 {

@@ -3,7 +3,8 @@
 //! A caller whose proof needs a law calls the function.
 ghost use Rattle.d64_survey.specs.OwnerLaws.{OwnersAreThoseOfFiles};
 
-/// Where the directory and the files have their chains, the blocks that have an owner are the owned ones.
+/// Where the directory and the files have their chains, the blocks that have an owner are the owned
+/// ones.
 pub fn owners_are_those_of_files()
     ensures { OwnersAreThoseOfFiles }
 {}

@@ -50,8 +50,8 @@ impl Owners {
 }
 
 impl Survey<'_> {
-    /// The owners of a block: the first eight in their order, the map, the directory, and then the parts of files by their slots,
-    /// data before side blocks; and how many there are.
+    /// The owners of a block: the first eight in their order, the map, the directory, and then the
+    /// parts of files by their slots, data before side blocks; and how many there are.
     pub fn owners(&self, block: BlockNo) -> Owners
         ensures shown { result.shown ≡ take 8 (owners_of self.now block) }
         ensures count { result.count ≡ length (owners_of self.now block) }

@@ -30,8 +30,8 @@ pub fn code_of(codes: Option<&[u8]>, block: BlockNo) -> u8
 }
 
 impl Dump {
-    /// Lists the blocks that couldn't be read well, ascending, with their codes, in the place of what the list had. The list alone
-    /// takes memory.
+    /// Lists the blocks that couldn't be read well, ascending, with their codes, in the place of
+    /// what the list had. The list alone takes memory.
     pub fn list_read_errors(&self, errors: &mut Vec<ReadError>) -> Result<(), AllocError>
         ensures { OnOk result (errors.new.items ≡ read_errors self.now) }
     {

@@ -14,7 +14,8 @@ use d64_image::{BlockNo, Image};
 use d64_map::{DIRECTORY_TRACK, map_block};
 use std::marker::Model;
 
-/// The survey of an image: the directory's way, walked once, and the owners of all blocks. It takes no memory of its own.
+/// The survey of an image: the directory's way, walked once, and the owners of all blocks. It takes
+/// no memory of its own.
 ///
 /// In clauses it is the image itself.
 #[derive(Drop)]
@@ -80,7 +81,8 @@ impl<'a> Survey<'a> {
         self.end
     }
 
-    /// The slots of the directory's way, also where it doesn't end as a chain, and of whatever kinds.
+    /// The slots of the directory's way, also where it doesn't end as a chain, and of whatever
+    /// kinds.
     pub fn slots(&self) -> Slots<'a>
         ensures slots { result ≡ entries self.now (way_slots self.now) }
         ensures len { length result ≤ 8 * BLOCKS }

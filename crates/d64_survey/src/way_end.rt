@@ -2,7 +2,8 @@
 ghost use Rattle.std.specs.Prelude.{◌≡◌};
 ghost use Rattle.d64_survey.specs.Way.{is_whole};
 
-/// How a way ends. It holds the track and the sector of the pair at which it ends, as they stand in the image.
+/// How a way ends. It holds the track and the sector of the pair at which it ends, as they stand in
+/// the image.
 #[derive(Clone, Copy, Debug, PartialEq, Eq)]
 pub enum WayEnd {
     /// After a block whose link has track 0: the way is a whole chain.

@@ -28,7 +28,8 @@ pub(crate) struct WayFacts {
     pub(crate) is_unreadable: bool,
 }
 
-/// What was found of the ways of an image, by the first block of each. Ways from one block are one way.
+/// What was found of the ways of an image, by the first block of each. Ways from one block are one
+/// way.
 #[derive(Drop)]
 pub(crate) struct WayTable {
     ways: [Option<WayFacts>; BLOCKS],
@@ -92,8 +93,8 @@ impl WayTable {
         }
     }
 
-    /// What the ways of all slots of a survey show, by the read codes of the dump, where there are some. It walks the way from a
-    /// block once.
+    /// What the ways of all slots of a survey show, by the read codes of the dump, where there are
+    /// some. It walks the way from a block once.
     pub(crate) fn of(survey: &Survey, codes: Option<&[u8]>) -> WayTable
         ensures { TellsWays survey.now (option_map (λ codes. codes.now) codes.entry) result.ways }
     {
@@ -126,7 +127,8 @@ impl WayTable {
         }
     }
 
-    /// Notes what the way from a track and a sector shows, where the image has its block and that isn't noted yet.
+    /// Notes what the way from a track and a sector shows, where the image has its block and that
+    /// isn't noted yet.
     fn note_from(&mut self, survey: &Survey, codes: Option<&[u8]>, track: u8, sector: u8)
         requires { TellsWays survey.now (option_map (λ codes. codes.now) codes) self.old.ways }
         ensures { TellsWays survey.now (option_map (λ codes. codes.now) codes.entry) self.new.ways }

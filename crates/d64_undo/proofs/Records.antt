@@ -165,7 +165,8 @@ pub record AreBetween (image other : List (List ℕ)) (patch exchanged : Kept) :
 turned : {image other : List (List ℕ)} {patch exchanged : Kept} → AreBetween image other patch exchanged → AreBetween other image exchanged patch
 turned b = record { there = b.here; here = b.there; is_patch = b.is_exchanged; is_exchanged = b.is_patch }
 
--- a list of records with a record in its place, those before it, the last one first, and those after it
+-- a list of records with a record in its place, those before it, the last one first, and those
+-- after it
 record StandsBetween (records : List Kept) (n : ℕ) (patch : Kept) (earlier later : List Kept) : Type 0 where
   pub before : past records n ≡ earlier
   pub with_it : past records (n + 1) ≡ patch ∷ earlier
@@ -243,7 +244,8 @@ beside-differs records image n done cursor patch h is beside leads =
       | inr on ↦ lead-head (drop (n + 1) records) image patch ((lead-after image s).0 (subst (AreRecords records image) on.0 leads)).1
     ]
 
--- the images are the same where the record beside the cursor is exchanged with the present image, and the cursor steps over it
+-- the images are the same where the record beside the cursor is exchanged with the present image,
+-- and the cursor steps over it
 pub images-stepped : (records : List Kept) (image other : List (List ℕ)) (n done cursor : ℕ) (patch exchanged : Kept) → n < length records
     → patch ≡ get_or records n patch → AreBetween image other patch exchanged → IsBeside n done cursor
     → images_of (set records n exchanged) other cursor ≡ images_of records image done

@@ -25,7 +25,8 @@ present history = image_at history history.cursor
 abbrev pub begun : Disk → History
 begun image = record { images = image ∷ []; cursor = 0 }
 
--- an image is added after the present one, and what lay after the cursor is dropped, also where nothing changed
+-- an image is added after the present one, and what lay after the cursor is dropped, also where
+-- nothing changed
 abbrev pub added : History → Disk → History
 added history image = record {
   images = take (history.cursor + 1) history.images ++ image ∷ [];
@@ -40,16 +41,16 @@ undone history = record history { cursor = history.cursor - 1 }
 abbrev pub redone : History → History
 redone history = record history { cursor = history.cursor + 1 }
 
--- in how many blocks the images before and after a record differ, where the history has that record: each is numbered from 0, as the
--- image before it
+-- in how many blocks the images before and after a record differ, where the history has that
+-- record: each is numbered from 0, as the image before it
 abbrev pub record_len : History → ℕ → Option ℕ
 record_len history number =
     if nat_lt (number + 1) (length history.images)
     then Some (length (differences (image_at history number) (image_at history (number + 1))))
     else None
 
--- the blocks in which the images before and after a record differ, ascending: with their bytes from before it where it is done, and
--- from after it where it is undone
+-- the blocks in which the images before and after a record differ, ascending: with their bytes from
+-- before it where it is done, and from after it where it is undone
 abbrev pub record_blocks : History → ℕ → Kept
 record_blocks history number =
     if nat_lt number history.cursor

@@ -30,8 +30,9 @@ undone_by count history = iterate undone count history
 abbrev pub redone_by : ℕ → History → History
 redone_by count history = iterate redone count history
 
--- after accepted commands, as many undos as there were commands are possible, then as many redos as there were undos; the undos,
--- and each redo after them, stand on the image that stood there while the commands ran
+-- after accepted commands, as many undos as there were commands are possible, then as many redos as
+-- there were undos; the undos, and each redo after them, stand on the image that stood there while
+-- the commands ran
 pub record Retraces (history : History) (images : List Disk) (undos : ℕ) : Type 0 where
   pub can_undo : undos < length images → 0 < (undone_by undos (added_all history images)).cursor
   pub can_redo : (redos : ℕ) → redos < undos

@@ -1,4 +1,5 @@
--- What a session holds of a history: the present image, and for each record a patch that leads away from it.
+-- What a session holds of a history: the present image, and for each record a patch that leads away
+-- from it.
 use Rattle.std.specs.Prelude.{◌≡◌, ℕ, List, [], ◌∷◌, ◌++◌, reverse, take, drop}
 use Rattle.d64_image.specs.Disk.{Disk}
 use Rattle.d64_image.specs.Patch.{Kept, back, changed}
@@ -13,7 +14,8 @@ unfoldable pub LeadAlong : Disk → List Kept → Type 0
 LeadAlong image [] = Unit {0}
 LeadAlong image (patch ∷ patches) = (patch ≡ changed (back image patch) image) × LeadAlong (back image patch) patches
 
--- the images of a history, by its records and the present image: back along the records that are done, and on along the undone ones
+-- the images of a history, by its records and the present image: back along the records that are
+-- done, and on along the undone ones
 unfoldable pub images_of : List Kept → Disk → ℕ → List Disk
 images_of records image done = reverse (along image (reverse (take done records))) ++ image ∷ along image (drop done records)
 

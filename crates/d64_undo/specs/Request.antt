@@ -30,7 +30,8 @@ IsAskedOf image (Apply change) = IsWithin image change
 IsAskedOf image Undo = Unit {0}
 IsAskedOf image Redo = Unit {0}
 
--- a request, its answer, and the history before and after it: the one free choice is want of memory in the place of an acceptance
+-- a request, its answer, and the history before and after it: the one free choice is want of memory
+-- in the place of an acceptance
 abbrev pub Step : History → Asked → Answer → History → Type 0
 Step history (Apply change) (Accepted reply) next =
     (refusal_of (present history) change ≡ None)
@@ -55,7 +56,8 @@ Run history requests answers next = ⊥
 abbrev pub HasMemory : List Answer → Type 0
 HasMemory answers = All (λ answer. answer ≢ Refused Memory) answers
 
--- two runs of the same requests from the same history, in which memory never was wanting, are the same
+-- two runs of the same requests from the same history, in which memory never was wanting, are the
+-- same
 abbrev pub MemoryAloneIsFree : Type 0
 MemoryAloneIsFree =
     (history : History) (requests : List Asked) (answers others : List Answer) (next other : History)
@@ -63,7 +65,8 @@ MemoryAloneIsFree =
     → HasMemory answers → HasMemory others
     → (answers ≡ others) × (next ≡ other)
 
--- where memory was wanting, the request is a command that could have been accepted there, and the history is as before
+-- where memory was wanting, the request is a command that could have been accepted there, and the
+-- history is as before
 abbrev pub MemoryForAcceptance : Type 0
 MemoryForAcceptance =
     (history : History) (request : Asked) (next : History)

@@ -1,4 +1,5 @@
--- What is wrong with bytes that are no session file: they are read part after part, up to the first fault.
+-- What is wrong with bytes that are no session file: they are read part after part, up to the first
+-- fault.
 use Rattle.std.specs.Prelude.{ℕ, zero, suc, ◌+◌, ◌*◌, ◌==◌, ◌||◌, ◌&&◌, not, nat_lt, nat_eq, if◌then◌else◌, Bool, true, Option, Some, None, Result, Ok, Err, List, [], ◌∷◌, length, reverse, take, drop}
 use Rattle.std.specs.Int.{Width, byte_len, w16, w64, from_le_bytes}
 use Rattle.std.specs.List.{list_all}
@@ -127,13 +128,14 @@ parts_at bytes = do
 unfoldable pub all_differ : Disk → Kept → Bool
 all_differ image patch = list_all (λ entry. not (pointwise nat_eq entry.1 (sector_at image entry.0))) patch
 
--- each block of records that lead away from an image differs from that of the image at its moment: right before the record is put back
+-- each block of records that lead away from an image differs from that of the image at its moment:
+-- right before the record is put back
 unfoldable pub differ_along : Disk → List Kept → Bool
 differ_along image [] = true
 differ_along image (patch ∷ patches) = all_differ image patch && differ_along (back image patch) patches
 
--- each block of the records differs from that of the image at its moment, both ways from the present image: back along those that are
--- done, and on along the others
+-- each block of the records differs from that of the image at its moment, both ways from the
+-- present image: back along those that are done, and on along the others
 abbrev pub lead_both_ways : Disk → ℕ → List Kept → Bool
 lead_both_ways image done records = differ_along image (reverse (take done records)) && differ_along image (drop done records)
 
@@ -152,7 +154,8 @@ fault_in (Err fault) = Some fault
 abbrev pub first_fault : Bytes → Option ResumeFault
 first_fault bytes = fault_in (session_at bytes)
 
--- the fault that a refusal tells; want of memory tells none of the bytes', and leaves what would have been told
+-- the fault that a refusal tells; want of memory tells none of the bytes', and leaves what would
+-- have been told
 abbrev pub told_by : ResumeFault → Option ResumeFault → Option ResumeFault
 told_by NotSession other = Some NotSession
 told_by Truncated other = Some Truncated
@@ -161,7 +164,8 @@ told_by BadCursor other = Some BadCursor
 told_by BadRecord other = Some BadRecord
 told_by (Memory error) other = other
 
--- the fault for which bytes were refused, none where they were accepted; where memory was wanting, the one that would have been told
+-- the fault for which bytes were refused, none where they were accepted; where memory was wanting,
+-- the one that would have been told
 abbrev pub refused_by : {A : Type 0} → Result A ResumeFault → Option ResumeFault → Option ResumeFault
 refused_by (Ok session) other = None
 refused_by (Err fault) other = told_by fault other

@@ -32,8 +32,8 @@ records_of history = map (record_blocks history) (range_with_len 0 (length histo
 abbrev pub file_of : History → Bytes
 file_of history = file_with (present history) history.cursor (records_of history)
 
--- the histories that a session can hold: the cursor stands on one of the images, these are images of disks of as many tracks, and a
--- number of 64 bits counts the records
+-- the histories that a session can hold: the cursor stands on one of the images, these are images
+-- of disks of as many tracks, and a number of 64 bits counts the records
 pub record IsSession (history : History) : Type 0 where
   pub cursor : IsHistory history
   pub images : All IsImage history.images

@@ -25,7 +25,8 @@ pub record HoldsSoundDisks (history : History) : Type 0 where
   pub are_images : All IsImage history.images
   pub sound : IsSoundHistory history
 
--- a request that keeps sound disks sound: a file command as any caller can make it, or a step along the history
+-- a request that keeps sound disks sound: a file command as any caller can make it, or a step along
+-- the history
 abbrev pub KeepsDisksSound : Asked → Type 0
 KeepsDisksSound (Apply change) = IsFileCommand change × IsMade change
 KeepsDisksSound Undo = Unit {0}

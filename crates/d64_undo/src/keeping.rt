@@ -1,4 +1,5 @@
-//! Session files are written: the present image, and each record with the blocks that lead away from it.
+//! Session files are written: the present image, and each record with the blocks that lead away
+//! from it.
 ghost use Rattle.std.specs.Prelude.{◌≡◌, ◌++◌, ◌<◌, ◌^◌, ℕ, length, All, OnOk, IfOk};
 ghost use Rattle.std.specs.List.{flat_map};
 ghost use Rattle.std.specs.Io.Iter.{u64_saturate};
@@ -12,7 +13,8 @@ use std::alloc::{AllocError, Global};
 /// The bytes with which each session file begins: D64S.
 pub(crate) const MAGIC: [u8; 4] = [0x44, 0x36, 0x34, 0x53];
 
-/// How many bytes a file has besides its image and its records: its beginning, the number of tracks and two counts.
+/// How many bytes a file has besides its image and its records: its beginning, the number of tracks
+/// and two counts.
 const COUNT_BYTES: usize = MAGIC.len() + 1 + 2 * size_of::<u64>();
 
 /// How many bytes a record has in the file.
@@ -65,7 +67,8 @@ fn put_records(file: &mut Vec<u8>, records: &[Patch]) -> Result<(), AllocError>
     Ok(())
 }
 
-/// The session file of a present image, of how many records are done, and of all records, the oldest first.
+/// The session file of a present image, of how many records are done, and of all records, the
+/// oldest first.
 pub(crate) fn session_file(
     alloc: Global,
     image: &Image,

@@ -20,7 +20,8 @@ pub fn retraced()
     ensures { Retraced }
 {}
 
-/// Without want of memory among the answers, a run of requests is a function of the history and the requests.
+/// Without want of memory among the answers, a run of requests is a function of the history and the
+/// requests.
 pub fn memory_alone_is_free()
     ensures { MemoryAloneIsFree }
 {}
@@ -41,8 +42,8 @@ pub fn session_files_are_faultless()
     ensures files { FaultlessAreFiles }
 {}
 
-/// What was kept is resumed with the same history and cursor, or memory is wanting: to the file of a history, nothing else meets
-/// the contract of `resume`.
+/// What was kept is resumed with the same history and cursor, or memory is wanting: to the file of
+/// a history, nothing else meets the contract of `resume`.
 pub fn kept_is_resumed()
     ensures { KeptIsResumed }
 {}

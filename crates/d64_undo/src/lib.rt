@@ -1,7 +1,9 @@
-//! Sessions with undo over disk images: the history of an image, the requests to a session, and whole runs of them.
+//! Sessions with undo over disk images: the history of an image, the requests to a session, and
+//! whole runs of them.
 //!
-//! A session promises that every request is answered, that every refusal leaves the image and its history as they were, and
-//! that undo and redo restore exactly the image that stood there: the contract of `run_all` says so for whole runs.
+//! A session promises that every request is answered, that every refusal leaves the image and its
+//! history as they were, and that undo and redo restore exactly the image that stood there: the
+//! contract of `run_all` says so for whole runs.
 #![tactic(auto)]
 
 mod keeping;

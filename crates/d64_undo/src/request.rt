@@ -49,8 +49,8 @@ fn run_one(session: &mut Session, request: &Request) -> Answer
     }
 }
 
-/// Runs the requests one after another, and gives their answers. Where there is no memory for the answers
-/// themselves, no request has run. The image has the block that each block write names.
+/// Runs the requests one after another, and gives their answers. Where there is no memory for the
+/// answers themselves, no request has run. The image has the block that each block write names.
 pub fn run_all(
     alloc: Global,
     session: &mut Session,

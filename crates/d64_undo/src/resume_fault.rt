@@ -20,7 +20,8 @@ pub enum ResumeFault {
     /// More records are done than there are.
     #[error("the session file counts more records done than it has")]
     BadCursor,
-    /// A record's blocks don't ascend, aren't those of the image, or have the bytes that the image has there already.
+    /// A record's blocks don't ascend, aren't those of the image, or have the bytes that the image
+    /// has there already.
     #[error("a record of the session file is no change of its image")]
     BadRecord,
     /// There is no memory for the session.

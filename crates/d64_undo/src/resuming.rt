@@ -198,8 +198,8 @@ fn read_record(alloc: Global, blocks: usize, bytes: &[u8]) -> Result<(Patch, &[u
     read_blocks(alloc, count, blocks, rest)
 }
 
-/// So many records. Room is made for each as it is read: each has bytes of its own in the file, and there may be fewer than the
-/// file counts.
+/// So many records. Room is made for each as it is read: each has bytes of its own in the file, and
+/// there may be fewer than the file counts.
 fn read_records(
     alloc: Global,
     count: u64,
@@ -269,8 +269,8 @@ fn record_of(records: &[Patch], is_back: bool, step: usize) -> &Patch
     }
 }
 
-/// Whether each block of records that lead away from an image, in turn or the last one first, differs from that of the image at
-/// its moment.
+/// Whether each block of records that lead away from an image, in turn or the last one first,
+/// differs from that of the image at its moment.
 fn all_lead(mut image: Image, records: &[Patch], is_back: bool) -> bool
     requires { All (IsPatchOf image) records.now }
     ensures { result ≡ differ_along image (in_turn is_back records.now) }
@@ -285,7 +285,8 @@ fn all_lead(mut image: Image, records: &[Patch], is_back: bool) -> bool
     true
 }
 
-/// Whether each block of the records differs from that of the image at its moment, both ways from the present image.
+/// Whether each block of the records differs from that of the image at its moment, both ways from
+/// the present image.
 fn lead_away(alloc: Global, parts: &FileParts) -> Result<bool, AllocError>
     requires done { parts.now.done ≤ length parts.now.records.items }
     requires records { All (IsPatchOf parts.now.image) parts.now.records.items }
@@ -298,8 +299,9 @@ fn lead_away(alloc: Global, parts: &FileParts) -> Result<bool, AllocError>
     Ok(all_lead(parts.image.try_clone(alloc)?, rest, false))
 }
 
-/// The session of which these bytes are the file. Refused for the first fault that is met in reading them, or for want of
-/// memory, which may come in place of any answer. Takes memory for the session, and for one image more while it reads.
+/// The session of which these bytes are the file. Refused for the first fault that is met in
+/// reading them, or for want of memory, which may come in place of any answer. Takes memory for the
+/// session, and for one image more while it reads.
 pub fn resume(alloc: Global, bytes: &[u8]) -> Result<Session, ResumeFault>
     ensures refused { refused_by result (first_fault bytes.now) ≡ first_fault bytes.now }
     ensures file { IfOk result (λ session. file_of session ≡ bytes.now) }

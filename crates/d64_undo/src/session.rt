@@ -28,15 +28,15 @@ pub struct NothingToRedo;
 
 /// An image with its history: all images that it was, and those that were undone and can be redone.
 ///
-/// The history is a list of whole images with a cursor, which stands on the present image. Each accepted
-/// command is a record between two images. Of all images the present one alone is held, and of each record the blocks in
-/// which the images before and after it differ.
+/// The history is a list of whole images with a cursor, which stands on the present image. Each
+/// accepted command is a record between two images. Of all images the present one alone is held,
+/// and of each record the blocks in which the images before and after it differ.
 #[derive(Drop)]
 pub struct Session {
     alloc: Global,
     image: Image,
-    /// What changed by each command: the records that are done lead back from the present image, the last one first, and
-    /// those that are undone lead on from it.
+    /// What changed by each command: the records that are done lead back from the present image,
+    /// the last one first, and those that are undone lead on from it.
     records: Vec<Patch>,
     /// How many of the records are done.
     done: usize,
@@ -68,7 +68,8 @@ impl Session {
         }
     }
 
-    /// The session that holds a present image, and records that lead away from it, so many of which are done.
+    /// The session that holds a present image, and records that lead away from it, so many of which
+    /// are done.
     pub(crate) fn of_records(
         alloc: Global,
         present: Image,
@@ -111,25 +112,27 @@ impl Session {
         self.records.len() - self.done
     }
 
-    /// In how many blocks the images before and after a record differ. Records are numbered from 0, first those that are
-    /// done and then those that are undone, and from `done + undone` on there is none. Takes no memory.
+    /// In how many blocks the images before and after a record differ. Records are numbered from 0,
+    /// first those that are done and then those that are undone, and from `done + undone` on there
+    /// is none. Takes no memory.
     pub fn record_len(&self, number: usize) -> Option<usize>
         ensures { result ≡ record_len self.now number }
     {
         Some(self.records.get(number)?.len())
     }
 
-    /// The blocks in which the images before and after a record differ, ascending, each with its 256 bytes: those from
-    /// before the record where it is done, and those from after it where it is undone. The numbers are those of
-    /// `record_len`. Takes no memory.
+    /// The blocks in which the images before and after a record differ, ascending, each with its
+    /// 256 bytes: those from before the record where it is done, and those from after it where it
+    /// is undone. The numbers are those of `record_len`. Takes no memory.
     pub fn record_at(&self, number: usize) -> Option<&[(BlockNo, [u8; BLOCK_BYTES])]>
         ensures { option_copied result ≡ record_at self.now number }
     {
         Some(self.records.get(number)?.blocks())
     }
 
-    /// The session file: the present image, how many records are done, and all records, the oldest first, each with the blocks
-    /// that lead away from the present image. No other history has the same file. Takes memory for the file alone.
+    /// The session file: the present image, how many records are done, and all records, the oldest
+    /// first, each with the blocks that lead away from the present image. No other history has the
+    /// same file. Takes memory for the file alone.
     pub fn keep(&self, alloc: Global) -> Result<Vec<u8>, AllocError>
         ensures file { IfOk result (λ file. file.items ≡ file_of self.now) }
         ensures session { IsSession self.now }
@@ -137,12 +140,13 @@ impl Session {
         session_file(alloc, &self.image, self.done, &self.records)
     }
 
-    /// Runs a command on the present image. Where it is accepted, the records after the cursor are dropped
-    /// and one is added, also where nothing changed. It is refused by the first refusal that applies, and
-    /// for want of memory only where none does; then image, records and cursor are as before. The present image has the
-    /// block that a block write names.
+    /// Runs a command on the present image. Where it is accepted, the records after the cursor are
+    /// dropped and one is added, also where nothing changed. It is refused by the first refusal
+    /// that applies, and for want of memory only where none does; then image, records and cursor
+    /// are as before. The present image has the block that a block write names.
     ///
-    /// Where all images of the history are sound, so are all after an accepted file command, and after every refusal.
+    /// Where all images of the history are sound, so are all after an accepted file command, and
+    /// after every refusal.
     pub fn run(&mut self, command: &Command) -> Result<Reply, Refusal>
         requires { IsWithin (present self.old) (said command.now) }
         ensures refused { refused_by result ≡ refusal_of (present self.old) (said command.now) }
@@ -179,7 +183,8 @@ impl Session {
         Ok(())
     }
 
-    /// The cursor on an image beside the present one: the record between them is exchanged with the image.
+    /// The cursor on an image beside the present one: the record between them is exchanged with the
+    /// image.
     fn move_to(&mut self, cursor: usize)
         requires beside { (cursor + 1 ≡ self.old.cursor) ⊎ (self.old.cursor + 1 ≡ cursor) }
         requires within { cursor < length self.old.images }

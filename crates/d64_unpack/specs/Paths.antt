@@ -15,7 +15,8 @@ ends_in_slash path = slice_index path (length path - 1) == slash
 abbrev pub inside : List ℕ → List ℕ
 inside folder = if ends_in_slash folder then folder else with_slash folder
 
--- what the paths in the last of some folders begin with, each of which lies in the one before it, and the first at this place
+-- what the paths in the last of some folders begin with, each of which lies in the one before it,
+-- and the first at this place
 unfoldable pub place_below : List ℕ → List (List ℕ) → List ℕ
 place_below place [] = place
 place_below place (folder ∷ folders) = place_below (with_slash (place ++ folder)) folders

@@ -20,8 +20,8 @@ use Rattle.d64_listing.specs.Extracts.{printed_file}
 use Rattle.d64_unpack.specs.Setup.{TaskView}
 use Rattle.d64_unpack.specs.Paths.{path_in}
 
--- how far it has come: how many bytes later files may have, the host names that are taken, what is printed, the same in JSON, what is complained
--- of, and whether a write failed
+-- how far it has come: how many bytes later files may have, the host names that are taken, what is
+-- printed, the same in JSON, what is complained of, and whether a write failed
 pub record Progress : Type 0 where
   pub left : Option ℕ
   pub taken : List (List ℕ)

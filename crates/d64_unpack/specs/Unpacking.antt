@@ -108,7 +108,8 @@ unfoldable pub folder_work : TaskView → Work
 folder_work task =
     Then (NewFolder task.partial) (λ is_made. if is_made then files_work task (rows task.dump) (begun task) else Done (unmade task task.partial))
 
--- folders are made where they aren't there, each in the one before it, and then comes the rest, which is told of a folder that can't be made
+-- folders are made where they aren't there, each in the one before it, and then comes the rest,
+-- which is told of a folder that can't be made
 unfoldable pub folders_work : (Option (List ℕ) → Work) → List ℕ → List (List ℕ) → Work
 folders_work rest place [] = rest None
 folders_work rest place (folder ∷ folders) =
@@ -119,7 +120,8 @@ abbrev pub folder_after : TaskView → Option (List ℕ) → Work
 folder_after task None = folder_work task
 folder_after task (Some path) = Done (unmade task path)
 
--- it is looked whether the image's folder is there, and what it is before all is in it, and else it is made, in these folders
+-- it is looked whether the image's folder is there, and what it is before all is in it, and else it
+-- is made, in these folders
 unfoldable pub task_work_with : TaskView → List (List ℕ) → Work
 task_work_with task folders =
     Then (Look task.done) (λ is_done. if is_done then Done (if task.setup.skips then skipped task else present task task.done)
@@ -135,12 +137,14 @@ abbrev pub task_of : SetupView → List ℕ → DumpView → TaskView
 task_of setup name dump =
     record { setup = setup; name = name; dump = dump; done = done_path setup.into name; partial = partial_path setup.into name }
 
--- what is done with bytes: a dump is unpacked, and of other bytes it is told that they have a wrong length
+-- what is done with bytes: a dump is unpacked, and of other bytes it is told that they have a wrong
+-- length
 abbrev pub dump_work : SetupView → List ℕ → Bytes → Option DumpView → Work
 dump_work setup name bytes None = Done (wrong_length setup name bytes)
 dump_work setup name bytes (Some dump) = task_work (task_of setup name dump)
 
--- what is done with a file: with its bytes, or where it cannot be read. A name that is no text is no file's
+-- what is done with a file: with its bytes, or where it cannot be read. A name that is no text is
+-- no file's
 unfoldable pub unpacking : SetupView → List ℕ → Option Bytes → Work
 unpacking setup name None = Done (unread setup name)
 unpacking setup name (Some bytes) = if is_utf8 name then dump_work setup name bytes (dump_of bytes) else Done (unread setup name)

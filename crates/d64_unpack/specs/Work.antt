@@ -23,7 +23,8 @@ pub data Call : Type 0 where
   -- another path for a folder
   Rename : List ℕ → List ℕ → Call
 
--- what is done: nothing more, and this is answered; or a call comes first, and the rest goes by what it says
+-- what is done: nothing more, and this is answered; or a call comes first, and the rest goes by
+-- what it says
 pub data Work : Type 0 where
   Done : Answer → Work
   Then : Call → (Bool → Work) → Work
@@ -42,7 +43,8 @@ is_had (Ok made) = true
 is_had (Err Exists) = true
 is_had (Err Device) = false
 
--- what is said of a file at a path that is text or isn't: one that isn't is none of the host's, and no file is made there
+-- what is said of a file at a path that is text or isn't: one that isn't is none of the host's, and
+-- no file is made there
 abbrev pub SaysFile : Bool → List ℕ → List ℕ → HostState → Bool → HostState → Type 0
 SaysFile true path bytes old said new =
     (answer : Result (Unit {0}) FolderFault) × IsTried (with_file path bytes) old path answer new × (said ≡ is_ok answer)
@@ -59,15 +61,16 @@ Says (NewFile path bytes) old said new = SaysFile (is_utf8 path) path bytes old 
 Says (Rename from to) old said new =
     (answer : Result (Unit {0}) FolderFault) × IsTried (with_moved from to) old to answer new × WasFolder old from answer × (said ≡ is_ok answer)
 
--- a work is done: from what the host shows, with an answer, or none where memory is wanting, to what the host shows then. Memory may be wanting
--- before each call, and before the answer
+-- a work is done: from what the host shows, with an answer, or none where memory is wanting, to
+-- what the host shows then. Memory may be wanting before each call, and before the answer
 unfoldable pub Does : Work → HostState → Option Answer → HostState → Type 0
 Does (Done answer) old given new = (new ≡ old) × ((given ≡ Some answer) ⊎ (given ≡ None))
 Does (Then call next) old given new =
     ((said : Bool) × (middle : HostState) × Says call old said middle × Does (next said) middle given new)
     ⊎ ((new ≡ old) × (given ≡ None))
 
--- it has come from the begin of one work to that of another: whatever comes of that one from here comes of the first
+-- it has come from the begin of one work to that of another: whatever comes of that one from here
+-- comes of the first
 abbrev pub LeadsTo : Work → HostState → Work → HostState → Type 0
 LeadsTo work old rest now = (given : Option Answer) (new : HostState) → Does rest now given new → Does work old given new
 

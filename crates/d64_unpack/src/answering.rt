@@ -129,7 +129,8 @@ pub(crate) fn tell_unmade(
     refuse(task.setup, scratch, task.name.as_bytes(), UNWRITTEN, room)
 }
 
-/// Answers that the folder of an image doesn't get its name, after what was complained of its files.
+/// Answers that the folder of an image doesn't get its name, after what was complained of its
+/// files.
 pub(crate) fn tell_unnamed(
     task: &Task,
     files: &mut Files,
@@ -180,8 +181,8 @@ pub(crate) fn tell_finished(task: &Task, files: &mut Files, room: &mut AnswerRoo
     verdict
 }
 
-/// Answers that the folder of an image keeps the name that it has, since something wasn't written: the list of its
-/// files, or a file.
+/// Answers that the folder of an image keeps the name that it has, since something wasn't written:
+/// the list of its files, or a file.
 pub(crate) fn tell_unfinished(
     task: &Task,
     is_listed: bool,

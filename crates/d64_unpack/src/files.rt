@@ -23,7 +23,8 @@ use d64_wording::too_much_line;
 use petscii::push_spelling;
 use std::alloc::{AllocError, Global};
 
-/// The files of an image that is unpacked, and what is told of them, in memory that is kept from image to image.
+/// The files of an image that is unpacked, and what is told of them, in memory that is kept from
+/// image to image.
 #[derive(Drop)]
 pub(crate) struct Files {
     pub(crate) extraction: Extraction,

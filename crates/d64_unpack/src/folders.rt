@@ -7,8 +7,8 @@ use crate::calls::have_folder;
 use d64_host::Host;
 use std::alloc::AllocError;
 
-/// Makes folders where they aren't there, each in the one before it, and the first at this place. Returns the path of
-/// the first that cannot be made, or None where all are there then.
+/// Makes folders where they aren't there, each in the one before it, and the first at this place.
+/// Returns the path of the first that cannot be made, or None where all are there then.
 pub(crate) fn have_folders<H: Host>(
     host: &mut H,
     start: String,

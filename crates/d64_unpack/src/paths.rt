@@ -27,7 +27,8 @@ pub(crate) fn inside(alloc: Global, folder: &str) -> Result<String, AllocError>
     Ok(path)
 }
 
-/// Goes on to what the paths in the last of some folders begin with, each of which lies in the one before it.
+/// Goes on to what the paths in the last of some folders begin with, each of which lies in the one
+/// before it.
 fn go_below(place: &mut String, folders: &[&str]) -> Result<(), AllocError>
     ensures { OnOk result (string_bytes place.new ≡ place_below (string_bytes place.old) (map (λ folder. folder.now) folders.now)) }
 {
@@ -38,7 +39,8 @@ fn go_below(place: &mut String, folders: &[&str]) -> Result<(), AllocError>
     Ok(())
 }
 
-/// What the paths in the last folder of an image's path begin with, below the folder that is asked for.
+/// What the paths in the last folder of an image's path begin with, below the folder that is asked
+/// for.
 fn place_of(alloc: Global, into: &str, place: &ImagePlace) -> Result<String, AllocError>
     ensures { IfOk result (λ path. string_bytes path ≡ place_below (inside into.now) (map (λ folder. folder.now) place.now.folders.items)) }
 {

@@ -68,7 +68,8 @@ impl Unpacker {
         task.unpack(place.folders.as_slice(), &mut self.files, host, room)
     }
 
-    /// Unpacks the file of this name with these bytes, or tells that it cannot be read where there are none.
+    /// Unpacks the file of this name with these bytes, or tells that it cannot be read where there
+    /// are none.
     fn unpack<H: Host>(
         &mut self,
         name: &[u8],

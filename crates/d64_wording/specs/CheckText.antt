@@ -1,4 +1,5 @@
--- What is told of an image for people: its line, and below it a line each fault, read error and file that isn't whole.
+-- What is told of an image for people: its line, and below it a line each fault, read error and
+-- file that isn't whole.
 use Rattle.std.specs.Prelude.{ℕ, ◌==◌, if◌then◌else◌, List, [], ◌++◌, length, codes}
 use Rattle.std.specs.List.{flat_map}
 use Rattle.d64_image.specs.Disk.{Disk}

@@ -30,7 +30,8 @@ letters_of cell = if has_kind cell then kind_letters (kind_of cell) else codes "
 unfoldable pub size_text : ℕ → ℕ → List ℕ
 size_text shown there = codes "the directory says " ++ (count_of shown (codes "block") ++ (codes ", " ++ (decimal there ++ (if there == 1 then codes " is there" else codes " are there"))))
 
--- a reason why a file isn't whole, of which the directory shows a size, and so many blocks are there
+-- a reason why a file isn't whole, of which the directory shows a size, and so many blocks are
+-- there
 unfoldable pub flaw_text : ℕ → ℕ → Flaw → List ℕ
 flaw_text shown there Unclosed = codes "never closed"
 flaw_text shown there Kindless = codes "of no kind"

@@ -5,8 +5,8 @@ use Rattle.std.specs.Option.{option_map_or}
 use Rattle.d64_wording.specs.declared.guess.Guess.{Guess}
 use Rattle.d64_wording.specs.declared.guess.Guess.TheVariants.{Empty, Tracks36, Tracks37, Tracks38, Tracks39, Tracks41, Tracks42, Disk1571, Disk1581, G64, Zip, Gzip, Cut35, Cut40}
 
--- files that are known by their length: images of other sizes, each without read codes and with one a block. A track beyond the 35th
--- has 17 blocks
+-- files that are known by their length: images of other sizes, each without read codes and with one
+-- a block. A track beyond the 35th has 17 blocks
 unfoldable pub lengths : List (ℕ × Guess)
 lengths =
     (0, Empty)
@@ -46,8 +46,8 @@ guess_from (row ∷ rows) bytes = if starts_with nat_eq bytes row.0 then Some ro
 abbrev pub guess_by_first_bytes : List ℕ → Option Guess
 guess_by_first_bytes bytes = guess_from first_bytes bytes
 
--- the image of which a file of this length seems to be the beginning: of 35 tracks where it reaches beyond the directory's first block,
--- and of 40 where it reaches beyond track 36
+-- the image of which a file of this length seems to be the beginning: of 35 tracks where it reaches
+-- beyond the directory's first block, and of 40 where it reaches beyond track 36
 abbrev pub cut_short : ℕ → Option Guess
 cut_short len =
     if nat_le 91904 len && nat_lt len 174848 then Some Cut35
@@ -57,7 +57,8 @@ cut_short len =
 abbrev pub or_else : Option Guess → Option Guess → Option Guess
 or_else first second = option_map_or (λ guess. Some guess) first second
 
--- what a file seems to be: by its length, by the bytes that it begins with, or as the beginning of an image
+-- what a file seems to be: by its length, by the bytes that it begins with, or as the beginning of
+-- an image
 abbrev pub guess_of : List ℕ → Option Guess
 guess_of bytes = or_else (guess_by_length (length bytes)) (or_else (guess_by_first_bytes bytes) (cut_short (length bytes)))
 

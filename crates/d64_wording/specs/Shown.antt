@@ -13,7 +13,8 @@ continues_at bytes place = is_in_range 0x80 0xBF (slice_index bytes place)
 abbrev pub is_second : ℕ → List ℕ → Bool
 is_second first rest = is_in_range (second_byte_min first) (second_byte_max first) (slice_index rest 0)
 
--- how many bytes more the character has that begins with this byte; none where no character does (Unicode, well-formed UTF-8)
+-- how many bytes more the character has that begins with this byte; none where no character does
+-- (Unicode, well-formed UTF-8)
 unfoldable pub following : ℕ → List ℕ → Option ℕ
 following first rest =
     if nat_lt first 0x80 then Some 0
@@ -60,7 +61,8 @@ digit_from worth number = if nat_le worth number then digit_at worth number ∷ 
 unfoldable pub hexadecimal : ℕ → List ℕ
 hexadecimal number = digit_from 4096 number ++ (digit_from 256 number ++ (digit_from 16 number ++ digit_at 1 number ∷ []))
 
--- a character of this number that has these bytes: a `\` is doubled, a hidden one has its number, and all others are as they are
+-- a character of this number that has these bytes: a `\` is doubled, a hidden one has its number,
+-- and all others are as they are
 unfoldable pub shown_character : ℕ → List ℕ → List ℕ
 shown_character number bytes =
     if number == backslash then backslash ∷ backslash ∷ []

@@ -78,7 +78,8 @@ fn push_brackets(out: &mut Vec<u8>, bytes: &[u8]) -> Result<(), AllocError>
     }
 }
 
-/// Adds the number of bytes of a file, which no dump has, and what the file seems to be, where that is known.
+/// Adds the number of bytes of a file, which no dump has, and what the file seems to be, where that
+/// is known.
 pub fn push_wrong_length(out: &mut Vec<u8>, bytes: &[u8]) -> Result<(), AllocError>
     ensures { OnOk result (out.new.items ≡ out.old.items ++ wrong_length_text bytes.now) }
 {

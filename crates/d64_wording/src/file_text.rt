@@ -83,7 +83,8 @@ fn push_size(out: &mut Vec<u8>, shown: usize, there: usize) -> Result<(), AllocE
     Ok(())
 }
 
-/// Adds a reason why a file isn't whole, of which the directory shows a size, and so many blocks are there.
+/// Adds a reason why a file isn't whole, of which the directory shows a size, and so many blocks
+/// are there.
 #[tactic(auto, unfolding(crate::specs::FileText::flaw_text))]
 fn push_flaw(out: &mut Vec<u8>, shown: usize, there: usize, flaw: Flaw) -> Result<(), AllocError>
     ensures { OnOk result (out.new.items ≡ out.old.items ++ flaw_text shown there flaw) }
@@ -106,8 +107,8 @@ fn comma(place: usize) -> &'static [u8]
     if place == 0 { b"" } else { b", " }
 }
 
-/// Adds the reasons why a file isn't whole, with commas between them: a file of which the directory shows a size in blocks, and of which
-/// so many are there.
+/// Adds the reasons why a file isn't whole, with commas between them: a file of which the directory
+/// shows a size in blocks, and of which so many are there.
 pub fn push_flaws(
     out: &mut Vec<u8>,
     shown: usize,

@@ -82,7 +82,8 @@ fn cut_short(len: usize) -> Option<Guess>
     }
 }
 
-/// What a file whose length no image has seems to be; None where it looks like nothing that is known here.
+/// What a file whose length no image has seems to be; None where it looks like nothing that is
+/// known here.
 pub fn guess_of(bytes: &[u8]) -> Option<Guess>
     ensures { result ≡ guess_by_all bytes.now }
 {

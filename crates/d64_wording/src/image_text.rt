@@ -174,8 +174,9 @@ fn push_unowned_line(out: &mut Vec<u8>, inspection: &Inspection) -> Result<(), A
     push_unowned(out, inspection.unowned())
 }
 
-/// Adds the text of an image for people: its line, a line each fault, read error and file that isn't whole, and one of the blocks
-/// that are marked used and belong to no file, where something is amiss.
+/// Adds the text of an image for people: its line, a line each fault, read error and file that
+/// isn't whole, and one of the blocks that are marked used and belong to no file, where something
+/// is amiss.
 #[tactic(auto, unfolding(crate::specs::CheckText::check_text))]
 pub fn check_text(name: &[u8], inspection: &Inspection, out: &mut Vec<u8>) -> Result<(), AllocError>
     ensures { OnOk result (out.new.items ≡ out.old.items ++ check_text_of name.now inspection.now) }

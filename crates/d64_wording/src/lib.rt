@@ -1,4 +1,5 @@
-//! What is told of an image in plain words: the text for people, and the lines of faults on standard error.
+//! What is told of an image in plain words: the text for people, and the lines of faults on
+//! standard error.
 #![tactic(auto)]
 
 mod fault_line;

@@ -139,8 +139,8 @@ fn push_first<'a>(out: &mut Vec<u8>, first: u8, rest: &'a [u8]) -> Result<&'a [u
     }
 }
 
-/// Adds a name as it is shown: a `\` doubled, control characters and the marks of direction by their numbers as `\u{1b}`, bytes
-/// that aren't UTF-8 as `\xff`, and all else as it is.
+/// Adds a name as it is shown: a `\` doubled, control characters and the marks of direction by
+/// their numbers as `\u{1b}`, bytes that aren't UTF-8 as `\xff`, and all else as it is.
 pub fn push_shown(out: &mut Vec<u8>, name: &[u8]) -> Result<(), AllocError>
     ensures { OnOk result (out.new.items ≡ out.old.items ++ shown name.now) }
 {

@@ -1,4 +1,5 @@
--- A command that a subcommand is added to is the one that is described so, and stays without global arguments.
+-- A command that a subcommand is added to is the one that is described so, and stays without global
+-- arguments.
 use Rattle.std.proofs.Common.{◌≡◌, ◌∙◌, ◌||◌, Bool, true, false, ap, ap₂, refl}
 use Rattle.clap.specs.Words.{AddsSubcommand, App, app_of, with_subcommand}
 use Rattle.clap.specs.declared.builder.command.Command.{Command}

@@ -1,4 +1,5 @@
--- An argument that is a place and no option has a value in each row of it that a walk over words makes.
+-- An argument that is a place and no option has a value in each row of it that a walk over words
+-- makes.
 use Rattle.std.proofs.Common.{◌≡◌, ◌∙◌, ◌&&◌, ◌||◌, ◌++◌, ◌+◌, ℕ, min, Bool, cond, true, false, not, zero, suc, refl, sym, ap, List, [], ◌∷◌, length, Option, Some, None, is_some, true≢false}
 use Rattle.std.specs.Prelude.{IsSome, option_and_then, slice_get, ⊤}
 use Rattle.std.specs.List.{find, fold, list_all}

@@ -64,8 +64,8 @@ format_given met = format_of (form_word met.1)
 abbrev pub IsPlaceless : Met → Type 0
 IsPlaceless met = (met.0 ≡ codes "extract") × HasNoFolder (first_of (codes "into") met.1)
 
--- the subcommand takes names of files: a survey, where it has a form of output, and a folder where it wants one; or `catalogue`,
--- which has one form alone
+-- the subcommand takes names of files: a survey, where it has a form of output, and a folder where
+-- it wants one; or `catalogue`, which has one form alone
 abbrev pub TakesNames : Met → Type 0
 TakesNames met = (IsOneOf surveys met.0 × IsSome (format_given met) × (¬ IsPlaceless met)) ⊎ (met.0 ≡ codes "catalogue")
 
@@ -100,9 +100,10 @@ IsJobOf met (Diff format old new) =
 IsJobOf met (Catalogue maps names) =
     (met.0 ≡ codes "catalogue") × (maps ≡ has_flag (codes "maps") met.1) × IsNamesBy met.1 names
 
--- it asks for no job, since its start is no address, or no disk has its number of tracks; or, where a disk has so many, since
--- a session of a file has tracks of its own; or since its word for a form of output stands for none; or, where it has a form, since
--- the name of its folder is empty; or else since there are no names; or there is no memory
+-- it asks for no job, since its start is no address, or no disk has its number of tracks; or, where
+-- a disk has so many, since a session of a file has tracks of its own; or since its word for a form
+-- of output stands for none; or, where it has a form, since the name of its folder is empty; or
+-- else since there are no names; or there is no memory
 abbrev pub IsFaultOf : Met → JobFault → Type 0
 IsFaultOf met (Words error) = ⊥
 IsFaultOf met Start = (met.0 ≡ codes "crunch") × HasNoAddress (first_of (codes "start") met.1)
@@ -117,7 +118,8 @@ IsFaultOf met Picture = (met.0 ≡ codes "map") × (picture_form_given met ≡ N
 IsFaultOf met Difference = (met.0 ≡ codes "diff") × (diff_form_given met ≡ None)
 IsFaultOf met Folder = IsPlaceless met × IsSome (format_given met)
 
--- the words are the program's, and ask neither for help nor for the version; and of the subcommand that they name this holds
+-- the words are the program's, and ask neither for help nor for the version; and of the subcommand
+-- that they name this holds
 abbrev pub IsUse : List Text → (Met → Type 0) → Type 0
 IsUse words holds = (fault_of d64sh words ≡ []) × IsSomeAnd (subcommand_of d64sh words) holds
 
@@ -125,8 +127,8 @@ IsUse words holds = (fault_of d64sh words ≡ []) × IsSomeAnd (subcommand_of d6
 abbrev pub IsJob : List Text → Job → Type 0
 IsJob words job = IsUse words (λ met. IsJobOf met job)
 
--- the words ask for no job, for this fault: an error of clap's, of one of the kinds that it has at these words; or a fault of
--- what the subcommand that they name is given
+-- the words ask for no job, for this fault: an error of clap's, of one of the kinds that it has at
+-- these words; or a fault of what the subcommand that they name is given
 abbrev pub IsFault : List Text → JobFault → Type 0
 IsFault words (Words error) = IsAmong (kind_of error) (fault_of d64sh words) × (kind_of error ≢ OutOfMemory)
 IsFault words Memory = ⊤

@@ -31,7 +31,8 @@ output_option = record (valued_option (codes "output")) { short = Some 111 }
 abbrev pub files_argument : Rule
 files_argument = record file_argument { range = Some (record { start_inclusive = 1; end_inclusive = usize_max }) }
 
--- a subcommand with the words for a script: `-c LINE` and `--command LINE`, any number of times, and `-e` and `--stop-at-refusal`
+-- a subcommand with the words for a script: `-c LINE` and `--command LINE`, any number of times,
+-- and `-e` and `--stop-at-refusal`
 abbrev pub with_script : App → App
 with_script app =
     let line = record (valued_option (codes "command")) { short = Some 99; action = Some Append } in
@@ -87,7 +88,8 @@ diff =
 abbrev pub catalogue : App
 catalogue = with_names (with_rule (new_app (codes "catalogue")) (flag (codes "maps")))
 
--- `d64sh` alone: it has a version, wants a subcommand, and tells its help where it is given nothing, and after `help`
+-- `d64sh` alone: it has a version, wants a subcommand, and tells its help where it is given
+-- nothing, and after `help`
 abbrev pub bare : App
 bare = let named = new_app (codes "d64sh") in record named {
   top = record named.top {

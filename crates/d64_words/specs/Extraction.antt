@@ -12,8 +12,8 @@ folder_by rows = unwrap_or (first_of (codes "into") rows) (codes ".")
 abbrev pub HasNoFolder : Option Text → Type 0
 HasNoFolder into = into ≡ Some []
 
--- files go into the folder of the words, whose name isn't empty; also in part where `--part` stands in the words, and folders that
--- are there are skipped where `--skip-existing` does
+-- files go into the folder of the words, whose name isn't empty; also in part where `--part` stands
+-- in the words, and folders that are there are skipped where `--skip-existing` does
 abbrev pub IsExtractionBy : List Row → Extraction → Type 0
 IsExtractionBy rows extraction =
     (string_bytes extraction.into ≡ folder_by rows) × (folder_by rows ≢ []) × (extraction.part ≡ has_flag (codes "part") rows)

@@ -25,7 +25,8 @@ has_null rows = has_flag (codes "null") rows
 abbrev pub separator_by : List Row → Separator
 separator_by rows = if has_null rows then Nul else LineFeed
 
--- the names are those of FILE.., one or more, with neither `--files-from` nor `--null`; or those of LIST, with no FILE
+-- the names are those of FILE.., one or more, with neither `--files-from` nor `--null`; or those of
+-- LIST, with no FILE
 abbrev pub IsNamesBy : List Row → Names → Type 0
 IsNamesBy rows (Given names) =
     (map string_bytes names.items ≡ files_by rows) × (files_by rows ≢ []) × (list_by rows ≡ None) × (has_null rows ≡ false)

@@ -5,8 +5,8 @@ use Rattle.std.specs.Prelude.{◌≡◌, ℕ, List, Option, Some, None, if◌the
 abbrev pub track_count : List ℕ → Option ℕ
 track_count text = if bytes_eq text (codes "35") then Some 35 else (if bytes_eq text (codes "40") then Some 40 else None)
 
--- the tracks that the option gives, where an image may stand beside it: the number that is written, with no image, and 35 where
--- none is
+-- the tracks that the option gives, where an image may stand beside it: the number that is written,
+-- with no image, and 35 where none is
 abbrev pub IsTracksBy : Option (List ℕ) → Option (List ℕ) → ℕ → Type 0
 IsTracksBy None image tracks = tracks ≡ 35
 IsTracksBy (Some text) None tracks = track_count text ≡ Some tracks

@@ -24,12 +24,14 @@ pub enum Job {
         lines: Vec<String>,
         stops_at_refusal: bool,
     },
-    /// List the BASIC program in a file, or in the standard input where there is no name, to the file `output`, or to the standard output.
+    /// List the BASIC program in a file, or in the standard input where there is no name, to the
+    /// file `output`, or to the standard output.
     Petcat {
         file: Option<String>,
         output: Option<String>,
     },
-    /// Make a BASIC program, loaded at `start`, of the text in a file, or in the standard input, and write it so.
+    /// Make a BASIC program, loaded at `start`, of the text in a file, or in the standard input,
+    /// and write it so.
     Crunch {
         start: u16,
         file: Option<String>,
@@ -57,7 +59,8 @@ pub enum Job {
         format: PictureForm,
         file: String,
     },
-    /// Make one page of what is on dumps, with the picture of each one's blocks where `maps` is set.
+    /// Make one page of what is on dumps, with the picture of each one's blocks where `maps` is
+    /// set.
     Catalogue {
         maps: bool,
         names: Names,
@@ -115,7 +118,8 @@ pub enum DiffForm {
 pub enum Names {
     /// One name or more, as the words have them.
     Given(Vec<String>),
-    /// The names that a list holds, each up to the next separator. The list is a host file; `-` is the standard input.
+    /// The names that a list holds, each up to the next separator. The list is a host file; `-` is
+    /// the standard input.
     Listed { list: String, separator: Separator },
 }
 
@@ -130,7 +134,8 @@ pub enum Separator {
 #[derive(Debug, Drop, Error)]
 #[error("{}", self.text().unwrap_or_default())]
 pub enum JobFault {
-    /// The words are none of the program's, or ask for help or the version, which the error's text then is.
+    /// The words are none of the program's, or ask for help or the version, which the error's text
+    /// then is.
     #[error("{0}")]
     Words(WordsError),
     /// What follows `--start` is other than one to four hexadecimal digits.

@@ -30,7 +30,8 @@ pub(crate) fn d64sh<'a>(alloc: Global) -> Result<Command<'a>, AllocError>
         .subcommand(catalogue(alloc)?)
 }
 
-/// The error that an option lacks its value, with the usage of the subcommand of this name, where there is one.
+/// The error that an option lacks its value, with the usage of the subcommand of this name, where
+/// there is one.
 pub(crate) fn lacks_value(alloc: Global, name: &str, message: &str) -> Result<Error, AllocError>
     ensures { IfOk result (λ error. kind_of error ≡ InvalidValue) }
 {
@@ -65,7 +66,8 @@ fn subcommand<'a>(alloc: Global, name: &'a str) -> Command<'a>
         .after_help(help.details)
 }
 
-/// `shell [-e] [-c LINE].. [--tracks N] [IMAGE]` and `shell [-e] [-c LINE].. --resume FILE [IMAGE]`.
+/// `shell [-e] [-c LINE].. [--tracks N] [IMAGE]` and `shell [-e] [-c LINE].. --resume FILE
+/// [IMAGE]`.
 fn shell<'a>(alloc: Global) -> Result<Command<'a>, AllocError>
     ensures app { IfOk result (λ command. app_of command ≡ shell) }
     ensures local { IfOk result (λ command. (fields_of command).has_globals ≡ false) }

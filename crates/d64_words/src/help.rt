@@ -6,7 +6,8 @@ pub(crate) struct Help {
     /// What it does, in a line.
     pub(crate) about: &'static str,
     pub(crate) usage: &'static str,
-    /// What stands after the arguments: what goes in and what comes out, the exit statuses and an example.
+    /// What stands after the arguments: what goes in and what comes out, the exit statuses and an
+    /// example.
     pub(crate) details: &'static str,
 }
 

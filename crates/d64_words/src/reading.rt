@@ -29,14 +29,16 @@ const ADDRESS_DIGITS: usize = 4;
 
 /// The job that the words of the process ask for, of which the first is the program's name.
 ///
-/// `Words` comes exactly where the words are none of the program's, or ask for help or the version; else `Start` exactly where
-/// what follows `--start` is other than one to four hexadecimal digits; else `Tracks` exactly where what follows `--tracks` is
-/// neither 35 nor 40, or there is an image beside it; else `Both` exactly where there is `--resume` beside `--tracks`; else
-/// `Format` exactly where what follows `--format` of a survey is neither `text`, `json` nor `csv`; else `Folder` exactly where
-/// what follows `--into` of `extract` is empty; else `Names` exactly where there are both FILE and `--files-from`, or neither;
-/// else `Null` exactly where there is `--null` without `--files-from`; else `Picture` exactly where what follows `--format` of
-/// `map` is neither `text` nor `svg`, or `Difference` exactly where what follows `--format` of `diff` is neither `text` nor
-/// `json`; and `Memory` in place of any answer.
+/// `Words` comes exactly where the words are none of the program's, or ask for help or the version;
+/// else `Start` exactly where what follows `--start` is other than one to four hexadecimal digits;
+/// else `Tracks` exactly where what follows `--tracks` is neither 35 nor 40, or there is an image
+/// beside it; else `Both` exactly where there is `--resume` beside `--tracks`; else `Format`
+/// exactly where what follows `--format` of a survey is neither `text`, `json` nor `csv`; else
+/// `Folder` exactly where what follows `--into` of `extract` is empty; else `Names` exactly where
+/// there are both FILE and `--files-from`, or neither; else `Null` exactly where there is `--null`
+/// without `--files-from`; else `Picture` exactly where what follows `--format` of `map` is neither
+/// `text` nor `svg`, or `Difference` exactly where what follows `--format` of `diff` is neither
+/// `text` nor `json`; and `Memory` in place of any answer.
 pub fn job(alloc: Global, words: &[&str]) -> Result<Job, JobFault>
     ensures job { IfOk result (IsJob (map (λ word. word.now) words.now)) }
     ensures fault { IfErr result (IsFault (map (λ word. word.now) words.now)) }
@@ -51,7 +53,8 @@ pub fn job(alloc: Global, words: &[&str]) -> Result<Job, JobFault>
     job_of(alloc, name, arguments)
 }
 
-/// The error, with the usage of the subcommand where it is that an option lacks its value: `clap` tells no usage of that one.
+/// The error, with the usage of the subcommand where it is that an option lacks its value: `clap`
+/// tells no usage of that one.
 fn with_usage(alloc: Global, words: &[&str], error: Error) -> Result<Error, AllocError>
     ensures { IfOk result (λ told. kind_of told ≡ kind_of error) }
 {

@@ -1,4 +1,5 @@
-//! How many files of a long run are done, on one line of a terminal that is written over and wiped at the end.
+//! How many files of a long run are done, on one line of a terminal that is written over and wiped
+//! at the end.
 
 ghost use Rattle.std.specs.Io.{WritesAtMost};
 ghost use Rattle.std.specs.Io.KnownBytes.{WriteAppends, Keeps};
@@ -13,7 +14,8 @@ use std::time::Instant;
 /// The milliseconds between two lines: at most ten come in a second.
 const PAUSE: u128 = 100;
 
-/// The line of a terminal, where one is wanted. It is written over, and wiped before anything else is written there.
+/// The line of a terminal, where one is wanted. It is written over, and wiped before anything else
+/// is written there.
 #[derive(Drop)]
 pub(crate) struct ProgressLine<'a, R> {
     rt: &'a R,
@@ -33,7 +35,8 @@ impl<'a, R: Clock + Eprint> ProgressLine<'a, R> {
         }
     }
 
-    /// Shows how many files are done, where the last line is old enough; the first one comes that long after the first call.
+    /// Shows how many files are done, where the last line is old enough; the first one comes that
+    /// long after the first call.
     fn show(&self, done: u64) {
         if !self.is_wanted || !self.is_due() {
             return;

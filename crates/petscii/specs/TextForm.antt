@@ -28,8 +28,8 @@ pub record IsOneByte (unit : List ℕ) : Type 0 where
 abbrev pub IsUnit : List ℕ → Type 0
 IsUnit unit = IsOneByte unit ⊎ IsBraced unit
 
--- A unit is accepted for a byte where it is its spelling, or in braces its spelling or its value, in
--- either case of the letters.
+-- A unit is accepted for a byte where it is its spelling, or in braces its spelling or its value,
+-- in either case of the letters.
 unfoldable pub IsAccepted : ℕ → List ℕ → Type 0
 IsAccepted b unit = (b < 256) × ((unit ≡ spell b)
     ⊎ (IsBraced unit × ((str_to_ascii_lowercase unit ≡ spell b) ⊎ (str_to_ascii_lowercase unit ≡ braced (hex_name b)))))

@@ -23,7 +23,8 @@ pub fn to_text(alloc: Global, bytes: &[u8]) -> Result<Vec<u8>, AllocError>
     Ok(text)
 }
 
-/// Adds the text of bytes of PETSCII, as `to_text` writes it, to a text. It asks for memory only where the text has no room for it.
+/// Adds the text of bytes of PETSCII, as `to_text` writes it, to a text. It asks for memory only
+/// where the text has no room for it.
 ///
 /// An `Err` comes only where there is no memory for the text.
 #[tactic(auto, unfolding(crate::specs::Spelling::spelling))]

@@ -1,7 +1,8 @@
-//! The program's arguments: what is asked for by which, and the texts of those that are refused and of help.
+//! The program's arguments: what is asked for by which, and the texts of those that are refused and
+//! of help.
 //!
-//! The rows are text, since that is proved and compiled once for all of them: the arguments after the program's name, parted by
-//! `|`, then ` => ` and what must come of them.
+//! The rows are text, since that is proved and compiled once for all of them: the arguments after
+//! the program's name, parted by `|`, then ` => ` and what must come of them.
 
 use d64_script::output::WriteFault;
 use d64_words::{JobFault, job};
@@ -171,7 +172,8 @@ diff|--help => Example: d64sh diff before.d64 after.d64
 catalogue|--help => Example: d64sh catalogue --maps *.d64 >disks.html
 -V => d64sh 0.2.0";
 
-/// The program's name and the arguments that stand before ` => ` in a row, and what stands after it.
+/// The program's name and the arguments that stand before ` => ` in a row, and what stands after
+/// it.
 fn parted<'a>(alloc: Global, row: &'a str) -> Result<(Vec<&'a str>, &'a str), Fail> {
     let (arguments, wanted) = row.split_once(" => ").ok_or("a row without an end")?;
     let mut words = Vec::new(alloc);

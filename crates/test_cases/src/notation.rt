@@ -5,8 +5,9 @@ use std::alloc::Global;
 use std::fs;
 use std::rt::Files;
 
-/// The bytes that words spell, one after another: `0A` is a byte, `"abc"` are the bytes of a text without spaces, `<NAME>`
-/// those of a file, `nothing` is none; and after any of these `x256` says how often it stands there.
+/// The bytes that words spell, one after another: `0A` is a byte, `"abc"` are the bytes of a text
+/// without spaces, `<NAME>` those of a file, `nothing` is none; and after any of these `x256` says
+/// how often it stands there.
 pub fn bytes_of<R: Files + AllocGlobal>(rt: &R, text: &str) -> Result<Vec<u8>, CaseFault> {
     let mut bytes = Vec::new(rt.alloc());
     let mut last = Vec::new(rt.alloc());

@@ -74,7 +74,8 @@ impl<'r, R: Files + AllocGlobal> Reading<'r, R> {
         }
     }
 
-    /// Takes a line: of a script where one begins with `>`, an answer where a script was begun, and else a step.
+    /// Takes a line: of a script where one begins with `>`, an answer where a script was begun, and
+    /// else a step.
     fn take(&mut self, line: &str) -> Result<(), CaseFault> {
         self.line = self.line.saturating_add(1);
         if line.is_empty() {

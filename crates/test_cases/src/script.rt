@@ -7,7 +7,8 @@ use std::alloc::{AllocError, Global};
 pub enum Said {
     /// A line, without its line feed.
     Line(String),
-    /// A line that comes so many times; in the first `#` stands for 1, in the next for 2, and so on.
+    /// A line that comes so many times; in the first `#` stands for 1, in the next for 2, and so
+    /// on.
     Numbered(usize, String),
     /// Bytes, which need be no whole line.
     Bytes(Vec<u8>),

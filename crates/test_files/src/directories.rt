@@ -140,7 +140,8 @@ fn fresh_map(rt: &HostRuntime) -> Result<Vec<u8>, Fail> {
     Ok(map)
 }
 
-/// The parts of a REL file: its data in 17/0, its side sector in 17/1, its entry in the first slot of 18/1.
+/// The parts of a REL file: its data in 17/0, its side sector in 17/1, its entry in the first slot
+/// of 18/1.
 const REL_FILE: [(u8, u8, usize, &[u8]); 5] = [
     (17, 0, 1, b"\x0B\x07\x07\x07\x07\x07\x07\x07\x07\x07\x07"),
     (17, 1, 1, b"\x11"),

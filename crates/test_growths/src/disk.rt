@@ -89,7 +89,8 @@ pub fn ten_blocks(alloc: Global) -> Result<Vec<u8>, Fail> {
     Ok(vec![in alloc; 7; 2540]?)
 }
 
-/// A sound disk with the file `A` of ten blocks from 17/0 on, and the file `B` of one, which was never closed.
+/// A sound disk with the file `A` of ten blocks from 17/0 on, and the file `B` of one, which was
+/// never closed.
 pub fn disk(alloc: Global) -> Result<Image, Fail> {
     let mut image = Image::zeroed(alloc)?;
     make(alloc, &mut image, &format()?)?;

@@ -1,9 +1,10 @@
 //! Calls of the libraries, each made by its name where a growth of memory may be refused.
 //!
-//! Each word of the program names a call, with what it is given behind a space. First all that the call is lent is made;
-//! then the name is printed, the call is made, and how it ended is printed behind the name. So what asks for memory between
-//! the two prints is the call alone, and `scripts/sweep-calls` refuses each such growth in turn. The file `args` has all
-//! calls that are swept.
+//! Each word of the program names a call, with what it is given behind a space. First all that the
+//! call is lent is made; then the name is printed, the call is made, and how it ended is printed
+//! behind the name. So what asks for memory between the two prints is the call alone, and
+//! `scripts/sweep-calls` refuses each such growth in turn. The file `args` has all calls that are
+//! swept.
 #![tactic(auto)]
 
 mod commands;

@@ -35,7 +35,8 @@ pub fn run(bench: &Bench, line: &str) -> Result<End, Fail> {
     Ok(end_of(answer, written.as_slice(), is_kept))
 }
 
-/// How a script of one line ended, by its answer, what it wrote, and whether host and session are as they were.
+/// How a script of one line ended, by its answer, what it wrote, and whether host and session are
+/// as they were.
 fn end_of(answer: Result<Outcome, ShellFault>, written: &[u8], is_kept: bool) -> End {
     match answer {
         Ok(

@@ -9,7 +9,8 @@ use d64_undo::{ResumeFault, Session};
 use std::alloc::Global;
 use std::test::Fail;
 
-/// A session with three records that are done and one that is undone, and copies of the last three images of its history.
+/// A session with three records that are done and one that is undone, and copies of the last three
+/// images of its history.
 #[derive(Drop)]
 pub struct Beside {
     pub session: Session,
@@ -26,8 +27,8 @@ fn make(session: &mut Session, command: &Command) -> Result<(), Fail> {
 }
 
 impl Beside {
-    /// The session begins with the disk; two blocks were written, then `P`, a BASIC program, and then `X`, which was undone.
-    /// For a fifth record its list has to grow.
+    /// The session begins with the disk; two blocks were written, then `P`, a BASIC program, and
+    /// then `X`, which was undone. For a fifth record its list has to grow.
     pub fn new(alloc: Global) -> Result<Beside, Fail> {
         let mut session = Session::new(alloc, disk(alloc)?);
         make(&mut session, &block_write(35, 0)?)?;
@@ -46,7 +47,8 @@ impl Beside {
         })
     }
 
-    /// Whether cursor, image and history are as they were at first. It goes one record back, and then to the end.
+    /// Whether cursor, image and history are as they were at first. It goes one record back, and
+    /// then to the end.
     pub fn is_as_it_was(&mut self) -> bool {
         (self.session.done(), self.session.undone()) == (3, 1)
             && same(self.session.image(), &self.present)

@@ -1,6 +1,7 @@
 //! Calls of the writers of files and of the map.
 //!
-//! After want of memory some blocks may be written; the image with the patch put back is the one from before in any case.
+//! After want of memory some blocks may be written; the image with the patch put back is the one
+//! from before in any case.
 ghost use Rattle.std.specs.Prelude.{◌≢◌, ◌<◌, [], length, IfOk};
 ghost use Rattle.d64_files.specs.Directory.{directory, slots};
 ghost use Rattle.d64_image.specs.Patch.{IsPatchOf};

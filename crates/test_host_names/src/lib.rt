@@ -1,4 +1,5 @@
-//! Tests of names on a host through their public calls: examples that are worked out by hand from the rules.
+//! Tests of names on a host through their public calls: examples that are worked out by hand from
+//! the rules.
 //!
 //! They stand in a crate of their own, since a crate with tests is proved twice.
 #![tactic(auto)]

@@ -77,8 +77,8 @@ fn bytes_become_an_image_and_stay(rt: HostRuntime) -> Result<(), AllocError> {
     Ok(())
 }
 
-/// How many sectors each track has, from the first on, as the 1541 User's Guide tells them, and as many on tracks 36 to 40
-/// as on those before them.
+/// How many sectors each track has, from the first on, as the 1541 User's Guide tells them, and as
+/// many on tracks 36 to 40 as on those before them.
 fn sectors_of_a_track(track: usize) -> usize {
     match track {
         1..=17 => 21,

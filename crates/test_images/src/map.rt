@@ -29,8 +29,8 @@ fn all_blocks() -> BlockSet {
     blocks_between(0, BLOCKS_OF_35)
 }
 
-/// The track and the sector at a place of the order of search on 35 tracks after a block: what is picked once all before it
-/// are taken.
+/// The track and the sector at a place of the order of search on 35 tracks after a block: what is
+/// picked once all before it are taken.
 fn next_at(track: u8, sector: u8, place: usize) -> Option<(u8, u8)> {
     next_of(all_blocks(), track, sector, place)
 }

@@ -64,7 +64,8 @@ fn put(bytes: &mut [u8], start: usize, part: &[u8]) {
     }
 }
 
-/// The dump of 35 tracks of zeros, and codes of zero, with these parts, each of them a place in the dump's bytes, and bytes.
+/// The dump of 35 tracks of zeros, and codes of zero, with these parts, each of them a place in the
+/// dump's bytes, and bytes.
 pub(crate) fn dump_of(rt: &HostRuntime, parts: &[(usize, &[u8])]) -> Result<Dump, Fail> {
     let mut bytes = vec![in rt.alloc(); 0u8; 175_531]?;
     for (start, part) in parts {

@@ -7,8 +7,8 @@ use d64_report::{IS_THERE, Scratch};
 use d64_words::Format;
 use std::test::Fail;
 
-/// Whether this is printed in a form: the heading, a file with a path or without one, an image for whose folder there is no place, and one of
-/// a wrong length.
+/// Whether this is printed in a form: the heading, a file with a path or without one, an image for
+/// whose folder there is no place, and one of a wrong length.
 fn prints(
     rt: &HostRuntime,
     form: Format,

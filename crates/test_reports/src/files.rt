@@ -73,7 +73,8 @@ fn geos() -> FileRow {
     row
 }
 
-/// Whether this is printed of a file: its object, the header row and its row, and its line in a table.
+/// Whether this is printed of a file: its object, the header row and its row, and its line in a
+/// table.
 fn prints(rt: &HostRuntime, row: &FileRow, expected: &[u8]) -> Result<bool, Fail> {
     let mut scratch = Scratch::new(rt.alloc());
     let lines = file_json(&mut scratch, b"a.d64", row, Vec::new(rt.alloc()))?;

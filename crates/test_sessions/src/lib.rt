@@ -1,8 +1,9 @@
-//! Tests of sessions and session files through their public calls: what no contract says, such as texts, examples whose
-//! values come from outside, and random writes, undos and redos beside plain copies of the images.
+//! Tests of sessions and session files through their public calls: what no contract says, such as
+//! texts, examples whose values come from outside, and random writes, undos and redos beside plain
+//! copies of the images.
 //!
-//! They stand in a crate of their own, since a crate with tests is proved twice. What a script can reach is a worked
-//! example instead.
+//! They stand in a crate of their own, since a crate with tests is proved twice. What a script can
+//! reach is a worked example instead.
 #![tactic(auto)]
 
 #[cfg(test)]

@@ -62,7 +62,8 @@ fn file_of_a_format_and_a_write(rt: HostRuntime) -> Result<(), Fail> {
             (174_861, &[2, 0, 0, 0, 0, 0, 0, 0]),
             (174_869, &[0x02, 0x00, 0x65, 0x01]),
             (175_387, &[0x03, 0x00, 0x50, 0x01]),
-            // The block of `x`, 17/0, is written in the image, and in the record where the write is undone.
+            // The block of `x`, 17/0, is written in the image, and in the record where the write is
+            // undone.
             (IMAGE_BLOCK, &[0x00, 0x02, 0x51]),
             (RECORD_BLOCK, &[0x00, 0x00, 0x00]),
         ],
@@ -139,7 +140,8 @@ fn an_undone_write_is_resumed(rt: HostRuntime) -> Result<(), Fail> {
     Ok(())
 }
 
-/// An undone write is redone once, and then the session has the image and the file of one that was never undone.
+/// An undone write is redone once, and then the session has the image and the file of one that was
+/// never undone.
 fn is_redone(
     rt: &impl Abort,
     alloc: Global,
@@ -220,7 +222,8 @@ fn a_block_that_the_image_has_is_bad(rt: HostRuntime) -> Result<(), Fail> {
 #[test]
 fn indices_that_do_not_rise_are_bad(rt: HostRuntime) -> Result<(), Fail> {
     let file = with_x(&rt)?.keep(rt.alloc())?;
-    // The index of the second record's second block, as that of its first, and as the first that no image has.
+    // The index of the second record's second block, as that of its first, and as the first that no
+    // image has.
     for index in [[0x50, 0x01], [0xab, 0x02]] {
         let other = with_bytes_at(&rt, &file, RECORD_BLOCK + 256, &index)?;
         assert_eq!(rt; fault_of(&rt, &other), Some(ResumeFault::BadRecord));

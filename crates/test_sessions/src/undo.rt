@@ -68,7 +68,8 @@ fn write_x(alloc: Global, session: &mut Session) -> Result<Reply, Fail> {
     })?)
 }
 
-/// A session on a blank image after a format and a write of one byte as `x`, and the image from before the write.
+/// A session on a blank image after a format and a write of one byte as `x`, and the image from
+/// before the write.
 fn with_x(alloc: Global) -> Result<(Session, Image), Fail> {
     let mut session = Session::new(alloc, Image::zeroed(alloc)?);
     format(&mut session)?;
@@ -77,7 +78,8 @@ fn with_x(alloc: Global) -> Result<(Session, Image), Fail> {
     Ok((session, before))
 }
 
-/// The record of the write of `x` lends the file's block, the map's and the directory's as they are in an image.
+/// The record of the write of `x` lends the file's block, the map's and the directory's as they are
+/// in an image.
 fn lends_x(rt: &impl Abort, session: &Session, image: &Image) -> Result<(), Fail> {
     let mut record = session.record_at(1).ok_or("no record")?.iter();
     for (track, sector) in [(17, 0), (18, 0), (18, 1)] {

@@ -19,8 +19,9 @@ pub(crate) fn block(track: u8, sector: u8) -> Result<BlockNo, Fail> {
     Ok(BlockNo::of(track, sector).ok_or("no such block")?)
 }
 
-/// The dump of 35 tracks of zeros with these parts, each of them a track and a sector, a place in that block, and bytes; and with
-/// these read codes, each of them a track and a sector, and the code.
+/// The dump of 35 tracks of zeros with these parts, each of them a track and a sector, a place in
+/// that block, and bytes; and with these read codes, each of them a track and a sector, and the
+/// code.
 pub(crate) fn dump_of(
     rt: &HostRuntime,
     parts: &[(u8, u8, u8, &[u8])],

@@ -5,7 +5,8 @@ use d64_files::SlotNo;
 use d64_survey::{Dump, Fault, Inspection, Survey};
 use std::test::Fail;
 
-/// "NOTES" in 17/3, a block that is marked free, is shown as two blocks; "DRAFT" was deleted; "THESIS" isn't closed.
+/// "NOTES" in 17/3, a block that is marked free, is shown as two blocks; "DRAFT" was deleted;
+/// "THESIS" isn't closed.
 const FILES: [(u8, u8, u8, &[u8]); 5] = [
     (18, 0, 68, b"\x01\x08"),
     (18, 1, 0, b"\x00\xFF\x82\x11\x03NOTES\xA0"),
@@ -14,7 +15,8 @@ const FILES: [(u8, u8, u8, &[u8]); 5] = [
     (18, 1, 66, b"\x02\x11\x03THESIS\xA0"),
 ];
 
-/// The numbers of read errors, entries, whole files, files that are not whole, and blocks without an owner.
+/// The numbers of read errors, entries, whole files, files that are not whole, and blocks without
+/// an owner.
 fn counts(all: &Inspection) -> [usize; 5] {
     [
         all.read_errors().len(),

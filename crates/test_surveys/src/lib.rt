@@ -1,4 +1,5 @@
-//! Tests of surveys through the public calls of `d64_survey`, on examples whose faults are known from how they were made.
+//! Tests of surveys through the public calls of `d64_survey`, on examples whose faults are known
+//! from how they were made.
 //!
 //! They stand in a crate of their own, since a crate with tests is proved twice.
 #![tactic(auto)]

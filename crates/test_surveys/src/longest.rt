@@ -1,4 +1,5 @@
-//! The image that takes longest: a directory over all blocks, each of whose entries leads along all blocks twice.
+//! The image that takes longest: a directory over all blocks, each of whose entries leads along all
+//! blocks twice.
 
 use d64_files::SlotNo;
 use d64_image::BlockNo;
@@ -38,7 +39,8 @@ fn expect_shared(rt: &impl Abort, all: &Inspection) {
     }
 }
 
-/// Ends the test where the last file doesn't have all blocks as its side blocks, or is not whole for other reasons than two.
+/// Ends the test where the last file doesn't have all blocks as its side blocks, or is not whole
+/// for other reasons than two.
 fn expect_last(rt: &impl Abort, all: &Inspection) -> Result<(), Fail> {
     let entry = all.survey().entry(SlotNo::at(6_143)).ok_or("no slot")?;
     assert_eq!(rt; all.way_length(&entry, Part::Side), Some(768));

@@ -30,7 +30,8 @@ impl Dice {
     }
 }
 
-/// A part of a line: its text, and the bytes that it crunches to. No keyword reaches from one part into the next.
+/// A part of a line: its text, and the bytes that it crunches to. No keyword reaches from one part
+/// into the next.
 fn part(choice: u32) -> (&'static [u8], &'static [u8]) {
     match choice {
         0 => (b"print ", b"\x99 "),

@@ -92,7 +92,8 @@ impl<'a> Call<'a> {
         }
     }
 
-    /// This call, whose reader gives so many bytes and then fails: the lines that are ended by then are answered.
+    /// This call, whose reader gives so many bytes and then fails: the lines that are ended by then
+    /// are answered.
     fn with_failing_reader(self, script: &Script, came: usize) -> Call<'a> {
         let mark = script.ended_by(came);
         let answers = up_to(self.answers, mark.answers);
@@ -110,7 +111,8 @@ impl<'a> Call<'a> {
         }
     }
 
-    /// This call, whose writer takes so many bytes: where there are more, that part of the answers is written.
+    /// This call, whose writer takes so many bytes: where there are more, that part of the answers
+    /// is written.
     fn with_full_writer(self, room: usize) -> Call<'a> {
         let ending = match self.ending {
             Ending::Counted(_) if room < self.answers.len() => Ending::WriteFault,
@@ -173,8 +175,8 @@ fn ending_of(manner: &Manner, answers: &[u8]) -> Ending {
     }
 }
 
-/// How many lines these answers accept and refuse: a status line begins with two digits and a comma, and accepts where
-/// they are 00 or 01.
+/// How many lines these answers accept and refuse: a status line begins with two digits and a
+/// comma, and accepts where they are 00 or 01.
 fn counts_of(answers: &[u8]) -> Outcome {
     let mut outcome = Outcome {
         accepted: 0,

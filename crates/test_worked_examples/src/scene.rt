@@ -48,7 +48,8 @@ where
         })
     }
 
-    /// Plays a step, with so many bytes a read, and a stream that fails anywhere failing after `place` bytes.
+    /// Plays a step, with so many bytes a read, and a stream that fails anywhere failing after
+    /// `place` bytes.
     fn play(
         &mut self,
         step: &Step,
@@ -260,7 +261,8 @@ impl Came {
     }
 }
 
-/// Plays a case, with reads of so many bytes, and a stream that fails anywhere failing after `place` bytes.
+/// Plays a case, with reads of so many bytes, and a stream that fails anywhere failing after
+/// `place` bytes.
 fn play_once<R: Files + AllocGlobal>(
     rt: &R,
     steps: &[Step],
@@ -286,8 +288,8 @@ where
     Ok(differences)
 }
 
-/// Plays a case with reads of so many bytes, once for each place where a stream is to fail, up to the first that finds
-/// differences.
+/// Plays a case with reads of so many bytes, once for each place where a stream is to fail, up to
+/// the first that finds differences.
 fn play_places<R: Files + AllocGlobal>(
     rt: &R,
     steps: &[Step],
@@ -305,8 +307,8 @@ where
     Ok(Differences::none(rt.alloc()))
 }
 
-/// Plays a case with reads of 1, of 7 and of 4,096 bytes, or of as many as it says, up to the first that find
-/// differences.
+/// Plays a case with reads of 1, of 7 and of 4,096 bytes, or of as many as it says, up to the first
+/// that find differences.
 pub fn play<R: Files + AllocGlobal>(rt: &R, steps: &[Step]) -> Result<Differences, Unread>
 where
     R::File: AsFd,

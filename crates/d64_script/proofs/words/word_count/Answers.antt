@@ -1,4 +1,5 @@
--- The words so far and those of the rest are as many as all words, as each space is passed over and each word is taken.
+-- The words so far and those of the rest are as many as all words, as each space is passed over and
+-- each word is taken.
 use Rattle.std.proofs.Common.{◌≡◌, ◌≢◌, ℕ, false, List, ◌∷◌, length, Option, Some, None, option_map, sym, ap, subst, ◌∙◌, arith, rules}
 use Rattle.std.proofs.lemmas.Bool.{ne_eqb, false≢true}
 use Rattle.std.proofs.lemmas.List.{nil_from_length}
