@@ -102,6 +102,10 @@ where
         outcome
     }
 
+    fn count_failed_read(&mut self) {
+        self.failures = self.failures.saturating_add(1);
+    }
+
     fn store(&mut self, alloc: Global, name: &str, bytes: &[u8]) -> Result<(), HostFault> {
         let limit = self.size_limit();
         let outcome = store_file(&self.rt, alloc, limit, name, bytes);

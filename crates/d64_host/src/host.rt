@@ -4,7 +4,7 @@ ghost use Rattle.std.specs.Prelude.{◌≡◌, true, IfSome, OnOk};
 ghost use Rattle.std.specs.FinMap.{contains_key};
 ghost use Rattle.d64_host.specs.Files.{HostState};
 ghost use Rattle.d64_host.specs.Folders.{folder_name, with_folder, with_file, with_moved, Looks, Makes, CountsMaking};
-ghost use Rattle.d64_host.specs.Host.{fault_number, fetched, filled, opened, Fetches, Opens, Stores, CountsDevice};
+ghost use Rattle.d64_host.specs.Host.{fault_number, fetched, filled, opened, Fetches, Opens, Stores, CountsDevice, one_more_failure};
 
 use std::alloc::{AllocError, Global};
 use std::io::Read;
@@ -58,12 +58,12 @@ pub enum FolderFault {
 /// Where files lie: a name stands for some bytes, or for no file.
 ///
 /// A host may tell its files to a proof, as one in memory does, or tell nothing, as one over a disk
-/// that others write to. It counts the calls that its device failed.
+/// that others write to. It counts what its device failed.
 pub trait Host {
     /// A file that is open to be read.
     type File: Read + Drop;
 
-    // What it shows: its files, where it tells them, and how many calls answered `Device`.
+    // What it shows: its files, where it tells them, and how often its device failed.
     ghost state: { Self → HostState };
 
     /// The bytes of the named file, of which there are at most `limit`. `Missing` where there is no
@@ -88,6 +88,12 @@ pub trait Host {
         ensures answer { Opens (state self.old).files name.now (opened Self.File.remaining result) }
         ensures files_kept { (state self.new).files ≡ (state self.old).files }
         ensures counted { CountsDevice (state self.old).failures (state self.new).failures result };
+
+    /// Counts that a read of a file that was opened failed, as the call that answers `Device` is
+    /// counted.
+    fn count_failed_read(&mut self)
+        ensures files_kept { (state self.new).files ≡ (state self.old).files }
+        ensures counted { (state self.new).failures ≡ one_more_failure (state self.old).failures };
 
     /// Makes these bytes the content of the named file, which need not be there. Refused, it
     /// answers `Device` or `Memory` and, where the host tells its files, changes none of them.
@@ -120,7 +126,8 @@ pub trait Host {
         ensures made { Makes (with_moved from.now to.now) (state self.old).files to.now result (state self.new).files }
         ensures counted { CountsMaking (state self.old).failures (state self.new).failures result };
 
-    /// How many calls answered `Device`; it stays at `u64::MAX` once it is there.
+    /// How many calls answered `Device`, and how many failed reads were counted beside them; it
+    /// stays at `u64::MAX` once it is there.
     fn failures(&self) -> u64
         ensures { result ≡ (state self.now).failures };
 }

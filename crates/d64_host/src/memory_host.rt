@@ -124,7 +124,7 @@ impl MemoryHost {
         ensures fault { result ≡ FolderFault.Device }
         ensures counted { self.new ≡ record self.old { failures = one_more_failure self.old.failures } }
     {
-        self.failures = self.failures.saturating_add(1);
+        self.count_failed_read();
         FolderFault::Device
     }
 
@@ -239,6 +239,13 @@ impl Host for MemoryHost {
         let file = self.file(name).ok_or(HostFault::Missing)?;
         let copy = Vec::from_slice(self.alloc, file).map_err(HostFault::Memory)?;
         Ok(VecDeque::from_vec(copy))
+    }
+
+    fn count_failed_read(&mut self)
+        ensures counted { self.new ≡ record self.old { failures = one_more_failure self.old.failures } }
+        ensures files_kept { self.new.files ≡ self.old.files }
+    {
+        self.failures = self.failures.saturating_add(1);
     }
 
     fn store(&mut self, _alloc: Global, name: &str, bytes: &[u8]) -> Result<(), HostFault>

@@ -33,6 +33,13 @@ impl<'r, R: Read> InputStream<'r, R> {
         }
     }
 
+    /// Whether a read of it failed.
+    pub fn has_failed(&self) -> bool
+        ensures { result ≡ self.now.has_failed }
+    {
+        self.has_failed
+    }
+
     /// Reads once, at a time when all that was written to the output has been delivered.
     pub fn read_after<W: Write>(
         &mut self,
