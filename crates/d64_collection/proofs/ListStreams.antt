@@ -1,12 +1,12 @@
 -- How a run over a list that is read as it comes ends.
-use Rattle.std.proofs.Common.{◌≡◌, ℕ, ◌+◌, ◌<◌, List, [], ◌++◌, map, take, length, ◌≤◌, Option, Some, None, Result, Ok, Err, refl, sym, ap, ◌∙◌, subst, append-nil, arith, inl, inr}
+use Rattle.std.proofs.Common.{◌≡◌, ℕ, ◌+◌, ◌<◌, Bool, List, [], ◌++◌, map, take, length, ◌≤◌, Option, Some, None, Result, Ok, Err, refl, sym, ap, ◌∙◌, subst, append-nil, arith, inl, inr}
 use Rattle.std.specs.Io.KnownBytes.{Consumes, IsAtEnd}
 use Rattle.std.proofs.KnownBytes.{Consumes-trans, Consumes-all}
 use Rattle.std.proofs.lemmas.List.{length-append, length-take-le}
 use Rattle.d64_collection.specs.Names.{names_in, listed}
 use Rattle.d64_collection.specs.Answers.{Conduct}
 use Rattle.d64_collection.specs.Runs.{Stand, Runs}
-use Rattle.d64_collection.specs.Lists.{HasCome, RunsStream, StopsInList, StopsInStream, LosesStream, list_limit}
+use Rattle.d64_collection.specs.Lists.{HasCome, IsCutShort, RunsStream, StopsInList, StopsInStream, LosesStream, list_limit}
 use Rattle.d64_collection.specs.declared.desk.RunFault.{RunFault}
 use Rattle.d64_collection.specs.declared.desk.RunFault.TheVariants as faults
 
@@ -22,34 +22,35 @@ stopped_stream conduct separator None left fault a c bytes lost stops = record {
 stopped_stream conduct separator (Some all) None fault a c bytes lost stops = absurd lost
 stopped_stream conduct separator (Some all) (Some rest) fault a c bytes lost stops = record { list = bytes ++ rest; all = sym lost; stopped = stops rest }
 
-stopped_by : (A : Type 0) (conduct : Conduct) (separator : ℕ) (reader left : Option (List ℕ)) (fault : RunFault) (a c : Stand) (bytes : List ℕ)
-    → Consumes reader left bytes → ((more : List ℕ) → StopsInList conduct separator (bytes ++ more) fault a c) → RunsStream {A = A} conduct separator reader left a c (Err fault)
-stopped_by A conduct separator reader left faults.List a c bytes lost stops = absurd (stops []).stopped
-stopped_by A conduct separator reader left faults.Write a c bytes lost stops = stopped_stream conduct separator reader left faults.Write a c bytes lost stops
-stopped_by A conduct separator reader left faults.Memory a c bytes lost stops = stopped_stream conduct separator reader left faults.Memory a c bytes lost stops
+stopped_by : (A : Type 0) (conduct : Conduct) (separator : ℕ) (reader left : Option (List ℕ)) (has_failed : Bool) (fault : RunFault) (a c : Stand) (bytes : List ℕ)
+    → Consumes reader left bytes → ((more : List ℕ) → StopsInList conduct separator (bytes ++ more) fault a c) → RunsStream {A = A} conduct separator reader left has_failed a c (Err fault)
+stopped_by A conduct separator reader left has_failed faults.List a c bytes lost stops = absurd (stops []).stopped
+stopped_by A conduct separator reader left has_failed faults.Write a c bytes lost stops = stopped_stream conduct separator reader left faults.Write a c bytes lost stops
+stopped_by A conduct separator reader left has_failed faults.Memory a c bytes lost stops = stopped_stream conduct separator reader left faults.Memory a c bytes lost stops
 
-pub RunsStream-stopped : {A : Type 0} (conduct : Conduct) (separator : ℕ) (reader left : Option (List ℕ)) (fault : RunFault) (a c : Stand) (bytes : List ℕ) (result : Result A RunFault)
-    → Consumes reader left bytes → ((more : List ℕ) → StopsInList conduct separator (bytes ++ more) fault a c) → result ≡ Err fault → RunsStream conduct separator reader left a c result
-RunsStream-stopped {A} conduct separator reader left fault a c bytes result lost stops is =
-    subst (λ (r : Result A RunFault). RunsStream conduct separator reader left a c r) (sym is) (stopped_by A conduct separator reader left fault a c bytes lost stops)
+pub RunsStream-stopped : {A : Type 0} (conduct : Conduct) (separator : ℕ) (reader left : Option (List ℕ)) (has_failed : Bool) (fault : RunFault) (a c : Stand) (bytes : List ℕ) (result : Result A RunFault)
+    → Consumes reader left bytes → ((more : List ℕ) → StopsInList conduct separator (bytes ++ more) fault a c) → result ≡ Err fault → RunsStream conduct separator reader left has_failed a c result
+RunsStream-stopped {A} conduct separator reader left has_failed fault a c bytes result lost stops is =
+    subst (λ (r : Result A RunFault). RunsStream conduct separator reader left has_failed a c r) (sym is) (stopped_by A conduct separator reader left has_failed fault a c bytes lost stops)
 
 -- at the list's end, the run over its names is the run over it
-pub RunsStream-ended : {A : Type 0} (conduct : Conduct) (separator : ℕ) (reader left : Option (List ℕ)) (a c : Stand) (bytes : List ℕ) (result : Result A RunFault)
-    → Consumes reader left bytes → IsAtEnd left → Runs conduct (map listed (names_in separator bytes)) a c result → RunsStream conduct separator reader left a c result
-RunsStream-ended conduct separator reader left a c bytes (Ok done) lost end ran =
+pub RunsStream-ended : {A : Type 0} (conduct : Conduct) (separator : ℕ) (reader left : Option (List ℕ)) (has_failed : Bool) (a c : Stand) (bytes : List ℕ) (result : Result A RunFault)
+    → Consumes reader left bytes → IsAtEnd left → Runs conduct (map listed (names_in separator bytes)) a c result → RunsStream conduct separator reader left has_failed a c result
+RunsStream-ended conduct separator reader left has_failed a c bytes (Ok done) lost end ran =
     record { list = bytes; all = Consumes-all reader left bytes [] bytes lost end refl; answered = ran }
-RunsStream-ended conduct separator reader left a c bytes (Err faults.List) lost end ran = absurd ran.stopped
-RunsStream-ended conduct separator reader left a c bytes (Err faults.Write) lost end ran =
+RunsStream-ended conduct separator reader left has_failed a c bytes (Err faults.List) lost end ran = absurd ran.stopped
+RunsStream-ended conduct separator reader left has_failed a c bytes (Err faults.Write) lost end ran =
     record { list = bytes; all = Consumes-all reader left bytes [] bytes lost end refl; stopped = ran }
-RunsStream-ended conduct separator reader left a c bytes (Err faults.Memory) lost end ran =
+RunsStream-ended conduct separator reader left has_failed a c bytes (Err faults.Memory) lost end ran =
     record { list = bytes; all = Consumes-all reader left bytes [] bytes lost end refl; stopped = ran }
 
 -- the list cannot be read on
-pub LosesStream-by : (conduct : Conduct) (separator : ℕ) (reader left : Option (List ℕ)) (a c : Stand) (held bytes : List ℕ)
-    → Consumes reader left bytes → HasCome conduct separator a c held bytes → LosesStream conduct separator reader left a c
-LosesStream-by conduct separator reader left a c held bytes lost come = record {
+pub LosesStream-by : (conduct : Conduct) (separator : ℕ) (reader left : Option (List ℕ)) (has_failed : Bool) (a c : Stand) (held bytes : List ℕ)
+    → Consumes reader left bytes → IsCutShort has_failed (length bytes) → HasCome conduct separator a c held bytes → LosesStream conduct separator reader left has_failed a c
+LosesStream-by conduct separator reader left has_failed a c held bytes lost cause come = record {
   consumed = bytes;
   lost = lost;
+  cause = cause;
   came = bytes;
   beyond = [];
   parts = append-nil bytes;
@@ -59,12 +60,13 @@ LosesStream-by conduct separator reader left a c held bytes lost come = record {
 }
 
 -- more has come than a list may have
-pub LosesStream-past : (conduct : Conduct) (separator : ℕ) (reader middle left : Option (List ℕ)) (a c : Stand) (held bytes buffer : List ℕ) (count room : ℕ)
+pub LosesStream-past : (conduct : Conduct) (separator : ℕ) (reader middle left : Option (List ℕ)) (has_failed : Bool) (a c : Stand) (held bytes buffer : List ℕ) (count room : ℕ)
     → Consumes reader middle bytes → Consumes middle left (take count buffer) → length bytes + room ≡ list_limit → count ≤ length buffer → room < count
-    → HasCome conduct separator a c held bytes → LosesStream conduct separator reader left a c
-LosesStream-past conduct separator reader middle left a c held bytes buffer count room lost read full fits over come = record {
+    → HasCome conduct separator a c held bytes → LosesStream conduct separator reader left has_failed a c
+LosesStream-past conduct separator reader middle left has_failed a c held bytes buffer count room lost read full fits over come = record {
   consumed = bytes ++ take count buffer;
   lost = Consumes-trans reader middle left bytes (take count buffer) lost read;
+  cause = inr (omega (arith, full, over, length-append bytes (take count buffer), length-take-le count buffer fits));
   came = bytes;
   beyond = take count buffer;
   parts = refl;

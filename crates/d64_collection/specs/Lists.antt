@@ -1,5 +1,5 @@
 -- Runs over the names of a list, as its bytes come.
-use Rattle.std.specs.Prelude.{◌≡◌, ◌≢◌, ◌<◌, ℕ, List, [], ◌∷◌, ◌++◌, ◌⊎◌, length, All, map, Option, IfSome, Result, Ok, Err}
+use Rattle.std.specs.Prelude.{◌≡◌, ◌≢◌, ◌<◌, ◌≤◌, ℕ, Bool, true, List, [], ◌∷◌, ◌++◌, ◌⊎◌, length, All, map, Option, IfSome, Result, Ok, Err}
 use Rattle.std.specs.Io.KnownBytes.{Consumes}
 use Rattle.d64_collection.specs.Names.{kept, listed, names_in}
 use Rattle.d64_collection.specs.Answers.{Conduct}
@@ -34,6 +34,15 @@ pub record HasCome (conduct : Conduct) (separator : ℕ) (first now : Stand) (he
 abbrev pub list_limit : ℕ
 list_limit = 16777216
 
+-- the most reads that are made of a list, of which each gives a byte at least
+abbrev pub reads_limit : ℕ
+reads_limit = 1000000
+
+-- why a list cannot be read to its end, of which so many bytes came: a read of it failed, or it is
+-- longer than as many reads may find
+abbrev pub IsCutShort : Bool → ℕ → Type 0
+IsCutShort has_failed came = (has_failed ≡ true) ⊎ (reads_limit ≤ came)
+
 -- the whole of a list was read, and all of its names are answered
 pub record AnswersStream (conduct : Conduct) (separator : ℕ) (reader : Option (List ℕ)) (old new : Stand) : Type 0 where
   pub list : List ℕ
@@ -42,9 +51,10 @@ pub record AnswersStream (conduct : Conduct) (separator : ℕ) (reader : Option 
 
 -- a list cannot be read to its end: all names that were ended before are answered; of bytes past
 -- the limit nothing is looked at
-pub record LosesStream (conduct : Conduct) (separator : ℕ) (reader left : Option (List ℕ)) (old new : Stand) : Type 0 where
+pub record LosesStream (conduct : Conduct) (separator : ℕ) (reader left : Option (List ℕ)) (has_failed : Bool) (old new : Stand) : Type 0 where
   pub consumed : List ℕ
   pub lost : Consumes reader left consumed
+  pub cause : IsCutShort has_failed (length consumed)
   pub came : List ℕ
   pub beyond : List ℕ
   pub parts : came ++ beyond ≡ consumed
@@ -58,9 +68,9 @@ pub record StopsInStream (conduct : Conduct) (separator : ℕ) (reader : Option 
   pub all : IfSome reader (λ bytes. list ≡ bytes)
   pub stopped : StopsInList conduct separator list fault old new
 
--- how a run over a list that is read as it comes ends
-abbrev pub RunsStream : {A : Type 0} → Conduct → ℕ → Option (List ℕ) → Option (List ℕ) → Stand → Stand → Result A RunFault → Type 0
-RunsStream conduct separator reader left old new (Ok done) = AnswersStream conduct separator reader old new
-RunsStream conduct separator reader left old new (Err faults.List) = LosesStream conduct separator reader left old new
-RunsStream conduct separator reader left old new (Err faults.Write) = StopsInStream conduct separator reader faults.Write old new
-RunsStream conduct separator reader left old new (Err faults.Memory) = StopsInStream conduct separator reader faults.Memory old new
+-- how a run over a list that is read as it comes ends, of which a read has failed or not
+abbrev pub RunsStream : {A : Type 0} → Conduct → ℕ → Option (List ℕ) → Option (List ℕ) → Bool → Stand → Stand → Result A RunFault → Type 0
+RunsStream conduct separator reader left has_failed old new (Ok done) = AnswersStream conduct separator reader old new
+RunsStream conduct separator reader left has_failed old new (Err faults.List) = LosesStream conduct separator reader left has_failed old new
+RunsStream conduct separator reader left has_failed old new (Err faults.Write) = StopsInStream conduct separator reader faults.Write old new
+RunsStream conduct separator reader left has_failed old new (Err faults.Memory) = StopsInStream conduct separator reader faults.Memory old new

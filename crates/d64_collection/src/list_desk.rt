@@ -68,7 +68,7 @@ impl ListDesk {
         ensures delivered { OnOk result (output.new.is_delivered ≡ true) }
         ensures unfailed { OnOk result (output.new.has_failed ≡ output.old.has_failed) }
         ensures silent { KeepsQuiet (C.conduct (C.manner clerk.old)) → self.new.desk.worst ≡ Verdict.Clean → (self.old.desk.worst ≡ Verdict.Clean) × (faults.new ≡ faults.old) }
-        ensures answered { self.old.name ≡ [] → RunsStream (C.conduct (C.manner clerk.old)) self.old.separator (R.remaining input.old.reader.now) (R.remaining input.new.reader.now)
+        ensures answered { self.old.name ≡ [] → RunsStream (C.conduct (C.manner clerk.old)) self.old.separator (R.remaining input.old.reader.now) (R.remaining input.new.reader.now) input.new.has_failed
             (stand_at H.state host.old W.contents output.old F.contents faults.old self.old.desk.worst)
             (stand_at H.state host.new W.contents output.new F.contents faults.new self.new.desk.worst) result }
     {

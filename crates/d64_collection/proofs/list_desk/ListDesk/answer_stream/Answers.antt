@@ -1,4 +1,4 @@
-use Rattle.std.proofs.Common.{ap, rules, [], ◌++◌, take, arith}
+use Rattle.std.proofs.Common.{ap, rules, [], ◌++◌, take, arith, inl, inr}
 use Rattle.std.proofs.KnownBytes.{Consumes-kept, Consumes-nil, Consumes-trans}
 use Rattle.std.proofs.lemmas.List.{length-append, length-take-le}
 use Rattle.d64_collection.proofs.ListSteps.{HasCome-none, Runs-came}
@@ -10,6 +10,7 @@ loop-init g c = record {
   bytes = [];
   lost = Consumes-nil (g.R.Read.remaining c.args.input.now.reader.now);
   within = omega arith;
+  each = omega arith;
   came = λ fresh. HasCome-none _ _ _ c.args.self.now.name fresh;
   silent = search rules;
   separator = search rules;
@@ -28,7 +29,7 @@ pub returns-in-Ok-eq0-clause-answered : goal.returns-in-Ok-eq0-clause-answered
 returns-in-Ok-eq0-clause-answered g c = λ fresh.
     let i = c.loop.invariant in
     let read = c.in-Ok-eq0.ensures.bytes in
-    RunsStream-ended _ _ (g.R.Read.remaining c.args.input.now.reader.now) (g.R.Read.remaining c.read_after.new.self.reader.now) _ _ i.bytes c.end.result
+    RunsStream-ended _ _ (g.R.Read.remaining c.args.input.now.reader.now) (g.R.Read.remaining c.read_after.new.self.reader.now) _ _ _ i.bytes c.end.result
     (Consumes-none _ _ _ i.bytes c.read_after.new.buffer c.in-Ok-eq0.field-0 i.lost read.0 c.in-Ok-eq0.field-0-test)
     (read.1 c.in-Ok-eq0.field-0-test (search rules))
     (Runs-came _ _ _ _ _ _ c.loop.self.name i.bytes c.end.result (i.came fresh) (ap g.C.Clerk.conduct i.manner) c.end.ensures.answered)
@@ -36,20 +37,20 @@ returns-in-Ok-eq0-clause-answered g c = λ fresh.
 pub returns-in-Err-clause-answered : goal.returns-in-Err-clause-answered
 returns-in-Err-clause-answered g c = λ fresh.
     let i = c.loop.invariant in
-    LosesStream-by _ _ (g.R.Read.remaining c.args.input.now.reader.now) (g.R.Read.remaining c.read_after.new.self.reader.now) _ _ c.loop.self.name i.bytes
-    (Consumes-kept _ _ _ _ i.lost c.in-Err.ensures.bytes) (i.came fresh)
+    LosesStream-by _ _ (g.R.Read.remaining c.args.input.now.reader.now) (g.R.Read.remaining c.read_after.new.self.reader.now) _ _ _ c.loop.self.name i.bytes
+    (Consumes-kept _ _ _ _ i.lost c.in-Err.ensures.bytes) (inl c.in-Err.ensures.failed) (i.came fresh)
 
 pub returns-then-count-left-clause-answered : goal.returns-then-count-left-clause-answered
 returns-then-count-left-clause-answered g c = λ fresh.
     let i = c.loop.invariant in
-    LosesStream-past _ _ (g.R.Read.remaining c.args.input.now.reader.now) _ (g.R.Read.remaining c.read_after.new.self.reader.now) _ _ c.loop.self.name i.bytes
+    LosesStream-past _ _ (g.R.Read.remaining c.args.input.now.reader.now) _ (g.R.Read.remaining c.read_after.new.self.reader.now) _ _ _ c.loop.self.name i.bytes
     c.read_after.new.buffer c.in-Ok.count c.loop.left i.lost c.in-Ok.ensures.bytes.0 i.within c.in-Ok.ensures.bound.0 c.if-count-left.true (i.came fresh)
 
 pub returns-in_err-take-clause-answered : goal.returns-in_err-take-clause-answered
 returns-in_err-take-clause-answered g c = λ fresh.
     let i = c.loop.invariant in
     let piece = take c.in-Ok.count c.read_after.new.buffer in
-    RunsStream-stopped _ _ (g.R.Read.remaining c.args.input.now.reader.now) (g.R.Read.remaining c.read_after.new.self.reader.now) c.in_err-take.field-0.0 _ _ (i.bytes ++ piece) c.from_residual.result
+    RunsStream-stopped _ _ (g.R.Read.remaining c.args.input.now.reader.now) (g.R.Read.remaining c.read_after.new.self.reader.now) _ c.in_err-take.field-0.0 _ _ (i.bytes ++ piece) c.from_residual.result
     (Consumes-trans _ _ _ i.bytes piece i.lost c.in-Ok.ensures.bytes.0)
     (Stops-same _ _ _ _ c.in_err-take.field-0.0 _ _ (i.bytes ++ piece) (ap g.C.Clerk.conduct i.manner) i.separator
     (c.in_err-take.ensures.stopped _ i.bytes (HasCome-same _ _ _ _ _ _ c.loop.self.name i.bytes (ap g.C.Clerk.conduct i.manner) i.separator (i.came fresh))))
@@ -65,6 +66,7 @@ loop-preserved g c =
       bytes = i.bytes ++ piece;
       lost = Consumes-trans _ _ _ i.bytes piece i.lost c.in-Ok.ensures.bytes.0;
       within = omega (arith, i.within, counts, count, c.if-count-left.false);
+      each = omega (arith, i.each, counts, count, c.in-Ok.count-test);
       came = λ fresh. HasCome-piece _ _ _ _ _ _ c.take.new.self.name (i.bytes ++ piece) (ap g.C.Clerk.conduct i.manner) i.separator
           (c.in_ok-take.ensures.came _ i.bytes (HasCome-same _ _ _ _ _ _ c.loop.self.name i.bytes (ap g.C.Clerk.conduct i.manner) i.separator (i.came fresh)));
       silent = search rules;
@@ -83,4 +85,5 @@ loop-preserved g c =
 pub returns-clause-answered : goal.returns-clause-answered
 returns-clause-answered g c = λ fresh.
     let i = c.loop.invariant in
-    LosesStream-by _ _ (g.R.Read.remaining c.args.input.now.reader.now) (g.R.Read.remaining c.loop.input.reader.now) _ _ c.loop.self.name i.bytes i.lost (i.came fresh)
+    LosesStream-by _ _ (g.R.Read.remaining c.args.input.now.reader.now) (g.R.Read.remaining c.loop.input.reader.now) _ _ _ c.loop.self.name i.bytes i.lost
+    (inr (omega (arith, i.each, c.loop-test.false))) (i.came fresh)

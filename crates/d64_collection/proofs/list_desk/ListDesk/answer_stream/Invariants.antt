@@ -1,4 +1,4 @@
-use Rattle.std.proofs.Common.{◌≡◌, ℕ, ◌+◌, true, false, List, [], length}
+use Rattle.std.proofs.Common.{◌≡◌, ℕ, ◌+◌, ◌≤◌, true, false, List, [], length}
 use Rattle.std.specs.Io.KnownBytes.{Consumes}
 use Rattle.d64_collection.specs.Lists.{HasCome, list_limit}
 use Rattle.d64_collection.specs.Answers.{KeepsQuiet}
@@ -12,6 +12,7 @@ invariant-loop g l = record {
   bytes : List ℕ;
   lost : Consumes (g.R.Read.remaining l.initial.input.reader.now) (g.R.Read.remaining l.input.reader.now) bytes;
   within : length bytes + l.left ≡ list_limit;
+  each : l.counter ≤ length bytes;
   came : l.initial.self.name ≡ [] → HasCome (g.C.Clerk.conduct (g.C.Clerk.manner l.initial.clerk)) l.initial.self.separator
       (stand_at g.H.Host.state l.initial.host g.W.Write.contents l.initial.output g.F.Write.contents l.initial.faults l.initial.self.desk.worst)
       (stand_at g.H.Host.state l.host g.W.Write.contents l.output g.F.Write.contents l.faults l.self.desk.worst)
