@@ -106,6 +106,8 @@ fn opens_files_of_the_system(rt: HostRuntime) -> Result<(), Fail> {
     host.make_folder(folder)?;
     assert!(rt; host.open(folder)?.read(&mut buffer).is_err());
     assert_eq!(rt; host.failures(), 1);
+    host.count_failed_read();
+    assert_eq!(rt; host.failures(), 2);
     fs::remove_file(&rt, name)?;
     fs::remove_dir(&rt, folder)?;
     Ok(())

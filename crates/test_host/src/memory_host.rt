@@ -79,5 +79,7 @@ fn opens_files_as_they_are(rt: HostRuntime) -> Result<(), Fail> {
     host.fail_at(1);
     assert!(rt; matches!(host.open("one"), Err(HostFault::Device)));
     assert_eq!(rt; host.failures(), 1);
+    host.count_failed_read();
+    assert_eq!(rt; host.failures(), 2);
     Ok(())
 }
