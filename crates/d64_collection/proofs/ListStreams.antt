@@ -3,6 +3,7 @@ use Rattle.std.proofs.Common.{◌≡◌, ℕ, ◌+◌, ◌<◌, Bool, List, [], 
 use Rattle.std.specs.Io.KnownBytes.{Consumes, IsAtEnd}
 use Rattle.std.proofs.KnownBytes.{Consumes-trans, Consumes-all}
 use Rattle.std.proofs.lemmas.List.{length-append, length-take-le}
+use Rattle.d64_script.specs.Input.{read_limit}
 use Rattle.d64_collection.specs.Names.{names_in, listed}
 use Rattle.d64_collection.specs.Answers.{Conduct}
 use Rattle.d64_collection.specs.Runs.{Stand, Runs}
@@ -61,16 +62,16 @@ LosesStream-by conduct separator reader left has_failed a c held bytes lost caus
 
 -- more has come than a list may have
 pub LosesStream-past : (conduct : Conduct) (separator : ℕ) (reader middle left : Option (List ℕ)) (has_failed : Bool) (a c : Stand) (held bytes buffer : List ℕ) (count room : ℕ)
-    → Consumes reader middle bytes → Consumes middle left (take count buffer) → length bytes + room ≡ list_limit → count ≤ length buffer → room < count
+    → Consumes reader middle bytes → Consumes middle left (take count buffer) → length bytes + room ≡ list_limit → count ≤ length buffer → length buffer ≡ read_limit → room < count
     → HasCome conduct separator a c held bytes → LosesStream conduct separator reader left has_failed a c
-LosesStream-past conduct separator reader middle left has_failed a c held bytes buffer count room lost read full fits over come = record {
+LosesStream-past conduct separator reader middle left has_failed a c held bytes buffer count room lost read full fits size over come = record {
   consumed = bytes ++ take count buffer;
   lost = Consumes-trans reader middle left bytes (take count buffer) lost read;
   cause = inr (omega (arith, full, over, length-append bytes (take count buffer), length-take-le count buffer fits));
   came = bytes;
   beyond = take count buffer;
   parts = refl;
-  limit = inr (omega (arith, full, over, length-append bytes (take count buffer), length-take-le count buffer fits));
+  limit = inr (omega (arith, full, over, length-append bytes (take count buffer), length-take-le count buffer fits), omega (arith, size, fits, length-take-le count buffer fits));
   held = held;
   has_come = come;
 }

@@ -1,6 +1,7 @@
 -- Runs over the names of a list, as its bytes come.
 use Rattle.std.specs.Prelude.{◌≡◌, ◌≢◌, ◌<◌, ◌≤◌, ℕ, Bool, true, List, [], ◌∷◌, ◌++◌, ◌⊎◌, length, All, map, Option, IfSome, Result, Ok, Err}
 use Rattle.std.specs.Io.KnownBytes.{Consumes}
+use Rattle.d64_script.specs.Input.{read_limit}
 use Rattle.d64_collection.specs.Names.{kept, listed, names_in}
 use Rattle.d64_collection.specs.Answers.{Conduct}
 use Rattle.d64_collection.specs.Runs.{Stand, Steps, StopsIn}
@@ -49,8 +50,8 @@ pub record AnswersStream (conduct : Conduct) (separator : ℕ) (reader : Option 
   pub all : IfSome reader (λ bytes. list ≡ bytes)
   pub answered : AnswersList conduct separator list old new
 
--- a list cannot be read to its end: all names that were ended before are answered; of bytes past
--- the limit nothing is looked at
+-- a list cannot be read to its end: all names that were ended before are answered; of the bytes of
+-- the one read that passes the limit nothing is looked at
 pub record LosesStream (conduct : Conduct) (separator : ℕ) (reader left : Option (List ℕ)) (has_failed : Bool) (old new : Stand) : Type 0 where
   pub consumed : List ℕ
   pub lost : Consumes reader left consumed
@@ -58,7 +59,7 @@ pub record LosesStream (conduct : Conduct) (separator : ℕ) (reader left : Opti
   pub came : List ℕ
   pub beyond : List ℕ
   pub parts : came ++ beyond ≡ consumed
-  pub limit : (beyond ≡ []) ⊎ (list_limit < length consumed)
+  pub limit : (beyond ≡ []) ⊎ ((list_limit < length consumed) × (length beyond ≤ read_limit))
   pub held : List ℕ
   pub has_come : HasCome conduct separator old new held came
 

@@ -3,7 +3,10 @@ use Rattle.std.specs.Prelude.{zero, suc, refl, ℕ, ◌-◌, ◌==◌, nat_lt, L
 use Rattle.std.specs.FinMap.{contains_key, get, from_entries, code}
 use Rattle.std.specs.Coded.{Coded, code_by, coded×, coded_list, coded_ℕ}
 use Rattle.d64_host.specs.Files.{Files}
+use Rattle.d64_host.specs.Folders.{is_at}
 use Rattle.d64_host.specs.Host.{one_more_failure}
+use Rattle.d64_host.specs.declared.host.FolderFault.{FolderFault}
+use Rattle.d64_host.specs.declared.host.FolderFault.TheVariants as making
 use Rattle.d64_host.specs.declared.host.HostFault.{HostFault}
 use Rattle.d64_host.specs.declared.host.HostFault.TheVariants.{Missing, Device, TooLong}
 
@@ -57,3 +60,9 @@ open_refusal host name =
 -- why a store is refused, want of memory aside
 abbrev pub store_refusal : MemoryFiles → Option HostFault
 store_refusal host = if host.countdown == 1 then Some Device else None
+
+-- why making something at a path is refused, want of memory aside: the call that was to fail, or
+-- something is there
+abbrev pub making_refusal : MemoryFiles → List ℕ → Option FolderFault
+making_refusal host path =
+    if host.countdown == 1 then Some making.Device else if is_at host.files path then Some making.Exists else None

@@ -1,6 +1,6 @@
 //! A host over the files of the system, as they lie in the current folder.
 
-ghost use Rattle.std.specs.Prelude.{◌≡◌, ◌≢◌, ℕ, List, true, ◌+◌, ◌<◌, ◌≤◌, ◌↔◌, ◌++◌, length, vec_len, None, IfOk, IfErr, IfSome, OnOk, OnErr};
+ghost use Rattle.std.specs.Prelude.{◌≡◌, ◌≢◌, ℕ, List, true, false, ◌+◌, ◌<◌, ◌≤◌, ◌↔◌, ◌++◌, length, vec_len, None, IfOk, IfErr, IfSome, OnOk, OnErr};
 ghost use Rattle.std.specs.Io.KnownBytes.{Consumes, IsAtEnd};
 ghost use Rattle.d64_host.specs.Folders.{failures_after_making};
 ghost use Rattle.d64_host.specs.Host.{failures_after};
@@ -206,11 +206,12 @@ fn read_to_end<F: Read>(file: &mut F, limit: usize, bytes: &mut Vec<u8>) -> Resu
     if is_small || read_pieces(file, &mut [0; READ_BYTES], u64::MAX, limit, bytes)? {
         Ok(())
     } else {
-        Err(HostFault::Device)
+        unreachable!()
     }
 }
 
-/// Adds what at most so many reads bring. Returns whether the file then has nothing left.
+/// Adds what at most so many reads bring, each a byte at least. Returns whether the file then has
+/// nothing left.
 fn read_pieces<F: Read>(
     file: &mut F,
     buffer: &mut [u8],
@@ -224,6 +225,7 @@ fn read_pieces<F: Read>(
     ensures added { OnOk result ((piece : List ℕ) × (bytes.new.items ≡ bytes.old.items ++ piece)
         × Consumes (F.remaining file.old) (F.remaining file.new) piece) }
     ensures at_end { IfOk result (λ is_over. is_over ≡ true → IsAtEnd (F.remaining file.new)) }
+    ensures each { IfOk result (λ is_over. is_over ≡ false → vec_len bytes.old + reads ≤ vec_len bytes.new) }
     ensures too_long { result ≡ Err HostFault.TooLong →
         IfSome (F.remaining file.old) (λ rest. limit < vec_len bytes.old + length rest) }
     ensures never_missing { result ≢ Err HostFault.Missing }

@@ -1,10 +1,10 @@
 //! A host in memory, for tests and for what needs no disk.
 
-ghost use Rattle.std.specs.Prelude.{◌≡◌, ℕ, ◌+◌, ◌-◌, ◌↔◌, Some, Err, true, OnOk, OnErr, IfOk, IfErr, IfSome, IsTrue, option_copied, string_bytes};
+ghost use Rattle.std.specs.Prelude.{◌≡◌, ℕ, ◌+◌, ◌-◌, ◌↔◌, Some, Ok, Err, MatchOption, true, OnOk, OnErr, IfOk, IfErr, IfSome, IsTrue, option_copied, string_bytes};
 ghost use Rattle.std.specs.FinMap.{contains_key, empty, get, insert};
 ghost use Rattle.d64_host.specs.Folders.{folder_name, is_at, moved_name, with_file, with_folder, with_moved, Looks, Makes, CountsMaking};
 ghost use Rattle.d64_host.specs.Host.{fetched, filled, opened, Fetches, Opens, Stores, CountsDevice, answered_fault, one_more_failure};
-ghost use Rattle.d64_host.specs.MemoryHost.{after_call, countdown_after, fetch_refusal, files_of, open_refusal, store_refusal};
+ghost use Rattle.d64_host.specs.MemoryHost.{after_call, countdown_after, fetch_refusal, files_of, making_refusal, open_refusal, store_refusal};
 
 use crate::host::{FolderFault, Host, HostFault};
 use std::alloc::{AllocError, Global};
@@ -91,7 +91,7 @@ impl MemoryHost {
     /// Counts a call that makes something new at this path, and refuses it where it is the one to
     /// fail, or something is there.
     fn begin_making(&mut self, path: &str) -> Result<(), FolderFault>
-        ensures due { self.old.countdown ≡ 1 → result ≡ Err FolderFault.Device }
+        ensures exactly { MatchOption (making_refusal self.old path.now) (result ≡ Ok tt) (λ fault. result ≡ Err fault) }
         ensures countdown { self.new.countdown ≡ self.old.countdown - 1 }
         ensures begun { Makes (λ all. all) (Some self.old.files) path.now result (Some self.new.files) }
         ensures counted { CountsMaking self.old.failures self.new.failures result }
@@ -271,6 +271,7 @@ impl Host for MemoryHost {
 
     fn make_folder(&mut self, path: &str) -> Result<(), FolderFault>
         ensures due { self.old.countdown ≡ 1 → result ≡ Err FolderFault.Device }
+        ensures exists { making_refusal self.old path.now ≡ Some FolderFault.Exists → result ≡ Err FolderFault.Exists }
         ensures countdown { self.new.countdown ≡ self.old.countdown - 1 }
         ensures made { Makes (with_folder path.now) (Some self.old.files) path.now result (Some self.new.files) }
         ensures counted { CountsMaking self.old.failures self.new.failures result }
@@ -284,6 +285,7 @@ impl Host for MemoryHost {
 
     fn make_file(&mut self, path: &str, bytes: &[u8]) -> Result<(), FolderFault>
         ensures due { self.old.countdown ≡ 1 → result ≡ Err FolderFault.Device }
+        ensures exists { making_refusal self.old path.now ≡ Some FolderFault.Exists → result ≡ Err FolderFault.Exists }
         ensures countdown { self.new.countdown ≡ self.old.countdown - 1 }
         ensures made { Makes (with_file path.now bytes.now) (Some self.old.files) path.now result (Some self.new.files) }
         ensures counted { CountsMaking self.old.failures self.new.failures result }
@@ -294,6 +296,7 @@ impl Host for MemoryHost {
 
     fn rename_folder(&mut self, from: &str, to: &str) -> Result<(), FolderFault>
         ensures due { self.old.countdown ≡ 1 → result ≡ Err FolderFault.Device }
+        ensures exists { making_refusal self.old to.now ≡ Some FolderFault.Exists → result ≡ Err FolderFault.Exists }
         ensures countdown { self.new.countdown ≡ self.old.countdown - 1 }
         ensures was { OnOk result (IfSome (Some self.old.files) (λ all. contains_key all (folder_name from.now) ≡ true)) }
         ensures made { Makes (with_moved from.now to.now) (Some self.old.files) to.now result (Some self.new.files) }

@@ -1,6 +1,6 @@
 //! Reading an input under the limits of a script.
 
-ghost use Rattle.std.specs.Prelude.{◌≡◌, ◌+◌, ◌≤◌, true, false, length, is_err, MatchResult};
+ghost use Rattle.std.specs.Prelude.{◌≡◌, ◌+◌, true, false, length, is_err, MatchResult};
 ghost use Rattle.std.specs.Io.{ReadsAtMost};
 ghost use Rattle.std.specs.Io.KnownBytes.{ReadConsumes};
 ghost use Rattle.d64_script.specs.Input.{IsUnread, MayBeRead, read_limit, reading_of};
@@ -48,7 +48,7 @@ impl<'r, R: Read> InputStream<'r, R> {
     ) -> Result<usize>
         requires delivered { _output.now.is_delivered ≡ true }
         requires open { MayBeRead (reading_of self.old.reads self.old.came self.old.has_failed) }
-        requires small { length buffer.old ≤ read_limit }
+        requires size { length buffer.old ≡ read_limit }
         ensures same { self.new.reader.ghost_name ≡ self.old.reader.ghost_name }
         ensures bound { ReadsAtMost result buffer.new }
         ensures bytes { ReadConsumes (R.remaining self.old.reader.now) (R.remaining self.new.reader.now) result buffer.new }
@@ -62,7 +62,7 @@ impl<'r, R: Read> InputStream<'r, R> {
     /// Reads once.
     pub(crate) fn read(&mut self, buffer: &mut [u8]) -> Result<usize>
         requires open { MayBeRead (reading_of self.old.reads self.old.came self.old.has_failed) }
-        requires small { length buffer.old ≤ read_limit }
+        requires size { length buffer.old ≡ read_limit }
         ensures same { self.new.reader.ghost_name ≡ self.old.reader.ghost_name }
         ensures bound { ReadsAtMost result buffer.new }
         ensures bytes { ReadConsumes (R.remaining self.old.reader.now) (R.remaining self.new.reader.now) result buffer.new }

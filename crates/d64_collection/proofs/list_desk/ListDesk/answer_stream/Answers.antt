@@ -44,7 +44,7 @@ pub returns-then-count-left-clause-answered : goal.returns-then-count-left-claus
 returns-then-count-left-clause-answered g c = λ fresh.
     let i = c.loop.invariant in
     LosesStream-past _ _ (g.R.Read.remaining c.args.input.now.reader.now) _ (g.R.Read.remaining c.read_after.new.self.reader.now) _ _ _ c.loop.self.name i.bytes
-    c.read_after.new.buffer c.in-Ok.count c.loop.left i.lost c.in-Ok.ensures.bytes.0 i.within c.in-Ok.ensures.bound.0 c.if-count-left.true (i.came fresh)
+    c.read_after.new.buffer c.in-Ok.count c.loop.left i.lost c.in-Ok.ensures.bytes.0 i.within c.in-Ok.ensures.bound.0 (search rules) c.if-count-left.true (i.came fresh)
 
 pub returns-in_err-take-clause-answered : goal.returns-in_err-take-clause-answered
 returns-in_err-take-clause-answered g c = λ fresh.
