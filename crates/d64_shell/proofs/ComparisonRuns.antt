@@ -1,5 +1,5 @@
 -- What a comparison leaves, by what its steps leave.
-use Rattle.std.proofs.Common.{◌≡◌, ◌∙◌, ℕ, List, Option, Result, Ok, Err, inr, refl, sym, ap, subst}
+use Rattle.std.proofs.Common.{◌≡◌, ◌∙◌, ℕ, List, Option, Result, Err, inr, refl, sym, ap, subst}
 use Rattle.d64_script.specs.Output.{Account}
 use Rattle.d64_host.specs.Files.{HostState}
 use Rattle.d64_collection.specs.Names.{File}
@@ -53,13 +53,13 @@ compared rule old_name new_name first middle last before after old new said old_
 -- a comparison that began with nothing amiss has ended as its run has
 pub comparison_ended : (rule : PairRule) (old_name new_name : List ℕ) (old new : Outside) (faults told : Account) (status : ℕ) (ended : Result (Unit {0}) DifferenceFault) (first last : Stand)
     → first ≡ first_stand old faults → Compares rule old_name new_name first last ended → new.reader ≡ old.reader → new.host ≡ last.host
-    → new.writer ≡ last.told.output.contents → TellsComparison ended last.told told status → EndedComparison rule old_name new_name old new faults told status
-comparison_ended rule old_name new_name old new faults told status ended first last is ran reader host writer tells = record {
+    → new.output ≡ last.told.output → TellsComparison ended last.told told status → EndedComparison rule old_name new_name old new faults told status
+comparison_ended rule old_name new_name old new faults told status ended first last is ran reader host output tells = record {
   ended = ended;
   last = last;
   compared = subst (λ (s : Stand). Compares rule old_name new_name s last ended) is ran;
   reader = reader;
   host = host;
-  writer = writer;
+  output = output;
   tells = tells;
 }

@@ -1,16 +1,22 @@
 -- Runs of the program.
-use Rattle.std.proofs.Common.{◌≡◌, ℕ, Bool, List, [], ◌++◌, take, Bor, Option, None, Some, Result, Ok, Err, IfErr, inr, refl, sym, subst, option_copied, unwrap_or}
+use Rattle.std.proofs.Common.{◌≡◌, ℕ, Bool, List, [], ◌++◌, take, Bor, Option, None, Some, Result, Ok, Err, IfErr, true, inl, inr, refl, sym, subst, option_copied, unwrap_or}
 use Rattle.std.specs.Result.{IsErrAnd}
 use Rattle.std.specs.Io.KnownBytes.{Keeps}
 use Rattle.std.proofs.KnownBytes.{Appends-kept}
+use Rattle.d64_script.specs.Input.{IsUnreadable, Reading}
 use Rattle.d64_script.specs.Output.{account_of}
 use Rattle.d64_script.specs.RawLines.{lines_of, ended_lines}
 use Rattle.d64_script.specs.Script.{script_limit}
 use Rattle.d64_host.specs.Files.{HostState}
 use Rattle.d64_undo.specs.History.{History}
-use Rattle.d64_shell.specs.Jobs.{Beginning, Source, Input, Given, home_of}
-use Rattle.d64_shell.specs.Program.{Ended, IsFirstHistory, Outside, outside_of, RanFrom, RanShell, IsToldOf}
+use Rattle.d64_shell.specs.Jobs.{Beginning, Blank, ImageFile, SessionFile, Source, Input, Given, home_of}
+use Rattle.d64_shell.specs.Program.{Ended, GivesNoImage, GivesNoSession, HasNoHistory, IsDue, IsFirstHistory, Outside, outside_of, RanFrom, RanShell, IsToldOf, fault_of_file, fault_of_resume, fault_of_run}
+use Rattle.d64_shell.specs.declared.program_fault.ProgramFault.{ProgramFault}
 use Rattle.d64_shell.specs.declared.program_fault.ProgramFault.TheVariants as faults
+use Rattle.d64_host.specs.declared.host.HostFault.{HostFault}
+use Rattle.d64_host.specs.declared.host.HostFault.TheVariants as files
+use Rattle.d64_undo.specs.declared.resume_fault.ResumeFault.{ResumeFault}
+use Rattle.d64_undo.specs.declared.resume_fault.ResumeFault.TheVariants as resumes
 use Rattle.d64_runner.specs.Runner.{Stand, RanLines, StoppedAt, Ran}
 use Rattle.d64_runner.specs.Transcript.{Manner, Progress}
 use Rattle.d64_runner.specs.declared.runner.Outcome.{Outcome}
@@ -96,17 +102,17 @@ pub RanShell-flushed : (old new : Outside) (ended : Result Outcome ShellFault)
     (beginning : Beginning) (source from : Source) (manner at : Manner) (host : HostState) (first last : History) (writer : Option (List ℕ))
     → IsFirstHistory old.host beginning first host → from ≡ source → at ≡ manner
     → RanFrom from at old.reader new.reader
-    (record { writer = old.writer; world = record { host = host; history = first } })
+    (record { writer = old.output.contents; world = record { host = host; history = first } })
     (record { writer = writer; world = record { host = new.host; history = last } }) ended
-    → Keeps writer new.writer → RanShell beginning source manner old new ended
+    → Keeps writer new.output.contents → RanShell beginning source manner old new ended
 RanShell-flushed old new ended beginning source from manner at host first last writer begins from_source at_manner ran flushed = record {
   first = first;
   host = host;
   begins = begins;
   last = last;
   ran = RanFrom-flushed source manner old.reader new.reader
-      (record { writer = old.writer; world = record { host = host; history = first } })
-      (record { writer = writer; world = record { host = new.host; history = last } }) new.writer ended
+      (record { writer = old.output.contents; world = record { host = host; history = first } })
+      (record { writer = writer; world = record { host = new.host; history = last } }) new.output.contents ended
       (rw (at_manner, from_source) at ran) flushed;
 }
 
@@ -116,16 +122,65 @@ told_of-write (Ok outcome) = refl
 told_of-write (Err fault) = inr refl
 
 -- what the program has done over wrapped streams it has done over the streams that are in them
-pub Ended-streams : (after : List (List ℕ)) (r r' w w' r1 r1' w1 w1' f f' f1 f1' : Option (List ℕ)) (host host1 : HostState) (b b' b1 : Bool) (status : ℕ)
-    → r ≡ r' → w ≡ w' → r1 ≡ r1' → w1 ≡ w1' → f ≡ f' → b ≡ b' → f1 ≡ f1'
-    → Ended after (outside_of r w host) (outside_of r1 w1 host1) (account_of f b) (account_of f1 b1) status
-    → Ended after (outside_of r' w' host) (outside_of r1' w1' host1) (account_of f' b') (account_of f1' b1) status
-Ended-streams after r r' w w' r1 r1' w1 w1' f f' f1 f1' host host1 b b' b1 status e1 e2 e3 e4 e5 e6 e7 ended =
-    subst (λ (x : Option (List ℕ)). Ended after (outside_of r' w' host) (outside_of r1' w1' host1) (account_of f' b') (account_of x b1) status) e7
-    (subst (λ (x : Bool). Ended after (outside_of r' w' host) (outside_of r1' w1' host1) (account_of f' x) (account_of f1 b1) status) e6
-    (subst (λ (x : Option (List ℕ)). Ended after (outside_of r' w' host) (outside_of r1' w1' host1) (account_of x b) (account_of f1 b1) status) e5
-    (subst (λ (x : Option (List ℕ)). Ended after (outside_of r' w' host) (outside_of r1' x host1) (account_of f b) (account_of f1 b1) status) e4
-    (subst (λ (x : Option (List ℕ)). Ended after (outside_of r' w' host) (outside_of x w1 host1) (account_of f b) (account_of f1 b1) status) e3
-    (subst (λ (x : Option (List ℕ)). Ended after (outside_of r' x host) (outside_of r1 w1 host1) (account_of f b) (account_of f1 b1) status) e2
-    (subst (λ (x : Option (List ℕ)). Ended after (outside_of x w host) (outside_of r1 w1 host1) (account_of f b) (account_of f1 b1) status) e1
-    (ended)))))))
+pub Ended-streams : (after : List (List ℕ)) (r r' w w' r1 r1' w1 w1' f f' f1 f1' : Option (List ℕ)) (h h' h1 : Reading) (host host1 : HostState) (o o' o1 b b' b1 : Bool) (status : ℕ)
+    → r ≡ r' → h ≡ h' → w ≡ w' → o ≡ o' → r1 ≡ r1' → w1 ≡ w1' → f ≡ f' → b ≡ b' → f1 ≡ f1'
+    → Ended after (outside_of r h (account_of w o) host) (outside_of r1 h1 (account_of w1 o1) host1) (account_of f b) (account_of f1 b1) status
+    → Ended after (outside_of r' h' (account_of w' o') host) (outside_of r1' h1 (account_of w1' o1) host1) (account_of f' b') (account_of f1' b1) status
+Ended-streams after r r' w w' r1 r1' w1 w1' f f' f1 f1' h h' h1 host host1 o o' o1 b b' b1 status e1 e2 e3 e4 e5 e6 e7 e8 e9 ended =
+    subst (λ (x : Option (List ℕ)). Ended after (outside_of r' h' (account_of w' o') host) (outside_of r1' h1 (account_of w1' o1) host1) (account_of f' b') (account_of x b1) status) e9
+    (subst (λ (x : Bool). Ended after (outside_of r' h' (account_of w' o') host) (outside_of r1' h1 (account_of w1' o1) host1) (account_of f' x) (account_of f1 b1) status) e8
+    (subst (λ (x : Option (List ℕ)). Ended after (outside_of r' h' (account_of w' o') host) (outside_of r1' h1 (account_of w1' o1) host1) (account_of x b) (account_of f1 b1) status) e7
+    (subst (λ (x : Option (List ℕ)). Ended after (outside_of r' h' (account_of w' o') host) (outside_of r1' h1 (account_of x o1) host1) (account_of f b) (account_of f1 b1) status) e6
+    (subst (λ (x : Option (List ℕ)). Ended after (outside_of r' h' (account_of w' o') host) (outside_of x h1 (account_of w1 o1) host1) (account_of f b) (account_of f1 b1) status) e5
+    (subst (λ (x : Bool). Ended after (outside_of r' h' (account_of w' x) host) (outside_of r1 h1 (account_of w1 o1) host1) (account_of f b) (account_of f1 b1) status) e4
+    (subst (λ (x : Option (List ℕ)). Ended after (outside_of r' h' (account_of x o) host) (outside_of r1 h1 (account_of w1 o1) host1) (account_of f b) (account_of f1 b1) status) e3
+    (subst (λ (x : Reading). Ended after (outside_of r' x (account_of w o) host) (outside_of r1 h1 (account_of w1 o1) host1) (account_of f b) (account_of f1 b1) status) e2
+    (subst (λ (x : Option (List ℕ)). Ended after (outside_of x h (account_of w o) host) (outside_of r1 h1 (account_of w1 o1) host1) (account_of f b) (account_of f1 b1) status) e1
+    ended))))))))
+
+-- a fault is due where the one that it is told as is
+due_by : (told other : ProgramFault) (source : Source) (new : Outside) → told ≡ other → IsDue other source new → IsDue told source new
+due_by told other source new is due = subst (λ (f : ProgramFault). IsDue f source new) (sym is) due
+
+-- no fault of a file is one of reading or writing
+file_due : (unreadable : ProgramFault) (fault : HostFault) (source : Source) (new : Outside) → IsDue unreadable source new → IsDue (fault_of_file unreadable fault) source new
+file_due unreadable (files.Memory error) source new due = tt
+file_due unreadable files.Missing source new due = due
+file_due unreadable files.Device source new due = due
+file_due unreadable files.TooLong source new due = due
+
+resume_due : (fault : ResumeFault) (source : Source) (new : Outside) → IsDue (fault_of_resume fault) source new
+resume_due (resumes.Memory error) source new = tt
+resume_due resumes.NotSession source new = tt
+resume_due resumes.Truncated source new = tt
+resume_due resumes.Trailing source new = tt
+resume_due resumes.BadCursor source new = tt
+resume_due resumes.BadRecord source new = tt
+
+no_image_due : (fetched : Result (List ℕ) HostFault) (told : ProgramFault) (source : Source) (new : Outside) → GivesNoImage fetched told → IsDue told source new
+no_image_due (Err fault) told source new is = due_by told _ source new is (file_due faults.UnreadableImage fault source new tt)
+no_image_due (Ok bytes) told source new (inl length) = due_by told _ source new length.0 tt
+no_image_due (Ok bytes) told source new (inr is) = due_by told _ source new is tt
+
+no_session_due : (fetched : Result (List ℕ) HostFault) (told : ProgramFault) (source : Source) (new : Outside) → GivesNoSession fetched told → IsDue told source new
+no_session_due (Err fault) told source new is = due_by told _ source new is (file_due faults.UnreadableSession fault source new tt)
+no_session_due (Ok bytes) told source new (inl first) = due_by told _ source new first.2 (resume_due first.0 source new)
+no_session_due (Ok bytes) told source new (inr is) = due_by told _ source new is tt
+
+-- and none of a session that cannot be begun
+pub no_history_due : (told : ProgramFault) (old last : HostState) (beginning : Beginning) (source : Source) (new : Outside) → HasNoHistory told old beginning last → IsDue told source new
+no_history_due told old last (Blank tracks) source new none = due_by told _ source new none.0 tt
+no_history_due told old last (ImageFile name) source new none = no_image_due none.0 told source new none.2
+no_history_due told old last (SessionFile name) source new none = no_session_due none.0 told source new none.2
+
+-- a fault of a run is due where the run's is
+run_due : (fault : ShellFault) (source : Source) (new : Outside) → (source ≡ Input → fault ≡ Read → IsUnreadable new.reading) → (fault ≡ Write → new.output.has_failed ≡ true)
+    → IsDue (fault_of_run fault) source new
+run_due Read Input new reads writes = reads refl refl
+run_due Read (Given text) new reads writes = tt
+run_due Write source new reads writes = writes refl
+run_due (Memory error) source new reads writes = tt
+
+pub told_run_due : (told : ProgramFault) (fault : ShellFault) (source : Source) (new : Outside) → told ≡ fault_of_run fault
+    → (source ≡ Input → fault ≡ Read → IsUnreadable new.reading) → (fault ≡ Write → new.output.has_failed ≡ true) → IsDue told source new
+told_run_due told fault source new is reads writes = due_by told _ source new is (run_due fault source new reads writes)

@@ -1,9 +1,8 @@
 -- What a survey leaves, by what its run leaves.
-use Rattle.std.proofs.Common.{◌≡◌, ℕ, List, map, true, false, Bool, Option, Result, Ok, Err, refl, sym, ap, subst, Bor, String, Global, string_bytes}
+use Rattle.std.proofs.Common.{◌≡◌, ℕ, List, map, true, false, Bool, Option, Result, Ok, Err, refl, sym, subst, Bor, String, Global, string_bytes}
 use Rattle.std.proofs.lemmas.Simd.{map-map}
 use Rattle.std.specs.Prelude.{MatchBool}
-use Rattle.d64_host.specs.declared.host.HostFault.{HostFault}
-use Rattle.d64_script.specs.Output.{Account, account_of}
+use Rattle.d64_script.specs.Output.{Account}
 use Rattle.d64_collection.specs.Names.{Asked, File}
 use Rattle.d64_collection.specs.Answers.{Conduct}
 use Rattle.d64_host.specs.Files.{HostState}
@@ -16,7 +15,7 @@ use Rattle.d64_collection.specs.declared.report.Verdict.TheVariants.{Clean}
 use Rattle.d64_shell.specs.Program.{EndedSurvey, Outside, Reports, first_stand}
 use Rattle.d64_shell.specs.declared.program_fault.ProgramFault.TheVariants.{Memory}
 use Rattle.d64_shell.specs.SurveyFiles.{SurveyFiles, files_in}
-use Rattle.d64_shell.specs.Surveys.{IsOpened, RunsListFile, RunsOver, Surveys, fault_of_list, is_input}
+use Rattle.d64_shell.specs.Surveys.{RunsListFile, RunsOver, Surveys, is_input}
 use Rattle.d64_shell.specs.declared.file_names.FileNames.{FileNames}
 use Rattle.d64_shell.specs.declared.file_names.FileNames.TheVariants.{Given, Listed}
 
@@ -30,55 +29,43 @@ second_case true P Q is q = cc
 second_case false P Q is q = q
 
 -- a run over given names
-pub over_given : (conduct : Conduct) (names : FileNames) (given : Bor (List (String Global))) (reader : Option (List ℕ)) (a b : Stand) (ended : Result (Unit {0}) RunFault)
-    → names ≡ Given given → Runs conduct (map (λ name. File (string_bytes name)) given.now) a b ended → RunsOver conduct (files_in names) reader reader a b ended
-over_given conduct names given reader a b ended is ran =
-    let whole : RunsOver conduct (files_in (Given given)) reader reader a b ended =
+pub over_given : (conduct : Conduct) (names : FileNames) (given : Bor (List (String Global))) (reader : Option (List ℕ)) (has_failed : Bool) (a b : Stand) (ended : Result (Unit {0}) RunFault)
+    → names ≡ Given given → Runs conduct (map (λ name. File (string_bytes name)) given.now) a b ended → RunsOver conduct (files_in names) reader reader has_failed a b ended
+over_given conduct names given reader has_failed a b ended is ran =
+    let whole : RunsOver conduct (files_in (Given given)) reader reader has_failed a b ended =
     (refl, subst (λ (l : List Asked). Runs conduct l a b ended) (sym (map-map File string_bytes given.now)) ran) in
-    subst (λ (n : FileNames). RunsOver conduct (files_in n) reader reader a b ended) (sym is) whole
+    subst (λ (n : FileNames). RunsOver conduct (files_in n) reader reader has_failed a b ended) (sym is) whole
 
 -- a run over the names of the input
-pub over_input : (conduct : Conduct) (names : FileNames) (list : Bor (List ℕ)) (separator byte : ℕ) (reader left : Option (List ℕ)) (a b : Stand) (ended : Result (Unit {0}) RunFault)
-    → names ≡ Listed list separator → is_input list.now ≡ true → byte ≡ separator → RunsStream conduct byte reader left a b ended
-    → RunsOver conduct (files_in names) reader left a b ended
-over_input conduct names list separator byte reader left a b ended is input bytes ran =
-    let whole : RunsOver conduct (files_in (Listed list separator)) reader left a b ended =
-    first_case (is_input list.now) _ _ input (subst (λ (s : ℕ). RunsStream conduct s reader left a b ended) bytes ran) in
-    subst (λ (n : FileNames). RunsOver conduct (files_in n) reader left a b ended) (sym is) whole
+pub over_input : (conduct : Conduct) (names : FileNames) (list : Bor (List ℕ)) (separator byte : ℕ) (reader left : Option (List ℕ)) (has_failed : Bool) (a b : Stand) (ended : Result (Unit {0}) RunFault)
+    → names ≡ Listed list separator → is_input list.now ≡ true → byte ≡ separator → RunsStream conduct byte reader left has_failed a b ended
+    → RunsOver conduct (files_in names) reader left has_failed a b ended
+over_input conduct names list separator byte reader left has_failed a b ended is input bytes ran =
+    let whole : RunsOver conduct (files_in (Listed list separator)) reader left has_failed a b ended =
+    first_case (is_input list.now) _ _ input (subst (λ (s : ℕ). RunsStream conduct s reader left has_failed a b ended) bytes ran) in
+    subst (λ (n : FileNames). RunsOver conduct (files_in n) reader left has_failed a b ended) (sym is) whole
 
 -- a run over the names of a list of the host
-pub over_file : (conduct : Conduct) (names : FileNames) (list : Bor (List ℕ)) (separator byte : ℕ) (reader : Option (List ℕ)) (a b : Stand) (ended : Result (Unit {0}) RunFault)
+pub over_file : (conduct : Conduct) (names : FileNames) (list : Bor (List ℕ)) (separator byte : ℕ) (reader : Option (List ℕ)) (has_failed : Bool) (a b : Stand) (ended : Result (Unit {0}) RunFault)
     → names ≡ Listed list separator → is_input list.now ≡ false → byte ≡ separator → RunsListFile conduct byte list.now a b ended
-    → RunsOver conduct (files_in names) reader reader a b ended
-over_file conduct names list separator byte reader a b ended is file bytes ran =
-    let whole : RunsOver conduct (files_in (Listed list separator)) reader reader a b ended =
+    → RunsOver conduct (files_in names) reader reader has_failed a b ended
+over_file conduct names list separator byte reader has_failed a b ended is file bytes ran =
+    let whole : RunsOver conduct (files_in (Listed list separator)) reader reader has_failed a b ended =
     second_case (is_input list.now) _ _ file (refl, subst (λ (s : ℕ). RunsListFile conduct s list.now a b ended) bytes ran) in
-    subst (λ (n : FileNames). RunsOver conduct (files_in n) reader reader a b ended) (sym is) whole
+    subst (λ (n : FileNames). RunsOver conduct (files_in n) reader reader has_failed a b ended) (sym is) whole
 
 -- a survey that was begun goes on as its run
-pub surveyed : (conduct same : Conduct) (heading : List ℕ) (files : SurveyFiles) (reader left : Option (List ℕ)) (host : HostState) (before after error : Account) (worst : Verdict) (last : Stand)
+pub surveyed : (conduct same : Conduct) (heading : List ℕ) (files : SurveyFiles) (reader left : Option (List ℕ)) (has_failed : Bool) (host : HostState) (before after error : Account) (worst : Verdict) (last : Stand)
     (done : Unit {0}) (ended : Result (Unit {0}) RunFault)
-    → Begins {A = Unit {0}} heading before after (Ok done) → worst ≡ Clean → same ≡ conduct → RunsOver same files reader left (stand_of host (told_of after error worst)) last ended
-    → Surveys conduct heading files reader left (stand_of host (told_of before error Clean)) last ended
-surveyed conduct same heading files reader left host before after error worst last done ended begins clean is_same ran = record {
+    → Begins {A = Unit {0}} heading before after (Ok done) → worst ≡ Clean → same ≡ conduct → RunsOver same files reader left has_failed (stand_of host (told_of after error worst)) last ended
+    → Surveys conduct heading files reader left has_failed (stand_of host (told_of before error Clean)) last ended
+surveyed conduct same heading files reader left has_failed host before after error worst last done ended begins clean is_same ran = record {
   begun = Ok done;
   output = after;
   begins = begins;
-  goes_on = subst (λ (r : Conduct). RunsOver r files reader left (stand_of host (told_of after error Clean)) last ended) is_same
-      (subst (λ (w : Verdict). RunsOver same files reader left (stand_of host (told_of after error w)) last ended) clean ran);
+  goes_on = subst (λ (r : Conduct). RunsOver r files reader left has_failed (stand_of host (told_of after error Clean)) last ended) is_same
+      (subst (λ (w : Verdict). RunsOver same files reader left has_failed (stand_of host (told_of after error w)) last ended) clean ran);
 }
-
--- a run over the names of a list that was opened
-pub file_opened : (conduct : Conduct) (separator : ℕ) (list : List ℕ) (first : Stand) (host : HostState) (reader begun left : Option (List ℕ)) (last : Stand) (ended : Result (Unit {0}) RunFault)
-    → begun ≡ reader → IsOpened list first.host (Ok reader) host → RunsStream conduct separator begun left (stand_of host first.told) last ended
-    → RunsListFile conduct separator list first last ended
-file_opened conduct separator list first host reader begun left last ended same opened ran =
-    (Ok reader, host, opened, (left, subst (λ (r : Option (List ℕ)). RunsStream conduct separator r left (stand_of host first.told) last ended) same ran))
-
--- and of one that was not
-pub file_unopened : (conduct : Conduct) (separator : ℕ) (list : List ℕ) (first : Stand) (host : HostState) (fault : HostFault) (told : RunFault)
-    → told ≡ fault_of_list fault → IsOpened list first.host (Err fault) host → RunsListFile {A = Unit {0}} conduct separator list first (stand_of host first.told) (Err told)
-file_unopened conduct separator list first host fault told is opened = (Err fault, host, opened, (ap Err is, refl))
 
 -- where there is no memory to begin a survey, it has ended with nothing printed
 pub not_begun : (conduct : Conduct) (heading : List ℕ) (files : SurveyFiles) (old : Outside) (faults told : Account) (status : ℕ)
@@ -88,11 +75,11 @@ not_begun conduct heading files old faults told status reports = record {
   last = first_stand old faults;
   surveyed = record {
     begun = Err stops.Memory;
-    output = account_of old.writer false;
+    output = old.output;
     begins = refl;
     goes_on = (refl, refl, refl);
   };
   host = refl;
-  writer = refl;
+  output = refl;
   tells = reports;
 }

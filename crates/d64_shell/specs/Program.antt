@@ -1,8 +1,9 @@
 -- What the program does with its words, its streams and a host.
-use Rattle.std.specs.Prelude.{◌≡◌, ℕ, ◌==◌, false, if◌then◌else◌, List, [], ◌∷◌, ◌++◌, length, replicate, codes, Option, Some, None, MatchOption, Result, Ok, Err, ◌⊎◌}
+use Rattle.std.specs.Prelude.{◌≡◌, ℕ, ◌==◌, true, false, if◌then◌else◌, List, [], ◌∷◌, ◌++◌, length, replicate, codes, Option, Some, None, MatchOption, Result, Ok, Err, ◌⊎◌, ⊤}
 use Rattle.std.specs.Fmt.{decimal}
 use Rattle.std.specs.Io.KnownBytes.{Appends, Keeps}
-use Rattle.d64_script.specs.Output.{Account, AppendsPart, Writes, account_of}
+use Rattle.d64_script.specs.Input.{IsUnreadable, Reading, reading_of}
+use Rattle.d64_script.specs.Output.{Account, AppendsPart, Writes}
 use Rattle.d64_script.specs.Status.{status_line}
 use Rattle.d64_script.specs.declared.input.InputStream.{InputStream}
 use Rattle.d64_script.specs.declared.output.OutputStream.{OutputStream}
@@ -24,7 +25,7 @@ use Rattle.cbm_text.specs.BasicText.{fault_line as fault_line_of}
 use Rattle.d64_script.specs.declared.status.Status.{Status}
 use Rattle.d64_shell.specs.RefusalLine.{refusal_line}
 use Rattle.d64_collection.specs.Answers.{Conduct, by_rule, status_of as verdict_status}
-use Rattle.d64_collection.specs.Runs.{Stand, Told, stand_of, told_of}
+use Rattle.d64_collection.specs.Runs.{Stand, Told, account_at, stand_of, told_of}
 use Rattle.d64_collection.specs.declared.desk.RunFault.{RunFault}
 use Rattle.d64_collection.specs.declared.desk.RunFault.TheVariants as run_faults
 use Rattle.d64_collection.specs.declared.report.Verdict.TheVariants.{Clean}
@@ -42,7 +43,7 @@ use Rattle.d64_undo.specs.declared.resume_fault.ResumeFault.{ResumeFault}
 use Rattle.d64_undo.specs.declared.resume_fault.ResumeFault.TheVariants as resumes
 use Rattle.d64_runner.specs.Runner.{Ran, Stand as RunStand}
 use Rattle.d64_runner.specs.Transcript.{Manner}
-use Rattle.d64_shell.specs.Tools.{HasRead, HasStored, HasWritten, RanTool, ReadsNot}
+use Rattle.d64_shell.specs.Tools.{HasRead, HasStored, HasWritten, RanTool, ReadsNot, ReadsWith, WritesWith}
 use Rattle.d64_runner.specs.declared.runner.Outcome.{Outcome}
 use Rattle.d64_runner.specs.declared.runner.ShellFault.{ShellFault}
 use Rattle.d64_runner.specs.declared.runner.ShellFault.TheVariants as runs
@@ -56,20 +57,22 @@ use Rattle.d64_shell.specs.declared.program_fault.ProgramFault.TheVariants.{Unre
 abbrev pub file_limit : ℕ
 file_limit = 16777216
 
--- what the program works on: the bytes that its input still has and those of its output, where they
--- are known, and its host
+-- what the program works on: the bytes that its input still has, where they are known, and how it
+-- was read; its output; and its host
 pub record Outside : Type 0 where
   pub reader : Option (List ℕ)
-  pub writer : Option (List ℕ)
+  pub reading : Reading
+  pub output : Account
   pub host : HostState
 
-abbrev pub outside_of : Option (List ℕ) → Option (List ℕ) → HostState → Outside
-outside_of reader writer host = record { reader = reader; writer = writer; host = host }
+abbrev pub outside_of : Option (List ℕ) → Reading → Account → HostState → Outside
+outside_of reader reading output host = record { reader = reader; reading = reading; output = output; host = host }
 
 -- what the program works on: two streams, of whose reader and writer these tell the bytes, and a
 -- host, whose state this tells
 abbrev pub outside_at : {R W H : Type 0} → (R → Option (List ℕ)) → InputStream R → (W → Option (List ℕ)) → OutputStream W → (H → HostState) → H → Outside
-outside_at remaining input written output state host = outside_of (remaining input.reader.now) (written output.writer.now) (state host)
+outside_at remaining input written output state host =
+    outside_of (remaining input.reader.now) (reading_of input.reads input.came input.has_failed) (account_at written output) (state host)
 
 -- the most bytes of a session file that are read
 abbrev pub session_limit : ℕ
@@ -99,12 +102,12 @@ pub record RanShell (beginning : Beginning) (source : Source) (manner : Manner) 
   pub begins : IsFirstHistory old.host beginning first host
   pub last : History
   pub ran : RanFrom source manner old.reader new.reader
-      (record { writer = old.writer; world = record { host = host; history = first } })
-      (record { writer = new.writer; world = record { host = new.host; history = last } }) ended
+      (record { writer = old.output.contents; world = record { host = host; history = first } })
+      (record { writer = new.output.contents; world = record { host = new.host; history = last } }) ended
 
 -- nothing of the input was read, and nothing was written
 abbrev pub HasNotBegun : Outside → Outside → Type 0
-HasNotBegun old new = (new.reader ≡ old.reader) × Keeps old.writer new.writer
+HasNotBegun old new = (new.reader ≡ old.reader) × Keeps old.output.contents new.output.contents
 
 -- a script that ran to its end gives status 0 where all of its lines were accepted, and else 1
 abbrev pub status_of : Outcome → ℕ
@@ -197,6 +200,14 @@ StoppedBy fault beginning source manner old new =
     HasNoText fault source old new ⊎ (HasNotBegunFor fault beginning old new
     ⊎ ((ended : Result Outcome ShellFault) × RanShell beginning source manner old new ended × IsToldOf ended fault))
 
+-- a fault of reading or of writing is due: the input cannot be read to its end, or a write or a
+-- flush has failed. A script that the words give is read from memory, and of that nothing is said
+abbrev pub IsDue : ProgramFault → Source → Outside → Type 0
+IsDue Read Input new = IsUnreadable new.reading
+IsDue Read (Given text) new = ⊤
+IsDue Write source new = new.output.has_failed ≡ true
+IsDue other source new = ⊤
+
 -- the program answered with a fault that is told by this text: status 2, and its line, whole unless
 -- writing it failed
 abbrev pub ReportsText : List ℕ → Account → Account → ℕ → Type 0
@@ -210,7 +221,7 @@ Reports fault faults told status = ReportsText (fault_text fault) faults told st
 abbrev pub EndedShell : Beginning → Source → Manner → Outside → Outside → Account → Account → ℕ → Type 0
 EndedShell beginning source manner old new faults told status =
     ((outcome : Outcome) × RanShell beginning source manner old new (Ok outcome) × (status ≡ status_of outcome) × (told ≡ faults))
-    ⊎ ((fault : ProgramFault) × StoppedBy fault beginning source manner old new × Reports fault faults told status)
+    ⊎ ((fault : ProgramFault) × StoppedBy fault beginning source manner old new × IsDue fault source new × Reports fault faults told status)
 
 -- how the fault of a tool's file that cannot be fetched is told
 abbrev pub fault_of_fetch : HostFault → ToolFault
@@ -229,9 +240,9 @@ WritesFetched tool (Err fault) old new answer = (answer ≡ Err (fault_of_fetch 
 
 -- a tool has run on the input, or on the host file of this name
 abbrev pub RanToolOn : {A : Type 0} → Tool → Option (List ℕ) → Outside → Outside → Result A ToolFault → Type 0
-RanToolOn tool None old new answer = RanTool tool old.reader new.reader old.writer new.writer answer × (new.host ≡ old.host)
+RanToolOn tool None old new answer = RanTool tool old.reader new.reader old.output.contents new.output.contents answer × (new.host ≡ old.host)
 RanToolOn tool (Some name) old new answer = (new.reader ≡ old.reader)
-    × (fetched : Result (List ℕ) HostFault) × FetchesFile old.host name file_limit fetched new.host × WritesFetched tool fetched old.writer new.writer answer
+    × (fetched : Result (List ℕ) HostFault) × FetchesFile old.host name file_limit fetched new.host × WritesFetched tool fetched old.output.contents new.output.contents answer
 
 -- how a tool's answer is told: status 0 and nothing where it wrote its result; 1 and a status line,
 -- whole unless writing it failed, where it refused its input; and else 2 and the line of a fault
@@ -247,9 +258,9 @@ TellsAnswer (Err (tool_faults.Memory error)) faults told status = Reports Memory
 -- a tool has had the bytes that it works on, of the input or of the host file of this name; or it
 -- has not, for this fault
 abbrev pub TakesInput : Option (List ℕ) → Outside → Outside → Result (List ℕ) ToolFault → Type 0
-TakesInput None old new (Ok bytes) = HasRead old.reader new.reader bytes × (new.host ≡ old.host) × (new.writer ≡ old.writer)
-TakesInput None old new (Err fault) = ReadsNot old.reader new.reader fault × (new.host ≡ old.host) × (new.writer ≡ old.writer)
-TakesInput (Some name) old new taken = (new.reader ≡ old.reader) × (new.writer ≡ old.writer)
+TakesInput None old new (Ok bytes) = HasRead old.reader new.reader bytes × (new.host ≡ old.host) × (new.output ≡ old.output)
+TakesInput None old new (Err fault) = ReadsNot old.reader new.reader fault × (new.host ≡ old.host) × (new.output ≡ old.output)
+TakesInput (Some name) old new taken = (new.reader ≡ old.reader) × (new.output ≡ old.output)
     × (fetched : Result (List ℕ) HostFault) × FetchesFile old.host name file_limit fetched new.host × (taken ≡ taken_of fetched)
 
 -- what a tool has stored of the bytes that it works on, which were had so; nothing is stored where
@@ -266,7 +277,7 @@ pub record RanToolTo (tool : Tool) (name : Option (List ℕ)) (target : List ℕ
   pub takes : TakesInput name old middle taken
   pub stores : StoresTaken tool taken target middle.host new.host answer
   pub reader : new.reader ≡ middle.reader
-  pub writer : new.writer ≡ old.writer
+  pub output : new.output ≡ old.output
 
 -- a refusal is told in the form of compilers, with status 1; or there is no memory for that
 abbrev pub TellsRefusal : Option (List ℕ) → Option ℕ → Status → Account → Account → ℕ → Type 0
@@ -286,15 +297,19 @@ TellsStored name target (Err tool_faults.Read) faults told status = Reports Read
 TellsStored name target (Err tool_faults.Write) faults told status = TellsUnwritten target faults told status
 TellsStored name target (Err (tool_faults.Memory error)) faults told status = Reports Memory faults told status
 
--- how a tool ended that stores its result
+-- how a tool ended that stores its result; it tells a fault of reading its input where that cannot
+-- be read to its end
 abbrev pub EndedToolTo : Tool → Option (List ℕ) → List ℕ → Outside → Outside → Account → Account → ℕ → Type 0
 EndedToolTo tool name target old new faults told status =
-    (answer : Result (Unit {0}) ToolFault) × RanToolTo tool name target old new answer × TellsStored name target answer faults told status
+    (answer : Result (Unit {0}) ToolFault) × RanToolTo tool name target old new answer
+    × (name ≡ None → answer ≡ Err tool_faults.Read → IsUnreadable new.reading) × TellsStored name target answer faults told status
 
--- how a tool ended that writes its result
+-- how a tool ended that writes its result; it tells a fault of reading its input, or of writing,
+-- where the input cannot be read to its end, or a write or a flush has failed
 abbrev pub EndedTool : Tool → Option (List ℕ) → Outside → Outside → Account → Account → ℕ → Type 0
 EndedTool tool name old new faults told status =
-    (answer : Result (Unit {0}) ToolFault) × RanToolOn tool name old new answer × TellsAnswer answer faults told status
+    (answer : Result (Unit {0}) ToolFault) × RanToolOn tool name old new answer
+    × (name ≡ None → ReadsWith answer new.reading) × WritesWith answer old.output.has_failed new.output.has_failed × TellsAnswer answer faults told status
 
 -- how the fault of a survey is told: by its line, with status 2
 abbrev pub TellsFault : List ℕ → RunFault → Account → Account → ℕ → Type 0
@@ -310,15 +325,15 @@ TellsEnd list (Err fault) old told status = TellsFault list fault old.error told
 
 -- where a survey or a comparison begins: at what the program begins with, with nothing amiss
 abbrev pub first_stand : Outside → Account → Stand
-first_stand old faults = stand_of old.host (told_of (account_of old.writer false) faults Clean)
+first_stand old faults = stand_of old.host (told_of old.output faults Clean)
 
 -- a survey has ended
 pub record EndedSurvey (conduct : Conduct) (heading : List ℕ) (files : SurveyFiles) (old new : Outside) (faults told : Account) (status : ℕ) : Type 0 where
   pub ended : Result (Unit {0}) RunFault
   pub last : Stand
-  pub surveyed : Surveys conduct heading files old.reader new.reader (first_stand old faults) last ended
+  pub surveyed : Surveys conduct heading files old.reader new.reader new.reading.has_failed (first_stand old faults) last ended
   pub host : new.host ≡ last.host
-  pub writer : new.writer ≡ last.told.output.contents
+  pub output : new.output ≡ last.told.output
   pub tells : TellsEnd (list_name files) ended last.told told status
 
 -- how the end of a comparison is told, of which this was told: by the status of the verdict, or by
@@ -335,7 +350,7 @@ pub record EndedComparison (rule : PairRule) (old_name new_name : List ℕ) (old
   pub compared : Compares rule old_name new_name (first_stand old faults) last ended
   pub reader : new.reader ≡ old.reader
   pub host : new.host ≡ last.host
-  pub writer : new.writer ≡ last.told.output.contents
+  pub output : new.output ≡ last.told.output
   pub tells : TellsComparison ended last.told told status
 
 -- how a job ended that does this work
@@ -347,12 +362,13 @@ EndedWork (Survey rule heading files) old new faults told status = EndedSurvey (
 EndedWork (Extraction setup heading files) old new faults told status = EndedSurvey (unpacks setup) heading files old new faults told status
 EndedWork (Comparison rule old_name new_name) old new faults told status = EndedComparison rule old_name new_name old new faults told status
 
--- help or the version was written, whole; or there was a fault: a first part of it was written, or
--- there was no memory
-abbrev pub HasShown : Option (List ℕ) → Option (List ℕ) → Account → Account → ℕ → Type 0
+-- help or the version was written, whole; or there was a fault: a write or the flush failed, and a
+-- first part of it was written, or there was no memory
+abbrev pub HasShown : Account → Account → Account → Account → ℕ → Type 0
 HasShown old new faults told status =
-    ((text : List ℕ) × Appends old new text × (told ≡ faults) × (status ≡ 0))
-    ⊎ (((text : List ℕ) × AppendsPart old new text × Reports Write faults told status) ⊎ (Keeps old new × Reports Memory faults told status))
+    ((text : List ℕ) × Appends old.contents new.contents text × (told ≡ faults) × (status ≡ 0))
+    ⊎ (((text : List ℕ) × AppendsPart old.contents new.contents text × (new.has_failed ≡ true) × Reports Write faults told status)
+    ⊎ (Keeps old.contents new.contents × Reports Memory faults told status))
 
 -- what is wrong with the words was told, whole unless writing it failed, with status 2; or there
 -- was no memory
@@ -360,13 +376,13 @@ abbrev pub HasTold : Account → Account → ℕ → Type 0
 HasTold faults told status = ((text : List ℕ) × Writes faults told text × (status ≡ 2)) ⊎ Reports Memory faults told status
 
 -- what they asked to see was shown, or what clap finds wrong with them was told
-abbrev pub ShowsOrTells : JobFault → Option (List ℕ) → Option (List ℕ) → Account → Account → ℕ → Type 0
+abbrev pub ShowsOrTells : JobFault → Account → Account → Account → Account → ℕ → Type 0
 ShowsOrTells fault old new faults told status =
     (WasAskedFor fault × HasShown old new faults told status) ⊎ (¬ (WasAskedFor fault) × (new ≡ old) × HasTold faults told status)
 
 -- how words are answered that ask for no job: by the text of the fault, and, where it is clap's, by
 -- what they asked to see or by what is wrong
-abbrev pub AnswersWords : JobFault → Option (List ℕ) → Option (List ℕ) → Account → Account → ℕ → Type 0
+abbrev pub AnswersWords : JobFault → Account → Account → Account → Account → ℕ → Type 0
 AnswersWords fault old new faults told status =
     MatchOption (text_of fault) (ShowsOrTells fault old new faults told status) (λ text. (new ≡ old) × ReportsText text faults told status)
 
@@ -387,4 +403,4 @@ AsksToPassOver after = (job : Job) × IsJob (named after) job × PassesOver (wor
 abbrev pub Ended : List (List ℕ) → Outside → Outside → Account → Account → ℕ → Type 0
 Ended after old new faults told status =
     ((job : Job) × IsJob (named after) job × EndedWork (work_of job) old new faults told status)
-    ⊎ ((fault : JobFault) × IsFault (named after) fault × (new.reader ≡ old.reader) × (new.host ≡ old.host) × AnswersWords fault old.writer new.writer faults told status)
+    ⊎ ((fault : JobFault) × IsFault (named after) fault × (new.reader ≡ old.reader) × (new.host ≡ old.host) × AnswersWords fault old.output new.output faults told status)

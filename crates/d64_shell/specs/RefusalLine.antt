@@ -1,5 +1,5 @@
 -- How a refused input is told in the form of compilers.
-use Rattle.std.specs.Prelude.{ℕ, ◌-◌, List, [], ◌++◌, length, take, codes, decimal, Option, Some, None, unwrap_or}
+use Rattle.std.specs.Prelude.{ℕ, ◌-◌, List, [], ◌++◌, length, take, codes, decimal, Option, unwrap_or}
 use Rattle.std.specs.Option.{option_map_or}
 use Rattle.d64_script.specs.Status.{status_line}
 use Rattle.d64_script.specs.declared.status.Status.{Status}

@@ -1,5 +1,5 @@
 -- The script that the words ask for, as the code has it.
-use Rattle.std.specs.Prelude.{List, ℕ, map, option_copied, string_bytes}
+use Rattle.std.specs.Prelude.{map, option_copied, string_bytes}
 use Rattle.d64_runner.specs.Transcript.{Manner}
 use Rattle.d64_shell.specs.Jobs.{Beginning, Source, beginning_of, home_of, source_of}
 use Rattle.d64_shell.specs.declared.shell_job.ShellJob.{ShellJob}

@@ -1,5 +1,6 @@
 //! The job that compares two files.
 ghost use Rattle.std.specs.Prelude.{◌≡◌, ◌≤◌, ℕ, List, Option, IfErr, IfOk, OnOk, option_map, true, false};
+ghost use Rattle.d64_script.specs.Input.{Reading};
 ghost use Rattle.d64_collection.specs.Names.{File};
 ghost use Rattle.d64_collection.specs.Runs.{IsRead, account_at, stand_at};
 ghost use Rattle.d64_collection.specs.declared.report.Verdict.TheVariants.{Clean};
@@ -92,9 +93,9 @@ impl<'n> DifferenceJob<'n> {
         ensures output { output.new.writer.ghost_name ≡ output.old.writer.ghost_name }
         ensures faults { faults.new.writer.ghost_name ≡ faults.old.writer.ghost_name }
         ensures status { result ≤ 2 }
-        ensures ended { (reader : Option (List ℕ)) → EndedComparison (difference_rule self.now.form) self.now.old.now self.now.new.now
-            (outside_of reader (W.contents output.old.writer.now) (H.state host.old))
-            (outside_of reader (W.contents output.new.writer.now) (H.state host.new))
+        ensures ended { (reader : Option (List ℕ)) (reading : Reading) → EndedComparison (difference_rule self.now.form) self.now.old.now self.now.new.now
+            (outside_of reader reading (account_at W.contents output.old) (H.state host.old))
+            (outside_of reader reading (account_at W.contents output.new) (H.state host.new))
             (account_at F.contents faults.old) (account_at F.contents faults.new) result }
         ensures delivered { result ≡ 0 → (output.new.is_delivered ≡ true) × (output.new.has_failed ≡ false) }
         ensures silent { result ≡ 0 → faults.new ≡ faults.old }

@@ -1,6 +1,6 @@
 //! The program `d64sh`, from its words to its exit status.
 ghost use Rattle.std.specs.Prelude.{◌≡◌, ◌≢◌, ◌≤◌, Bool, false, map, true};
-ghost use Rattle.d64_script.specs.Input.{IsUnread, reading_of};
+ghost use Rattle.d64_script.specs.Input.{IsUnread, Reading, reading_of};
 ghost use Rattle.d64_script.specs.Output.{account_of};
 ghost use Rattle.d64_collection.specs.Runs.{account_at};
 ghost use Rattle.d64_shell.specs.Jobs.{IsScript, PassesOver, work_of};
@@ -64,10 +64,10 @@ pub fn program<R: Read, W: Write, F: Write, H: Host>(
     host: &mut H,
 ) -> u8
     ensures status { result ≤ 2 }
-    ensures ended { (failed : Bool) × Ended (map (λ word. word.now) words.now)
-        (outside_of (R.remaining reader.old) (W.contents writer.old) (H.state host.old))
-        (outside_of (R.remaining reader.new) (W.contents writer.new) (H.state host.new))
-        (account_of (F.contents faults.old) false) (account_of (F.contents faults.new) failed) result }
+    ensures ended { (reading : Reading) × (output_failed : Bool) × (faults_failed : Bool) × Ended (map (λ word. word.now) words.now)
+        (outside_of (R.remaining reader.old) (reading_of 0 0 false) (account_of (W.contents writer.old) false) (H.state host.old))
+        (outside_of (R.remaining reader.new) reading (account_of (W.contents writer.new) output_failed) (H.state host.new))
+        (account_of (F.contents faults.old) false) (account_of (F.contents faults.new) faults_failed) result }
     ensures silent { (AsksToPassOver (map (λ word. word.now) words.now) → ⊥) → result ≡ 0 → faults.new ≡ faults.old }
     ensures script { AsksForShell (map (λ word. word.now) words.now) → result ≢ 2 → faults.new ≡ faults.old }
 {

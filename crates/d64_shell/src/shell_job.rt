@@ -1,14 +1,14 @@
 //! The shell's job: a script on the image of a file, on a blank one, or on a session that was kept.
-ghost use Rattle.std.specs.Prelude.{◌≡◌, ℕ, List, Result, Ok, IfOk, IfErr, OnOk, map, option_copied, option_map, string_bytes, true, false};
+ghost use Rattle.std.specs.Prelude.{◌≡◌, ℕ, List, Result, Ok, Err, None, IfOk, IfErr, OnOk, map, option_copied, option_map, string_bytes, true, false};
 ghost use Rattle.d64_host.specs.declared.host.HostFault.{HostFault};
 ghost use Rattle.d64_image.specs.Image.{IsImage, bytes_of};
 ghost use Rattle.d64_undo.specs.SessionFile.{IsSession, file_of};
-ghost use Rattle.d64_script.specs.Input.{IsUnread, reading_of};
+ghost use Rattle.d64_script.specs.Input.{IsUnread, IsUnreadable, reading_of};
 ghost use Rattle.d64_line.specs.Act.{FetchesFile, world_of};
 ghost use Rattle.d64_runner.specs.Runner.{manner_of, stand_of};
 ghost use Rattle.d64_shell.specs.Jobs.{Given, beginning_of, refusals_of, source_by, source_of, text_of_lines};
 ghost use Rattle.d64_shell.specs.Scripts.{beginning_in, manner_in, source_in};
-ghost use Rattle.d64_shell.specs.Program.{IsFirstHistory, HasNoHistory, GivesNoImage, GivesNoSession, RanFrom, RanShell, StoppedBy, blank, file_limit, outside_at, session_limit, status_of};
+ghost use Rattle.d64_shell.specs.Program.{IsDue, IsFirstHistory, HasNoHistory, GivesNoImage, GivesNoSession, RanFrom, RanShell, StoppedBy, blank, file_limit, outside_at, session_limit, status_of};
 
 use crate::entry::{ALL_ACCEPTED, FILE_BYTES, SESSION_BYTES, SOME_REFUSED};
 use crate::program_fault::ProgramFault;
@@ -58,6 +58,8 @@ impl<'n> ShellJob<'n> {
             (outside_at R.remaining input.new W.contents output.new H.state host.new) (Ok outcome)) }
         ensures stopped { IfErr result (λ fault. StoppedBy fault (beginning_in self.entry) (source_in self.entry) (manner_in self.entry)
             (outside_at R.remaining input.old W.contents output.old H.state host.old)
+            (outside_at R.remaining input.new W.contents output.new H.state host.new)) }
+        ensures due { IfErr result (λ fault. IsDue fault (source_in self.entry)
             (outside_at R.remaining input.new W.contents output.new H.state host.new)) }
     {
         let text = given_text(alloc, self.lines)?;
@@ -131,6 +133,8 @@ impl<'n> Script<'n> {
             (stand_of (W.contents output.new.writer.now) (world_of (H.state host.new) session.new))
             result }
         ensures unfailed { OnOk result (output.new.has_failed ≡ false) }
+        ensures unreadable { option_copied self.entry.text ≡ None → result ≡ Err ShellFault.Read → IsUnreadable (reading_of input.new.reads input.new.came input.new.has_failed) }
+        ensures failed { result ≡ Err ShellFault.Write → output.new.has_failed ≡ true }
     {
         let Some(text) = self.text else {
             let runner = ScriptRunner {

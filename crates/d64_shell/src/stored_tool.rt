@@ -1,8 +1,9 @@
 //! The tools' job where the result goes to a host file: it is stored whole or not at all, and a
 //! refused input is told in the form of compilers.
-ghost use Rattle.std.specs.Prelude.{◌≡◌, ◌-◌, ◌≤◌, ◌⊎◌, ◌++◌, ℕ, List, IfErr, IfOk, OnOk, Ok, Err, [], length, codes, decimal, Option, option_copied};
+ghost use Rattle.std.specs.Prelude.{◌≡◌, ◌-◌, ◌≤◌, ◌⊎◌, ◌++◌, ℕ, List, IfErr, IfOk, OnOk, Ok, Err, None, [], length, codes, decimal, Option, option_copied};
 ghost use Rattle.std.specs.Option.{option_map_or};
-ghost use Rattle.d64_script.specs.Input.{IsUnread, reading_of};
+ghost use Rattle.d64_script.specs.Input.{IsUnread, IsUnreadable, reading_of};
+ghost use Rattle.d64_script.specs.Output.{Account};
 ghost use Rattle.d64_collection.specs.Runs.{account_at};
 ghost use Rattle.d64_shell.specs.Program.{RanToolTo, TakesInput, TellsRefusal, TellsStored, TellsUnwritten, outside_of};
 ghost use Rattle.d64_shell.specs.RefusalLine.{refusal_line};
@@ -45,10 +46,11 @@ impl<'n> StoredTool<'n> {
     ) -> Result<(), ToolFault>
         requires unread { IsUnread (reading_of input.old.reads input.old.came input.old.has_failed) }
         ensures input { input.new.reader.ghost_name ≡ input.old.reader.ghost_name }
-        ensures ran { (writer : Option (List ℕ)) → RanToolTo self.entry.tool (option_copied self.entry.file) self.entry.target.now
-            (outside_of (R.remaining input.old.reader.now) writer (H.state host.old))
-            (outside_of (R.remaining input.new.reader.now) writer (H.state host.new)) result }
+        ensures ran { (output : Account) → RanToolTo self.entry.tool (option_copied self.entry.file) self.entry.target.now
+            (outside_of (R.remaining input.old.reader.now) (reading_of input.old.reads input.old.came input.old.has_failed) output (H.state host.old))
+            (outside_of (R.remaining input.new.reader.now) (reading_of input.new.reads input.new.came input.new.has_failed) output (H.state host.new)) result }
         ensures line { IfErr result TellsSmallLine }
+        ensures reads { option_copied self.entry.file ≡ None → result ≡ Err ToolFault.Read → IsUnreadable (reading_of input.new.reads input.new.came input.new.has_failed) }
     {
         let bytes = self.taken(alloc, input, host)?;
         let made = self.tool.output(alloc, &bytes)?;
@@ -67,14 +69,15 @@ impl<'n> StoredTool<'n> {
     ) -> Result<Vec<u8>, ToolFault>
         requires unread { IsUnread (reading_of input.old.reads input.old.came input.old.has_failed) }
         ensures input { input.new.reader.ghost_name ≡ input.old.reader.ghost_name }
-        ensures bytes { (writer : Option (List ℕ)) → IfOk result (λ bytes. TakesInput (option_copied self.entry.file)
-            (outside_of (R.remaining input.old.reader.now) writer (H.state host.old))
-            (outside_of (R.remaining input.new.reader.now) writer (H.state host.new)) (Ok bytes.items)) }
-        ensures fault { (writer : Option (List ℕ)) → IfErr result (λ fault. TakesInput (option_copied self.entry.file)
-            (outside_of (R.remaining input.old.reader.now) writer (H.state host.old))
-            (outside_of (R.remaining input.new.reader.now) writer (H.state host.new)) (Err fault)) }
+        ensures bytes { (output : Account) → IfOk result (λ bytes. TakesInput (option_copied self.entry.file)
+            (outside_of (R.remaining input.old.reader.now) (reading_of input.old.reads input.old.came input.old.has_failed) output (H.state host.old))
+            (outside_of (R.remaining input.new.reader.now) (reading_of input.new.reads input.new.came input.new.has_failed) output (H.state host.new)) (Ok bytes.items)) }
+        ensures fault { (output : Account) → IfErr result (λ fault. TakesInput (option_copied self.entry.file)
+            (outside_of (R.remaining input.old.reader.now) (reading_of input.old.reads input.old.came input.old.has_failed) output (H.state host.old))
+            (outside_of (R.remaining input.new.reader.now) (reading_of input.new.reads input.new.came input.new.has_failed) output (H.state host.new)) (Err fault)) }
         ensures within { IfOk result (λ bytes. length bytes.items ≤ script_limit) }
         ensures line { IfErr result TellsSmallLine }
+        ensures reads { option_copied self.entry.file ≡ None → result ≡ Err ToolFault.Read → IsUnreadable (reading_of input.new.reads input.new.came input.new.has_failed) }
     {
         let Some(name) = self.file else {
             return whole_input(alloc, input);

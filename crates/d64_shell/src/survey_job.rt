@@ -1,12 +1,12 @@
 //! The jobs that survey files: a report on each, by the names that the words give.
-ghost use Rattle.std.specs.Prelude.{◌≡◌, ◌≤◌, ℕ, List, Err, IfErr, IfOk, Ok, OnOk, Result, true, false};
+ghost use Rattle.std.specs.Prelude.{◌≡◌, ◌≤◌, ℕ, List, [], Err, IfErr, IfOk, Ok, OnOk, Result, true, false};
 ghost use Rattle.d64_host.specs.declared.host.HostFault.{HostFault};
 ghost use Rattle.d64_script.specs.Input.{IsUnread, reading_of};
 ghost use Rattle.d64_collection.specs.Answers.{KeepsQuiet, Rule, by_rule};
 ghost use Rattle.d64_collection.specs.Runs.{account_at, stand_at};
 ghost use Rattle.d64_shell.specs.Program.{EndedSurvey, TellsFault, outside_at};
 ghost use Rattle.d64_shell.specs.SurveyFiles.{files_in, list_name};
-ghost use Rattle.d64_shell.specs.Surveys.{IsOpened, Says, Surveys, fault_of_list};
+ghost use Rattle.d64_shell.specs.Surveys.{IsOpened, RunsListFile, Says, Surveys, fault_of_list};
 ghost use Rattle.d64_collection.specs.declared.desk.RunFault.{RunFault};
 ghost use Rattle.d64_collection.specs.declared.report.Verdict.{Verdict};
 
@@ -42,6 +42,39 @@ fn open_list<H: Host>(list: &str, host: &mut H) -> Result<H::File, RunFault>
         Ok(file) => Ok(file),
         Err(fault) => Err(fault_of_list(fault)),
     }
+}
+
+/// Answers at a desk the files that a list of the host names. A failed read of the list is counted.
+fn answer_list_file<H: Host, C: Clerk, W: Write, F: Write>(
+    list: &str,
+    desk: &mut ListDesk,
+    host: &mut H,
+    clerk: &mut C,
+    output: &mut OutputStream<'_, W>,
+    faults: &mut OutputStream<'_, F>,
+) -> Result<(), RunFault>
+    requires delivered { output.old.is_delivered ≡ true }
+    ensures output { output.new.writer.ghost_name ≡ output.old.writer.ghost_name }
+    ensures faults { faults.new.writer.ghost_name ≡ faults.old.writer.ghost_name }
+    ensures delivered { OnOk result (output.new.is_delivered ≡ true) }
+    ensures unfailed { OnOk result (output.new.has_failed ≡ output.old.has_failed) }
+    ensures silent { KeepsQuiet (C.conduct (C.manner clerk.old)) → desk.new.desk.worst ≡ Verdict.Clean → (desk.old.desk.worst ≡ Verdict.Clean) × (faults.new ≡ faults.old) }
+    ensures answered { desk.old.name ≡ [] → RunsListFile (C.conduct (C.manner clerk.old)) desk.old.separator list.now
+        (stand_at H.state host.old W.contents output.old F.contents faults.old desk.old.desk.worst)
+        (stand_at H.state host.new W.contents output.new F.contents faults.new desk.new.desk.worst) result }
+{
+    let mut file = open_list(list, host)?;
+    let mut list = InputStream::new(&mut file);
+    match desk.answer_stream(&mut list, host, clerk, output, faults) {
+        Ok(()) => return Ok(()),
+        Err(RunFault::List) => {}
+        Err(RunFault::Write) => return Err(RunFault::Write),
+        Err(RunFault::Memory) => return Err(RunFault::Memory),
+    }
+    if list.has_failed() {
+        host.count_failed_read();
+    }
+    Err(RunFault::List)
 }
 
 /// A survey of the files of these names.
@@ -141,7 +174,7 @@ impl<'n> SurveyJob<'n> {
         ensures faults { faults.new.writer.ghost_name ≡ faults.old.writer.ghost_name }
         ensures delivered { OnOk result ((output.new.is_delivered ≡ true) × (output.new.has_failed ≡ false)) }
         ensures silent { KeepsQuiet (C.conduct (C.manner clerk.old)) → result ≡ Ok Verdict.Clean → faults.new ≡ faults.old }
-        ensures surveyed { (worst : Verdict) × (ended : Result (Unit {0}) RunFault) × Surveys (C.conduct (C.manner clerk.old)) (C.heading clerk.old) (files_in self.now.names) (R.remaining input.old.reader.now) (R.remaining input.new.reader.now)
+        ensures surveyed { (worst : Verdict) × (ended : Result (Unit {0}) RunFault) × Surveys (C.conduct (C.manner clerk.old)) (C.heading clerk.old) (files_in self.now.names) (R.remaining input.old.reader.now) (R.remaining input.new.reader.now) input.new.has_failed
             (stand_at H.state host.old W.contents output.old F.contents faults.old Verdict.Clean)
             (stand_at H.state host.new W.contents output.new F.contents faults.new worst) ended × Says worst ended result }
     {
@@ -160,9 +193,7 @@ impl<'n> SurveyJob<'n> {
                         Ok(desk.worst())
                     }
                     list => {
-                        let mut file = open_list(list, host)?;
-                        let mut list = InputStream::new(&mut file);
-                        desk.answer_stream(&mut list, host, clerk, output, faults)?;
+                        answer_list_file(list, &mut desk, host, clerk, output, faults)?;
                         Ok(desk.worst())
                     }
                 }

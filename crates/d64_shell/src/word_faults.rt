@@ -41,7 +41,7 @@ pub(crate) fn answer_words<W: Write, F: Write>(
     requires unfailed { output.old.has_failed ≡ false }
     ensures output { output.new.writer.ghost_name ≡ output.old.writer.ghost_name }
     ensures faults { faults.new.writer.ghost_name ≡ faults.old.writer.ghost_name }
-    ensures answered { AnswersWords fault (W.contents output.old.writer.now) (W.contents output.new.writer.now) (account_at F.contents faults.old) (account_at F.contents faults.new) result }
+    ensures answered { AnswersWords fault (account_at W.contents output.old) (account_at W.contents output.new) (account_at F.contents faults.old) (account_at F.contents faults.new) result }
     ensures silent { result ≡ 0 → faults.new ≡ faults.old }
     ensures delivered { result ≡ 0 → (output.new.is_delivered ≡ true) × (output.new.has_failed ≡ false) }
 {
@@ -62,7 +62,7 @@ fn show<W: Write, F: Write>(
     requires unfailed { output.old.has_failed ≡ false }
     ensures output { output.new.writer.ghost_name ≡ output.old.writer.ghost_name }
     ensures faults { faults.new.writer.ghost_name ≡ faults.old.writer.ghost_name }
-    ensures shown { HasShown (W.contents output.old.writer.now) (W.contents output.new.writer.now) (account_at F.contents faults.old) (account_at F.contents faults.new) result }
+    ensures shown { HasShown (account_at W.contents output.old) (account_at W.contents output.new) (account_at F.contents faults.old) (account_at F.contents faults.new) result }
     ensures silent { result ≡ 0 → faults.new ≡ faults.old }
     ensures delivered { result ≡ 0 → (output.new.is_delivered ≡ true) × (output.new.has_failed ≡ false) }
 {

@@ -108,6 +108,10 @@ impl<'a, R: Clock + Eprint, H: Host> Host for WatchedHost<'a, R, H> {
         self.host.open(name)
     }
 
+    fn count_failed_read(&mut self) {
+        self.host.count_failed_read()
+    }
+
     fn store(&mut self, alloc: Global, name: &str, bytes: &[u8]) -> Result<(), HostFault> {
         self.host.store(alloc, name, bytes)
     }

@@ -1,7 +1,6 @@
-use Rattle.std.proofs.Common.{rules, ◌≡◌, ◌∙◌, ap, List, ℕ, Option, option_map, Err}
+use Rattle.std.proofs.Common.{rules, ◌≡◌, ◌∙◌, ap, option_map}
 use Rattle.d64_collection.specs.Answers.{Answer}
 use Rattle.d64_difference.specs.Differences.{difference_rule}
-use Rattle.d64_shell.specs.declared.difference_job.DifferenceFault.TheVariants.{Memory, Write}
 use Rattle.d64_shell.proofs.ComparisonRuns.{compared, same_answer, wants_memory, was_cut}
 use Rattle.d64_shell.proofs.difference_job.DifferenceJob.compare.Goals as goal
 

@@ -33,7 +33,7 @@ returns-in-Shell-clause-ended g c =
     (ap₂ (λ (i : Option (List ℕ)) (r : Option (List ℕ)). beginning_of i c.in-Shell.tracks r) image resume)
     (ap source_of (ap (map string_bytes) c.as_slice.ensures.value))
     (let manner : (h : List ℕ) → Refusals → Manner = λ h r. record { home = h; refusals = r } in ap₂ manner (ap home_of image) c.refusals_of.ensures)
-    (inr (c.in-Err.fault, c.in-Err.ensures.stopped, c.report_on.ensures.reported))
+    (inr (c.in-Err.fault, c.in-Err.ensures.stopped, c.in-Err.ensures.due, c.report_on.ensures.reported))
 
 pub returns-in-Check-clause-ended : goal.returns-in-Check-clause-ended
 returns-in-Check-clause-ended g c =

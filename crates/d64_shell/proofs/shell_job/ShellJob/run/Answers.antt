@@ -1,9 +1,7 @@
 -- The script has run from its beginning, and a flush of the output changes none of its bytes.
 use Rattle.std.proofs.Common.{◌≡◌, ◌∙◌, Ok, Err, inl, inr, refl, ap, option_copied, rules}
-use Rattle.d64_runner.specs.Runner.{manner_of}
-use Rattle.d64_runner.specs.Transcript.{Manner}
-use Rattle.d64_shell.specs.Jobs.{Source, home_of, source_by}
-use Rattle.d64_shell.specs.Program.{Outside, StoppedBy, fault_of_run, outside_of}
+use Rattle.d64_shell.specs.Jobs.{home_of, source_by}
+use Rattle.d64_shell.specs.Program.{Outside, StoppedBy, fault_of_run, outside_at}
 use Rattle.d64_shell.specs.Scripts.{beginning_in, manner_in, source_in}
 use Rattle.d64_shell.proofs.ProgramRuns.{home_is, IfErr-of_error, RanShell-flushed, told_of-write}
 use Rattle.d64_shell.proofs.shell_job.ShellJob.run.Goals as goal
@@ -17,8 +15,8 @@ returns-in-Ok-clause-ran g c =
     let manner : record { home = c.unwrap_or.result.now; refusals = job.refusals } ≡ manner_in job =
     ap (λ h. record { home = h; refusals = job.refusals }) home in
     let source : source_by (option_copied c.as_deref.result) ≡ source_in job = search rules in
-    let old : Outside = outside_of (g.R.Read.remaining c.args.input.now.reader.now) (g.W.Write.contents c.args.output.now.writer.now) (g.H.Host.state c.args.host.now) in
-    let new : Outside = outside_of (g.R.Read.remaining c.run-ran.new.input.reader.now) (g.W.Write.contents c.flush.new.self.writer.now) (g.H.Host.state c.run-ran.new.host) in
+    let old : Outside = outside_at g.R.Read.remaining c.args.input.now g.W.Write.contents c.args.output.now g.H.Host.state c.args.host.now in
+    let new : Outside = outside_at g.R.Read.remaining c.run-ran.new.input g.W.Write.contents c.flush.new.self g.H.Host.state c.run-ran.new.host in
     let is : c.run-ran.result ≡ Ok c.in_ok-ran-in-Ok.field-0 = search rules in
     RanShell-flushed old new (Ok c.in_ok-ran-in-Ok.field-0) (beginning_in job) (source_in job) (source_by (option_copied c.as_deref.result))
     (manner_in job) (record { home = c.unwrap_or.result.now; refusals = job.refusals })
@@ -35,8 +33,8 @@ returns-in_err-ran-in-Ok-clause-stopped g c =
     let manner : record { home = c.unwrap_or.result.now; refusals = job.refusals } ≡ manner_in job =
     ap (λ h. record { home = h; refusals = job.refusals }) home in
     let source : source_by (option_copied c.as_deref.result) ≡ source_in job = search rules in
-    let old : Outside = outside_of (g.R.Read.remaining c.args.input.now.reader.now) (g.W.Write.contents c.args.output.now.writer.now) (g.H.Host.state c.args.host.now) in
-    let new : Outside = outside_of (g.R.Read.remaining c.run-ran.new.input.reader.now) (g.W.Write.contents c.flush.new.self.writer.now) (g.H.Host.state c.run-ran.new.host) in
+    let old : Outside = outside_at g.R.Read.remaining c.args.input.now g.W.Write.contents c.args.output.now g.H.Host.state c.args.host.now in
+    let new : Outside = outside_at g.R.Read.remaining c.run-ran.new.input g.W.Write.contents c.flush.new.self g.H.Host.state c.run-ran.new.host in
     let is : c.run-ran.result ≡ Err c.in_err-ran-in-Ok.field-0.0 = search rules in
     let ran = RanShell-flushed old new (Err c.in_err-ran-in-Ok.field-0.0) (beginning_in job) (source_in job) (source_by (option_copied c.as_deref.result))
     (manner_in job) (record { home = c.unwrap_or.result.now; refusals = job.refusals })
@@ -56,8 +54,8 @@ returns-clause-stopped g c =
     let manner : record { home = c.unwrap_or.result.now; refusals = job.refusals } ≡ manner_in job =
     ap (λ h. record { home = h; refusals = job.refusals }) home in
     let source : source_by (option_copied c.as_deref.result) ≡ source_in job = search rules in
-    let old : Outside = outside_of (g.R.Read.remaining c.args.input.now.reader.now) (g.W.Write.contents c.args.output.now.writer.now) (g.H.Host.state c.args.host.now) in
-    let new : Outside = outside_of (g.R.Read.remaining c.run-ran.new.input.reader.now) (g.W.Write.contents c.flush.new.self.writer.now) (g.H.Host.state c.run-ran.new.host) in
+    let old : Outside = outside_at g.R.Read.remaining c.args.input.now g.W.Write.contents c.args.output.now g.H.Host.state c.args.host.now in
+    let new : Outside = outside_at g.R.Read.remaining c.run-ran.new.input g.W.Write.contents c.flush.new.self g.H.Host.state c.run-ran.new.host in
     inr (inr (
       c.run-ran.result,
       RanShell-flushed old new c.run-ran.result (beginning_in job) (source_in job) (source_by (option_copied c.as_deref.result))
