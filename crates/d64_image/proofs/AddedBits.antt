@@ -4,27 +4,19 @@ use Rattle.std.specs.Int.{bit_at}
 use Rattle.std.specs.FinSet as set
 use Rattle.std.proofs.lemmas.Bool.{cases_lt}
 use Rattle.std.proofs.lemmas.Bool.Decides.{nat_tests, eqb_tells}
-use Rattle.std.proofs.lemmas.List.{get_or-set_same, get_or-set_other, get_or_past, length-set}
-use Rattle.std.proofs.lemmas.List.Elements.{All-get_or}
+use Rattle.std.proofs.lemmas.List.{get_or-set_same, get_or-set_other, length-set}
 use Rattle.std.proofs.lemmas.Nat.{pow_pos, or_lt}
 use Rattle.std.proofs.lemmas.Nat.Bits.{bit_at-lt, bit_at-zero, bit_at_or, bit_at_above, bit_at_cat_low, bit_at_cat_high}
 use Rattle.d64_image.specs.declared.block.TheConstants.{BLOCKS}
 use Rattle.d64_image.specs.BlockSet.{is_marked, marked, AreWords, with_bits, is_given}
 use Rattle.d64_image.specs.Marks.{contains-marked_below}
 use Rattle.d64_image.proofs.Sets.{AreWords-set}
-use Rattle.d64_image.proofs.Windows.{bit_at-mod, bit_at-div, contains-held}
+use Rattle.d64_image.proofs.Windows.{bit_at-mod, bit_at-div, contains-held, word_fits}
 
 -- words stay words where bits are set in one of them
 pub AreWords-with_bits : (words : List ℕ) (place bits : ℕ) → AreWords words → bits < 2 ^ 32 → AreWords (with_bits words place bits)
 AreWords-with_bits words place bits are fit =
     AreWords-set words place (bit_or (get_or words place 0) bits) are (or_lt 32 (get_or words place 0) bits (word_fits words place are) fit)
-  where
-    word_fits : (words : List ℕ) (place : ℕ) → AreWords words → get_or words place 0 < 2 ^ 32
-    word_fits words place are =
-        elim (cases_lt place (length words)) [
-          | inl held ↦ All-get_or (λ word. word < 2 ^ 32) words place 0 held are.fit
-          | inr past ↦ let z = get_or_past words place 0 past in omega arith
-        ]
 
 -- a bit that is set in either of two numbers
 either : (a b bit : ℕ) → nat_eq (bit_at (bit_or a b) bit) 1 ≡ (nat_eq (bit_at a bit) 1 || nat_eq (bit_at b bit) 1)
@@ -132,34 +124,24 @@ with_both words first bits =
     with_bits (with_bits words (first / 32) (bits * 2 ^ (first % 32) % 2 ^ 32)) (first / 32 + 1) (bits * 2 ^ (first % 32) / 2 ^ 32)
 
 -- a block is a member then where it was one, or its bit is 1
-pub contains-with_both : (words : List ℕ) (first bits block : ℕ) → AreWords words → AreWords (with_both words first bits) → first < BLOCKS → bits < 2 ^ 32
-    → ((bit : ℕ) → bit_at bits bit ≡ 1 → first + bit < BLOCKS)
-    → set.contains (marked (with_both words first bits)) block ≡ (set.contains (marked words) block || is_given first bits block)
-contains-with_both words first bits block are still within fit inside =
+pub contains-with_both : (words : List ℕ) (first bits block : ℕ) → AreWords words → AreWords (with_both words first bits) → bits < 2 ^ 32
+    → set.contains (marked (with_both words first bits)) block ≡ (set.contains (marked words) block || (ltb block BLOCKS && is_given first bits block))
+contains-with_both words first bits block are still fit =
     elim (cases_lt block BLOCKS) [
       | inl held ↦
           let all = are.all in
-          let low : ℕ = bits * 2 ^ (first % 32) % 2 ^ 32 in
-          let high : ℕ = bits * 2 ^ (first % 32) / 2 ^ 32 in
           let once = with_bits words (first / 32) (bits * 2 ^ (first % 32) % 2 ^ 32) in
           let long = length-set words (first / 32) (bit_or (get_or words (first / 32) 0) (bits * 2 ^ (first % 32) % 2 ^ 32)) in
+          let within : true ≡ ltb block BLOCKS = grind (arith, nat_tests) in
           contains-held (with_both words first bits) block still
           ∙ word_marked once (first / 32 + 1) (bits * 2 ^ (first % 32) / 2 ^ 32) block (omega arith)
           ∙ ap (λ (b : Bool). b || (nat_eq (block / 32) (first / 32 + 1) && nat_eq (bit_at (bits * 2 ^ (first % 32) / 2 ^ 32) (block % 32)) 1)) (word_marked words (first / 32) (bits * 2 ^ (first % 32) % 2 ^ 32) block (omega arith))
           ∙ or_assoc (is_marked words block) _ _
           ∙ ap (λ (b : Bool). is_marked words block || b) (in_two_words first bits block fit)
-          ∙ ap (λ (b : Bool). b || is_given first bits block) (sym (contains-held words block are))
+          ∙ ap₂ (λ (b within : Bool). b || (within && is_given first bits block)) (sym (contains-held words block are)) within
       | inr past ↦
           let beyond : ltb block BLOCKS ≡ false = grind (arith, nat_tests) in
           let none : (xs : List ℕ) → set.contains (marked xs) block ≡ false = λ xs. contains-marked_below BLOCKS xs block ∙ ap (λ (b : Bool). b && is_marked xs block) beyond in
-          let away : first + (block - first) ≡ block = omega arith in
-          let clear : nat_eq (bit_at bits (block - first)) 1 ≡ false =
-          elim (eqb_tells (bit_at bits (block - first)) 1) [
-            | inl one ↦ let h = inside (block - first) one.1 in absurd (omega arith)
-            | inr other ↦ other.0
-          ] in
-          let from : leb first block ≡ true = grind (arith, nat_tests) in
           none (with_both words first bits)
-          ∙ ap₂ (λ (b c : Bool). b || (true && c)) (sym (none words)) (sym clear)
-          ∙ ap (λ (b : Bool). set.contains (marked words) block || (b && nat_eq (bit_at bits (block - first)) 1)) (sym from)
+          ∙ ap₂ (λ (b within : Bool). b || (within && is_given first bits block)) (sym (none words)) (sym beyond)
     ]

@@ -12,7 +12,6 @@ use Rattle.std.proofs.lemmas.Nat.Bits.{bit_at-lt, bit_at-zero, bit_at_cat_low, b
 use Rattle.d64_image.specs.declared.block.TheConstants.{BLOCKS}
 use Rattle.d64_image.specs.BlockSet.{is_marked, marked, AreWords}
 use Rattle.d64_image.specs.Marks.{contains-marked_below, as_bit, bit_tested}
-use Rattle.d64_image.proofs.Sets.{word_held}
 
 -- a bit among the lowest ones
 pub bit_at-mod : (n count bit : ℕ) → bit < count → bit_at (n % 2 ^ count) bit ≡ bit_at n bit
@@ -40,14 +39,22 @@ contains-held words block are =
           ap (λ (b : Bool). ltb block BLOCKS && b) none ∙ (let e : (ltb block BLOCKS && false) ≡ false = grind (arith, nat_tests) in e) ∙ sym none
     ]
 
+-- each word has 32 bits, also where it is none of the words
+pub word_fits : (words : List ℕ) (place : ℕ) → AreWords words → get_or words place 0 < 2 ^ 32
+word_fits words place are =
+    elim (cases_lt place (length words)) [
+      | inl held ↦ All-get_or (λ word. word < 2 ^ 32) words place 0 held are.fit
+      | inr past ↦ let z = get_or_past words place 0 past in omega arith
+    ]
+
 -- a word and the next one, as one number
 abbrev pub two_words : List ℕ → ℕ → ℕ
 two_words words place = get_or words (place + 1) 0 * 2 ^ 32 + get_or words place 0
 
 -- its bits are those of the blocks of the two words
-bit_of_two : (words : List ℕ) (place bit : ℕ) → AreWords words → place < length words → bit < 64
+bit_of_two : (words : List ℕ) (place bit : ℕ) → AreWords words → bit < 64
     → bit_at (two_words words place) bit ≡ bit_at (get_or words ((32 * place + bit) / 32) 0) ((32 * place + bit) % 32)
-bit_of_two words place bit are held few =
+bit_of_two words place bit are few =
     elim (cases_lt bit 32) [
       | inl low ↦
           let at : place ≡ (32 * place + bit) / 32 = omega arith in
@@ -58,20 +65,20 @@ bit_of_two words place bit are held few =
       | inr high ↦
           let at : place + 1 ≡ (32 * place + bit) / 32 = omega arith in
           let on : bit - 32 ≡ (32 * place + bit) % 32 = omega arith in
-          bit_at_cat_high (get_or words (place + 1) 0) 32 (get_or words place 0) bit (All-get_or (λ word. word < 2 ^ 32) words place 0 held are.fit) high
+          bit_at_cat_high (get_or words (place + 1) 0) 32 (get_or words place 0) bit (word_fits words place are) high
           ∙ ap (λ (k : ℕ). bit_at (get_or words k 0) (bit - 32)) at
           ∙ ap (bit_at (get_or words ((32 * place + bit) / 32) 0)) on
     ]
 
 -- the 32 bits from that of a block on tell which blocks are members
-pub bits_tell : (words : List ℕ) (first bit : ℕ) → AreWords words → first < BLOCKS → bit < 32
+pub bits_tell : (words : List ℕ) (first bit : ℕ) → AreWords words → bit < 32
     → bit_at (two_words words (first / 32) / 2 ^ (first % 32) % 2 ^ 32) bit ≡ cond (set.contains (marked words) (first + bit)) 1 0
-bits_tell words first bit are within few =
+bits_tell words first bit are few =
     let same : 32 * (first / 32) + (first % 32 + bit) ≡ first + bit = omega arith in
     let word : ℕ = get_or words ((first + bit) / 32) 0 in
     bit_at-mod (two_words words (first / 32) / 2 ^ (first % 32)) 32 bit few
     ∙ bit_at-div (two_words words (first / 32)) (first % 32) bit
-    ∙ bit_of_two words (first / 32) (first % 32 + bit) are (word_held words first are within) (omega arith)
+    ∙ bit_of_two words (first / 32) (first % 32 + bit) are (omega arith)
     ∙ ap (λ (k : ℕ). bit_at (get_or words (k / 32) 0) (k % 32)) same
     ∙ sym (bit_tested (bit_at word ((first + bit) % 32)) (bit_at-lt word ((first + bit) % 32)))
     ∙ ap as_bit (sym (contains-held words (first + bit) are))

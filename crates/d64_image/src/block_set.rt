@@ -1,5 +1,5 @@
 //! Sets of blocks.
-ghost use Rattle.std.specs.Prelude.{◌≡◌, ℕ, ◌+◌, ◌*◌, ◌/◌, ◌%◌, ◌^◌, ◌<◌, ◌≤◌, ◌↔◌, ◌||◌, if◌then◌else◌, IsTrue, slice_index};
+ghost use Rattle.std.specs.Prelude.{◌≡◌, ℕ, ◌+◌, ◌*◌, ◌/◌, ◌%◌, ◌^◌, ◌<◌, ◌≤◌, ◌↔◌, ◌&&◌, ◌||◌, nat_lt, if◌then◌else◌, IsTrue, slice_index};
 ghost use Rattle.std.specs.Int.{bit_at};
 ghost use Rattle.std.specs.Ordering.{nat_cmp};
 ghost use Rattle.std.specs.FinSet as set;
@@ -92,7 +92,6 @@ impl BlockSet {
     /// Which of the 32 blocks from a number on are members: bit b is 1 where the block b after the
     /// first one is a member.
     pub fn bits_from(&self, first: usize) -> u32
-        requires { first < BLOCKS }
         ensures { (bit : ℕ) → bit < 32 → bit_at result bit ≡ (if set.contains self.now (first + bit) then 1 else 0) }
     {
         let place = first / WORD_BITS;
@@ -119,13 +118,9 @@ impl BlockSet {
     }
 
     /// Makes those of the 32 blocks from a number on members whose bits are 1: bit b is that of the
-    /// block b after the first one.
-    ///
-    /// The caller knows that a disk has each of them.
+    /// block b after the first one. A bit of which no disk has the block counts for nothing.
     pub fn add_bits(&mut self, first: usize, bits: u32)
-        requires first { first < BLOCKS }
-        requires blocks { (bit : ℕ) → bit_at bits bit ≡ 1 → first + bit < BLOCKS }
-        ensures { (block : ℕ) → set.contains self.new block ≡ (set.contains self.old block || is_given first bits block) }
+        ensures { (block : ℕ) → set.contains self.new block ≡ (set.contains self.old block || (nat_lt block BLOCKS && is_given first bits block)) }
     {
         let place = first / WORD_BITS;
         let both = u64::from(bits) << (first % WORD_BITS);

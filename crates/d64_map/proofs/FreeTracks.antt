@@ -1,5 +1,5 @@
 -- the free blocks of a track, added to those before it at once
-use Rattle.std.proofs.Common.{◌≡◌, ℕ, ◌+◌, ◌-◌, ◌%◌, ◌^◌, ◌<◌, ◌≤◌, ◌&&◌, ◌||◌, Bool, true, false, leb, ltb, nat_eq, List, sym, ap, ap₂, ◌∙◌, inl, inr, arith}
+use Rattle.std.proofs.Common.{◌≡◌, ℕ, ◌+◌, ◌-◌, ◌%◌, ◌^◌, ◌<◌, ◌≤◌, ◌&&◌, ◌||◌, Bool, true, false, leb, ltb, nat_eq, List, refl, sym, ap, ap₂, ◌∙◌, inl, inr, arith}
 use Rattle.std.specs.List.{range_with_len}
 use Rattle.std.specs.Int.{bit_at}
 use Rattle.std.specs.Ordering.{nat_cmp}
@@ -11,10 +11,12 @@ use Rattle.std.proofs.lemmas.Bool.{cases_lt}
 use Rattle.std.proofs.lemmas.Bool.Decides.{nat_tests}
 use Rattle.std.proofs.lemmas.Nat.{pow_pos}
 use Rattle.std.proofs.lemmas.Nat.Bits.{bit_at_above}
+use Rattle.d64_image.specs.declared.block.TheConstants.{BLOCKS}
 use Rattle.d64_image.specs.Block.{sectors_on, first_block}
 use Rattle.d64_image.specs.BlockSet.{is_given}
 use Rattle.d64_image.proofs.AddedBits.{or_false}
 use Rattle.d64_image.proofs.Windows.{bit_at-mod}
+use Rattle.d64_image.proofs.Zones.{counted_below}
 use Rattle.d64_map.specs.Map.{is_free, free_below}
 use Rattle.d64_map.proofs.FreeBlocks.{any-below}
 use Rattle.d64_map.proofs.Ranges.{contains-filtered}
@@ -66,6 +68,31 @@ one_track image track bits block one tell =
                 ap (λ (n : ℕ). nat_eq n 1) z ∙ ap (λ (b : Bool). b && is_free image block) (sym v)
           ]
     ]
+
+-- the bits of a track's sectors are those of blocks of a disk
+pub given_within : (track bits block : ℕ) → 1 ≤ track → track < 41
+    → (ltb block BLOCKS && is_given (first_block track) (bits % 2 ^ sectors_on track) block) ≡ is_given (first_block track) (bits % 2 ^ sectors_on track) block
+given_within track bits block one within =
+    elim (cases_lt block BLOCKS) [
+      | inl held ↦
+          let below : ltb block BLOCKS ≡ true = grind (arith, nat_tests) in
+          ap (λ (b : Bool). b && is_given (first_block track) (bits % 2 ^ sectors_on track) block) below
+      | inr past ↦
+          let none : ltb block BLOCKS ≡ false = grind (arith, nat_tests) in
+          let far : sectors_on track ≤ block - first_block track =
+          elim (cases_lt (block - first_block track) (sectors_on track)) [
+            | inl few ↦ let below = counted_below track (block - first_block track) within few in absurd (omega arith)
+            | inr far ↦ far
+          ] in
+          let clear = bit_at_above (bits % 2 ^ sectors_on track) (sectors_on track) (block - first_block track) (mod-lt bits (pow_pos (sectors_on track))) far in
+          ap (λ (b : Bool). b && is_given (first_block track) (bits % 2 ^ sectors_on track) block) none
+          ∙ sym (and_false (leb (first_block track) block))
+          ∙ ap (λ (bit : ℕ). leb (first_block track) block && nat_eq bit 1) (sym clear)
+    ]
+  where
+    and_false : (b : Bool) → (b && false) ≡ false
+    and_false true = refl
+    and_false false = refl
 
 -- so the set grows by the track
 pub track_added : (image : List (List ℕ)) (track bits : ℕ) (old new : set.FinSet nat_cmp) → 1 ≤ track → old ≡ free_below image (first_block track)

@@ -1,35 +1,14 @@
-use Rattle.std.proofs.Common.{◌≡◌, ℕ, nat_eq, ◌+◌, ◌%◌, ◌^◌, ◌||◌, bit_and, sym, ap, ap₂, ◌∙◌, inl, inr, arith}
-use Rattle.std.specs.Int.{bit_at}
+use Rattle.std.proofs.Common.{◌≡◌, ℕ, nat_eq, ◌+◌, ◌%◌, ◌^◌, ◌&&◌, ◌||◌, Bool, ltb, bit_and, sym, ap, ap₂, ◌∙◌, arith}
 use Rattle.std.specs.FinSet as set
-use Rattle.std.proofs.Math.Nat.{mod-lt}
-use Rattle.std.proofs.lemmas.Bool.{cases_lt}
-use Rattle.std.proofs.lemmas.Nat.{pow_pos, and_mask}
-use Rattle.std.proofs.lemmas.Nat.Bits.{bit_at_above}
+use Rattle.std.proofs.lemmas.Nat.{and_mask}
+use Rattle.d64_image.specs.declared.block.TheConstants.{BLOCKS}
 use Rattle.d64_image.specs.Block.{sectors_on, first_block}
 use Rattle.d64_image.specs.BlockSet.{is_given}
 use Rattle.d64_image.proofs.Pairs.{pair_at-counted}
-use Rattle.d64_image.proofs.Zones.{counted_below}
 use Rattle.d64_map.proofs.FreeBlocks.{bit_tells}
-use Rattle.d64_map.proofs.FreeTracks.{track_added}
+use Rattle.d64_map.proofs.FreeTracks.{given_within, track_added}
 use Rattle.d64_map.proofs.Maps.{sectors_few}
 use Rattle.d64_map.proofs.block_map.add_free_on.Goals as goal
-
-pub add_bits-requires : goal.add_bits-requires
-add_bits-requires c =
-    let track = c.args.track in
-    let bits = c.bits_on.result in
-    let is : bit_and bits c.sector_mask.result ≡ bits % 2 ^ sectors_on track = ap (bit_and bits) c.sector_mask.ensures ∙ and_mask bits (sectors_on track) in
-    record {
-      first = c.first_block.ensures.within;
-      blocks = λ bit one.
-          elim (cases_lt bit (sectors_on track)) [
-            | inl held ↦ let below = counted_below track bit c.requires.track.1 held in omega (arith, below, c.first_block.ensures.first)
-            | inr past ↦
-                let zero = bit_at_above (bits % 2 ^ sectors_on track) (sectors_on track) bit (mod-lt bits (pow_pos (sectors_on track))) past in
-                let set : bit_at (bits % 2 ^ sectors_on track) bit ≡ 1 = ap (λ (n : ℕ). bit_at n bit) (sym is) ∙ one in
-                absurd (omega arith)
-          ];
-    }
 
 pub returns : goal.returns
 returns c =
@@ -40,7 +19,10 @@ returns c =
     let is : bit_and bits c.sector_mask.result ≡ bits % 2 ^ sectors_on track = ap (bit_and bits) c.sector_mask.ensures ∙ and_mask bits (sectors_on track) in
     record {
       added = track_added image track bits c.args.free.now _ c.requires.track.0 c.requires.before
-          (λ block. c.add_bits.ensures block ∙ ap₂ (λ (first given : ℕ). set.contains c.args.free.now block || is_given first given block) c.first_block.ensures.first is)
+          (λ block.
+          c.add_bits.ensures block
+          ∙ ap₂ (λ (first given : ℕ). set.contains c.args.free.now block || (ltb block BLOCKS && is_given first given block)) c.first_block.ensures.first is
+          ∙ ap (λ (given : Bool). set.contains c.args.free.now block || given) (given_within track bits block c.requires.track.0 c.requires.track.1))
           (λ s held.
           let pair = pair_at-counted track s c.requires.track.0 c.requires.track.1 held in
           ap (λ (n : ℕ). nat_eq n 1) (c.bits_on.ensures s (omega (arith, few, held)))

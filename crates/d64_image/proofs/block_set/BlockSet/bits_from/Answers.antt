@@ -11,5 +11,5 @@ returns c = λ bit few.
     let first = c.args.first in
     ap (λ (n : ℕ). bit_at n bit)
     (c.bits_within.ensures ∙ ap₂ (λ (next word : ℕ). (next * 2 ^ 32 + word) / 2 ^ (first % 32) % 2 ^ 32) c.word_at-next.ensures c.word_at-word.ensures)
-    ∙ bits_tell words first bit c.self.invariant c.requires few
+    ∙ bits_tell words first bit c.self.invariant few
     ∙ ap (λ (members : set.FinSet nat_cmp). cond (set.contains members (first + bit)) 1 0) c.self.view_is
