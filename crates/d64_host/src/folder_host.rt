@@ -1,7 +1,6 @@
 //! A host over the files of the system, as they lie in the current folder.
 
 ghost use Rattle.std.specs.Prelude.{◌≡◌, ◌≢◌, ℕ, List, true, false, ◌+◌, ◌<◌, ◌≤◌, ◌↔◌, ◌++◌, length, vec_len, None, IfOk, IfErr, IfSome, OnOk, OnErr};
-ghost use Rattle.std.specs.Io.KnownBytes.{Consumes, IsAtEnd};
 ghost use Rattle.d64_host.specs.Folders.{failures_after_making};
 ghost use Rattle.d64_host.specs.Host.{failures_after};
 
@@ -10,7 +9,7 @@ use crate::new_entry;
 use crate::retrying::Retrying;
 use crate::size_limit::SizeLimit;
 use crate::whole_store::store_file;
-use std::alloc::Global;
+use std::alloc::{AllocError, Global};
 use std::fs::File;
 use std::io::{ErrorKind, Read};
 use std::marker::Model;
@@ -18,14 +17,7 @@ use std::os::fd::AsFd;
 use std::path::Path;
 use std::rt::Files;
 
-/// How many bytes each of the first reads of a file asks for. A buffer is cleared before it is read
-/// into, and most files are small.
-const FIRST_READ_BYTES: usize = 4_096;
-
-/// How many reads of a file ask for so few: the second one tells that a small file has ended.
-const FIRST_READS: u64 = 2;
-
-/// How many bytes each read of a larger file asks for: an image takes eleven of them.
+/// How many bytes each read of a file asks for: an image takes eleven of them.
 const READ_BYTES: usize = 16_384;
 
 /// The files of the system, by their paths from the current folder.
@@ -36,6 +28,9 @@ const READ_BYTES: usize = 16_384;
 #[derive(Drop)]
 pub struct FolderHost<R> {
     rt: R,
+    /// Through what files are read, once the first one was. It is kept, so that it is cleared once
+    /// and not for each file.
+    buffer: Option<Box<[u8; READ_BYTES]>>,
     /// The process's limit on the size of a file, once the first one was to be made.
     size_limit: Option<SizeLimit>,
     failures: u64,
@@ -56,6 +51,7 @@ impl<R: Files + Drop> FolderHost<R> {
     {
         FolderHost {
             rt,
+            buffer: None,
             size_limit: None,
             failures: 0,
         }
@@ -91,7 +87,7 @@ where
     }
 
     fn fill(&mut self, name: &str, limit: usize, bytes: &mut Vec<u8>) -> Result<(), HostFault> {
-        let outcome = read_file(&self.rt, name, limit, bytes);
+        let outcome = read_file(&self.rt, name, &mut self.buffer, limit, bytes);
         count_failure(&mut self.failures, &outcome);
         outcome
     }
@@ -159,17 +155,27 @@ fn count_refusal(failures: &mut u64, outcome: &Result<(), FolderFault>)
     }
 }
 
-/// Fills a buffer with the bytes of the file at this path.
+/// Puts the bytes of the file at this path in the place of what `bytes` has.
 fn read_file<R: Files>(
     rt: &R,
     path: &str,
+    buffer: &mut Option<Box<[u8; READ_BYTES]>>,
     limit: usize,
     bytes: &mut Vec<u8>,
 ) -> Result<(), HostFault>
     ensures { OnOk result (length bytes.new.items ≤ limit) }
 {
     let mut file = open_file(rt, path)?;
-    read_to_end(&mut file, limit, bytes)
+    if buffer.is_none() {
+        match Box::new(*bytes.allocator(), [0; READ_BYTES]) {
+            Ok(cleared) => *buffer = Some(cleared),
+            Err(failed) => return Err(HostFault::Memory(AllocError::from(failed))),
+        }
+    }
+    match buffer {
+        Some(buffer) => read_to_end(&mut file, &mut **buffer, limit, bytes),
+        None => unreachable!(),
+    }
 }
 
 /// Opens the file at this path, to be read.
@@ -194,50 +200,29 @@ fn open_fault(kind: ErrorKind) -> HostFault
     }
 }
 
-/// Fills a buffer with all that a file has left. The read that passes the limit is the last one.
-fn read_to_end<F: Read>(file: &mut F, limit: usize, bytes: &mut Vec<u8>) -> Result<(), HostFault>
+/// Puts all that a file has left in the place of what `bytes` has. The read that passes the limit is
+/// the last one.
+fn read_to_end<F: Read>(
+    file: &mut F,
+    buffer: &mut [u8],
+    limit: usize,
+    bytes: &mut Vec<u8>,
+) -> Result<(), HostFault>
+    requires { 0 < length buffer.old }
     ensures within { OnOk result (length bytes.new.items ≤ limit) }
     ensures whole { OnOk result (IfSome (F.remaining file.old) (λ rest. bytes.new.items ≡ rest)) }
     ensures too_long { result ≡ Err HostFault.TooLong → IfSome (F.remaining file.old) (λ rest. limit < length rest) }
     ensures never_missing { result ≢ Err HostFault.Missing }
 {
     bytes.clear();
-    let is_small = read_pieces(file, &mut [0; FIRST_READ_BYTES], FIRST_READS, limit, bytes)?;
-    if is_small || read_pieces(file, &mut [0; READ_BYTES], u64::MAX, limit, bytes)? {
-        Ok(())
-    } else {
-        unreachable!()
-    }
-}
-
-/// Adds what at most so many reads bring, each a byte at least. Returns whether the file then has
-/// nothing left.
-fn read_pieces<F: Read>(
-    file: &mut F,
-    buffer: &mut [u8],
-    reads: u64,
-    limit: usize,
-    bytes: &mut Vec<u8>,
-) -> Result<bool, HostFault>
-    requires within { vec_len bytes.old ≤ limit }
-    requires has_room { 0 < length buffer.old }
-    ensures within { OnOk result (vec_len bytes.new ≤ limit) }
-    ensures added { OnOk result ((piece : List ℕ) × (bytes.new.items ≡ bytes.old.items ++ piece)
-        × Consumes (F.remaining file.old) (F.remaining file.new) piece) }
-    ensures at_end { IfOk result (λ is_over. is_over ≡ true → IsAtEnd (F.remaining file.new)) }
-    ensures each { IfOk result (λ is_over. is_over ≡ false → vec_len bytes.old + reads ≤ vec_len bytes.new) }
-    ensures too_long { result ≡ Err HostFault.TooLong →
-        IfSome (F.remaining file.old) (λ rest. limit < vec_len bytes.old + length rest) }
-    ensures never_missing { result ≢ Err HostFault.Missing }
-{
-    for _ in 0..reads {
+    for _ in 0..u64::MAX {
         match file.read(buffer) {
-            Ok(0) => return Ok(true),
+            Ok(0) => return Ok(()),
             Ok(count) => add_piece(bytes, &buffer[..count], limit)?,
             Err(_) => return Err(HostFault::Device),
         }
     }
-    Ok(false)
+    unreachable!()
 }
 
 /// Adds a piece that was read, where with it there are at most `limit` bytes.
