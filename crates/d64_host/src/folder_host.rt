@@ -8,6 +8,7 @@ use crate::host::{FolderFault, Host, HostFault};
 use crate::new_entry;
 use crate::retrying::Retrying;
 use crate::size_limit::SizeLimit;
+use crate::standard_streams::StandardStreams;
 use crate::whole_store::store_file;
 use std::alloc::{AllocError, Global};
 use std::fs::File;
@@ -33,6 +34,8 @@ pub struct FolderHost<R> {
     buffer: Option<Box<[u8; READ_BYTES]>>,
     /// The process's limit on the size of a file, once the first one was to be made.
     size_limit: Option<SizeLimit>,
+    /// What is open as the standard streams, once the first file was to be stored.
+    streams: Option<StandardStreams>,
     failures: u64,
 }
 
@@ -53,6 +56,7 @@ impl<R: Files + Drop> FolderHost<R> {
             rt,
             buffer: None,
             size_limit: None,
+            streams: None,
             failures: 0,
         }
     }
@@ -104,7 +108,11 @@ where
 
     fn store(&mut self, alloc: Global, name: &str, bytes: &[u8]) -> Result<(), HostFault> {
         let limit = self.size_limit();
-        let outcome = store_file(&self.rt, alloc, limit, name, bytes);
+        let rt = &self.rt;
+        let streams = self
+            .streams
+            .get_or_insert_with(|| StandardStreams::of_process(rt));
+        let outcome = store_file(rt, alloc, limit, streams, name, bytes);
         count_failure(&mut self.failures, &outcome);
         outcome
     }

@@ -37,27 +37,36 @@ impl StandardStream {
         };
         number_after(rt, path, "pos:").unwrap_or(0)
     }
-
-    /// Whether this file is open as this stream.
-    fn is_of<R: Files>(self, rt: &R, file: &Metadata) -> bool {
-        match self.metadata(rt) {
-            Some(found) => is_same_file(&found, file),
-            None => false,
-        }
-    }
 }
 
-/// Whether what this name leads to is open as one of the standard streams too, or may be, since the
-/// system does not say. This is asked before anything is opened, which could get the descriptor of
-/// a stream that is closed.
-pub fn may_be_standard_stream<R: Files>(rt: &R, name: &str) -> bool {
-    match fs::metadata(rt, name) {
-        Ok(file) => {
-            StandardStream::Input.is_of(rt, &file)
-                || StandardStream::Output.is_of(rt, &file)
-                || StandardStream::Error.is_of(rt, &file)
+/// What the system says of what is open as each standard stream of the process, where something is.
+#[derive(Drop)]
+pub struct StandardStreams([Option<Metadata>; 3]);
+
+impl StandardStreams {
+    /// The streams of this process. They are asked for before anything is opened, which could get
+    /// the descriptor of a stream that is closed.
+    pub fn of_process<R: Files>(rt: &R) -> StandardStreams {
+        let streams = [
+            StandardStream::Input,
+            StandardStream::Output,
+            StandardStream::Error,
+        ];
+        StandardStreams(streams.map(|stream| stream.metadata(rt)))
+    }
+
+    /// Whether this file is open as one of them.
+    fn have(&self, file: &Metadata) -> bool {
+        self.0.iter().flatten().any(|open| is_same_file(open, file))
+    }
+
+    /// Whether what this name leads to is open as one of them too, or may be, since the system does
+    /// not say.
+    pub fn may_have<R: Files>(&self, rt: &R, name: &str) -> bool {
+        match fs::metadata(rt, name) {
+            Ok(file) => self.have(&file),
+            Err(error) => error.kind() != ErrorKind::NotFound,
         }
-        Err(error) => error.kind() != ErrorKind::NotFound,
     }
 }
 

@@ -11,7 +11,7 @@ use crate::host::HostFault;
 use crate::new_entry::make_file;
 use crate::new_file::{NewFile, write_to_end};
 use crate::size_limit::SizeLimit;
-use crate::standard_streams::{is_same_file, may_be_standard_stream};
+use crate::standard_streams::{StandardStreams, is_same_file};
 use std::alloc::{AllocError, Global};
 use std::fs::{self, Metadata, OpenFile, OpenOptions};
 use std::io::{ErrorKind, Write};
@@ -38,6 +38,7 @@ pub fn store_file<R: Files>(
     rt: &R,
     alloc: Global,
     limit: SizeLimit,
+    streams: &StandardStreams,
     name: &str,
     bytes: &[u8],
 ) -> Result<(), HostFault>
@@ -45,7 +46,7 @@ where
     R::File: AsFd,
     ensures { IfErr result IsOfDeviceOrMemory }
 {
-    if may_be_standard_stream(rt, name) {
+    if streams.may_have(rt, name) {
         return Err(HostFault::Device);
     }
     // The system opens the file, by its own rules of which links may be followed.
