@@ -111,7 +111,8 @@ def build_libraries(crates, wanted):
     printed = {}
 
     def build(crate):
-        status, printed[crate] = rt(crate, "lib", "--jobs", "2")
+        with set_apart(crates, crate) as top:
+            status, printed[crate] = rt(crate, "lib", "--jobs", "2", top=top)
         return status == 0
 
     well = True
