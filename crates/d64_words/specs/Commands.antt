@@ -31,12 +31,17 @@ output_option = record (valued_option (codes "output")) { short = Some 111 }
 abbrev pub files_argument : Rule
 files_argument = record file_argument { range = Some (record { start_inclusive = 1; end_inclusive = usize_max }) }
 
--- a subcommand with the words for a script: `-c LINE` and `--command LINE`, any number of times,
--- and `-e` and `--stop-at-refusal`
+-- `-c LINE` and `--command LINE`, any number of times
+abbrev pub line_option : Rule
+line_option = record (valued_option (codes "command")) { short = Some 99; action = Some Append }
+
+-- `-e` and `--stop-at-refusal`
+abbrev pub stop_flag : Rule
+stop_flag = record (flag (codes "stop-at-refusal")) { short = Some 101 }
+
+-- a subcommand with the words for a script
 abbrev pub with_script : App → App
-with_script app =
-    let line = record (valued_option (codes "command")) { short = Some 99; action = Some Append } in
-    with_rule (with_rule app line) (record (flag (codes "stop-at-refusal")) { short = Some 101 })
+with_script app = with_rule (with_rule app line_option) stop_flag
 
 -- `shell [--tracks N] [--resume FILE] [IMAGE]` with the words for a script
 abbrev pub shell : App

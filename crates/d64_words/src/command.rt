@@ -4,7 +4,7 @@ ghost use Rattle.std.specs.Prelude.{◌≡◌, IfOk, false};
 ghost use Rattle.clap.specs.Words.{app_of, kind_of, new_app, rule_of};
 ghost use Rattle.clap.specs.declared.error.kind.ErrorKind.TheVariants.{InvalidValue};
 ghost use Rattle.clap.specs.declared.builder.command.Command.TheViews.{out-Command as fields_of};
-ghost use Rattle.d64_words.specs.Commands.{bare, d64sh, shell, petcat, crunch, check, files, extract, map, diff, catalogue, survey, with_names, file_argument, required_argument, files_argument, valued_option, output_option, flag, with_script};
+ghost use Rattle.d64_words.specs.Commands.{bare, d64sh, shell, petcat, crunch, check, files, extract, map, diff, catalogue, survey, with_names, file_argument, required_argument, files_argument, valued_option, output_option, line_option, stop_flag, flag, with_script};
 
 use crate::help::help_of;
 use clap::error::ErrorKind;
@@ -99,20 +99,7 @@ fn with_script<'a>(alloc: Global, command: Command<'a>) -> Result<Command<'a>, A
     ensures app { IfOk result (λ with. app_of with ≡ with_script (app_of command.entry)) }
     ensures local { IfOk result (λ with. (fields_of with).has_globals ≡ (fields_of command.entry).has_globals) }
 {
-    let line = valued_option(
-        alloc,
-        "command",
-        "LINE",
-        "A line to run, in place of the standard input; more of them run in turn",
-    );
-    let stop = flag(
-        alloc,
-        "stop-at-refusal",
-        "End the script after the first line that is refused",
-    );
-    command
-        .arg(line.short('c').action(ArgAction::Append))?
-        .arg(stop.short('e'))
+    command.arg(line_option(alloc))?.arg(stop_flag(alloc))
 }
 
 /// `petcat [-o FILE] [FILE]`.
@@ -294,6 +281,34 @@ fn output_option<'a>(alloc: Global, help: &'a str) -> Arg<'a>
     ensures local { result.global ≡ false }
 {
     valued_option(alloc, "output", "FILE", help).short('o')
+}
+
+/// `-c LINE` and `--command LINE`, any number of times.
+fn line_option<'a>(alloc: Global) -> Arg<'a>
+    ensures rule { rule_of result ≡ line_option }
+    ensures local { result.global ≡ false }
+{
+    valued_option(
+        alloc,
+        "command",
+        "LINE",
+        "A line to run, in place of the standard input; more of them run in turn",
+    )
+    .short('c')
+    .action(ArgAction::Append)
+}
+
+/// `-e` and `--stop-at-refusal`.
+fn stop_flag<'a>(alloc: Global) -> Arg<'a>
+    ensures rule { rule_of result ≡ stop_flag }
+    ensures local { result.global ≡ false }
+{
+    flag(
+        alloc,
+        "stop-at-refusal",
+        "End the script after the first line that is refused",
+    )
+    .short('e')
 }
 
 /// `NAME`, which must be given.
