@@ -9,3 +9,4 @@ pub mod Differences
 pub mod Patches
 pub mod SameBytes
 pub mod KeptBlocks
+pub mod PatchLists

@@ -8,3 +8,4 @@ pub mod Lending
 pub mod ImageFault
 pub mod Patch
 pub mod Laws
+pub mod PatchList

@@ -10,8 +10,10 @@ mod block_set;
 mod image;
 pub mod laws;
 mod patch;
+mod patch_list;
 
 pub use block::{BLOCKS, BlockNo, Blocks};
 pub use block_set::BlockSet;
 pub use image::{BLOCK_BYTES, Image, ImageFault, blocks_of, known_bytes};
 pub use patch::Patch;
+pub use patch_list::{PatchList, Place};

@@ -43,6 +43,18 @@ fn make_room(kept: &mut Vec<(BlockNo, [u8; BLOCK_BYTES])>) -> Result<(), AllocEr
     kept.reserve_exact(kept.len().max(1))
 }
 
+/// Exchanges the bytes of each kept block with those that the image has there: it has each of them.
+pub(crate) fn swap_blocks(kept: &mut [(BlockNo, [u8; BLOCK_BYTES])], image: &mut Image)
+    requires { IsPatchOf image.old kept.old }
+    ensures image { image.new ≡ back image.old kept.old }
+    ensures kept { kept.new ≡ taken image.old kept.old }
+{
+    for place in 0..kept.len() {
+        let entry = &mut kept[place];
+        mem::swap(&mut entry.1, image.sector_mut(entry.0));
+    }
+}
+
 impl Patch {
     /// The patch that keeps nothing. Takes no memory.
     pub fn new(alloc: Global) -> Patch
@@ -146,17 +158,6 @@ impl Patch {
         Ok(())
     }
 
-    /// Writes the bytes of each kept block into the image, which has each of them, and goes on
-    /// keeping them. Takes no memory.
-    pub fn put_back(&self, image: &mut Image)
-        requires { IsPatchOf image.old self.now }
-        ensures { image.new ≡ back image.old self.now }
-    {
-        for entry in &self.kept {
-            *image.sector_mut(entry.0) = entry.1;
-        }
-    }
-
     /// Exchanges the bytes of each kept block with those that the image has there: it has each of
     /// them. Takes no memory.
     pub fn swap(&mut self, image: &mut Image)
@@ -168,10 +169,7 @@ impl Patch {
         ensures held { IsPatchOf image.new self.new }
     {
         image.known_image();
-        for place in 0..self.kept.len() {
-            let entry = &mut self.kept[place];
-            mem::swap(&mut entry.1, image.sector_mut(entry.0));
-        }
+        swap_blocks(&mut self.kept, image);
     }
 
     /// Forgets the blocks whose kept bytes the image has: those in which it doesn't differ from the

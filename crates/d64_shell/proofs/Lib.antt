@@ -3,3 +3,4 @@ pub mod SurveyRuns
 mod JobEnds
 mod ComparisonRuns
 mod StoredRuns
+mod SessionFiles

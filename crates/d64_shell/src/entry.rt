@@ -31,7 +31,7 @@ use std::io::{Read, Write};
 pub(crate) const FILE_BYTES: usize = 16_777_216;
 
 /// The most bytes of a session file that are read.
-pub(crate) const SESSION_BYTES: usize = 67_108_864;
+pub(crate) const SESSION_BYTES: u32 = 67_108_864;
 
 /// The exit status where all lines were accepted, or a tool's input.
 pub(crate) const ALL_ACCEPTED: u8 = 0;

@@ -18,9 +18,12 @@ use d64_line::host_file::fetch;
 use d64_runner::{Listener, Manner, Outcome, Refusals, ScriptRunner, ShellFault, run_script};
 use d64_script::input::InputStream;
 use d64_script::output::OutputStream;
-use d64_undo::{Session, resume};
+use d64_undo::{ReadFault, Session, resume_from};
 use std::alloc::{AllocError, Global};
 use std::io::{Read, Write};
+
+/// How many bytes each read of a session file asks for.
+const READ_BYTES: usize = 16_384;
 
 /// What the words ask of the shell.
 #[derive(Clone, Copy, Debug)]
@@ -192,9 +195,21 @@ fn session_of_file<H: Host>(
         (H.state host.new)
         × GivesNoSession fetched fault) }
 {
-    match fetch(alloc, host, name, SESSION_BYTES) {
-        Ok(file) => Ok(resume(alloc, file.as_slice())?),
-        Err(fault) => Err(ProgramFault::of_file(fault, ProgramFault::UnreadableSession)),
+    let mut buffer = vec![in alloc; 0; READ_BYTES]?;
+    let mut file = match host.open(name) {
+        Ok(file) => file,
+        Err(fault) => {
+            return Err(ProgramFault::of_file(fault, ProgramFault::UnreadableSession));
+        }
+    };
+    match resume_from(alloc, &mut file, &mut buffer, SESSION_BYTES) {
+        Ok(session) => Ok(session),
+        Err(ReadFault::Resume(fault)) => Err(fault.into()),
+        Err(ReadFault::TooLong) => Err(ProgramFault::UnreadableSession),
+        Err(ReadFault::Device) => {
+            host.count_failed_read();
+            Err(ProgramFault::UnreadableSession)
+        }
     }
 }
 

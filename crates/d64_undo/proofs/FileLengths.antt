@@ -2,13 +2,14 @@
 use Rattle.std.proofs.Common.{◌≡◌, ℕ, ◌+◌, ◌*◌, ◌≤◌, List, [], ◌∷◌, ◌++◌, length, refl, sym, ap, ◌∙◌, inl, inr, arith}
 use Rattle.std.specs.Prelude.{min}
 use Rattle.std.specs.Int.{w16, w64, to_le_bytes}
-use Rattle.std.specs.List.{flat_map}
+use Rattle.std.specs.List.{All, flat_map}
 use Rattle.std.proofs.lemmas.Bool.{cases_lt}
 use Rattle.std.proofs.Math.Nat.{min-eq_left, min-eq_right}
 use Rattle.std.proofs.lemmas.List.{length-append}
 use Rattle.std.proofs.lemmas.List.Elements.{All-head, All-tail}
 use Rattle.d64_image.specs.Image.{IsBlock, bytes_of}
 use Rattle.d64_image.specs.Patch.{Kept, HaveBlocks}
+use Rattle.d64_image.specs.PatchList.{total, blocks_before}
 use Rattle.d64_undo.specs.SessionFile.{block_file, record_file, file_with}
 
 -- two bytes of a block's index, and its own
@@ -46,6 +47,29 @@ counted_on most sum more = elim (cases_lt sum most) [
       let one : most ≤ most + more = omega arith in
       let other : most ≤ sum + more = omega arith in
       ap (λ (n : ℕ). min (n + more) most) (min-eq_right full)
+      ∙ min-eq_right one
+      ∙ sym (min-eq_right other)
+]
+
+-- of all records
+pub length-records : (records : List Kept) → All HaveBlocks records
+    → length (flat_map record_file records) ≡ length records * 2 + blocks_before records (length records) * 258
+unfolding total
+length-records [] blocks = refl
+length-records (patch ∷ records) blocks =
+    let one = length-record patch (All-head HaveBlocks patch records blocks) in
+    let rest = length-records records (All-tail HaveBlocks patch records blocks) in
+    let all = length-append (record_file patch) (flat_map record_file records) in
+    omega arith
+
+-- a part that was counted up to a most
+pub counted_over : (most sum more : ℕ) → min (sum + min more most) most ≡ min (sum + more) most
+counted_over most sum more = elim (cases_lt more most) [
+  | inl less ↦ let below : more ≤ most = omega arith in ap (λ (n : ℕ). min (sum + n) most) (min-eq_left below)
+  | inr full ↦
+      let one : most ≤ sum + most = omega arith in
+      let other : most ≤ sum + more = omega arith in
+      ap (λ (n : ℕ). min (sum + n) most) (min-eq_right full)
       ∙ min-eq_right one
       ∙ sym (min-eq_right other)
 ]

@@ -60,7 +60,7 @@ blocks_again ((index, content) ∷ patch) blocks low rest r most b =
       blocks_again patch blocks (index + 1) rest r.2 most (All-tail (λ (e : ℕ × List ℕ). IsBlock e.1) (index, content) patch b),
     ) refl
 
-record_again : (patch : Kept) (blocks : ℕ) (rest : List ℕ) → blocks ≤ 768 → IsRecord blocks patch
+pub record_again : (patch : Kept) (blocks : ℕ) (rest : List ℕ) → blocks ≤ 768 → IsRecord blocks patch
     → record_file_at blocks (record_file patch ++ rest) ≡ Ok (patch, rest)
 unfolding record_file_at
 record_again patch blocks rest few is =
@@ -68,7 +68,7 @@ record_again patch blocks rest few is =
     ap (record_file_at blocks) (append_assoc (to_le_bytes w16 (length patch)) (flat_map block_file patch) rest)
     ∙ rw (two_again (length patch) (flat_map block_file patch ++ rest) (omega arith)) (blocks_again patch blocks 0 rest is.0 (omega arith) is.1)
 
-records_again : (records : List Kept) (blocks : ℕ) (rest : List ℕ) → blocks ≤ 768 → All (IsRecord blocks) records
+pub records_again : (records : List Kept) (blocks : ℕ) (rest : List ℕ) → blocks ≤ 768 → All (IsRecord blocks) records
     → records_at blocks (length records) (flat_map record_file records ++ rest) ≡ Ok (records, rest)
 unfolding records_at
 records_again [] blocks rest e each = refl
@@ -115,7 +115,7 @@ length-joined (piece ∷ pieces) n each =
     length-append piece (flat_map (λ (x : List ℕ). x) pieces) ∙ both
 
 -- the image of a file
-shown_again : (image : List (List ℕ)) (rest : List ℕ) → IsImage image → image_at (magic ++ tracks_of (length image) ∷ (bytes_of image ++ rest)) ≡ Ok (image, rest)
+pub shown_again : (image : List (List ℕ)) (rest : List ℕ) → IsImage image → image_at (magic ++ tracks_of (length image) ∷ (bytes_of image ++ rest)) ≡ Ok (image, rest)
 unfolding image_at
 shown_again image rest is =
     let long : length (bytes_of image) ≡ length image * BLOCK_BYTES = length-joined image BLOCK_BYTES (λ k d h. (is.1 k d h).0) in
@@ -128,7 +128,7 @@ shown_again image rest is =
     ∙ rw (block_count_again image (bytes_of image ++ rest) is.0, bytes_again (bytes_of image) rest (length image * BLOCK_BYTES) long, image_again image is) refl
 
 -- the counts of a file
-counts_again : (done count : ℕ) (rest : List ℕ) → done ≤ count → count < 2 ^ 64
+pub counts_again : (done count : ℕ) (rest : List ℕ) → done ≤ count → count < 2 ^ 64
     → counts_at (to_le_bytes w64 done ++ (to_le_bytes w64 count ++ rest)) ≡ Ok ((done, count), rest)
 unfolding counts_at
 counts_again done count rest within h =

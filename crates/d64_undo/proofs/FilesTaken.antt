@@ -151,7 +151,7 @@ blocks_take (suc n) blocks low bytes x are e =
       rises-cons blocks low a.0.0 b.0.0 first.1 second.2,
     )
 
-record_takes : (blocks : ℕ) (bytes : List ℕ) (x : Kept × List ℕ) → AreBytes bytes → record_file_at blocks bytes ≡ Ok x
+pub record_takes : (blocks : ℕ) (bytes : List ℕ) (x : Kept × List ℕ) → AreBytes bytes → record_file_at blocks bytes ≡ Ok x
     → Takes bytes (record_file x.0) x.1 × IsRecordOf blocks 0 x.0
 unfolding record_file_at
 record_takes blocks bytes x are e =
@@ -231,7 +231,7 @@ chunked (suc count) bytes long are =
       ap (λ (more : List ℕ). take BLOCK_BYTES bytes ++ more) rest.2 ∙ take-append-drop BLOCK_BYTES bytes,
     )
 
-image_takes : (bytes : List ℕ) (x : List (List ℕ) × List ℕ) → AreBytes bytes → image_at bytes ≡ Ok x
+pub image_takes : (bytes : List ℕ) (x : List (List ℕ) × List ℕ) → AreBytes bytes → image_at bytes ≡ Ok x
     → Takes bytes (magic ++ tracks_of (length x.0) ∷ bytes_of x.0) x.1 × IsImage x.0
 unfolding image_at
 image_takes bytes x are e =
@@ -258,7 +258,7 @@ image_takes bytes x are e =
 
 -- ---- all parts
 
-counts_take : (bytes : List ℕ) (x : (ℕ × ℕ) × List ℕ) → AreBytes bytes → counts_at bytes ≡ Ok x
+pub counts_take : (bytes : List ℕ) (x : (ℕ × ℕ) × List ℕ) → AreBytes bytes → counts_at bytes ≡ Ok x
     → Takes bytes (to_le_bytes w64 x.0.0 ++ to_le_bytes w64 x.0.1) x.1 × (x.0.0 ≤ x.0.1) × (x.0.1 < 2 ^ 64)
 unfolding counts_at
 counts_take bytes x are e =

@@ -9,4 +9,7 @@ pub mod FilesRead
 pub mod FilesTaken
 pub mod Resumed
 pub mod Reading
+pub mod Pieces
+pub mod Given
+pub mod Readers
 pub mod Runs

@@ -1,16 +1,14 @@
 -- reading part after part, as the code does
-use Rattle.std.proofs.Common.{◌≡◌, ℕ, suc, ◌+◌, ◌-◌, ◌<◌, ◌≤◌, ◌==◌, cond, Bool, true, false, ◌&&◌, ◌||◌, not, nat_lt, List, [], ◌∷◌, ◌++◌, length, get_or, drop, Result, Ok, Err, refl, sym, ap, ap₂, ◌∙◌, subst, arith, append_assoc, eq-eqb}
+use Rattle.std.proofs.Common.{◌≡◌, ℕ, suc, ◌+◌, ◌-◌, ◌<◌, ◌≤◌, ◌==◌, cond, Bool, true, false, ◌&&◌, ◌||◌, not, nat_lt, List, [], ◌∷◌, ◌++◌, length, get_or, reverse, take, drop, Result, Ok, Err, refl, sym, ap, ap₂, ◌∙◌, subst, arith, append_assoc, eq-eqb}
 use Rattle.std.proofs.lemmas.Bool.{ltb-false, ltb-true, ne_eqb}
-use Rattle.std.proofs.lemmas.List.{append-nil, drop_all, drop_more, nil_from_length, length-reverse, get_or_default}
+use Rattle.std.proofs.lemmas.List.{append-nil, drop_more, take_more, nil_from_length, length-reverse, length-take-le, length-drop, reverse-append}
 use Rattle.std.specs.Int.{w16}
 use Rattle.d64_image.specs.declared.image.TheConstants.{BLOCK_BYTES}
 use Rattle.d64_image.specs.Patch.{Kept, RisesBetween, back}
 use Rattle.d64_undo.specs.ResumeFault.{◌>>=◌, Reading, bytes_at, number_at, after_magic, index_at, block_at, blocks_at, record_file_at, records_at, all_differ, differ_along}
-use Rattle.d64_undo.specs.Resuming.{Fails, in_turn}
+use Rattle.d64_undo.specs.Resuming.{Fails, on_side}
 use Rattle.d64_undo.specs.declared.resume_fault.ResumeFault.{ResumeFault}
 use Rattle.d64_undo.specs.declared.resume_fault.ResumeFault.TheVariants.{NotSession, Truncated, Trailing, BadCursor, BadRecord, Memory}
-use Rattle.std.specs.List.{All}
-use Rattle.d64_undo.proofs.Leads.{All-turned}
 use Rattle.d64_undo.proofs.FilesTaken.{bind_ok, guard_ok, ok_is, either_false}
 
 -- a fault ends the reading
@@ -51,40 +49,43 @@ magic_ends start rest i h none = ap₂ (λ (s r : List ℕ). after_magic s r) (d
 
 -- ---- records that lead away
 
-walked : (records : List Kept) (image : List (List ℕ)) (i : ℕ) (patch : Kept) → i < length records → patch ≡ get_or records i patch
-    → differ_along image (drop i records) ≡ (all_differ image patch && differ_along (back image patch) (drop (i + 1) records))
-unfolding differ_along
-walked records image i patch h is =
-    ap (differ_along image) (drop_more records i patch h ∙ ap (λ (p : Kept). p ∷ drop (i + 1) records) (sym is))
-
 -- a record with a block that doesn't differ
-pub differ_ends : (records : List Kept) (image : List (List ℕ)) (i : ℕ) (patch : Kept) → i < length records → patch ≡ get_or records i patch
-    → false ≡ all_differ image patch → false ≡ differ_along image (drop i records)
-differ_ends records image i patch h is e =
-    ap (λ (t : Bool). t && differ_along (back image patch) (drop (i + 1) records)) e ∙ sym (walked records image i patch h is)
+pub differ_ends : (list records : List Kept) (image : List (List ℕ)) (patch : Kept) → list ≡ patch ∷ records
+    → false ≡ all_differ image patch → false ≡ differ_along image list
+unfolding differ_along
+differ_ends list records image patch is e =
+    ap (λ (t : Bool). t && differ_along (back image patch) records) e ∙ sym (ap (differ_along image) is)
 
 -- a record whose blocks differ
-pub differ_on : (records : List Kept) (image : List (List ℕ)) (i : ℕ) (patch : Kept) → i < length records → patch ≡ get_or records i patch
-    → true ≡ all_differ image patch → differ_along (back image patch) (drop (i + 1) records) ≡ differ_along image (drop i records)
-differ_on records image i patch h is e =
-    ap (λ (t : Bool). t && differ_along (back image patch) (drop (i + 1) records)) e ∙ sym (walked records image i patch h is)
-
-pub differ_all : (records : List Kept) (image : List (List ℕ)) (i : ℕ) → length records ≤ i → true ≡ differ_along image (drop i records)
+pub differ_on : (list records : List Kept) (image : List (List ℕ)) (patch : Kept) → list ≡ patch ∷ records
+    → true ≡ all_differ image patch → differ_along (back image patch) records ≡ differ_along image list
 unfolding differ_along
-differ_all records image i h = sym (ap (differ_along image) (drop_all i records h))
+differ_on list records image patch is e =
+    ap (λ (t : Bool). t && differ_along (back image patch) records) e ∙ sym (ap (differ_along image) is)
 
--- ---- records in their order, or the last one first
+pub differ_all : (list : List Kept) (image : List (List ℕ)) → length list ≡ 0 → true ≡ differ_along image list
+unfolding differ_along
+differ_all list image none = sym (ap (differ_along image) (nil_from_length list none))
 
-pub length-in_turn : (is_back : Bool) (records : List Kept) → length (in_turn is_back records) ≡ length records
-length-in_turn true records = length-reverse records
-length-in_turn false records = refl
+-- ---- records on one side of a place
 
-pub All-in_turn : (P : Kept → Type 0) (is_back : Bool) (records : List Kept) → All P records → All P (in_turn is_back records)
-All-in_turn P true records each = All-turned P records each
-All-in_turn P false records each = each
+pub length-on_side : (is_back : Bool) (records : List Kept) (n : ℕ) → n ≤ length records
+    → length (on_side is_back records n) ≡ cond is_back n (length records - n)
+length-on_side true records n h = length-reverse (take n records) ∙ length-take-le n records h
+length-on_side false records n h = length-drop n records
 
-pub get_or_same : (records : List Kept) (i : ℕ) (patch : Kept) → i < length records → patch ≡ get_or records i [] → patch ≡ get_or records i patch
-get_or_same records i patch h is = is ∙ sym (get_or_default records i patch [] h)
+-- the first of those before it
+pub back-next : (records : List Kept) (n r : ℕ) → r + 1 ≡ n → n ≤ length records
+    → on_side true records n ≡ get_or records r [] ∷ on_side true records r
+back-next records n r is h =
+    ap (λ (k : ℕ). reverse (take k records)) (sym is)
+    ∙ ap reverse (take_more records r [] (omega arith))
+    ∙ reverse-append (take r records) (get_or records r [] ∷ [])
+
+-- and of those after it
+pub on-next : (records : List Kept) (n next : ℕ) → next ≡ n + 1 → n < length records
+    → on_side false records n ≡ get_or records n [] ∷ on_side false records next
+on-next records n next is h = drop_more records n [] h ∙ ap (λ (k : ℕ). get_or records n [] ∷ drop k records) (sym is)
 
 -- ---- loops over what is counted
 

@@ -1,15 +1,16 @@
 -- sessions: the history of what a session holds, and what it becomes
-use Rattle.std.proofs.Common.{◌≡◌, ℕ, ◌+◌, ◌<◌, ◌≤◌, ◌⊎◌, Bool, true, false, cond, nat_lt, Some, None, List, [], ◌∷◌, ◌++◌, length, take, get_or, set, sym, ap, ap₂, ◌∙◌, subst, inl, inr, arith}
+use Rattle.std.proofs.Common.{◌≡◌, ℕ, ◌+◌, ◌<◌, ◌≤◌, Bool, true, false, cond, nat_lt, Option, Some, None, List, [], ◌∷◌, ◌++◌, length, take, get_or, set, refl, sym, ap, ap₂, ◌∙◌, subst, inl, inr, arith}
 use Rattle.std.proofs.lemmas.Bool.{cases_lt}
 use Rattle.std.proofs.lemmas.Bool.Decides.{nat_tests}
 use Rattle.std.proofs.lemmas.List.{get_or_default, length-set}
-use Rattle.std.proofs.Math.Nat.{min-eq_left, min-eq_right}
-use Rattle.std.specs.Prelude.{min}
 use Rattle.d64_image.specs.Image.{differences}
-use Rattle.d64_image.specs.Patch.{Kept, back, changed}
+use Rattle.d64_image.specs.Patch.{Kept, IsPatchOf, back, changed, taken}
+use Rattle.d64_image.specs.PatchList.{blocks_before}
+use Rattle.d64_image.proofs.Patches.{back-taken, taken-changed, length-back, rises-difference}
+use Rattle.d64_image.proofs.PatchLists.{before-swapped}
 use Rattle.d64_undo.specs.History.{History, IsHistory, present, begun, added, record_len, record_at}
 use Rattle.d64_undo.specs.Records.{images_of, AreRecords}
-use Rattle.d64_undo.proofs.Records.{length-images, image-at_cursor, images-begun, begun-records, AreBetween, IsBeside, length-added, kept_added, records_added, images-stepped, records-stepped, record-done, record-undone, lengths-undone, length-changed, length-changed_back}
+use Rattle.d64_undo.proofs.Records.{length-images, image-at_cursor, images-begun, begun-records, AreBetween, IsBeside, length-added, kept_added, records_added, beside-differs, images-stepped, records-stepped, record-done, record-undone, lengths-undone, length-changed, length-changed_back}
 
 -- the history of records, the present image, and how many records are done
 abbrev pub history_of : List Kept → List (List ℕ) → ℕ → History
@@ -34,7 +35,8 @@ pub record Holds (records : List Kept) (image : List (List ℕ)) (done : ℕ) (h
   pub is : history_of records image done ≡ history
 
 -- what a session promises of itself
-pub holds : {records : List Kept} {image : List (List ℕ)} {done : ℕ} {history : History} → (done ≤ length records) × AreRecords records image done
+pub holds : {records : List Kept} {image : List (List ℕ)} {done blocks : ℕ} {history : History}
+    → (done ≤ length records) × AreRecords records image done × (blocks ≡ blocks_before records done)
     → history_of records image done ≡ history → Holds records image done history
 holds invariant is = record { within = invariant.0; lead = invariant.1; is = is }
 
@@ -73,32 +75,6 @@ holds-added {records} {image} {done} {history} kept patch next count h e n put_b
           ∙ ap (λ (other : History). added other next) h.is;
     }
 
--- the record between the cursor and an image beside it
-pub step-beside : {records : List Kept} {image : List (List ℕ)} {done : ℕ} {history : History} (n cursor : ℕ) → Holds records image done history
-    → n ≡ min done cursor → (cursor + 1 ≡ history.cursor) ⊎ (history.cursor + 1 ≡ cursor) → IsBeside n done cursor
-step-beside {records} {image} {done} {history} n cursor h lower next =
-    let at = cursor-is h in
-    elim next [
-      | inl back ↦
-          let less : cursor ≤ done = omega arith in
-          let lowest = lower ∙ min-eq_right less in
-          inl (omega arith, sym lowest)
-      | inr on ↦
-          let less : done ≤ cursor = omega arith in
-          let lowest = lower ∙ min-eq_left less in
-          inr (sym lowest, omega arith)
-    ]
-
-pub step-within : {records : List Kept} {image : List (List ℕ)} {done : ℕ} {history : History} (n cursor : ℕ) → Holds records image done history
-    → IsBeside n done cursor → cursor < length history.images → n < length records
-step-within n cursor h beside lt =
-    let count = image_count h in
-    let within = h.within in
-    elim beside [
-      | inl back ↦ let one = back.0 in omega arith
-      | inr on ↦ let one = on.1 in omega arith
-    ]
-
 -- the cursor steps over a record, which is exchanged with the present image
 pub holds-stepped : {records : List Kept} {image : List (List ℕ)} {done : ℕ} {history : History} (other : List (List ℕ)) (n cursor : ℕ) (patch exchanged : Kept)
     → Holds records image done history → n < length records → patch ≡ get_or records n patch → AreBetween image other patch exchanged
@@ -117,6 +93,62 @@ holds-stepped {records} {image} {done} {history} other n cursor patch exchanged 
           (images-stepped records image other n done cursor patch exchanged lt is between beside)
           ∙ ap (λ (other : History). let moved : History = record other { cursor = cursor } in moved) h.is;
     }
+
+-- two images, and the patch between them that is exchanged with one
+swapped-between : (image : List (List ℕ)) (patch : Kept) → patch ≡ changed (back image patch) image → AreBetween image (back image patch) patch (taken image patch)
+swapped-between image patch is = record {
+  there = refl;
+  here = back-taken patch image 0 (length image) (rises-difference image patch is);
+  is_patch = is;
+  is_exchanged = ap (taken image) is ∙ taken-changed (back image patch) image (length-back patch image);
+}
+
+differs : {records : List Kept} {image : List (List ℕ)} {done : ℕ} {history : History} (n cursor : ℕ) → Holds records image done history
+    → n < length records → IsBeside n done cursor → get_or records n [] ≡ changed (back image (get_or records n [])) image
+differs {records} {image} {done} n cursor h lt beside =
+    beside-differs records image n done cursor (get_or records n []) lt (get_or_default records n [] (get_or records n []) lt) beside h.lead
+
+-- the image has the blocks of a record beside the cursor
+pub beside-patch : {records : List Kept} {image : List (List ℕ)} {done : ℕ} {history : History} (n cursor : ℕ) → Holds records image done history
+    → n < length records → IsBeside n done cursor → IsPatchOf image (get_or records n [])
+beside-patch {records} {image} {done} {history} n cursor h lt beside = rises-difference image (get_or records n []) (differs n cursor h lt beside)
+
+-- the cursor has stepped over a record, which is exchanged with the image
+pub holds-swapped : {records : List Kept} {image : List (List ℕ)} {done : ℕ} {history : History} (kept : List Kept) (other : List (List ℕ)) (n cursor : ℕ)
+    → Holds records image done history → n < length records → IsBeside n done cursor
+    → kept ≡ set records n (taken image (get_or records n [])) → other ≡ back image (get_or records n [])
+    → Holds kept other cursor (record history { cursor = cursor })
+holds-swapped {records} {image} {done} {history} kept other n cursor h lt beside e f =
+    let patch : Kept = get_or records n [] in
+    let moved : History = record history { cursor = cursor } in
+    let stepped : Holds (set records n (taken image patch)) (back image patch) cursor moved =
+    holds-stepped (back image patch) n cursor patch (taken image patch) h lt (get_or_default records n [] patch lt)
+    (swapped-between image patch (differs n cursor h lt beside)) beside in
+    subst (λ (ks : List Kept). Holds ks other cursor moved) (sym e) (subst (λ (i : List (List ℕ)). Holds (set records n (taken image patch)) i cursor moved) (sym f) stepped)
+
+-- the image is as long as before
+pub kind-swapped : {records kept : List Kept} {image other : List (List ℕ)} {done cursor : ℕ} {history moved : History} (n : ℕ)
+    → Holds records image done history → Holds kept other cursor moved → other ≡ back image (get_or records n [])
+    → length (present moved) ≡ length (present history)
+kind-swapped {records} {image = image} n h k f =
+    ap length (present_is k) ∙ ap (λ (i : List (List ℕ)). length i) f ∙ length-back (get_or records n []) image ∙ sym (ap length (present_is h))
+
+-- as many records, and as many blocks before each
+pub length-swapped : (records kept : List Kept) (image : List (List ℕ)) (n : ℕ) → kept ≡ set records n (taken image (get_or records n []))
+    → length kept ≡ length records
+length-swapped records kept image n e = ap (λ (rs : List Kept). length rs) e ∙ length-set records n (taken image (get_or records n []))
+
+pub places-swapped : (records kept : List Kept) (image : List (List ℕ)) (n m : ℕ) → n < length records
+    → kept ≡ set records n (taken image (get_or records n [])) → blocks_before kept m ≡ blocks_before records m
+places-swapped records kept image n m h e = ap (λ (rs : List Kept). blocks_before rs m) e ∙ before-swapped records image n m h
+
+-- a record is left where one can be redone
+pub some_left : {records : List Kept} {image : List (List ℕ)} {done : ℕ} {history : History} (left : ℕ) → Holds records image done history
+    → history.cursor + left + 1 ≡ length history.images → (left ≡ 0 → ⊥) → done < length records
+some_left left h count some =
+    let cursor = cursor-is h in
+    let images = image_count h in
+    grind arith
 
 -- there is a record where two images stand
 found : (records : List Kept) (image : List (List ℕ)) (done number : ℕ) → done ≤ length records → number < length records
@@ -183,3 +215,18 @@ record_counted {records} {image} {done} {history} number patch holds h read =
     ap Some count
     ∙ sym (ap (λ (t : Bool). cond t (Some (length (differences this next))) None) found)
     ∙ ap (λ (h : History). record_len h number) holds.is
+
+-- as many as are in each record
+pub record_lens : {records : List Kept} {image : List (List ℕ)} {done : ℕ} {history : History} (number : ℕ) → Holds records image done history
+    → cond (nat_lt number (length records)) (Some (length (get_or records number []))) None ≡ record_len history number
+record_lens {records} number holds =
+    let len : Option ℕ = Some (length (get_or records number [])) in
+    elim (cases_lt number (length records)) [
+      | inl within ↦
+          let has : nat_lt number (length records) ≡ true = grind (arith, nat_tests) in
+          ap (λ (t : Bool). cond t len None) has
+          ∙ record_counted number (get_or records number []) holds within (get_or_default records number [] (get_or records number []) within)
+      | inr beyond ↦
+          let has_not : nat_lt number (length records) ≡ false = grind (arith, nat_tests) in
+          ap (λ (t : Bool). cond t len None) has_not ∙ (record_missing number holds beyond).1
+    ]

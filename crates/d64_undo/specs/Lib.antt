@@ -6,4 +6,5 @@ pub mod Request
 pub mod SessionFile
 pub mod ResumeFault
 pub mod Resuming
+pub mod FromReader
 pub mod SessionFileLaws

@@ -1,10 +1,15 @@
 -- What is answered by the calls that read a session file.
-use Rattle.std.specs.Prelude.{◌≡◌, if◌then◌else◌, Bool, List, reverse, Result, Ok, Err}
-use Rattle.d64_image.specs.Patch.{Kept}
-use Rattle.d64_undo.specs.ResumeFault.{Parts}
+use Rattle.std.specs.Prelude.{◌≡◌, ℕ, ◌<◌, ◌≤◌, ◌^◌, if◌then◌else◌, All, Bool, Option, Some, None, List, ◌∷◌, ◌++◌, length, reverse, take, drop, Result, Ok, Err}
+use Rattle.std.specs.Int.{w64, to_le_bytes}
+use Rattle.std.specs.List.{flat_map}
+use Rattle.d64_image.specs.Disk.{Disk, Bytes}
+use Rattle.d64_image.specs.Image.{IsImage, tracks_of, bytes_of}
+use Rattle.d64_image.specs.Patch.{Kept, IsPatchOf, HaveBlocks}
+use Rattle.d64_undo.specs.SessionFile.{magic, record_file}
+use Rattle.d64_undo.specs.ResumeFault.{◌>>=◌, Reading, image_at, counts_at}
 use Rattle.d64_undo.specs.declared.resume_fault.ResumeFault.{ResumeFault}
 use Rattle.d64_undo.specs.declared.resume_fault.ResumeFault.TheVariants.{NotSession, Truncated, Trailing, BadCursor, BadRecord, Memory}
-use Rattle.d64_undo.specs.declared.resuming.FileParts.{FileParts}
+use Rattle.d64_undo.specs.declared.file_parts.FileParts.{FileParts}
 
 -- a fault is the one that is read, unless memory was wanting
 abbrev pub Fails : {Part : Type 0} → ResumeFault → Result Part ResumeFault → Type 0
@@ -20,10 +25,44 @@ abbrev pub Gives : {Answer Part : Type 0} → (Answer → Part) → Result Answe
 Gives seen (Ok answer) reading = reading ≡ Ok (seen answer)
 Gives seen (Err fault) reading = Fails fault reading
 
--- the parts of a file, without where they lie in memory
-abbrev pub parts_seen : FileParts → Parts
-parts_seen parts = record { image = parts.image; done = parts.done; records = parts.records.items }
+-- the bytes of a session file before its records
+abbrev pub start_file : Disk → ℕ → ℕ → Bytes
+start_file image done count = magic ++ tracks_of (length image) ∷ bytes_of image ++ to_le_bytes w64 done ++ to_le_bytes w64 count
 
--- records as they are gone along: in their order, or the last one first
-abbrev pub in_turn : Bool → List Kept → List Kept
-in_turn is_back records = if is_back then reverse records else records
+-- what is read before the records: the image, how many records are done, and how many there are
+abbrev pub start_at : Bytes → Reading (Disk × (ℕ × ℕ))
+start_at bytes = do
+  image ← image_at bytes
+  counts ← counts_at image.1
+  Ok ((image.0, counts.0), counts.1)
+
+-- what was read of it
+abbrev pub start_seen : FileParts → Disk × (ℕ × ℕ)
+start_seen parts = (parts.image, (parts.done, parts.count))
+
+-- what parts are that were read so far
+pub record IsStarted (parts : FileParts) : Type 0 where
+  pub image : IsImage parts.image
+  pub done : parts.done ≤ parts.count
+  pub count : parts.count < 2 ^ 64
+  pub within : length parts.records ≤ parts.count
+  pub patches : All (IsPatchOf parts.image) parts.records
+  pub blocks : All HaveBlocks parts.records
+
+abbrev pub AreStarted : Option FileParts → Type 0
+AreStarted None = Unit {0}
+AreStarted (Some parts) = IsStarted parts
+
+-- what is left of bytes
+abbrev pub IsEndOf : Bytes → Bytes → Type 0
+IsEndOf rest bytes = (front : Bytes) × (bytes ≡ front ++ rest)
+
+-- the bytes that were given: those of which parts were read, and the rest
+abbrev pub given : Option FileParts → Bytes → Bytes
+given None rest = rest
+given (Some parts) rest = start_file parts.image parts.done parts.count ++ (flat_map record_file parts.records ++ rest)
+
+-- the records on one side of a place, as they are gone along: those after it in their order, or those
+-- before it, the last one first
+abbrev pub on_side : Bool → List Kept → ℕ → List Kept
+on_side is_back records number = if is_back then reverse (take number records) else drop number records

@@ -4,10 +4,10 @@ ghost use Rattle.std.specs.Prelude.{◌≡◌, ◌++◌, ◌<◌, ◌^◌, ℕ, 
 ghost use Rattle.std.specs.List.{flat_map};
 ghost use Rattle.std.specs.Io.Iter.{u64_saturate};
 ghost use Rattle.d64_image.specs.Image.{IsImage};
-ghost use Rattle.d64_image.specs.Patch.{HaveBlocks};
+ghost use Rattle.d64_image.specs.Patch.{HaveBlocks, IsPatch};
 ghost use Rattle.d64_undo.specs.SessionFile.{block_file, record_file, file_with};
 
-use d64_image::{BLOCK_BYTES, BlockNo, Image, Patch};
+use d64_image::{BLOCK_BYTES, BlockNo, Image, PatchList};
 use std::alloc::{AllocError, Global};
 
 /// The bytes with which each session file begins: D64S.
@@ -17,24 +17,16 @@ pub(crate) const MAGIC: [u8; 4] = [0x44, 0x36, 0x34, 0x53];
 /// and two counts.
 const COUNT_BYTES: usize = MAGIC.len() + 1 + 2 * size_of::<u64>();
 
-/// How many bytes a record has in the file.
-fn record_len(patch: &Patch) -> usize
-    ensures len { result ≡ length (record_file patch.now) }
-    ensures blocks { HaveBlocks patch.now }
-{
-    2 + patch.blocks().len() * (2 + BLOCK_BYTES)
-}
-
 /// How many bytes the file has, or the most that can be counted.
-fn file_len(image: &Image, records: &[Patch]) -> usize
-    ensures len { (done : ℕ) → result ≡ u64_saturate (length (file_with image.now done records.now)) }
-    ensures blocks { All HaveBlocks records.now }
+fn file_len(image: &Image, records: &PatchList) -> usize
+    ensures { (done : ℕ) → result ≡ u64_saturate (length (file_with image.now done records.now)) }
 {
-    let mut len = COUNT_BYTES + image.bytes().len();
-    for patch in records {
-        len = len.saturating_add(record_len(patch));
-    }
-    len
+    records.known_patches();
+    let counts = records.len().saturating_mul(2);
+    let blocks = records.end().blocks.saturating_mul(2 + BLOCK_BYTES);
+    (COUNT_BYTES + image.bytes().len())
+        .saturating_add(counts)
+        .saturating_add(blocks)
 }
 
 /// Adds a record's blocks to the file.
@@ -48,21 +40,23 @@ fn put_blocks(file: &mut Vec<u8>, blocks: &[(BlockNo, [u8; BLOCK_BYTES])]) -> Re
     Ok(())
 }
 
-/// Adds a record to the file.
-fn put_record(file: &mut Vec<u8>, patch: &Patch) -> Result<(), AllocError>
-    ensures { OnOk result (file.new.items ≡ file.old.items ++ record_file patch.now) }
+/// Adds the record of these blocks to the file.
+fn put_record(file: &mut Vec<u8>, blocks: &[(BlockNo, [u8; BLOCK_BYTES])]) -> Result<(), AllocError>
+    requires { IsPatch blocks.now }
+    ensures { OnOk result (file.new.items ≡ file.old.items ++ record_file blocks.now) }
 {
-    let blocks = patch.blocks();
     file.extend_from_slice(&(blocks.len() as u16).to_le_bytes())?;
     put_blocks(file, blocks)
 }
 
 /// Adds records to the file.
-fn put_records(file: &mut Vec<u8>, records: &[Patch]) -> Result<(), AllocError>
+fn put_records(file: &mut Vec<u8>, records: &PatchList) -> Result<(), AllocError>
     ensures { OnOk result (file.new.items ≡ file.old.items ++ flat_map record_file records.now) }
 {
-    for patch in records {
-        put_record(file, patch)?;
+    let mut place = records.place_before(0);
+    for _ in 0..records.len() {
+        put_record(file, records.at(place))?;
+        place = records.next(place);
     }
     Ok(())
 }
@@ -73,7 +67,7 @@ pub(crate) fn session_file(
     alloc: Global,
     image: &Image,
     done: usize,
-    records: &[Patch],
+    records: &PatchList,
 ) -> Result<Vec<u8>, AllocError>
     ensures file { IfOk result (λ file. file.items ≡ file_with image.now done records.now) }
     ensures image { IsImage image.now }
@@ -81,12 +75,14 @@ pub(crate) fn session_file(
     ensures blocks { All HaveBlocks records.now }
 {
     image.known_image();
+    records.known_patches();
+    let count = records.len();
     let mut file = Vec::with_capacity(alloc, file_len(image, records))?;
     file.extend_from_slice(&MAGIC)?;
     file.extend_from_slice(&[image.tracks()])?;
     file.extend_from_slice(image.bytes())?;
     file.extend_from_slice(&(done as u64).to_le_bytes())?;
-    file.extend_from_slice(&(records.len() as u64).to_le_bytes())?;
+    file.extend_from_slice(&(count as u64).to_le_bytes())?;
     put_records(&mut file, records)?;
     Ok(file)
 }

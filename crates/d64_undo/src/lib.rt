@@ -6,14 +6,18 @@
 //! contract of `run_all` says so for whole runs.
 #![tactic(auto)]
 
+mod file_parts;
+mod from_reader;
 mod keeping;
 pub mod laws;
+mod leading;
 mod request;
 mod resume_fault;
 mod resuming;
 mod session;
 
+pub use from_reader::{ReadFault, resume_from};
 pub use request::{Answer, Request, run_all};
 pub use resume_fault::ResumeFault;
-pub use resuming::resume;
+pub use resuming::{Resuming, resume};
 pub use session::{NothingToRedo, NothingToUndo, Session};

@@ -11,7 +11,7 @@ ghost use Rattle.d64_undo.specs.SoundHistory.{IsSoundHistory, KeepsSound};
 
 use crate::keeping::session_file;
 use d64_dos::{Command, Refusal, Reply, apply};
-use d64_image::{BLOCK_BYTES, BlockNo, Image, Patch};
+use d64_image::{BLOCK_BYTES, BlockNo, Image, Patch, PatchList, Place};
 use std::alloc::{AllocError, Global};
 use std::marker::Model;
 use thiserror::Error;
@@ -37,21 +37,24 @@ pub struct Session {
     image: Image,
     /// What changed by each command: the records that are done lead back from the present image,
     /// the last one first, and those that are undone lead on from it.
-    records: Vec<Patch>,
-    /// How many of the records are done.
-    done: usize,
+    records: PatchList,
+    /// The place between the records that are done and those that are undone.
+    cursor: Place,
 }
 
 impl Model for Session {
-    ghost use Rattle.std.specs.Prelude.{◌≤◌, length};
+    ghost use Rattle.std.specs.Prelude.{◌≡◌, ◌≤◌, length};
+    ghost use Rattle.d64_image.specs.PatchList.{blocks_before};
     ghost use Rattle.d64_undo.specs.History.{History};
     ghost use Rattle.d64_undo.specs.Records.{images_of, AreRecords};
 
     ghost Value = { History };
 
-    ghost view = { λ s. record { images = images_of s.records.items s.image s.done; cursor = s.done } };
+    ghost view = { λ s. record { images = images_of s.records s.image s.cursor.number; cursor = s.cursor.number } };
 
-    ghost invariant = { λ s. (s.done ≤ length s.records.items) × AreRecords s.records.items s.image s.done };
+    ghost invariant = { λ s. (s.cursor.number ≤ length s.records)
+        × AreRecords s.records s.image s.cursor.number
+        × (s.cursor.blocks ≡ blocks_before s.records s.cursor.number) };
 }
 
 impl Session {
@@ -60,11 +63,13 @@ impl Session {
         ensures begun { result ≡ begun image }
         ensures sound { IsSound image → IsSoundHistory result }
     {
+        let records = PatchList::new(alloc);
+        let cursor = records.end();
         Session {
             alloc,
             image,
-            records: Vec::new(alloc),
-            done: 0,
+            records,
+            cursor,
         }
     }
 
@@ -73,19 +78,20 @@ impl Session {
     pub(crate) fn of_records(
         alloc: Global,
         present: Image,
-        records: Vec<Patch>,
+        records: PatchList,
         done: usize,
     ) -> Session
-        requires within { done ≤ length records.items }
-        requires lead { AreRecords records.items present done }
-        ensures images { result.images ≡ images_of records.items present done }
+        requires within { done ≤ length records }
+        requires lead { AreRecords records present done }
+        ensures images { result.images ≡ images_of records present done }
         ensures cursor { result.cursor ≡ done }
     {
+        let cursor = records.place_before(done);
         Session {
             alloc,
             image: present,
             records,
-            done,
+            cursor,
         }
     }
 
@@ -101,7 +107,7 @@ impl Session {
     pub fn done(&self) -> usize
         ensures { result ≡ self.now.cursor }
     {
-        self.done
+        self.cursor.number
     }
 
     /// How many records can be redone.
@@ -109,7 +115,7 @@ impl Session {
         ensures count { self.now.cursor + result + 1 ≡ length self.now.images }
         ensures within { self.now.cursor + result < 2 ^ 64 }
     {
-        self.records.len() - self.done
+        self.records.len() - self.cursor.number
     }
 
     /// In how many blocks the images before and after a record differ. Records are numbered from 0,
@@ -118,7 +124,7 @@ impl Session {
     pub fn record_len(&self, number: usize) -> Option<usize>
         ensures { result ≡ record_len self.now number }
     {
-        Some(self.records.get(number)?.len())
+        self.records.len_of(number)
     }
 
     /// The blocks in which the images before and after a record differ, ascending, each with its
@@ -127,7 +133,11 @@ impl Session {
     pub fn record_at(&self, number: usize) -> Option<&[(BlockNo, [u8; BLOCK_BYTES])]>
         ensures { option_copied result ≡ record_at self.now number }
     {
-        Some(self.records.get(number)?.blocks())
+        if number < self.records.len() {
+            Some(self.records.at(self.records.place_before(number)))
+        } else {
+            None
+        }
     }
 
     /// The session file: the present image, how many records are done, and all records, the oldest
@@ -137,7 +147,7 @@ impl Session {
         ensures file { IfOk result (λ file. file.items ≡ file_of self.now) }
         ensures session { IsSession self.now }
     {
-        session_file(alloc, &self.image, self.done, &self.records)
+        session_file(alloc, &self.image, self.cursor.number, &self.records)
     }
 
     /// Runs a command on the present image. Where it is accepted, the records after the cursor are
@@ -158,13 +168,11 @@ impl Session {
     {
         let mut record = Patch::new(self.alloc);
         let reply = apply(&mut self.image, &mut record, command)?;
-        if self.records.reserve(1).is_err() {
+        if self.records.replace_from(self.cursor, &record).is_err() {
             record.swap(&mut self.image);
             return Err(Refusal::Memory);
         }
-        self.records.truncate(self.done);
-        self.records.push(record).unwrap();
-        self.done = self.records.len();
+        self.cursor = self.records.end();
         Ok(reply)
     }
 
@@ -176,23 +184,13 @@ impl Session {
         ensures kind { length (present self.new) ≡ length (present self.old) }
         ensures sound { IsSoundHistory self.old → IsSoundHistory self.new }
     {
-        if self.done == 0 {
+        if self.cursor.number == 0 {
             return Err(NothingToUndo);
         }
-        self.move_to(self.done - 1);
+        let before = self.records.previous(self.cursor);
+        self.records.swap(before, &mut self.image);
+        self.cursor = before;
         Ok(())
-    }
-
-    /// The cursor on an image beside the present one: the record between them is exchanged with the
-    /// image.
-    fn move_to(&mut self, cursor: usize)
-        requires beside { (cursor + 1 ≡ self.old.cursor) ⊎ (self.old.cursor + 1 ≡ cursor) }
-        requires within { cursor < length self.old.images }
-        ensures moved { self.new ≡ record self.old { cursor = cursor } }
-        ensures kind { length (present self.new) ≡ length (present self.old) }
-    {
-        self.records[self.done.min(cursor)].swap(&mut self.image);
-        self.done = cursor;
     }
 
     /// Goes one record forward. Refused where none is undone. Takes no memory.
@@ -206,7 +204,8 @@ impl Session {
         if self.undone() == 0 {
             return Err(NothingToRedo);
         }
-        self.move_to(self.done + 1);
+        self.records.swap(self.cursor, &mut self.image);
+        self.cursor = self.records.next(self.cursor);
         Ok(())
     }
 }

@@ -54,6 +54,7 @@ fn end_of_call(bench: &Bench) -> Result<End, Fail> {
         "Session::new,run" => sessions::first_block_write(bench),
         "Session::keep" => sessions::keep(bench),
         "resume" => sessions::resume(bench),
+        "resume_from" => sessions::resume_from(bench),
         "to_text" => texts::to_text(bench),
         "from_text" => texts::from_text(bench),
         "crunch" => texts::crunch(bench),

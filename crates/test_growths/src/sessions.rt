@@ -5,7 +5,7 @@ use crate::disk::{PROGRAM, changed_blocks, disk, same, within, write};
 use crate::end::{Bench, End};
 use d64_dos::{Command, Refusal};
 use d64_image::Image;
-use d64_undo::{ResumeFault, Session};
+use d64_undo::{ReadFault, ResumeFault, Session};
 use std::alloc::Global;
 use std::test::Fail;
 
@@ -95,12 +95,9 @@ pub fn keep(bench: &Bench) -> Result<End, Fail> {
     })
 }
 
-/// The session of that file.
-pub fn resume(bench: &Bench) -> Result<End, Fail> {
-    let mut beside = Beside::new(bench.alloc())?;
-    let file = beside.session.keep(bench.alloc())?;
-    bench.begin()?;
-    Ok(match d64_undo::resume(bench.alloc(), file.as_slice()) {
+/// How a call ended that resumes that file.
+fn end_of_resumed(mut beside: Beside, resumed: Result<Session, ResumeFault>) -> End {
+    match resumed {
         Ok(session) => {
             beside.session = session;
             if beside.is_as_it_was() {
@@ -111,7 +108,29 @@ pub fn resume(bench: &Bench) -> Result<End, Fail> {
         }
         Err(ResumeFault::Memory(_)) => End::WantOfMemory,
         Err(_) => End::Refused,
-    })
+    }
+}
+
+/// The session of that file.
+pub fn resume(bench: &Bench) -> Result<End, Fail> {
+    let beside = Beside::new(bench.alloc())?;
+    let file = beside.session.keep(bench.alloc())?;
+    bench.begin()?;
+    let resumed = d64_undo::resume(bench.alloc(), file.as_slice());
+    Ok(end_of_resumed(beside, resumed))
+}
+
+/// The session of that file, as a reader gives it.
+pub fn resume_from(bench: &Bench) -> Result<End, Fail> {
+    let beside = Beside::new(bench.alloc())?;
+    let file = beside.session.keep(bench.alloc())?;
+    let mut reader = file.as_slice();
+    bench.begin()?;
+    match d64_undo::resume_from(bench.alloc(), &mut reader, &mut [0; 4096], u32::MAX) {
+        Ok(session) => Ok(end_of_resumed(beside, Ok(session))),
+        Err(ReadFault::Resume(fault)) => Ok(end_of_resumed(beside, Err(fault))),
+        Err(_) => Ok(End::Refused),
+    }
 }
 
 /// A block write on a session that was just made from a blank image.

@@ -9,6 +9,8 @@
 #[cfg(test)]
 mod copies;
 #[cfg(test)]
+mod readers;
+#[cfg(test)]
 mod session_files;
 #[cfg(test)]
 mod undo;

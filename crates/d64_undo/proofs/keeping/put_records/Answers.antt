@@ -1,18 +1,28 @@
-use Rattle.std.proofs.Common.{◌++◌, ℕ, List, take, ap, sym, ◌∙◌}
+use Rattle.std.proofs.Common.{◌≡◌, ◌+◌, ◌++◌, ◌∷◌, ℕ, List, [], take, get_or, ap, sym, ◌∙◌, arith}
 use Rattle.std.specs.List.{flat_map}
-use Rattle.std.proofs.lemmas.List.{flat_map_more}
+use Rattle.std.proofs.lemmas.List.{flat_map_more, take_more}
 use Rattle.d64_image.specs.Patch.{Kept}
 use Rattle.d64_undo.specs.SessionFile.{record_file}
-use Rattle.d64_undo.proofs.Records.{take_on}
 use Rattle.d64_undo.proofs.keeping.put_records.Goals as goal
 
 -- one record more is in the file
-pub loop-patch-preserved : goal.loop-patch-preserved
-loop-patch-preserved c =
-    let patch : Kept = c.patch-item.result in
-    let before : List Kept = take c.loop-patch.patch-index c.args.records.now in
-    let taken = take_on c.args.records.now c.loop-patch.patch-index patch c.loop-patch-test.true c.patch-item.is in
-    c.in_ok-put_record.ensures
-    ∙ ap (λ (xs : List ℕ). xs ++ record_file patch) c.loop-patch.invariant
-    ∙ flat_map_more record_file c.args.file.now.items before patch
-    ∙ ap (λ (ps : List Kept). c.args.file.now.items ++ flat_map record_file ps) (sym taken)
+pub loop-preserved : goal.loop-preserved
+loop-preserved c =
+    let records : List Kept = c.args.records.now in
+    let before : List Kept = take c.loop.counter records in
+    let patch : Kept = c.at.result.now in
+    let within = c.loop-test.true in
+    let count = c.len-end.ensures in
+    let taken : take (c.loop.counter + 1) records ≡ before ++ patch ∷ [] =
+    take_more records c.loop.counter [] (omega arith)
+    ∙ ap (λ (n : ℕ). before ++ get_or records n [] ∷ []) (sym c.loop.invariant.number)
+    ∙ ap (λ (p : Kept). before ++ p ∷ []) (sym c.at.ensures.kept) in
+    record {
+      file =
+          c.in_ok-put_record.ensures
+          ∙ ap (λ (xs : List ℕ). xs ++ record_file patch) c.loop.invariant.file
+          ∙ flat_map_more record_file c.args.file.now.items before patch
+          ∙ ap (λ (ps : List Kept). c.args.file.now.items ++ flat_map record_file ps) (sym taken);
+      number = c.next-place.ensures.number ∙ ap (λ (n : ℕ). n + 1) c.loop.invariant.number;
+      blocks = c.next-place.ensures.blocks;
+    }

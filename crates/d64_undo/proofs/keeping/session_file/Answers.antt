@@ -23,6 +23,6 @@ returns-clause-file c =
     c.in_ok-extend_from_slice-4.ensures.items ∙ ap₂ join shown c.to_le_bytes.ensures in
     let count : c.extend_from_slice-5.new.self.items
     ≡ (((magic ++ tracks ∷ []) ++ bytes_of image) ++ to_le_bytes w64 c.args.done) ++ to_le_bytes w64 (length records) =
-    c.in_ok-extend_from_slice-5.ensures.items ∙ ap₂ join cursor c.to_le_bytes-2.ensures in
+    c.in_ok-extend_from_slice-5.ensures.items ∙ ap₂ join cursor (c.to_le_bytes-2.ensures ∙ ap (to_le_bytes w64) c.len-count.ensures) in
     c.in_ok-put_records.ensures ∙ ap (λ (xs : List ℕ). xs ++ flat_map record_file records) count
     ∙ added-parts image tracks c.args.done records c.tracks.ensures.value

@@ -6,6 +6,7 @@ use Rattle.d64_dos.specs.Step.{Leaves}
 use Rattle.d64_dos.proofs.Steps.{starts_from_sound}
 use Rattle.d64_effects.specs.View.{IsSound}
 use Rattle.d64_image.specs.Patch.{RisesBetween}
+use Rattle.d64_image.specs.PatchList.{blocks_before}
 use Rattle.d64_image.proofs.Patches.{rises-changed}
 use Rattle.d64_undo.specs.History.{present, added}
 use Rattle.d64_undo.specs.SoundHistory.{IsSoundHistory}
@@ -13,7 +14,7 @@ use Rattle.d64_undo.proofs.Records.{length-added}
 use Rattle.d64_undo.proofs.Sessions.{Holds, holds, holds-added, present_is, stands}
 use Rattle.d64_undo.proofs.SoundHistories.{present-sound, added-sound}
 use Rattle.d64_undo.proofs.session.Session.run.Goals as goal
-use Rattle.d64_undo.proofs.session.Session.run.Goals.{After-self-1}
+use Rattle.d64_undo.proofs.session.Session.run.Goals.{After-drop-record-inside-2}
 
 -- the command is refused, and so nothing was changed
 pub returns-in_err-reply-clause-refused : goal.returns-in_err-reply-clause-refused
@@ -42,19 +43,22 @@ returns-clause-reply c =
     c.in_ok-reply.ensures.reply ∙ ap (λ (image : List (List ℕ)). reply_to image (said c.args.command.now)) (sym shown)
 
 -- what lies after the cursor is dropped, and the record of this command is added
-with_record : (c : After-self-1) → Holds c.push.new.self.items c.apply.new.image c.len-self-inside.result (added c.args.self.now c.apply.new.image)
+with_record : (c : After-drop-record-inside-2) → Holds c.replace_from.new.self c.apply.new.image c.end-self-inside.result.number (added c.args.self.now c.apply.new.image)
 with_record c =
     let s = c.self.inside in
-    let reserved = c.reserve.ensures.items in
-    let truncated = c.truncate.ensures.items in
-    let pushed = rw c.unwrap.ensures at c.push.ensures.items in
-    let kept : c.push.new.self.items ≡ take s.done s.records.items ++ c.apply.new.patch ∷ [] = cc in
-    let long = length-added s.records.items c.push.new.self.items c.apply.new.patch s.done c.self.invariant.0 kept in
-    holds-added c.push.new.self.items c.apply.new.patch c.apply.new.image c.len-self-inside.result (holds c.self.invariant c.self.view_is) kept (omega arith)
+    let kept : c.replace_from.new.self ≡ take s.cursor.number s.records ++ c.apply.new.patch ∷ [] = search rules in
+    let long = length-added s.records c.replace_from.new.self c.apply.new.patch s.cursor.number c.self.invariant.0 kept in
+    let number = c.end-self-inside.ensures.number in
+    holds-added c.replace_from.new.self c.apply.new.patch c.apply.new.image c.end-self-inside.result.number (holds c.self.invariant c.self.view_is) kept (omega arith)
     c.in_ok-reply.ensures.back c.in_ok-reply.ensures.changed
 
 pub invariant_of-self-2 : goal.invariant_of-self-2
-invariant_of-self-2 c = let h = with_record c in (h.within, h.lead)
+invariant_of-self-2 c =
+    let h = with_record c in (
+      h.within,
+      h.lead,
+      c.end-self-inside.ensures.blocks ∙ ap (blocks_before c.replace_from.new.self) (sym c.end-self-inside.ensures.number),
+    )
 
 -- the new image is added to the history
 pub returns-clause-accepted : goal.returns-clause-accepted

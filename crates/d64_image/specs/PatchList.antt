@@ -1,0 +1,17 @@
+-- Patches one after another: the list of them, cut from one list of blocks.
+use Rattle.std.specs.Prelude.{ℕ, ◌+◌, List, [], ◌∷◌, length, map, take, drop}
+use Rattle.d64_image.specs.Patch.{Kept}
+
+-- a list cut into lists of so many elements each
+unfoldable pub cut : List ℕ → Kept → List Kept
+cut [] blocks = []
+cut (len ∷ lens) blocks = take len blocks ∷ cut lens (drop len blocks)
+
+-- the sum of numbers
+unfoldable pub total : List ℕ → ℕ
+total [] = 0
+total (len ∷ lens) = len + total lens
+
+-- how many blocks come before a record
+abbrev pub blocks_before : List Kept → ℕ → ℕ
+blocks_before records number = total (map (λ (patch : Kept). length patch) (take number records))

@@ -1,0 +1,103 @@
+//! Sessions are resumed from readers.
+ghost use Rattle.std.specs.Prelude.{◌≡◌, ◌+◌, ◌<◌, ◌≤◌, length, take, OnOk, IfOk, IfErr};
+ghost use Rattle.std.specs.Io.KnownBytes.{Consumes, IsAtEnd};
+ghost use Rattle.d64_effects.specs.Laws.{AreBytes};
+ghost use Rattle.d64_image.specs.Disk.{Bytes};
+ghost use Rattle.d64_undo.specs.FromReader.{IsReadFault, IsReadOf, IsRestFault};
+
+use crate::resume_fault::ResumeFault;
+use crate::resuming::Resuming;
+use crate::session::Session;
+use d64_image::known_bytes;
+use std::alloc::Global;
+use std::io::Read;
+use thiserror::Error;
+
+/// Why a reader gives no session file.
+#[derive(Clone, Copy, Debug, PartialEq, Eq, Error)]
+pub enum ReadFault {
+    /// A read failed.
+    #[error("a read failed")]
+    Device,
+    /// There are more bytes than may be read.
+    #[error("the session file is too long")]
+    TooLong,
+    /// What was read is no session file, or there is no memory for the session.
+    #[error(transparent)]
+    Resume(ResumeFault),
+}
+
+/// Reads a piece into the front of the buffer, takes its length off the bytes that may still be
+/// read, and returns it. It is 0 at the end.
+fn read_piece<R: Read>(
+    reader: &mut R,
+    buffer: &mut [u8],
+    left: &mut u32,
+) -> Result<usize, ReadFault>
+    requires { 0 < length buffer.old }
+    ensures room { length buffer.new ≡ length buffer.old }
+    ensures within { IfOk result (λ count. count ≤ length buffer.new) }
+    ensures piece { IfOk result (λ count. Consumes (R.remaining reader.old) (R.remaining reader.new) (take count buffer.new)) }
+    ensures end { IfOk result (λ count. count ≡ 0 → IsAtEnd (R.remaining reader.new)) }
+    ensures bytes { AreBytes buffer.new }
+    ensures left { IfOk result (λ count. count + left.new ≡ left.old) }
+    ensures fault { IfErr result (λ fault. IsRestFault (R.remaining reader.old) left.old fault) }
+{
+    let outcome = reader.read(buffer);
+    known_bytes(buffer);
+    match outcome {
+        Ok(count) if count > *left as usize => Err(ReadFault::TooLong),
+        Ok(count) => {
+            *left -= count as u32;
+            Ok(count)
+        }
+        Err(_) => Err(ReadFault::Device),
+    }
+}
+
+/// Reads all that is left, at most so many bytes, for nothing but the fault that comes then.
+fn read_past<R: Read>(reader: &mut R, buffer: &mut [u8], limit: u32) -> Result<(), ReadFault>
+    requires { 0 < length buffer.old }
+    ensures end { OnOk result ((more : Bytes)
+        × Consumes (R.remaining reader.old) (R.remaining reader.new) more
+        × IsAtEnd (R.remaining reader.new)
+        × AreBytes more
+        × (length more ≤ limit)) }
+    ensures fault { IfErr result (λ fault. IsRestFault (R.remaining reader.old) limit fault) }
+{
+    let mut left = limit;
+    for _ in 0..u64::MAX {
+        if read_piece(reader, buffer, &mut left)? == 0 {
+            return Ok(());
+        }
+    }
+    unreachable!()
+}
+
+/// The session of the file that a reader gives, of at most `limit` bytes. It is read to its end, so
+/// that a read that fails, or a byte too many, comes before what is wrong with the bytes. Takes
+/// memory for what the session holds.
+pub fn resume_from<R: Read>(
+    alloc: Global,
+    reader: &mut R,
+    buffer: &mut [u8],
+    limit: u32,
+) -> Result<Session, ReadFault>
+    requires { 0 < length buffer.old }
+    ensures session { IfOk result (λ session. IsReadOf (R.remaining reader.old) limit session) }
+    ensures fault { IfErr result (λ fault. IsReadFault (R.remaining reader.old) limit fault) }
+{
+    let mut file = Resuming::new(alloc);
+    let mut left = limit;
+    for _ in 0..u64::MAX {
+        let count = read_piece(reader, buffer, &mut left)?;
+        if count == 0 {
+            return file.finish().map_err(ReadFault::Resume);
+        }
+        if let Err(fault) = file.push(&buffer[..count]) {
+            read_past(reader, buffer, left)?;
+            return Err(ReadFault::Resume(fault));
+        }
+    }
+    unreachable!()
+}
