@@ -92,9 +92,12 @@ def resumed(file):
     return back[::-1] + [present] + onward, cursor
 
 
-def of_size(size):
-    """A session file of so many bytes, an odd number: the first block of a blank image is written again and again, and all of that is undone."""
-    written, empty = divmod((size - len(kept([bytes(SIZES[35])], 0))) // 2, 130)
+def of_size(size, most=None):
+    """A session file of so many bytes, an odd number: the first block of a blank image is written again and again, at most so many times where that is given;
+    the other changes are of no block, and all is undone."""
+    room = (size - len(kept([bytes(SIZES[35])], 0))) // 2
+    written = room // 130 if most is None else min(most, room // 130)
+    empty = room - 130 * written
     record = b"\x01\x00\x00\x00"
     two = record + b"\x01" * BLOCK + record + bytes(BLOCK)
     records = (two * (written // 2 + 1))[:260 * written] + bytes(2 * empty)
