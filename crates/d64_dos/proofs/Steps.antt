@@ -8,7 +8,7 @@ use Rattle.d64_map.specs.Map.{free_blocks}
 use Rattle.d64_map.specs.Plan.{room}
 use Rattle.d64_files.specs.Directory.{slots, is_name_taken, AllHold}
 use Rattle.d64_files.specs.FirstFault.{first_fault, owning_conditions, sound_conditions}
-use Rattle.d64_files.proofs.FirstFaults.{owning_tells}
+use Rattle.d64_files.proofs.FirstFaults.{owning_tells, sound_tells}
 use Rattle.d64_files.specs.Writing.{blocks_for, first_unused, dir_last}
 use Rattle.d64_files.specs.declared.dir_fault.DirFault.{DirFault}
 use Rattle.d64_files.specs.declared.kind.Kind.{Kind}
@@ -29,14 +29,14 @@ use Rattle.d64_image.specs.Image.{IsImage}
 use Rattle.d64_image.specs.Patch.{Kept, back}
 use Rattle.d64_dos.specs.Change.{Change, Format, Write, Delete, Rename, Validate, BlockWrite}
 use Rattle.d64_dos.specs.Command.{after, reply_to, refusal_of, IsFileCommand, StartsFrom}
-use Rattle.d64_dos.specs.FileRefusals.{validate_refusal}
+use Rattle.d64_dos.specs.FileRefusals.{rename_refusal, validate_refusal}
 use Rattle.d64_dos.specs.Refusal.{refused_by}
 use Rattle.d64_dos.specs.Step.{FileCommandsKeepDisksSound, IsMade, Leaves}
 use Rattle.d64_dos.specs.declared.command.Reply.{Reply}
 use Rattle.d64_dos.specs.declared.command.Reply.TheVariants.{Scratched}
 use Rattle.d64_dos.specs.WriteRefusal.{has_room, is_writable, write_refusal}
 use Rattle.d64_dos.specs.declared.refusal.Refusal.{Refusal}
-use Rattle.d64_dos.specs.declared.refusal.Refusal.TheVariants.{Exists, WrongType, Directory, DiskFull}
+use Rattle.d64_dos.specs.declared.refusal.Refusal.TheVariants.{Exists, WrongType, NotFound, Directory, DiskFull}
 
 -- what holds where none of a write's refusals applies
 none_applies : (writable taken fits : Bool) (fault : Option DirFault)
@@ -144,6 +144,42 @@ starts_from_sound image (Rename old new) is sound = sound
 starts_from_sound image Validate is sound = tt
 starts_from_sound image (BlockWrite at block) is sound = absurd (cc)
 
+-- a fault comes before other refusals
+no_fault_before : (fault : Option DirFault) (more : Option Refusal) → option_or (option_map Directory fault) more ≡ None → fault ≡ None
+no_fault_before None more h = refl
+no_fault_before (Some fault) more h = absurd (cc)
+
+-- also after that of a kind that cannot be written
+no_fault_after : (writable : Bool) (fault : Option DirFault) (more : Option Refusal)
+    → cond (not writable) (Some WrongType) (option_or (option_map Directory fault) more) ≡ None → fault ≡ None
+no_fault_after false fault more h = absurd (cc)
+no_fault_after true fault more h = no_fault_before fault more h
+
+-- a write is accepted on a sound image alone
+written_from_sound : (image : List (List ℕ)) (name : List ℕ) (kind : Kind) (bytes : ℕ) → write_refusal image name kind bytes ≡ None → IsSound image
+unfolding write_refusal
+written_from_sound image name kind bytes h =
+    (sound_tells image).0.0
+    (no_fault_after (is_writable kind) (first_fault image sound_conditions)
+    (cond (is_name_taken name (slots image)) (Some Exists) (cond (has_room image bytes) None (Some DiskFull))) h)
+
+-- and so is a renaming
+renamed_from_sound : (image : List (List ℕ)) (old new : List ℕ) → rename_refusal image old new ≡ None → IsSound image
+unfolding rename_refusal
+renamed_from_sound image old new h =
+    (sound_tells image).0.0
+    (no_fault_before (first_fault image sound_conditions)
+    (cond (is_name_taken old (slots image)) (cond (is_name_taken new (slots image)) (Some Exists) None) (Some NotFound)) h)
+
+-- an accepted file command starts from an image from which its promise holds
+starts_from_accepted : (image : List (List ℕ)) (change : Change) → IsFileCommand change → refusal_of image change ≡ None → StartsFrom change image
+starts_from_accepted image (Format name id) is none = tt
+starts_from_accepted image (Write name kind bytes) is none = written_from_sound image name kind (length bytes) none
+starts_from_accepted image (Delete patterns) is none = (sound_tells image).0.0 (none_found (first_fault image sound_conditions) none)
+starts_from_accepted image (Rename old new) is none = renamed_from_sound image old new none
+starts_from_accepted image Validate is none = tt
+starts_from_accepted image (BlockWrite at block) is none = absurd (cc)
+
 -- what the answer of a command says of its image and its reply makes the step
 pub step_of : (image next : List (List ℕ)) (change : Change) (result : Result Reply Refusal)
     → IsImage image → IsMade change → refused_by result ≡ refusal_of image change
@@ -154,6 +190,15 @@ step_of image next change (Ok answer) is made refused reply accepted =
     λ from.
     subst (λ (r : Reply). Leaves image change r next) (sym reply)
     (subst (Leaves image change (reply_to image change)) (sym accepted) (keeps_sound image change is made (sym refused) from))
+
+-- and what an accepted file command leaves is sound
+pub sound_of : (image next : List (List ℕ)) (change : Change) (result : Result Reply Refusal)
+    → IsImage image → IsMade change → refused_by result ≡ refusal_of image change
+    → IfOk result (λ reply. reply ≡ reply_to image change) → OnOk result (next ≡ after image change)
+    → OnOk result (IsFileCommand change → IsSound next)
+sound_of image next change (Err refusal) is made refused reply accepted = tt
+sound_of image next change (Ok answer) is made refused reply accepted =
+    λ file. (step_of image next change (Ok answer) is made refused reply accepted (starts_from_accepted image change file (sym refused))).sound
 
 -- an empty patch puts nothing back
 pub nothing_back : (image : List (List ℕ)) (patch : Kept) → patch ≡ [] → back image patch ≡ image

@@ -1,9 +1,10 @@
 //! Commands on an image, and what they answer.
-ghost use Rattle.std.specs.Prelude.{◌≡◌, [], length, IfOk, OnOk, OnErr};
+ghost use Rattle.std.specs.Prelude.{◌≡◌, ◌↔◌, true, [], length, IfOk, OnOk, OnErr};
 ghost use Rattle.d64_dos.specs.Change.{said};
-ghost use Rattle.d64_dos.specs.Command.{after, reply_to, refusal_of, IsWithin, StartsFrom};
+ghost use Rattle.d64_dos.specs.Command.{after, reply_to, refusal_of, IsFileCommand, IsWithin, StartsFrom};
 ghost use Rattle.d64_dos.specs.Refusal.{refused_by};
 ghost use Rattle.d64_dos.specs.Step.{IsMade, Leaves};
+ghost use Rattle.d64_effects.specs.View.{IsSound};
 ghost use Rattle.d64_image.specs.Image.{IsImage};
 ghost use Rattle.d64_image.specs.Patch.{IsPatchOf, back, changed};
 
@@ -55,6 +56,27 @@ pub enum Command {
     },
 }
 
+impl Command {
+    /// Whether it is a file command, which leaves a sound disk where it is accepted: each is but a
+    /// block write.
+    pub fn is_file_command(&self) -> bool
+        ensures { (result ≡ true) ↔ IsFileCommand (said self.now) }
+    {
+        match self {
+            Command::BlockWrite { at: _, block: _ } => false,
+            Command::Format { name: _, id: _ }
+            | Command::Write {
+                name: _,
+                kind: _,
+                bytes: _,
+            }
+            | Command::Delete { patterns: _ }
+            | Command::Rename { old: _, new: _ }
+            | Command::Validate => true,
+        }
+    }
+}
+
 /// What an accepted command answers.
 #[derive(Clone, Copy, Debug, PartialEq, Eq)]
 pub enum Reply {
@@ -97,7 +119,32 @@ pub fn apply(image: &mut Image, patch: &mut Patch, command: &Command) -> Result<
     ensures kind { length image.new ≡ length image.old }
     ensures step { IfOk result (λ reply. StartsFrom (said command.now) image.old → Leaves image.old (said command.now) reply image.new) }
 {
-    let answer = carried_out(image, patch, command);
+    apply_knowing(image, patch, command, false)
+}
+
+/// Changes the image as `apply` does. The caller may know that the disk is sound, as every disk is
+/// that an accepted file command left: then a command that asks for that doesn't look at it again.
+pub fn apply_knowing(
+    image: &mut Image,
+    patch: &mut Patch,
+    command: &Command,
+    is_sound: bool,
+) -> Result<Reply, Refusal>
+    requires patch { patch.old ≡ [] }
+    requires block { IsWithin image.old (said command.now) }
+    requires known { is_sound ≡ true → IsSound image.old }
+    ensures refused { refused_by result ≡ refusal_of image.old (said command.now) }
+    ensures reply { IfOk result (λ reply. reply ≡ reply_to image.old (said command.now)) }
+    ensures accepted { OnOk result (image.new ≡ after image.old (said command.now)) }
+    ensures changed { OnOk result (patch.new ≡ changed image.old image.new) }
+    ensures back { OnOk result (back image.new patch.new ≡ image.old) }
+    ensures unchanged { OnErr result (image.new ≡ image.old) }
+    ensures forgotten { OnErr result (patch.new ≡ []) }
+    ensures kind { length image.new ≡ length image.old }
+    ensures step { IfOk result (λ reply. StartsFrom (said command.now) image.old → Leaves image.old (said command.now) reply image.new) }
+    ensures sound { OnOk result (IsFileCommand (said command.now) → IsSound image.new) }
+{
+    let answer = carried_out(image, patch, command, is_sound);
     if answer.is_ok() {
         patch.trim(image);
     } else {
@@ -135,9 +182,16 @@ fn known_command(command: &Command)
 }
 
 /// Changes the image as a command asks, byte for byte. After a refusal in the middle some blocks
-/// may be written; the image with the patch put back is the one from before in any case.
-fn carried_out(image: &mut Image, patch: &mut Patch, command: &Command) -> Result<Reply, Refusal>
-    requires { IsWithin image.old (said command.now) }
+/// may be written; the image with the patch put back is the one from before in any case. The caller
+/// may know that the disk is sound.
+fn carried_out(
+    image: &mut Image,
+    patch: &mut Patch,
+    command: &Command,
+    is_sound: bool,
+) -> Result<Reply, Refusal>
+    requires block { IsWithin image.old (said command.now) }
+    requires known { is_sound ≡ true → IsSound image.old }
     ensures refused { refused_by result ≡ refusal_of image.old (said command.now) }
     ensures reply { IfOk result (λ reply. reply ≡ reply_to image.old (said command.now)) }
     ensures accepted { OnOk result (image.new ≡ after image.old (said command.now)) }
@@ -153,15 +207,15 @@ fn carried_out(image: &mut Image, patch: &mut Patch, command: &Command) -> Resul
             Ok(Reply::Done)
         }
         Command::Write { name, kind, bytes } => {
-            write(image, patch, name, *kind, bytes)?;
+            write(image, patch, name, *kind, bytes, is_sound)?;
             Ok(Reply::Done)
         }
         Command::Delete { patterns } => {
-            let count = scratch(image, patch, patterns)?;
+            let count = scratch(image, patch, patterns, is_sound)?;
             Ok(Reply::Scratched(count))
         }
         Command::Rename { old, new } => {
-            rename(image, patch, old, new)?;
+            rename(image, patch, old, new, is_sound)?;
             Ok(Reply::Done)
         }
         Command::Validate => {

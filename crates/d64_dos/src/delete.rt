@@ -1,5 +1,5 @@
 //! The deleting of files: their slots become unused, and their blocks free.
-ghost use Rattle.std.specs.Prelude.{◌≡◌, ◌<◌, ℕ, List, length, All, IfOk, OnOk};
+ghost use Rattle.std.specs.Prelude.{◌≡◌, ◌<◌, true, ℕ, List, length, All, IfOk, OnOk};
 ghost use Rattle.std.specs.List.{list_any, flat_map};
 ghost use Rattle.std.specs.FinSet as set;
 ghost use Rattle.d64_image.specs.Patch.{IsPatchOf, back};
@@ -7,14 +7,16 @@ ghost use Rattle.d64_map.specs.Map.{free_blocks};
 ghost use Rattle.d64_files.specs.Directory.{slots, slot_owns, AllHold};
 ghost use Rattle.d64_files.specs.Pattern.{matches as is_match};
 ghost use Rattle.d64_effects.specs.Clear.{with_cleared, with_freed};
+ghost use Rattle.d64_effects.specs.View.{IsSound};
 ghost use Rattle.d64_effects.specs.Delete.{is_scratched_slot, scratched_slots, scratched_count, scratched};
 ghost use Rattle.d64_dos.specs.FileRefusals.{unsound_refusal};
 ghost use Rattle.d64_dos.specs.Refusal.{refused_by};
 
 use crate::refusal::Refusal;
+use crate::sound_disk::sound_directory;
 use arrayvec::ArrayVec;
 use d64_effects::laws::clearing_keeps_the_directory;
-use d64_files::{Directory, Entry, Pattern, SlotNo, checked, clear_slot, matches, slot_blocks};
+use d64_files::{Directory, Entry, Pattern, SlotNo, clear_slot, matches, slot_blocks};
 use d64_image::{BLOCKS, BlockNo, BlockSet, Image, Patch};
 use d64_map::{free_set, put_map};
 use std::alloc::AllocError;
@@ -111,14 +113,17 @@ pub(crate) fn clear_slots(
 ///
 /// Refused with `Directory` and the first condition of a sound image that fails, and else with
 /// `Memory` where there is no memory to keep the bytes of a block. After a refusal some blocks may
-/// be written; the image with the patch put back stays the same in any case. Apart, so that the
-/// room for the places of all slots is no part of the frames of its callers.
+/// be written; the image with the patch put back stays the same in any case. The caller may know
+/// that the disk is sound. Apart, so that the room for the places of all slots is no part of the
+/// frames of its callers.
 #[inline(never)]
 pub(crate) fn scratch(
     image: &mut Image,
     patch: &mut Patch,
     patterns: &[Pattern],
+    is_sound: bool,
 ) -> Result<usize, Refusal>
+    requires { is_sound ≡ true → IsSound image.old }
     ensures refused { refused_by result ≡ unsound_refusal image.old }
     ensures count { IfOk result (λ count. count ≡ scratched_count image.old patterns.now) }
     ensures image { OnOk result (image.new ≡ scratched image.old patterns.now) }
@@ -127,7 +132,7 @@ pub(crate) fn scratch(
 {
     clearing_keeps_the_directory();
     image.known_image();
-    let (directory, _owned) = checked(image)?;
+    let directory = sound_directory(image, is_sound)?;
     let found = find_scratched(&directory, patterns);
     if found.places.is_empty() {
         return Ok(0);

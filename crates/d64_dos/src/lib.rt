@@ -15,10 +15,11 @@ mod read_back;
 mod refusal;
 mod rename;
 mod row;
+mod sound_disk;
 mod validate;
 mod write;
 
-pub use command::{Command, Reply, apply};
+pub use command::{Command, Reply, apply, apply_knowing};
 pub use directory::listing;
 pub use read_back::{ReadBack, read};
 pub use refusal::Refusal;

@@ -1,13 +1,15 @@
 //! The renaming of a file.
-ghost use Rattle.std.specs.Prelude.{◌≡◌, ◌<◌, Some, length, IfOk, IfSome, OnOk};
+ghost use Rattle.std.specs.Prelude.{◌≡◌, ◌<◌, true, Some, length, IfOk, IfSome, OnOk};
 ghost use Rattle.d64_image.specs.Patch.{IsPatchOf, back};
 ghost use Rattle.d64_files.specs.Directory.{slots};
+ghost use Rattle.d64_effects.specs.View.{IsSound};
 ghost use Rattle.d64_effects.specs.Rename.{first_of_name, renamed};
 ghost use Rattle.d64_dos.specs.FileRefusals.{rename_refusal};
 ghost use Rattle.d64_dos.specs.Refusal.{refused_by};
 
 use crate::refusal::Refusal;
-use d64_files::{Directory, Name, SlotNo, checked, set_name};
+use crate::sound_disk::sound_directory;
+use d64_files::{Directory, Name, SlotNo, set_name};
 use d64_image::{Image, Patch};
 
 /// The first used slot of exactly this name, or None where there is none.
@@ -23,14 +25,16 @@ fn slot_of_name(directory: &Directory, name: &Name) -> Option<SlotNo>
     None
 }
 
-/// The slot whose name changes, or the first refusal that applies.
+/// The slot whose name changes, or the first refusal that applies. The caller may know that the disk
+/// is sound.
 #[tactic(auto, unfolding(crate::specs::FileRefusals::rename_refusal))]
-fn slot_to_rename(image: &Image, old: &Name, new: &Name) -> Result<SlotNo, Refusal>
+fn slot_to_rename(image: &Image, old: &Name, new: &Name, is_sound: bool) -> Result<SlotNo, Refusal>
+    requires { is_sound ≡ true → IsSound image.now }
     ensures refused { refused_by result ≡ rename_refusal image.now old.now new.now }
     ensures slot { IfOk result (λ slot. first_of_name old.now (slots image.now) ≡ Some slot) }
     ensures within { IfOk result (λ slot. slot < length (slots image.now)) }
 {
-    let (directory, _owned) = checked(image)?;
+    let directory = sound_directory(image, is_sound)?;
     let Some(first) = slot_of_name(&directory, old) else {
         return Err(Refusal::NotFound);
     };
@@ -46,19 +50,21 @@ fn slot_to_rename(image: &Image, old: &Name, new: &Name) -> Result<SlotNo, Refus
 /// The first refusal that applies is answered: `Directory` with the first condition of a sound
 /// image that fails, `NotFound` where no used slot has the old name, and `Exists` where one has the
 /// new name, be it the same. `Memory` comes only where none does. The image with the patch put back
-/// stays the same in any case.
+/// stays the same in any case. The caller may know that the disk is sound.
 pub(crate) fn rename(
     image: &mut Image,
     patch: &mut Patch,
     old: &Name,
     new: &Name,
+    is_sound: bool,
 ) -> Result<(), Refusal>
+    requires { is_sound ≡ true → IsSound image.old }
     ensures refused { refused_by result ≡ rename_refusal image.old old.now new.now }
     ensures image { OnOk result (image.new ≡ renamed image.old old.now new.now) }
     ensures back { back image.new patch.new ≡ back image.old patch.old }
     ensures held { IsPatchOf image.old patch.old → IsPatchOf image.new patch.new }
 {
-    let slot = slot_to_rename(image, old, new)?;
+    let slot = slot_to_rename(image, old, new, is_sound)?;
     set_name(image, patch, slot, new)?;
     Ok(())
 }

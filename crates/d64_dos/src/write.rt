@@ -1,8 +1,9 @@
 //! The writing of a file: its blocks, its entry, and the map.
-ghost use Rattle.std.specs.Prelude.{◌≡◌, length, is_some, IfOk, OnOk, IfSome, MatchOption};
+ghost use Rattle.std.specs.Prelude.{◌≡◌, true, length, is_some, IfOk, OnOk, IfSome, MatchOption};
 ghost use Rattle.d64_image.specs.Patch.{IsPatchOf, back};
 ghost use Rattle.d64_map.specs.Map.{free_blocks};
 ghost use Rattle.d64_files.specs.Writing.{entry_bytes};
+ghost use Rattle.d64_effects.specs.View.{IsSound};
 ghost use Rattle.d64_effects.specs.Write.{with_new_entry, written};
 ghost use Rattle.d64_dos.specs.Refusal.{refused_by};
 ghost use Rattle.d64_dos.specs.Space.{IsPlace, IsSpace, NoPlace};
@@ -10,9 +11,10 @@ ghost use Rattle.d64_dos.specs.WriteRefusal.{has_room, is_writable, write_refusa
 
 use crate::plan::take_plan;
 use crate::refusal::Refusal;
+use crate::sound_disk::sound_directory;
 use arrayvec::ArrayVec;
 use d64_files::{
-    ClosedFile, Directory, Kind, Name, blocks_for, checked, grow_after, put_chain, put_entry_at,
+    ClosedFile, Directory, Kind, Name, blocks_for, grow_after, put_chain, put_entry_at,
 };
 use d64_image::{BLOCKS, BlockNo, BlockSet, Image, Patch};
 use d64_map::laws::plan_takes_free_blocks;
@@ -91,16 +93,24 @@ fn find_space(directory: &Directory, bytes: usize) -> Option<Space>
     })
 }
 
-/// What a file of this name, kind and number of bytes takes, or the first refusal that applies.
+/// What a file of this name, kind and number of bytes takes, or the first refusal that applies. The
+/// caller may know that the disk is sound.
 #[tactic(auto, unfolding(crate::specs::WriteRefusal::write_refusal))]
-fn space_for(image: &Image, name: &Name, kind: Kind, bytes: usize) -> Result<Space, Refusal>
+fn space_for(
+    image: &Image,
+    name: &Name,
+    kind: Kind,
+    bytes: usize,
+    is_sound: bool,
+) -> Result<Space, Refusal>
+    requires { is_sound ≡ true → IsSound image.now }
     ensures refused { refused_by result ≡ write_refusal image.now name.now kind bytes }
     ensures space { IfOk result (IsSpace image.now bytes) }
 {
     if !is_writable(kind) {
         return Err(Refusal::WrongType);
     }
-    let (directory, _owned) = checked(image)?;
+    let directory = sound_directory(image, is_sound)?;
     if directory.is_taken(name) {
         return Err(Refusal::Exists);
     }
@@ -162,20 +172,22 @@ fn put_file(
 /// a used slot has the name, and `DiskFull` where too few blocks outside track 18 are free, or
 /// where no slot is empty and no block of track 18 is free. `Memory` comes only where none does:
 /// then some blocks may be written, and the image with the patch put back is still the one from
-/// before.
+/// before. The caller may know that the disk is sound.
 pub(crate) fn write(
     image: &mut Image,
     patch: &mut Patch,
     name: &Name,
     kind: Kind,
     bytes: &[u8],
+    is_sound: bool,
 ) -> Result<(), Refusal>
+    requires { is_sound ≡ true → IsSound image.old }
     ensures refused { refused_by result ≡ write_refusal image.old name.now kind (length bytes.now) }
     ensures written { OnOk result (image.new ≡ written image.old name.now kind bytes.now) }
     ensures back { back image.new patch.new ≡ back image.old patch.old }
     ensures held { IsPatchOf image.old patch.old → IsPatchOf image.new patch.new }
 {
-    let space = space_for(image, name, kind, bytes.len())?;
+    let space = space_for(image, name, kind, bytes.len(), is_sound)?;
     put_file(image, patch, &space, name, kind, bytes)?;
     Ok(())
 }

@@ -10,7 +10,7 @@ ghost use Rattle.d64_undo.specs.SessionFile.{file_of, IsSession};
 ghost use Rattle.d64_undo.specs.SoundHistory.{IsSoundHistory, KeepsSound};
 
 use crate::keeping::session_file;
-use d64_dos::{Command, Refusal, Reply, apply};
+use d64_dos::{Command, Refusal, Reply, apply_knowing};
 use d64_image::{BLOCK_BYTES, BlockNo, Image, Patch, PatchList, Place};
 use std::alloc::{AllocError, Global};
 use std::marker::Model;
@@ -40,11 +40,14 @@ pub struct Session {
     records: PatchList,
     /// The place between the records that are done and those that are undone.
     cursor: Place,
+    /// Whether the image is known to be sound: a file command left it.
+    is_sound: bool,
 }
 
 impl Model for Session {
-    ghost use Rattle.std.specs.Prelude.{◌≡◌, ◌≤◌, length};
+    ghost use Rattle.std.specs.Prelude.{◌≡◌, ◌≤◌, true, length};
     ghost use Rattle.d64_image.specs.PatchList.{blocks_before};
+    ghost use Rattle.d64_effects.specs.View.{IsSound};
     ghost use Rattle.d64_undo.specs.History.{History};
     ghost use Rattle.d64_undo.specs.Records.{images_of, AreRecords};
 
@@ -54,7 +57,8 @@ impl Model for Session {
 
     ghost invariant = { λ s. (s.cursor.number ≤ length s.records)
         × AreRecords s.records s.image s.cursor.number
-        × (s.cursor.blocks ≡ blocks_before s.records s.cursor.number) };
+        × (s.cursor.blocks ≡ blocks_before s.records s.cursor.number)
+        × (s.is_sound ≡ true → IsSound s.image) };
 }
 
 impl Session {
@@ -70,6 +74,7 @@ impl Session {
             image,
             records,
             cursor,
+            is_sound: false,
         }
     }
 
@@ -92,6 +97,7 @@ impl Session {
             image: present,
             records,
             cursor,
+            is_sound: false,
         }
     }
 
@@ -167,12 +173,13 @@ impl Session {
         ensures sound { KeepsSound (said command.now) result → IsSoundHistory self.old → IsSoundHistory self.new }
     {
         let mut record = Patch::new(self.alloc);
-        let reply = apply(&mut self.image, &mut record, command)?;
+        let reply = apply_knowing(&mut self.image, &mut record, command, self.is_sound)?;
         if self.records.replace_from(self.cursor, &record).is_err() {
             record.swap(&mut self.image);
             return Err(Refusal::Memory);
         }
         self.cursor = self.records.end();
+        self.is_sound = command.is_file_command();
         Ok(reply)
     }
 
@@ -190,6 +197,7 @@ impl Session {
         let before = self.records.previous(self.cursor);
         self.records.swap(before, &mut self.image);
         self.cursor = before;
+        self.is_sound = false;
         Ok(())
     }
 
@@ -206,6 +214,7 @@ impl Session {
         }
         self.records.swap(self.cursor, &mut self.image);
         self.cursor = self.records.next(self.cursor);
+        self.is_sound = false;
         Ok(())
     }
 }

@@ -35,7 +35,7 @@ put_map-requires c =
     let image = c.args.image.now in
     let patterns = c.args.patterns.now in
     let found = c.find_scratched-found in
-    let sound : IsSound image = c.in_ok-directory.ensures.verdict.0 in
+    let sound : IsSound image = c.in_ok-directory.ensures.sound in
     let free = found.ensures.free
     ∙ ap (λ (one : List (List ℕ)). with_freed (free_blocks one) (flat_map (slot_owns one) (scratched_slots one patterns))) c.in_ok-directory.ensures.image in
     let long = ap length c.in_ok-clear_slots.ensures.cleared ∙ length-with_cleared image c.as_slice.result.now in

@@ -18,6 +18,7 @@ invariant_of-result c =
       omega arith,
       subst (AreRecords c.new-records.result c.args.image) (sym (none-done c)) (none-are_records c.new-records.result c.args.image c.new-records.ensures),
       c.end-cursor.ensures.blocks ∙ ap (blocks_before c.new-records.result) (sym number),
+      λ known. absurd (cc),
     )
 
 -- there is no record yet

@@ -4,7 +4,7 @@ use Rattle.d64_undo.specs.SoundHistory.{IsSoundHistory}
 use Rattle.d64_undo.proofs.Sessions.{Holds, holds, cursor-is, some_left, beside-patch, holds-swapped, kind-swapped, length-swapped, places-swapped}
 use Rattle.d64_undo.proofs.SoundHistories.{moved-sound}
 use Rattle.d64_undo.proofs.session.Session.redo.Goals as goal
-use Rattle.d64_undo.proofs.session.Session.redo.Goals.{After-self-1}
+use Rattle.d64_undo.proofs.session.Session.redo.Goals.{After-self-2-1}
 
 -- there is a record after the cursor
 pub swap-requires-clause-within : goal.swap-requires-clause-within
@@ -30,7 +30,7 @@ next-self-inside-requires-clause-place c =
     c.self.invariant.2 ∙ sym (places-swapped c.self.inside.records c.swap.new.self c.self.inside.image n n left c.swap.ensures.patch)
 
 -- what the session holds with the cursor after that record
-stepped : (c : After-self-1)
+stepped : (c : After-self-2-1)
     → Holds c.swap.new.self c.swap.new.image c.next-self-inside.result.number (record c.args.self.now { cursor = c.next-self-inside.result.number })
 stepped c =
     let h = holds c.self.invariant c.self.view_is in
@@ -39,7 +39,7 @@ stepped c =
     c.swap.ensures.patch c.swap.ensures.image
 
 pub invariant_of-self : goal.invariant_of-self
-invariant_of-self c = let h = stepped c in (h.within, h.lead, c.next-self-inside.ensures.blocks)
+invariant_of-self c = let h = stepped c in (h.within, h.lead, c.next-self-inside.ensures.blocks, λ known. absurd (cc))
 
 -- the cursor is one image on
 pub returns-clause-moved : goal.returns-clause-moved

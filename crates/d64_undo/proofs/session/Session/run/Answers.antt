@@ -43,13 +43,13 @@ returns-clause-reply c =
     c.in_ok-reply.ensures.reply ∙ ap (λ (image : List (List ℕ)). reply_to image (said c.args.command.now)) (sym shown)
 
 -- what lies after the cursor is dropped, and the record of this command is added
-with_record : (c : After-drop-record-inside-2) → Holds c.replace_from.new.self c.apply.new.image c.end-self-inside.result.number (added c.args.self.now c.apply.new.image)
+with_record : (c : After-drop-record-inside-2) → Holds c.replace_from.new.self c.apply_knowing.new.image c.end-self-inside.result.number (added c.args.self.now c.apply_knowing.new.image)
 with_record c =
     let s = c.self.inside in
-    let kept : c.replace_from.new.self ≡ take s.cursor.number s.records ++ c.apply.new.patch ∷ [] = search rules in
-    let long = length-added s.records c.replace_from.new.self c.apply.new.patch s.cursor.number c.self.invariant.0 kept in
+    let kept : c.replace_from.new.self ≡ take s.cursor.number s.records ++ c.apply_knowing.new.patch ∷ [] = search rules in
+    let long = length-added s.records c.replace_from.new.self c.apply_knowing.new.patch s.cursor.number c.self.invariant.0 kept in
     let number = c.end-self-inside.ensures.number in
-    holds-added c.replace_from.new.self c.apply.new.patch c.apply.new.image c.end-self-inside.result.number (holds c.self.invariant c.self.view_is) kept (omega arith)
+    holds-added c.replace_from.new.self c.apply_knowing.new.patch c.apply_knowing.new.image c.end-self-inside.result.number (holds c.self.invariant c.self.view_is) kept (omega arith)
     c.in_ok-reply.ensures.back c.in_ok-reply.ensures.changed
 
 pub invariant_of-self-2 : goal.invariant_of-self-2
@@ -58,6 +58,7 @@ invariant_of-self-2 c =
       h.within,
       h.lead,
       c.end-self-inside.ensures.blocks ∙ ap (blocks_before c.replace_from.new.self) (sym c.end-self-inside.ensures.number),
+      λ known. c.in_ok-reply.ensures.sound (c.is_file_command-self-inside.ensures.0 known),
     )
 
 -- the new image is added to the history
@@ -74,15 +75,15 @@ returns-clause-sound c is all =
     let shown : present c.args.self.now ≡ s.image = present_is (holds c.self.invariant c.self.view_is) in
     let standing = stands (holds c.self.invariant c.self.view_is) in
     let sound : IsSound s.image = subst IsSound shown (present-sound c.args.self.now standing all) in
-    let left : Leaves s.image (said c.args.command.now) c.in_ok-reply.reply c.apply.new.image =
+    let left : Leaves s.image (said c.args.command.now) c.in_ok-reply.reply c.apply_knowing.new.image =
     c.in_ok-reply.ensures.step (starts_from_sound s.image (said c.args.command.now) is sound) in
     subst IsSoundHistory (sym (returns-clause-accepted c))
     (added-sound c.args.self.now (after (present c.args.self.now) (said c.args.command.now)) all
     (subst IsSound (c.in_ok-reply.ensures.accepted ∙ ap (λ (image : List (List ℕ)). after image (said c.args.command.now)) (sym shown)) left.sound))
 
 -- the present image has the block that the command names
-pub apply-requires-clause-block : goal.apply-requires-clause-block
-apply-requires-clause-block c =
+pub apply_knowing-requires-clause-block : goal.apply_knowing-requires-clause-block
+apply_knowing-requires-clause-block c =
     let s = c.self.inside in
     subst (λ (image : List (List ℕ)). IsWithin image (said c.args.command.now))
     (present_is (holds c.self.invariant c.self.view_is)) c.requires
@@ -91,8 +92,8 @@ apply-requires-clause-block c =
 pub swap-requires : goal.swap-requires
 swap-requires c =
     let before = c.self.inside.image in
-    subst (λ (n : ℕ). RisesBetween 0 n c.apply.new.patch) (sym c.in_ok-reply.ensures.kind)
-    (subst (RisesBetween 0 (length before)) (sym c.in_ok-reply.ensures.changed) (rises-changed before c.apply.new.image))
+    subst (λ (n : ℕ). RisesBetween 0 n c.apply_knowing.new.patch) (sym c.in_ok-reply.ensures.kind)
+    (subst (RisesBetween 0 (length before)) (sym c.in_ok-reply.ensures.changed) (rises-changed before c.apply_knowing.new.image))
 
 -- the image is as long as before
 pub returns-clause-kind : goal.returns-clause-kind

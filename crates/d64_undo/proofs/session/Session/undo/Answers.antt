@@ -4,7 +4,7 @@ use Rattle.d64_undo.specs.SoundHistory.{IsSoundHistory}
 use Rattle.d64_undo.proofs.Sessions.{Holds, holds, cursor-is, beside-patch, holds-swapped, kind-swapped, places-swapped}
 use Rattle.d64_undo.proofs.SoundHistories.{moved-sound}
 use Rattle.d64_undo.proofs.session.Session.undo.Goals as goal
-use Rattle.d64_undo.proofs.session.Session.undo.Goals.{After-before-1}
+use Rattle.d64_undo.proofs.session.Session.undo.Goals.{After-self-1}
 
 -- the image has the blocks of the record before the cursor
 pub swap-requires-clause-held : goal.swap-requires-clause-held
@@ -15,7 +15,7 @@ swap-requires-clause-held c =
     beside-patch n n (holds c.self.invariant c.self.view_is) (omega arith) (inl (sym before, refl))
 
 -- what the session holds with the cursor before that record
-stepped : (c : After-before-1)
+stepped : (c : After-self-1)
     → Holds c.swap.new.self c.swap.new.image c.previous-before.result.number (record c.args.self.now { cursor = c.previous-before.result.number })
 stepped c =
     let n = c.previous-before.result.number in
@@ -34,6 +34,7 @@ invariant_of-self c =
       h.lead,
       c.previous-before.ensures.blocks
           ∙ sym (places-swapped c.self.inside.records c.swap.new.self c.self.inside.image n n (omega arith) c.swap.ensures.patch),
+      λ known. absurd (cc),
     )
 
 -- the cursor is one image back

@@ -3,8 +3,8 @@ use Rattle.std.proofs.lemmas.Result.{on_ok_weaker}
 use Rattle.d64_image.specs.Patch.{Kept, IsPatchOf, RisesBetween, back, changed}
 use Rattle.d64_image.proofs.Patches.{length-back}
 use Rattle.d64_dos.specs.Change.{said}
-use Rattle.d64_dos.proofs.Steps.{step_of, nothing_back, on_err}
-use Rattle.d64_dos.proofs.command.apply.Goals as goal
+use Rattle.d64_dos.proofs.Steps.{step_of, sound_of, nothing_back, on_err}
+use Rattle.d64_dos.proofs.command.apply_knowing.Goals as goal
 
 pub returns-then-is_ok-clause-changed : goal.returns-then-is_ok-clause-changed
 returns-then-is_ok-clause-changed c =
@@ -22,6 +22,12 @@ pub returns-then-is_ok-clause-step : goal.returns-then-is_ok-clause-step
 returns-then-is_ok-clause-step c =
     let done = c.carried_out-answer in
     step_of c.args.image.now done.new.image (said c.args.command.now) done.result done.ensures.known.0 done.ensures.known.1 done.ensures.refused
+    done.ensures.reply done.ensures.accepted
+
+pub returns-then-is_ok-clause-sound : goal.returns-then-is_ok-clause-sound
+returns-then-is_ok-clause-sound c =
+    let done = c.carried_out-answer in
+    sound_of c.args.image.now done.new.image (said c.args.command.now) done.result done.ensures.known.0 done.ensures.known.1 done.ensures.refused
     done.ensures.reply done.ensures.accepted
 
 pub returns-else-is_ok-clause-unchanged : goal.returns-else-is_ok-clause-unchanged
