@@ -1,5 +1,6 @@
 pub mod Additions
 pub mod Addresses
+pub mod Alone
 pub mod Filled
 pub mod Helps
 pub mod Parses

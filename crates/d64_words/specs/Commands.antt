@@ -1,5 +1,5 @@
 -- The program's subcommands and their arguments, as `clap` reads them.
-use Rattle.std.specs.Prelude.{ℕ, List, codes, Some, true}
+use Rattle.std.specs.Prelude.{◌∷◌, ℕ, List, [], Option, Some, bytes_eq, codes, find, true}
 use Rattle.clap.specs.Words.{App, Rule, new_app, new_rule, with_rule, with_subcommand}
 use Rattle.clap.specs.Lexer.{usize_max}
 use Rattle.clap.specs.declared.builder.action.ArgAction.TheVariants.{Append, SetTrue}
@@ -92,6 +92,14 @@ diff =
 -- `catalogue [--maps]` with the names of files
 abbrev pub catalogue : App
 catalogue = with_names (with_rule (new_app (codes "catalogue")) (flag (codes "maps")))
+
+-- the subcommands
+abbrev pub apps : List App
+apps = shell ∷ petcat ∷ crunch ∷ check ∷ files ∷ extract ∷ map ∷ diff ∷ catalogue ∷ []
+
+-- the one of this name
+abbrev pub named : List ℕ → Option App
+named name = find (λ app. bytes_eq app.top.name name) apps
 
 -- `d64sh` alone: it has a version, wants a subcommand, and tells its help where it is given
 -- nothing, and after `help`

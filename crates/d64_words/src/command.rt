@@ -1,10 +1,10 @@
 //! The program's subcommands and their arguments, with their help.
 
-ghost use Rattle.std.specs.Prelude.{◌≡◌, IfOk, false};
+ghost use Rattle.std.specs.Prelude.{◌≡◌, IfOk, false, option_map};
 ghost use Rattle.clap.specs.Words.{app_of, kind_of, new_app, rule_of};
 ghost use Rattle.clap.specs.declared.error.kind.ErrorKind.TheVariants.{InvalidValue};
 ghost use Rattle.clap.specs.declared.builder.command.Command.TheViews.{out-Command as fields_of};
-ghost use Rattle.d64_words.specs.Commands.{bare, d64sh, shell, petcat, crunch, check, files, extract, map, diff, catalogue, survey, with_names, file_argument, required_argument, files_argument, valued_option, output_option, line_option, stop_flag, flag, with_script};
+ghost use Rattle.d64_words.specs.Commands.{bare, d64sh, named, shell, petcat, crunch, check, files, extract, map, diff, catalogue, survey, with_names, file_argument, required_argument, files_argument, valued_option, output_option, line_option, stop_flag, flag, with_script};
 
 use crate::help::help_of;
 use clap::error::ErrorKind;
@@ -28,6 +28,25 @@ pub(crate) fn d64sh<'a>(alloc: Global) -> Result<Command<'a>, AllocError>
         .subcommand(map(alloc)?)?
         .subcommand(diff(alloc)?)?
         .subcommand(catalogue(alloc)?)
+}
+
+/// The subcommand of this name, where there is one. It makes of the words from its name on what
+/// `d64sh` makes of all words, and the options of the other subcommands are not made for it.
+pub(crate) fn named<'a>(alloc: Global, name: &str) -> Result<Option<Command<'a>>, AllocError>
+    ensures { IfOk result (λ command. option_map app_of command ≡ named name.now) }
+{
+    Ok(Some(match name {
+        "shell" => shell(alloc)?,
+        "petcat" => petcat(alloc)?,
+        "crunch" => crunch(alloc)?,
+        "check" => check(alloc)?,
+        "files" => files(alloc)?,
+        "extract" => extract(alloc)?,
+        "map" => map(alloc)?,
+        "diff" => diff(alloc)?,
+        "catalogue" => catalogue(alloc)?,
+        _ => return Ok(None),
+    }))
 }
 
 /// The error that an option lacks its value, with the usage of the subcommand of this name, where

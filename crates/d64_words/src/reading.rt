@@ -43,19 +43,33 @@ pub fn job(alloc: Global, words: &[&str]) -> Result<Job, JobFault>
     ensures job { IfOk result (IsJob (map (λ word. word.now) words.now)) }
     ensures fault { IfErr result (IsFault (map (λ word. word.now) words.now)) }
 {
-    let matches = match command::d64sh(alloc)?.try_get_matches_from(words) {
-        Ok(matches) => matches,
-        Err(error) => return Err(JobFault::from(with_usage(alloc, words, error)?)),
+    let Some(name) = words.get(1) else {
+        return program_job(alloc, words);
     };
+    let Some(command) = command::named(alloc, name)? else {
+        return program_job(alloc, words);
+    };
+    match command.try_get_matches_from(&words[1..]) {
+        Ok(arguments) => job_of(alloc, name, &arguments),
+        Err(error) => Err(JobFault::from(with_usage(alloc, name, error)?)),
+    }
+}
+
+/// The same for words that name no subcommand first, read by the command with all of them.
+fn program_job(alloc: Global, words: &[&str]) -> Result<Job, JobFault>
+    ensures job { IfOk result (IsJob (map (λ word. word.now) words.now)) }
+    ensures fault { IfErr result (IsFault (map (λ word. word.now) words.now)) }
+{
+    let matches = command::d64sh(alloc)?.try_get_matches_from(words)?;
     let Some((name, arguments)) = matches.subcommand() else {
         unreachable!()
     };
     job_of(alloc, name, arguments)
 }
 
-/// The error, with the usage of the subcommand where it is that an option lacks its value: `clap`
-/// tells no usage of that one.
-fn with_usage(alloc: Global, words: &[&str], error: Error) -> Result<Error, AllocError>
+/// The error, with the usage of the subcommand of this name where it is that an option lacks its
+/// value: `clap` tells no usage of that one.
+fn with_usage(alloc: Global, name: &str, error: Error) -> Result<Error, AllocError>
     ensures { IfOk result (λ told. kind_of told ≡ kind_of error) }
 {
     if error.kind() != ErrorKind::InvalidValue {
@@ -64,7 +78,7 @@ fn with_usage(alloc: Global, words: &[&str], error: Error) -> Result<Error, Allo
     let text = format!(in alloc; "{error}")?;
     let line = text.as_str().lines().next().unwrap_or("");
     let message = line.strip_prefix("error: ").unwrap_or(line);
-    command::lacks_value(alloc, words.get(1).copied().unwrap_or(""), message)
+    command::lacks_value(alloc, name, message)
 }
 
 /// The job that a subcommand with these matches asks for.
