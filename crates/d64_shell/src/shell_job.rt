@@ -22,9 +22,6 @@ use d64_undo::{ReadFault, Session, resume_from};
 use std::alloc::{AllocError, Global};
 use std::io::{Read, Write};
 
-/// How many bytes each read of a session file asks for.
-const READ_BYTES: usize = 16_384;
-
 /// What the words ask of the shell.
 #[derive(Clone, Copy, Debug)]
 pub(crate) struct ShellJob<'n> {
@@ -195,14 +192,13 @@ fn session_of_file<H: Host>(
         (H.state host.new)
         × GivesNoSession fetched fault) }
 {
-    let mut buffer = vec![in alloc; 0; READ_BYTES]?;
     let mut file = match host.open(name) {
         Ok(file) => file,
         Err(fault) => {
             return Err(ProgramFault::of_file(fault, ProgramFault::UnreadableSession));
         }
     };
-    match resume_from(alloc, &mut file, &mut buffer, SESSION_BYTES) {
+    match resume_from(alloc, &mut file, SESSION_BYTES) {
         Ok(session) => Ok(session),
         Err(ReadFault::Resume(fault)) => Err(fault.into()),
         Err(ReadFault::TooLong) => Err(ProgramFault::UnreadableSession),

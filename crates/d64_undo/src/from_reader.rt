@@ -13,6 +13,9 @@ use std::alloc::Global;
 use std::io::Read;
 use thiserror::Error;
 
+/// How many bytes are read at once, at most.
+const PIECE_BYTES: usize = 16_384;
+
 /// Why a reader gives no session file.
 #[derive(Clone, Copy, Debug, PartialEq, Eq, Error)]
 pub enum ReadFault {
@@ -31,11 +34,9 @@ pub enum ReadFault {
 /// read, and returns it. It is 0 at the end.
 fn read_piece<R: Read>(
     reader: &mut R,
-    buffer: &mut [u8],
+    buffer: &mut [u8; PIECE_BYTES],
     left: &mut u32,
 ) -> Result<usize, ReadFault>
-    requires { 0 < length buffer.old }
-    ensures room { length buffer.new ≡ length buffer.old }
     ensures within { IfOk result (λ count. count ≤ length buffer.new) }
     ensures piece { IfOk result (λ count. Consumes (R.remaining reader.old) (R.remaining reader.new) (take count buffer.new)) }
     ensures end { IfOk result (λ count. count ≡ 0 → IsAtEnd (R.remaining reader.new)) }
@@ -56,8 +57,11 @@ fn read_piece<R: Read>(
 }
 
 /// Reads all that is left, at most so many bytes, for nothing but the fault that comes then.
-fn read_past<R: Read>(reader: &mut R, buffer: &mut [u8], limit: u32) -> Result<(), ReadFault>
-    requires { 0 < length buffer.old }
+fn read_past<R: Read>(
+    reader: &mut R,
+    buffer: &mut [u8; PIECE_BYTES],
+    limit: u32,
+) -> Result<(), ReadFault>
     ensures end { OnOk result ((more : Bytes)
         × Consumes (R.remaining reader.old) (R.remaining reader.new) more
         × IsAtEnd (R.remaining reader.new)
@@ -77,25 +81,20 @@ fn read_past<R: Read>(reader: &mut R, buffer: &mut [u8], limit: u32) -> Result<(
 /// The session of the file that a reader gives, of at most `limit` bytes. It is read to its end, so
 /// that a read that fails, or a byte too many, comes before what is wrong with the bytes. Takes
 /// memory for what the session holds.
-pub fn resume_from<R: Read>(
-    alloc: Global,
-    reader: &mut R,
-    buffer: &mut [u8],
-    limit: u32,
-) -> Result<Session, ReadFault>
-    requires { 0 < length buffer.old }
+pub fn resume_from<R: Read>(alloc: Global, reader: &mut R, limit: u32) -> Result<Session, ReadFault>
     ensures session { IfOk result (λ session. IsReadOf (R.remaining reader.old) limit session) }
     ensures fault { IfErr result (λ fault. IsReadFault (R.remaining reader.old) limit fault) }
 {
     let mut file = Resuming::new(alloc);
+    let mut buffer = [0; PIECE_BYTES];
     let mut left = limit;
     for _ in 0..u64::MAX {
-        let count = read_piece(reader, buffer, &mut left)?;
+        let count = read_piece(reader, &mut buffer, &mut left)?;
         if count == 0 {
             return file.finish().map_err(ReadFault::Resume);
         }
         if let Err(fault) = file.push(&buffer[..count]) {
-            read_past(reader, buffer, left)?;
+            read_past(reader, &mut buffer, left)?;
             return Err(ReadFault::Resume(fault));
         }
     }

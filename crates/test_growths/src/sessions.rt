@@ -126,7 +126,7 @@ pub fn resume_from(bench: &Bench) -> Result<End, Fail> {
     let file = beside.session.keep(bench.alloc())?;
     let mut reader = file.as_slice();
     bench.begin()?;
-    match d64_undo::resume_from(bench.alloc(), &mut reader, &mut [0; 4096], u32::MAX) {
+    match d64_undo::resume_from(bench.alloc(), &mut reader, u32::MAX) {
         Ok(session) => Ok(end_of_resumed(beside, Ok(session))),
         Err(ReadFault::Resume(fault)) => Ok(end_of_resumed(beside, Err(fault))),
         Err(_) => Ok(End::Refused),

@@ -72,7 +72,7 @@ fn fault_of(alloc: Global, bytes: &[u8], fails: bool, limit: u32) -> Option<Read
         at_most: 4096,
         fails,
     };
-    resume_from(alloc, &mut reader, &mut [0; 1000], limit).err()
+    resume_from(alloc, &mut reader, limit).err()
 }
 
 #[test]
@@ -85,7 +85,7 @@ fn readers_give_sessions(rt: HostRuntime) -> Result<(), Fail> {
             at_most,
             fails: false,
         };
-        let session = resume_from(rt.alloc(), &mut reader, &mut [0; 1000], 600_000)?;
+        let session = resume_from(rt.alloc(), &mut reader, 600_000)?;
         assert!(rt; session.keep(rt.alloc())? == file);
     }
     Ok(())

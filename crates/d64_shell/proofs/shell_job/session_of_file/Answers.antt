@@ -13,18 +13,6 @@ use Rattle.d64_shell.proofs.ProgramRuns.{IfErr-of_error}
 use Rattle.d64_shell.proofs.SessionFiles.{fetches_failed, fetches_none, fetches_read, fetches_too_long, gives_none}
 use Rattle.d64_shell.proofs.shell_job.session_of_file.Goals as goal
 
--- there is no memory to read through
-pub returns-in_err-buffer-clause-none : goal.returns-in_err-buffer-clause-none
-returns-in_err-buffer-clause-none g c =
-    let old = g.H.Host.state c.args.host.now in
-    IfErr-of_error c.from_residual.result faults.Memory
-    (λ (fault : ProgramFault). (fetched : Result (List ℕ) HostFault) × FetchesFile old c.args.name.now session_limit fetched old × GivesNoSession fetched fault)
-    c.from_residual.ensures.1 (
-      Err (Memory c.in_err-buffer.field-0.0),
-      record { answer = fetches_failed old.files c.args.name.now session_limit (Memory c.in_err-buffer.field-0.0) tt; bytes = tt; counted = refl; kept = refl },
-      refl,
-    )
-
 -- the file cannot be opened
 pub returns-in-Err-clause-none : goal.returns-in-Err-clause-none
 returns-in-Err-clause-none g c =
