@@ -109,6 +109,9 @@ impl<'n> DifferenceJob<'n> {
     }
 
     /// Reads both files, and tells at a desk what changed.
+    ///
+    /// It is a call of its own: each job would else take room for the inspections of two dumps.
+    #[inline(never)]
     fn compare<W: Write, F: Write, H: Host>(
         &self,
         desk: &mut Desk,
