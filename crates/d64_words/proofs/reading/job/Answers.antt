@@ -1,9 +1,10 @@
-use Rattle.std.proofs.Common.{◌≡◌, ◌∙◌, ◌∷◌, ◌<◌, ◌-◌, ℕ, true, List, Some, Bor, sym, ap, drop, map, length, take, drop-cons, slice_index_or}
+use Rattle.std.proofs.Common.{◌≡◌, ◌∙◌, ◌∷◌, ◌<◌, ◌-◌, ℕ, true, List, Option, Some, Bor, sym, ap, drop, map, length, take, drop-cons, slice_index_or}
 use Rattle.std.specs.Option.{option_map}
 use Rattle.std.proofs.Math.Seq.{take-length}
 use Rattle.std.proofs.lemmas.List.{drop-map, length-drop}
 use Rattle.std.proofs.lemmas.Result.{IfOk-weaker, IfErr-weaker}
 use Rattle.clap.specs.Words.{App, HasMatchesOf, Text, app_of, fault_of, found_of, is_simple_and_free, matches_of, rows_of, subcommand_of}
+use Rattle.clap.specs.declared.builder.command.Command.{Command}
 use Rattle.clap.specs.declared.parser.matches.ArgMatches.{ArgMatches}
 use Rattle.d64_words.specs.Commands.{d64sh, named}
 use Rattle.d64_words.proofs.Alone.{free, same_fault, same_met, simple}
@@ -19,6 +20,10 @@ record Begins (words : List (Bor (List ℕ))) (name : Bor (List ℕ)) (app : App
   has : 1 < length words
   is : name ≡ slice_index_or words 1 name
   is_app : named name.now ≡ Some app
+
+begins_with : {words : List (Bor (List ℕ))} {name : Bor (List ℕ)} {found : Option Command} {command : Command} → 1 < length words
+    → name ≡ slice_index_or words 1 name → option_map app_of found ≡ named name.now → found ≡ Some command → Begins words name (app_of command)
+begins_with has is finds found = record { has = has; is = is; is_app = sym finds ∙ ap (option_map app_of) found }
 
 -- the words that the subcommand is given, and those of the program
 module _ {words : List (Bor (List ℕ))} {name : Bor (List ℕ)} {app : App} (begins : Begins words name app) where
@@ -51,30 +56,26 @@ module _ {words : List (Bor (List ℕ))} {name : Bor (List ℕ)} {app : App} (be
 pub job_of-requires : goal.job_of-requires
 job_of-requires c =
     let lookup = c.in-Some.ensures.lookup in
-    let begins : Begins c.args.words.now c.in-Some.name.now (app_of c.in-Some-2.command) =
-    record { has = lookup.3.0; is = lookup.1; is_app = sym c.in_ok-command.ensures ∙ ap (option_map app_of) c.in-Some-2.is } in
+    let begins = begins_with lookup.3.0 lookup.1 c.in_ok-command.ensures c.in-Some-2.is in
     met_is_whole _ _ (sym (fault_is begins) ∙ c.in-Ok.ensures.kinds (is_free begins)) (met_is begins c.in-Ok.arguments c.in-Ok.ensures.matches)
 
 pub returns-in-Ok-clause-job : goal.returns-in-Ok-clause-job
 returns-in-Ok-clause-job c =
     let lookup = c.in-Some.ensures.lookup in
-    let begins : Begins c.args.words.now c.in-Some.name.now (app_of c.in-Some-2.command) =
-    record { has = lookup.3.0; is = lookup.1; is_app = sym c.in_ok-command.ensures ∙ ap (option_map app_of) c.in-Some-2.is } in
+    let begins = begins_with lookup.3.0 lookup.1 c.in_ok-command.ensures c.in-Some-2.is in
     let none = sym (fault_is begins) ∙ c.in-Ok.ensures.kinds (is_free begins) in
     IfOk-weaker c.job_of.result _ _ (asked _ _ none (met_is begins c.in-Ok.arguments c.in-Ok.ensures.matches)) c.job_of.ensures.job
 
 pub returns-in-Ok-clause-fault : goal.returns-in-Ok-clause-fault
 returns-in-Ok-clause-fault c =
     let lookup = c.in-Some.ensures.lookup in
-    let begins : Begins c.args.words.now c.in-Some.name.now (app_of c.in-Some-2.command) =
-    record { has = lookup.3.0; is = lookup.1; is_app = sym c.in_ok-command.ensures ∙ ap (option_map app_of) c.in-Some-2.is } in
+    let begins = begins_with lookup.3.0 lookup.1 c.in_ok-command.ensures c.in-Some-2.is in
     let none = sym (fault_is begins) ∙ c.in-Ok.ensures.kinds (is_free begins) in
     IfErr-weaker c.job_of.result _ _ (refused _ _ none (met_is begins c.in-Ok.arguments c.in-Ok.ensures.matches)) c.job_of.ensures.fault
 
 pub returns-in_ok-with_usage-in-Err-clause-fault : goal.returns-in_ok-with_usage-in-Err-clause-fault
 returns-in_ok-with_usage-in-Err-clause-fault c =
     let lookup = c.in-Some.ensures.lookup in
-    let begins : Begins c.args.words.now c.in-Some.name.now (app_of c.in-Some-2.command) =
-    record { has = lookup.3.0; is = lookup.1; is_app = sym c.in_ok-command.ensures ∙ ap (option_map app_of) c.in-Some-2.is } in
+    let begins = begins_with lookup.3.0 lookup.1 c.in_ok-command.ensures c.in-Some-2.is in
     let kinds = c.in-Err.ensures.kinds (is_free begins) in
     told _ c.in_ok-with_usage-in-Err.field-0 c.from.result (rw (← fault_is begins, c.in_ok-with_usage-in-Err.ensures) kinds) c.from.ensures
