@@ -29,15 +29,15 @@ room-bound free =
     omega (arith, l, h)
 
 -- the image with a file in its space
-pub written-in_space : (image : List (List ℕ)) (name : List ℕ) (kind : Kind) (bytes : List ℕ) (space : Space)
-    → IsSpace image (length bytes) space
+pub written-in_space : (image : List (List ℕ)) (name : List ℕ) (kind : Kind) (bytes taken : List ℕ) (space : Space)
+    → IsSpace image (length bytes) taken space
     → written image name kind bytes
-    ≡ with_map (with_chain (with_new_entry image (entry_bytes name kind (get_or space.blocks.items 0 0) (length space.blocks.items))) space.blocks.items bytes) space.free
+    ≡ with_map (with_chain (with_new_entry image (entry_bytes name kind (get_or taken 0 0) (length taken))) taken bytes) space.free
 unfolding written with_file
-written-in_space image name kind bytes space is =
-    let taken : taken_by (free_blocks image) (length bytes) ≡ space.blocks.items =
+written-in_space image name kind bytes taken space is =
+    let same : taken_by (free_blocks image) (length bytes) ≡ taken =
     ap (λ (found : Option (List ℕ)). option_map_or (λ blocks. blocks) found []) is.taken in
-    let entry : List ℕ = entry_bytes name kind (get_or space.blocks.items 0 0) (length space.blocks.items) in
-    ap (with_file image name kind bytes) taken
-    ∙ ap (with_map (with_chain (with_new_entry image entry) space.blocks.items bytes))
-    (ap (λ (grown : List ℕ). without (free_blocks image) (space.blocks.items ++ grown)) (directory_grown-is image space.place is.place) ∙ sym is.left)
+    let entry : List ℕ = entry_bytes name kind (get_or taken 0 0) (length taken) in
+    ap (with_file image name kind bytes) same
+    ∙ ap (with_map (with_chain (with_new_entry image entry) taken bytes))
+    (ap (λ (grown : List ℕ). without (free_blocks image) (taken ++ grown)) (directory_grown-is image space.place is.place) ∙ sym is.left)

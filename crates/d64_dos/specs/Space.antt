@@ -31,8 +31,9 @@ abbrev pub grown_at : Place → Blocks
 grown_at (Vacant block index) = []
 grown_at (New last block) = block ∷ []
 
--- what a new file of so many bytes takes, and the blocks that stay free
-pub record IsSpace (image : Disk) (bytes : ℕ) (space : Space) : Type 0 where
-  pub taken : plan (free_blocks image) (blocks_for bytes) ≡ Some space.blocks.items
+-- what a new file of so many bytes takes: the blocks of its data, the place of its entry, and the
+-- blocks that stay free
+pub record IsSpace (image : Disk) (bytes : ℕ) (blocks : Blocks) (space : Space) : Type 0 where
+  pub taken : plan (free_blocks image) (blocks_for bytes) ≡ Some blocks
   pub place : IsPlace image (free_blocks image) space.place
-  pub left : space.free ≡ without (free_blocks image) (space.blocks.items ++ grown_at space.place)
+  pub left : space.free ≡ without (free_blocks image) (blocks ++ grown_at space.place)

@@ -1,5 +1,5 @@
 //! The blocks that a new file takes.
-ghost use Rattle.std.specs.Prelude.{◌≡◌, ◌≤◌, find, option_map, IfSome};
+ghost use Rattle.std.specs.Prelude.{◌≡◌, ◌≤◌, find, option_map, OnSome};
 ghost use Rattle.std.specs.FinSet as set;
 ghost use Rattle.d64_image.specs.declared.block.TheConstants.{BLOCKS};
 ghost use Rattle.d64_map.specs.Plan.{plan};
@@ -21,14 +21,19 @@ fn pick_after(free: &BlockSet, last: Option<BlockNo>) -> Option<BlockNo>
     }
 }
 
-/// Takes the blocks of a file of so many blocks from the free ones, in the file's order. None where
-/// too few blocks outside track 18 are free: then some of them may be taken.
-pub(crate) fn take_plan(free: &mut BlockSet, count: usize) -> Option<ArrayVec<BlockNo, BLOCKS>>
+/// Takes the blocks of a file of so many blocks from the free ones, and lists them in the file's
+/// order, in place of what the list had. None where too few blocks outside track 18 are free: then
+/// some of them may be taken, and the list says nothing.
+pub(crate) fn take_plan(
+    free: &mut BlockSet,
+    count: usize,
+    blocks: &mut ArrayVec<BlockNo, BLOCKS>,
+) -> Option<()>
     requires { count ≤ BLOCKS }
-    ensures plan { option_map (λ blocks. blocks.items) result ≡ plan free.old count }
-    ensures left { IfSome result (λ blocks. free.new ≡ without free.old blocks.items) }
+    ensures plan { option_map (λ _. blocks.new.items) result ≡ plan free.old count }
+    ensures left { OnSome result (free.new ≡ without free.old blocks.new.items) }
 {
-    let mut blocks = ArrayVec::new();
+    blocks.clear();
     let mut last = None;
     for _ in 0..count {
         let next = pick_after(free, last)?;
@@ -36,5 +41,5 @@ pub(crate) fn take_plan(free: &mut BlockSet, count: usize) -> Option<ArrayVec<Bl
         blocks.push(next);
         last = Some(next);
     }
-    Some(blocks)
+    Some(())
 }

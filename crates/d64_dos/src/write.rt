@@ -30,11 +30,17 @@ enum Place {
     New { last: BlockNo, block: BlockNo },
 }
 
-/// What a new file takes.
+/// A file that is to be written.
+#[derive(Clone, Copy)]
+struct NewFile<'f> {
+    name: &'f Name,
+    kind: Kind,
+    bytes: &'f [u8],
+}
+
+/// What a new file takes beside the blocks of its data, which stand in a list of their own.
 #[derive(Drop)]
 struct Space {
-    /// The blocks of its data, in order.
-    blocks: ArrayVec<BlockNo, BLOCKS>,
     /// The place of its entry.
     place: Place,
     /// The blocks that stay free.
@@ -69,10 +75,15 @@ fn find_place(directory: &Directory, free: &BlockSet) -> Option<Place>
     }
 }
 
-/// What a file of so many bytes takes. None where there is no room for it.
-fn find_space(directory: &Directory, bytes: usize) -> Option<Space>
+/// What a file of so many bytes takes: the blocks of its data are listed in order, in place of what
+/// the list had. None where there is no room for it: then the list says nothing.
+fn find_space(
+    directory: &Directory,
+    bytes: usize,
+    blocks: &mut ArrayVec<BlockNo, BLOCKS>,
+) -> Option<Space>
     ensures room { is_some result ≡ has_room directory.now bytes }
-    ensures space { IfSome result (IsSpace directory.now bytes) }
+    ensures space { IfSome result (IsSpace directory.now bytes blocks.new.items) }
 {
     plan_takes_free_blocks();
     let mut free = free_set(directory.image());
@@ -81,40 +92,38 @@ fn find_space(directory: &Directory, bytes: usize) -> Option<Space>
         return None;
     }
     let place = find_place(directory, &free)?;
-    let blocks = take_plan(&mut free, count)?;
+    take_plan(&mut free, count, blocks)?;
     match place {
         Place::Vacant { block: _, index: _ } => {}
         Place::New { last: _, block } => free.remove(block),
     }
-    Some(Space {
-        blocks,
-        place,
-        free,
-    })
+    Some(Space { place, free })
 }
 
-/// What a file of this name, kind and number of bytes takes, or the first refusal that applies. The
-/// caller may know that the disk is sound.
+/// What a file takes, or the first refusal that applies: the blocks of its data are listed as
+/// `find_space` lists them. The caller may know that the disk is sound.
 #[tactic(auto, unfolding(crate::specs::WriteRefusal::write_refusal))]
 fn space_for(
     image: &Image,
-    name: &Name,
-    kind: Kind,
-    bytes: usize,
+    file: &NewFile,
     is_sound: bool,
+    blocks: &mut ArrayVec<BlockNo, BLOCKS>,
 ) -> Result<Space, Refusal>
     requires { is_sound ≡ true → IsSound image.now }
-    ensures refused { refused_by result ≡ write_refusal image.now name.now kind bytes }
-    ensures space { IfOk result (IsSpace image.now bytes) }
+    ensures refused { refused_by result ≡ write_refusal image.now file.now.name.now file.now.kind (length file.now.bytes.now) }
+    ensures space { IfOk result (IsSpace image.now (length file.now.bytes.now) blocks.new.items) }
 {
-    if !is_writable(kind) {
+    if !is_writable(file.kind) {
         return Err(Refusal::WrongType);
     }
     let directory = sound_directory(image, is_sound)?;
-    if directory.is_taken(name) {
+    if directory.is_taken(file.name) {
         return Err(Refusal::Exists);
     }
-    find_space(&directory, bytes).ok_or(Refusal::DiskFull)
+    match find_space(&directory, file.bytes.len(), blocks) {
+        Some(space) => Ok(space),
+        None => Err(Refusal::DiskFull),
+    }
 }
 
 /// Writes the entry of a new file into its place.
@@ -138,30 +147,29 @@ fn put_new_entry(
     }
 }
 
-/// Writes a new file into its space: its entry, its data, and the map of the blocks that stay free.
+/// Writes a new file into its blocks and its space: its entry, its data, and the map of the blocks
+/// that stay free.
 fn put_file(
     image: &mut Image,
     patch: &mut Patch,
+    file: &NewFile,
+    blocks: &[BlockNo],
     space: &Space,
-    name: &Name,
-    kind: Kind,
-    bytes: &[u8],
 ) -> Result<(), AllocError>
-    requires { IsSpace image.old (length bytes.now) space.now }
-    ensures written { OnOk result (image.new ≡ written image.old name.now kind bytes.now) }
+    requires { IsSpace image.old (length file.now.bytes.now) blocks.now space.now }
+    ensures written { OnOk result (image.new ≡ written image.old file.now.name.now file.now.kind file.now.bytes.now) }
     ensures back { back image.new patch.new ≡ back image.old patch.old }
     ensures held { IsPatchOf image.old patch.old → IsPatchOf image.new patch.new }
 {
     plan_takes_free_blocks();
-    let blocks = space.blocks.as_slice();
-    let file = ClosedFile {
-        name,
-        kind,
+    let closed = ClosedFile {
+        name: file.name,
+        kind: file.kind,
         first: blocks[0],
         blocks: blocks.len() as u16,
     };
-    put_new_entry(image, patch, space.place, &file)?;
-    put_chain(image, patch, blocks, bytes)?;
+    put_new_entry(image, patch, space.place, &closed)?;
+    put_chain(image, patch, blocks, file.bytes)?;
     put_map(image, patch, &space.free)
 }
 
@@ -187,7 +195,13 @@ pub(crate) fn write(
     ensures back { back image.new patch.new ≡ back image.old patch.old }
     ensures held { IsPatchOf image.old patch.old → IsPatchOf image.new patch.new }
 {
-    let space = space_for(image, name, kind, bytes.len(), is_sound)?;
-    put_file(image, patch, &space, name, kind, bytes)?;
-    Ok(())
+    let file = NewFile { name, kind, bytes };
+    let mut blocks = ArrayVec::new();
+    match space_for(image, &file, is_sound, &mut blocks) {
+        Ok(space) => {
+            put_file(image, patch, &file, blocks.as_slice(), &space)?;
+            Ok(())
+        }
+        Err(refusal) => Err(refusal),
+    }
 }

@@ -1,6 +1,6 @@
 -- What follows from the definition of a chain.
 use Rattle.std.proofs.Common.{◌≡◌, ◌≢◌, ℕ, zero, suc, ◌<◌, ◌≤◌, ◌||◌, Bool, true, false, cond, eqb, ltb, List, [], ◌∷◌, length, get_or, Option, Some, None, refl, sym, ap, ap₂, ◌∙◌, subst, inl, inr, arith}
-use Rattle.std.specs.Prelude.{All, Contains, IsSome, MatchOption, ◌↔◌}
+use Rattle.std.specs.Prelude.{All, Contains, ◌↔◌}
 use Rattle.std.specs.List.{list_any, IsDistinct, AllByRecursion}
 use Rattle.std.specs.Option.{option_and_then, option_map_or}
 use Rattle.std.proofs.lemmas.Bool.{or_parts, or_cases, cases_lt, lt-ltb, le-ltb, eqb-true, eq-eqb}
@@ -291,12 +291,12 @@ pub kept_by_blocks : (image other : List (List ℕ)) (start : ℕ) (blocks : Lis
     → LinkedAlike image other blocks → Chain other start blocks
 kept_by_blocks image other start blocks h long alike = kept image other start blocks h long (λ q found. alike q (stands q blocks found))
 
--- a block list where there is a chain, and none where there is none
-pub exists : (image : List (List ℕ)) (start : ℕ) (found : Option (List ℕ)) → MatchOption found ((blocks : List ℕ) → Chain image start blocks → ⊥) (λ blocks. Chain image start blocks)
-    → IsSome found ↔ (chain image start ≢ [])
-exists image start None none = (λ (s : false ≡ true). cc, λ some. absurd (some (chain-none image start none)))
-exists image start (Some blocks) h =
-    (λ _. subst (λ (bs : List ℕ). bs ≢ []) (sym (chain-is image start blocks h)) (not_empty image start blocks h), λ _. refl)
+-- a walk that tells whether it found the chain tells whether there is one
+pub exists : (image : List (List ℕ)) (start : ℕ) (found : Bool) (blocks : List ℕ) → (found ≡ true → Chain image start blocks)
+    → (found ≡ false → (others : List ℕ) → Chain image start others → ⊥) → (found ≡ true) ↔ (chain image start ≢ [])
+exists image start false blocks h none = (λ (s : false ≡ true). cc, λ some. absurd (some (chain-none image start (none refl))))
+exists image start true blocks h none =
+    (λ _. subst (λ (bs : List ℕ). bs ≢ []) (sym (chain-is image start blocks (h refl))) (not_empty image start blocks (h refl)), λ _. refl)
 
 -- the image has each block of its chains
 chain-lies : (image : List (List ℕ)) (start : ℕ) (blocks : List ℕ) → chain image start ≡ blocks → LieIn image blocks

@@ -12,6 +12,7 @@ pub mod Owners
 pub mod Prefixes
 pub mod Repeats
 pub mod SlotLists
+pub mod SlotTests
 pub mod Verdicts
 pub mod Walks
 pub mod WrittenBytes

@@ -35,16 +35,6 @@ impl BlockList {
         }
     }
 
-    /// The list of one block.
-    pub fn of(block: BlockNo) -> BlockList
-        ensures { result ≡ block ∷ [] }
-    {
-        BlockList {
-            places: [block; BLOCKS],
-            len: 1,
-        }
-    }
-
     /// Takes all blocks off the list.
     pub fn clear(&mut self)
         ensures { self.new ≡ [] }

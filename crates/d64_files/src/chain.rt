@@ -1,6 +1,6 @@
 //! Chains of blocks: directories and files.
-ghost use Rattle.std.specs.Prelude.{◌≡◌, ◌≢◌, ◌<◌, ◌↔◌, [], List, ℕ, length, IfSome, IsSome, MatchOption, unwrap_or};
-ghost use Rattle.d64_files.specs.Chain.{Chain, chain as chain_of, chain_from as chain_of_pair, block_in as block_of_pair};
+ghost use Rattle.std.specs.Prelude.{◌≡◌, ◌≢◌, ◌<◌, ◌↔◌, true, false, [], List, ℕ, length, IfSome, IsSome, unwrap_or};
+ghost use Rattle.d64_files.specs.Chain.{Chain, chain_from as chain_of_pair, block_in as block_of_pair};
 
 use crate::block_list::BlockList;
 use d64_image::{BLOCKS, BlockNo, BlockSet, Image};
@@ -50,27 +50,28 @@ impl Link {
     }
 }
 
-/// The chain from a block of the image, or None where there is none: where a link leads off the
-/// disk, or back to a block of the chain.
+/// Puts the chain from a block of the image in the place of what a list has, and returns whether
+/// there is one: there is none where a link leads off the disk, or back to a block of the chain, and
+/// then the list has the blocks up to there.
 ///
 /// It ends after at most as many blocks as the image has, and takes no memory.
-pub(crate) fn chain(image: &Image, start: BlockNo) -> Option<BlockList>
+pub(crate) fn follow(image: &Image, start: BlockNo, blocks: &mut BlockList) -> bool
     requires { start < length image.now }
-    ensures chain { MatchOption result ((blocks : List ℕ) → Chain image.now start blocks → ⊥) (λ blocks. Chain image.now start blocks) }
-    ensures value { unwrap_or result [] ≡ chain_of image.now start }
-    ensures exists { IsSome result ↔ (chain_of image.now start ≢ []) }
+    ensures found { result ≡ true → Chain image.now start blocks.new }
+    ensures missing { result ≡ false → (others : List ℕ) → Chain image.now start others → ⊥ }
 {
-    let mut blocks = BlockList::of(start);
     let mut seen = BlockSet::empty();
     seen.add(start);
+    blocks.clear();
+    blocks.push(start);
     let mut last = start;
     for _ in 0..BLOCKS {
         match Link::of(image, last) {
-            Link::End => return Some(blocks),
-            Link::Broken => return None,
+            Link::End => return true,
+            Link::Broken => return false,
             Link::To(next) => {
                 if seen.has(next) {
-                    return None;
+                    return false;
                 }
                 seen.add(next);
                 blocks.push(next);
@@ -78,7 +79,7 @@ pub(crate) fn chain(image: &Image, start: BlockNo) -> Option<BlockList>
             }
         }
     }
-    None
+    false
 }
 
 /// The chain from the block of a track (from 1) and a sector (from 0), or None where the image has
@@ -87,5 +88,21 @@ pub(crate) fn chain_from(image: &Image, track: u8, sector: u8) -> Option<BlockLi
     ensures value { unwrap_or result [] ≡ chain_of_pair image.now track sector }
     ensures exists { IsSome result ↔ (chain_of_pair image.now track sector ≢ []) }
 {
-    chain(image, block_in(image, track, sector)?)
+    let mut blocks = BlockList::empty();
+    if fill_from(image, track, sector, &mut blocks) {
+        Some(blocks)
+    } else {
+        None
+    }
+}
+
+/// The same in the place of what a list has, and whether there is such a chain.
+pub(crate) fn fill_from(image: &Image, track: u8, sector: u8, blocks: &mut BlockList) -> bool
+    ensures value { result ≡ true → blocks.new ≡ chain_of_pair image.now track sector }
+    ensures exists { (result ≡ true) ↔ (chain_of_pair image.now track sector ≢ []) }
+{
+    match block_in(image, track, sector) {
+        Some(start) => follow(image, start, blocks),
+        None => false,
+    }
 }

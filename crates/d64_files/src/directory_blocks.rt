@@ -5,7 +5,7 @@ ghost use Rattle.d64_files.specs.Directory.{directory, slots, entries, AllHold, 
 ghost use Rattle.d64_files.specs.Writing.{dir_last, slot_block};
 
 use crate::block_list::BlockList;
-use crate::chain::chain_from;
+use crate::chain::{chain_from, fill_from};
 use crate::dir_fault::DirFault;
 use crate::entry::SlotNo;
 use crate::slots::{SLOTS_PER_BLOCK, Slots, kinds_are_known};
@@ -47,9 +47,10 @@ impl<'a> Directory<'a> {
         ensures image { IfOk result (λ directory. directory ≡ image.now) }
         ensures conditions { MatchResult result (λ _. AllHold image.now 2 3) (IsFirstFault image.now 2 3) }
     {
-        let Some(blocks) = directory_blocks(image) else {
+        let mut blocks = BlockList::empty();
+        if !fill_from(image, DIRECTORY_TRACK, DIRECTORY_SECTOR, &mut blocks) {
             return Err(DirFault::NoDirectory);
-        };
+        }
         for block in blocks.as_slice() {
             if !kinds_are_known(image.sector(*block)) {
                 return Err(DirFault::UnknownKind);
@@ -68,6 +69,7 @@ impl<'a> Directory<'a> {
     /// The blocks of the directory, in the order of its chain.
     pub(crate) fn blocks(&self) -> &[BlockNo]
         ensures blocks { result.now ≡ directory self.now }
+        ensures len { length result.now ≤ BLOCKS }
         ensures some { directory self.now ≢ [] }
         ensures conditions { AllHold self.now 2 3 }
     {

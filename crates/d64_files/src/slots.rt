@@ -40,7 +40,7 @@ impl<'a> Model for Slots<'a> {
 }
 
 /// The bytes of a slot of a block.
-fn slot_of(block: &[u8; BLOCK_BYTES], index: usize) -> &[u8]
+pub(crate) fn slot_of(block: &[u8; BLOCK_BYTES], index: usize) -> &[u8]
     requires { index < 8 }
     ensures value { result.now ≡ slot_bytes block.now index }
     ensures len { length result.now ≡ 32 }

@@ -1,14 +1,54 @@
 //! What a new entry in the directory needs: a slot that isn't used, or else the last block; and a
 //! name that isn't taken.
-ghost use Rattle.std.specs.Prelude.{◌≡◌, ◌<◌, length, IfOk, IfSome, MatchResult};
-ghost use Rattle.d64_files.specs.Directory.{slots, is_name_taken, AllHold, IsFirstFault};
+ghost use Rattle.std.specs.Prelude.{◌≡◌, ◌+◌, ◌*◌, ◌<◌, ◌≤◌, not, length, IfOk, IfSome, MatchResult};
+ghost use Rattle.std.specs.List.{position_from};
+ghost use Rattle.d64_image.specs.declared.block.TheConstants.{BLOCKS};
+ghost use Rattle.d64_image.specs.Image.{sector_at};
+ghost use Rattle.d64_files.specs.Directory.{slots, has_name, is_name_taken, AllHold, IsFirstFault};
+ghost use Rattle.d64_files.specs.Slot.{cells, is_used};
 ghost use Rattle.d64_files.specs.Writing.{first_unused, dir_last};
 
 use crate::dir_fault::DirFault;
 use crate::directory_blocks::Directory;
-use crate::entry::SlotNo;
+use crate::entry::{Entry, SlotNo};
 use crate::name::Name;
-use d64_image::{BlockNo, Image};
+use crate::slots::{SLOTS_PER_BLOCK, entry_in, slot_of};
+use d64_image::{BLOCK_BYTES, BlockNo, Image};
+
+/// The first slot of a block that isn't used, or None where all are. Its slots have the eight
+/// numbers from this one on.
+fn first_empty_of(block: &[u8; BLOCK_BYTES], first: usize) -> Option<SlotNo>
+    requires { first ≤ 8 * BLOCKS }
+    ensures slot { result ≡ position_from (λ cell. not (is_used cell)) first (cells block.now) }
+    ensures within { IfSome result (λ slot. slot < first + 8) }
+{
+    for index in 0..SLOTS_PER_BLOCK {
+        if slot_of(block, index)[2] == 0 {
+            return Some(SlotNo::at(first + index));
+        }
+    }
+    None
+}
+
+/// Whether the slot of an entry is used and has exactly this name.
+fn has_name(entry: &Entry, name: &Name) -> bool
+    ensures { result ≡ has_name name.now entry.now.bytes }
+{
+    entry.used() && entry.is_called(name)
+}
+
+/// Whether a used slot of a block has exactly this name.
+fn is_taken_in(image: &Image, block: BlockNo, name: &Name) -> bool
+    requires { block < length image.now }
+    ensures { result ≡ is_name_taken name.now (cells (sector_at image.now block)) }
+{
+    for index in 0..SLOTS_PER_BLOCK {
+        if has_name(&entry_in(image, block, SlotNo::at(index)), name) {
+            return true;
+        }
+    }
+    false
+}
 
 impl Directory<'_> {
     /// The first slot that isn't used, or None where all are.
@@ -16,9 +56,12 @@ impl Directory<'_> {
         ensures slot { result ≡ first_unused (slots self.now) }
         ensures within { IfSome result (λ slot. slot < length (slots self.now)) }
     {
-        for entry in self.slots() {
-            if !entry.used() {
-                return Some(entry.slot());
+        let blocks = self.blocks();
+        for place in 0..blocks.len() {
+            let block = self.image().sector(blocks[place]);
+            match first_empty_of(block, SLOTS_PER_BLOCK * place) {
+                Some(slot) => return Some(slot),
+                None => {}
             }
         }
         None
@@ -28,8 +71,8 @@ impl Directory<'_> {
     pub fn is_taken(&self, name: &Name) -> bool
         ensures { result ≡ is_name_taken name.now (slots self.now) }
     {
-        for entry in self.slots() {
-            if entry.used() && entry.is_called(name) {
+        for block in self.blocks() {
+            if is_taken_in(self.image(), *block, name) {
                 return true;
             }
         }

@@ -18,6 +18,10 @@ pub struct Place {
     pub blocks: usize,
 }
 
+/// How many blocks a list makes room for at first. What is not written to takes no memory, and a
+/// list that begins smaller is moved, and leaves memory behind, each time that it doubles.
+const FIRST_BLOCKS: usize = 512;
+
 /// Patches, one after another, in two lists.
 #[derive(Drop)]
 pub struct PatchList {
@@ -39,6 +43,16 @@ impl Model for PatchList {
     ghost invariant = { λ patches. (total patches.lens.items ≡ length patches.blocks.items)
         × All IsPatch (cut patches.lens.items patches.blocks.items)
         × All HaveBlocks (cut patches.lens.items patches.blocks.items) };
+}
+
+/// Makes room for the first blocks of a list, where it has no room yet.
+fn make_first_room(blocks: &mut Vec<(BlockNo, [u8; BLOCK_BYTES])>) -> Result<(), AllocError>
+    ensures { blocks.new.items ≡ blocks.old.items }
+{
+    if blocks.capacity() > 0 {
+        return Ok(());
+    }
+    blocks.reserve_exact(FIRST_BLOCKS)
 }
 
 impl PatchList {
@@ -141,6 +155,7 @@ impl PatchList {
         let blocks = patch.blocks();
         let end = self.blocks.len();
         self.lens.reserve(1)?;
+        make_first_room(&mut self.blocks)?;
         self.blocks.extend_from_slice(blocks)?;
         self.blocks.copy_within(end.., place.blocks);
         self.blocks.truncate(place.blocks + blocks.len());

@@ -1,5 +1,5 @@
 -- The program's subcommands and their arguments, as `clap` reads them.
-use Rattle.std.specs.Prelude.{◌∷◌, ℕ, List, [], Option, Some, bytes_eq, codes, find, true}
+use Rattle.std.specs.Prelude.{◌∷◌, ℕ, List, [], Option, Some, bytes_eq, codes, find, fold, true}
 use Rattle.clap.specs.Words.{App, Rule, new_app, new_rule, with_rule, with_subcommand}
 use Rattle.clap.specs.Lexer.{usize_max}
 use Rattle.clap.specs.declared.builder.action.ArgAction.TheVariants.{Append, SetTrue}
@@ -114,7 +114,4 @@ bare = let named = new_app (codes "d64sh") in record named {
 
 -- `d64sh` with its subcommands
 unfoldable pub d64sh : App
-d64sh =
-    let tools = with_subcommand (with_subcommand (with_subcommand bare shell.top) petcat.top) crunch.top in
-    let surveyed = with_subcommand (with_subcommand (with_subcommand tools check.top) files.top) extract.top in
-    with_subcommand (with_subcommand (with_subcommand surveyed map.top) diff.top) catalogue.top
+d64sh = fold (λ command app. with_subcommand command app.top) bare apps

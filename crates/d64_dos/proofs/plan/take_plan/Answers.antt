@@ -2,16 +2,15 @@ use Rattle.std.proofs.Common.{◌+◌, ◌<◌, List, ℕ, length, Some, sym, ap
 use Rattle.std.specs.Option.{option_map}
 use Rattle.std.specs.Ordering.{nat_cmp}
 use Rattle.std.specs.FinSet as set
-use Rattle.arrayvec.specs.ArrayVec.{ArrayVec}
 use Rattle.d64_dos.proofs.Plans.{PlanGoesOn, goes_on-start, goes_on-next, goes_on-none, goes_on-end}
 use Rattle.d64_dos.proofs.plan.take_plan.Goals as goal
 
 pub loop-init : goal.loop-init
 loop-init c = record {
   so =
-      subst (λ (taken : List ℕ). PlanGoesOn c.args.free.now c.args.free.now c.args.count taken _) (sym c.new-blocks.ensures)
+      subst (λ (taken : List ℕ). PlanGoesOn c.args.free.now c.args.free.now c.args.count taken _) (sym c.clear.ensures)
       (goes_on-start c.args.free.now c.args.count);
-  taken = ap length c.new-blocks.ensures;
+  taken = ap length c.clear.ensures;
 }
 
 pub push-requires : goal.push-requires
@@ -36,7 +35,7 @@ pub returns-in_err-next-clause-plan : goal.returns-in_err-next-clause-plan
 returns-in_err-next-clause-plan c =
     let l = c.loop.invariant.taken in
     let more : length c.loop.blocks.items < c.args.count = omega arith in
-    ap (option_map (λ (blocks : ArrayVec ℕ). blocks.items)) c.from_residual.ensures
+    ap (option_map (λ _. c.loop.blocks.items)) c.from_residual.ensures
     ∙ sym (goes_on-none c.args.free.now c.loop.free c.args.count c.loop.blocks.items c.loop.last more (sym c.pick_after.ensures ∙ c.in_err-next.was) c.loop.invariant.so)
 
 pub returns-clause-plan : goal.returns-clause-plan
