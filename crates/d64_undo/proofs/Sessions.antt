@@ -35,8 +35,8 @@ pub record Holds (records : List Kept) (image : List (List ℕ)) (done : ℕ) (h
   pub is : history_of records image done ≡ history
 
 -- what a session promises of itself
-pub holds : {records : List Kept} {image : List (List ℕ)} {done blocks : ℕ} {history : History} {known : Type 0}
-    → (done ≤ length records) × AreRecords records image done × (blocks ≡ blocks_before records done) × known
+pub holds : {records : List Kept} {image : List (List ℕ)} {done blocks : ℕ} {history : History} {known empty : Type 0}
+    → (done ≤ length records) × AreRecords records image done × (blocks ≡ blocks_before records done) × known × empty
     → history_of records image done ≡ history → Holds records image done history
 holds invariant is = record { within = invariant.0; lead = invariant.1; is = is }
 

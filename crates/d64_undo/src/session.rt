@@ -33,7 +33,6 @@ pub struct NothingToRedo;
 /// and of each record the blocks in which the images before and after it differ.
 #[derive(Drop)]
 pub struct Session {
-    alloc: Global,
     image: Image,
     /// What changed by each command: the records that are done lead back from the present image,
     /// the last one first, and those that are undone lead on from it.
@@ -42,10 +41,13 @@ pub struct Session {
     cursor: Place,
     /// Whether the image is known to be sound: a file command left it.
     is_sound: bool,
+    /// The blocks that a command changes, while it runs; empty between commands. It is kept, so
+    /// that its memory is asked for once.
+    change: Patch,
 }
 
 impl Model for Session {
-    ghost use Rattle.std.specs.Prelude.{◌≡◌, ◌≤◌, true, length};
+    ghost use Rattle.std.specs.Prelude.{◌≡◌, ◌≤◌, true, [], length};
     ghost use Rattle.d64_image.specs.PatchList.{blocks_before};
     ghost use Rattle.d64_effects.specs.View.{IsSound};
     ghost use Rattle.d64_undo.specs.History.{History};
@@ -58,7 +60,8 @@ impl Model for Session {
     ghost invariant = { λ s. (s.cursor.number ≤ length s.records)
         × AreRecords s.records s.image s.cursor.number
         × (s.cursor.blocks ≡ blocks_before s.records s.cursor.number)
-        × (s.is_sound ≡ true → IsSound s.image) };
+        × (s.is_sound ≡ true → IsSound s.image)
+        × (s.change ≡ []) };
 }
 
 impl Session {
@@ -70,11 +73,11 @@ impl Session {
         let records = PatchList::new(alloc);
         let cursor = records.end();
         Session {
-            alloc,
             image,
             records,
             cursor,
             is_sound: false,
+            change: Patch::new(alloc),
         }
     }
 
@@ -93,11 +96,11 @@ impl Session {
     {
         let cursor = records.place_before(done);
         Session {
-            alloc,
             image: present,
             records,
             cursor,
             is_sound: false,
+            change: Patch::new(alloc),
         }
     }
 
@@ -172,12 +175,14 @@ impl Session {
         ensures kind { length (present self.new) ≡ length (present self.old) }
         ensures sound { KeepsSound (said command.now) result → IsSoundHistory self.old → IsSoundHistory self.new }
     {
-        let mut record = Patch::new(self.alloc);
-        let reply = apply_knowing(&mut self.image, &mut record, command, self.is_sound)?;
-        if self.records.replace_from(self.cursor, &record).is_err() {
-            record.swap(&mut self.image);
+        let reply = apply_knowing(&mut self.image, &mut self.change, command, self.is_sound)?;
+        let kept = self.records.replace_from(self.cursor, &self.change);
+        if kept.is_err() {
+            self.change.swap(&mut self.image);
+            self.change.clear();
             return Err(Refusal::Memory);
         }
+        self.change.clear();
         self.cursor = self.records.end();
         self.is_sound = command.is_file_command();
         Ok(reply)

@@ -6,10 +6,10 @@ use Rattle.d64_undo.specs.SoundHistory.{IsSoundHistory}
 use Rattle.d64_undo.proofs.Sessions.{history_of, history-begun, none-are_records}
 use Rattle.d64_undo.proofs.SoundHistories.{begun-sound}
 use Rattle.d64_undo.proofs.session.Session.new.Goals as goal
-use Rattle.d64_undo.proofs.session.Session.new.Goals.{After-end-cursor}
+use Rattle.d64_undo.proofs.session.Session.new.Goals.{After-new}
 
 -- no record is done
-none-done : (c : After-end-cursor) → c.end-cursor.result.number ≡ 0
+none-done : (c : After-new) → c.end-cursor.result.number ≡ 0
 none-done c = c.end-cursor.ensures.number ∙ ap (λ (records : List Kept). length records) c.new-records.ensures
 
 pub invariant_of-result : goal.invariant_of-result
@@ -19,6 +19,7 @@ invariant_of-result c =
       subst (AreRecords c.new-records.result c.args.image) (sym (none-done c)) (none-are_records c.new-records.result c.args.image c.new-records.ensures),
       c.end-cursor.ensures.blocks ∙ ap (blocks_before c.new-records.result) (sym number),
       λ known. absurd (cc),
+      cc,
     )
 
 -- there is no record yet

@@ -39,7 +39,7 @@ stepped c =
     c.swap.ensures.patch c.swap.ensures.image
 
 pub invariant_of-self : goal.invariant_of-self
-invariant_of-self c = let h = stepped c in (h.within, h.lead, c.next-self-inside.ensures.blocks, λ known. absurd (cc))
+invariant_of-self c = let h = stepped c in (h.within, h.lead, c.next-self-inside.ensures.blocks, λ known. absurd (cc), c.self.invariant.4)
 
 -- the cursor is one image on
 pub returns-clause-moved : goal.returns-clause-moved

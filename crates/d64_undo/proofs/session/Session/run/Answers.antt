@@ -14,7 +14,7 @@ use Rattle.d64_undo.proofs.Records.{length-added}
 use Rattle.d64_undo.proofs.Sessions.{Holds, holds, holds-added, present_is, stands}
 use Rattle.d64_undo.proofs.SoundHistories.{present-sound, added-sound}
 use Rattle.d64_undo.proofs.session.Session.run.Goals as goal
-use Rattle.d64_undo.proofs.session.Session.run.Goals.{After-drop-record-inside-2}
+use Rattle.d64_undo.proofs.session.Session.run.Goals.{After-self-2-1}
 
 -- the command is refused, and so nothing was changed
 pub returns-in_err-reply-clause-refused : goal.returns-in_err-reply-clause-refused
@@ -43,13 +43,13 @@ returns-clause-reply c =
     c.in_ok-reply.ensures.reply ∙ ap (λ (image : List (List ℕ)). reply_to image (said c.args.command.now)) (sym shown)
 
 -- what lies after the cursor is dropped, and the record of this command is added
-with_record : (c : After-drop-record-inside-2) → Holds c.replace_from.new.self c.apply_knowing.new.image c.end-self-inside.result.number (added c.args.self.now c.apply_knowing.new.image)
+with_record : (c : After-self-2-1) → Holds c.replace_from-kept.new.self c.apply_knowing.new.image c.end-self-inside.result.number (added c.args.self.now c.apply_knowing.new.image)
 with_record c =
     let s = c.self.inside in
-    let kept : c.replace_from.new.self ≡ take s.cursor.number s.records ++ c.apply_knowing.new.patch ∷ [] = search rules in
-    let long = length-added s.records c.replace_from.new.self c.apply_knowing.new.patch s.cursor.number c.self.invariant.0 kept in
+    let kept : c.replace_from-kept.new.self ≡ take s.cursor.number s.records ++ c.apply_knowing.new.patch ∷ [] = search rules in
+    let long = length-added s.records c.replace_from-kept.new.self c.apply_knowing.new.patch s.cursor.number c.self.invariant.0 kept in
     let number = c.end-self-inside.ensures.number in
-    holds-added c.replace_from.new.self c.apply_knowing.new.patch c.apply_knowing.new.image c.end-self-inside.result.number (holds c.self.invariant c.self.view_is) kept (omega arith)
+    holds-added c.replace_from-kept.new.self c.apply_knowing.new.patch c.apply_knowing.new.image c.end-self-inside.result.number (holds c.self.invariant c.self.view_is) kept (omega arith)
     c.in_ok-reply.ensures.back c.in_ok-reply.ensures.changed
 
 pub invariant_of-self-2 : goal.invariant_of-self-2
@@ -57,8 +57,9 @@ invariant_of-self-2 c =
     let h = with_record c in (
       h.within,
       h.lead,
-      c.end-self-inside.ensures.blocks ∙ ap (blocks_before c.replace_from.new.self) (sym c.end-self-inside.ensures.number),
+      c.end-self-inside.ensures.blocks ∙ ap (blocks_before c.replace_from-kept.new.self) (sym c.end-self-inside.ensures.number),
       λ known. c.in_ok-reply.ensures.sound (c.is_file_command-self-inside.ensures.0 known),
+      cc,
     )
 
 -- the new image is added to the history

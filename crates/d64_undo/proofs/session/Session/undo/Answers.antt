@@ -35,6 +35,7 @@ invariant_of-self c =
       c.previous-before.ensures.blocks
           ∙ sym (places-swapped c.self.inside.records c.swap.new.self c.self.inside.image n n (omega arith) c.swap.ensures.patch),
       λ known. absurd (cc),
+      c.self.invariant.4,
     )
 
 -- the cursor is one image back
