@@ -1,5 +1,5 @@
 //! Patches, one after another.
-ghost use Rattle.std.specs.Prelude.{◌≡◌, ◌+◌, ◌<◌, ◌≤◌, ◌++◌, ◌∷◌, [], length, take, slice_index_or, slice_set, nat_lt, if◌then◌else◌, Some, None, All, OnOk, OnErr};
+ghost use Rattle.std.specs.Prelude.{◌≡◌, ◌+◌, ◌<◌, ◌≤◌, ◌++◌, ◌∷◌, [], length, take, slice_index_or, slice_set, nat_lt, if◌then◌else◌, Some, None, vec_capacity, All, OnOk, OnErr};
 ghost use Rattle.d64_image.specs.Patch.{HaveBlocks, IsPatch, IsPatchOf, back, taken};
 ghost use Rattle.d64_image.specs.PatchList.{blocks_before};
 
@@ -47,7 +47,8 @@ impl Model for PatchList {
 
 /// Makes room for the first blocks of a list, where it has no room yet.
 fn make_first_room(blocks: &mut Vec<(BlockNo, [u8; BLOCK_BYTES])>) -> Result<(), AllocError>
-    ensures { blocks.new.items ≡ blocks.old.items }
+    ensures same { blocks.new.items ≡ blocks.old.items }
+    ensures room { OnOk result (0 < vec_capacity blocks.new) }
 {
     if blocks.capacity() > 0 {
         return Ok(());

@@ -22,7 +22,7 @@ copy_within-requires-clause-dest_in_bounds c =
     let place = b.1 in
     let end = c.len-end.ensures in
     let long : vec_len c.make_first_room.new.blocks ≡ length c.make_first_room.new.blocks.items = search rules in
-    let same : length c.make_first_room.new.blocks.items ≡ length c.self.inside.blocks.items = ap length c.make_first_room.ensures in
+    let same : length c.make_first_room.new.blocks.items ≡ length c.self.inside.blocks.items = ap length c.make_first_room.ensures.same in
     let more = c.in_ok-extend_from_slice.ensures.len in
     omega arith
 
