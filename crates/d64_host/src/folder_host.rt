@@ -32,8 +32,7 @@ pub struct FolderHost<R> {
     /// Through what files are read, once the first one was. It is kept, so that it is cleared once
     /// and not for each file.
     buffer: Option<Box<[u8; READ_BYTES]>>,
-    /// The process's limit on the size of a file, once the first one was to be made.
-    size_limit: Option<SizeLimit>,
+    size_limit: SizeLimit,
     /// What is open as the standard streams, once the first file was to be stored.
     streams: Option<StandardStreams>,
     failures: u64,
@@ -55,23 +54,9 @@ impl<R: Files + Drop> FolderHost<R> {
         FolderHost {
             rt,
             buffer: None,
-            size_limit: None,
+            size_limit: SizeLimit::default(),
             streams: None,
             failures: 0,
-        }
-    }
-
-    /// The process's limit on the size of a file, for which the system is asked once.
-    fn size_limit(&mut self) -> SizeLimit
-        ensures { self.new ≡ self.old }
-    {
-        match self.size_limit {
-            Some(limit) => limit,
-            None => {
-                let limit = SizeLimit::of_process(&self.rt);
-                self.size_limit = Some(limit);
-                limit
-            }
         }
     }
 }
@@ -107,12 +92,11 @@ where
     }
 
     fn store(&mut self, alloc: Global, name: &str, bytes: &[u8]) -> Result<(), HostFault> {
-        let limit = self.size_limit();
         let rt = &self.rt;
         let streams = self
             .streams
             .get_or_insert_with(|| StandardStreams::of_process(rt));
-        let outcome = store_file(rt, alloc, limit, streams, name, bytes);
+        let outcome = store_file(rt, alloc, &self.size_limit, streams, name, bytes);
         count_failure(&mut self.failures, &outcome);
         outcome
     }
@@ -128,8 +112,8 @@ where
     }
 
     fn make_file(&mut self, path: &str, bytes: &[u8]) -> Result<(), FolderFault> {
-        let limit = self.size_limit();
-        let outcome = new_entry::make_file(&self.rt, limit, Path::new(path), bytes);
+        let path = Path::new(path);
+        let outcome = new_entry::make_file(&self.rt, &self.size_limit, path, bytes);
         count_refusal(&mut self.failures, &outcome);
         outcome
     }

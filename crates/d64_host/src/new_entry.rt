@@ -24,11 +24,11 @@ pub fn make_folder<R: Files>(rt: &R, path: &str) -> Result<(), FolderFault> {
 /// where its writing fails. It waits for no disk.
 pub fn make_file<R: Files>(
     rt: &R,
-    limit: SizeLimit,
+    limit: &SizeLimit,
     path: Path<'_>,
     bytes: &[u8],
 ) -> Result<(), FolderFault> {
-    if !limit.holds(bytes.len()) {
+    if !limit.holds(rt, bytes.len()) {
         return Err(FolderFault::Device);
     }
     let mut file = File::create_new(rt, path).map_err(|error| entry_fault(error.kind()))?;

@@ -3,33 +3,39 @@
 
 use crate::process_status::number_after;
 use crate::standard_streams::StandardStream;
+use std::cell::Cell;
 use std::rt::Files;
 
-/// How many bytes the system lets a file have.
-#[derive(Clone, Copy, Debug, PartialEq, Eq)]
-pub struct SizeLimit(u64);
+/// How many bytes the system lets a file of this process have. The system is asked once, before the
+/// first write: what only reads need not wait for its answer.
+#[derive(Debug, Default, Drop)]
+pub struct SizeLimit(Cell<Option<u64>>);
 
 impl SizeLimit {
-    /// The limit of this process: the greatest number where there is none, or the system does not
-    /// say.
-    pub fn of_process<R: Files>(rt: &R) -> SizeLimit {
-        let limit = number_after(rt, "/proc/self/limits", "Max file size");
-        SizeLimit(limit.unwrap_or(u64::MAX))
+    /// The number of bytes: the greatest one where there is no limit, or the system does not say.
+    fn bytes<R: Files>(&self, rt: &R) -> u64 {
+        if let Some(bytes) = self.0.get() {
+            return bytes;
+        }
+        let bytes = number_after(rt, "/proc/self/limits", "Max file size").unwrap_or(u64::MAX);
+        self.0.set(Some(bytes));
+        bytes
     }
 
     /// Whether a file may have so many bytes.
-    pub fn holds(self, length: usize) -> bool {
-        length as u64 <= self.0
+    pub fn holds<R: Files>(&self, rt: &R, length: usize) -> bool {
+        length as u64 <= self.bytes(rt)
     }
 
     /// Whether a standard stream goes to a file that has all the bytes that it may have: a write to
     /// it would end the process by a signal.
-    pub fn is_reached_by<R: Files>(self, rt: &R, stream: StandardStream) -> bool {
-        if self.0 == u64::MAX {
+    pub fn is_reached_by<R: Files>(&self, rt: &R, stream: StandardStream) -> bool {
+        let limit = self.bytes(rt);
+        if limit == u64::MAX {
             return false;
         }
         match stream.metadata(rt) {
-            Some(found) if found.is_file() => self.0 <= found.len().max(stream.position(rt)),
+            Some(found) if found.is_file() => limit <= found.len().max(stream.position(rt)),
             _ => false,
         }
     }

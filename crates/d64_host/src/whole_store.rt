@@ -37,7 +37,7 @@ struct End {
 pub fn store_file<R: Files>(
     rt: &R,
     alloc: Global,
-    limit: SizeLimit,
+    limit: &SizeLimit,
     streams: &StandardStreams,
     name: &str,
     bytes: &[u8],
@@ -68,7 +68,7 @@ where
 fn store_over<R: Files>(
     rt: &R,
     alloc: Global,
-    limit: SizeLimit,
+    limit: &SizeLimit,
     old: R::File,
     path: Path<'_>,
     found: &Metadata,
@@ -81,7 +81,7 @@ where
     let Ok(opened) = old.metadata() else {
         return Err(HostFault::Device);
     };
-    if opened.is_file() && !limit.holds(bytes.len()) {
+    if opened.is_file() && !limit.holds(rt, bytes.len()) {
         return Err(HostFault::Device);
     }
     if !opened.is_file() || found.is_symlink() {

@@ -18,12 +18,12 @@ use std::process::ExitCode;
 use within_limit::WithinLimit;
 
 fn main(rt: HostRuntime) -> ExitCode {
-    let limit = SizeLimit::of_process(&rt);
+    let limit = SizeLimit::default();
     let line = ProgressLine::new(&rt, rt.stderr().is_terminal() && !rt.stdout().is_terminal());
-    let errors = Retrying(WithinLimit::new(&rt, limit, StandardStream::Error, rt.stderr()));
+    let errors = Retrying(WithinLimit::new(&rt, &limit, StandardStream::Error, rt.stderr()));
     let mut errors = WipingWriter::new(&line, errors);
     let mut faults = OutputStream::new(&mut errors);
-    let status = match start(&rt, limit, &line, &mut faults) {
+    let status = match start(&rt, &limit, &line, &mut faults) {
         Ok(status) => status,
         Err(fault) => fault.report_on(&mut faults),
     };
@@ -32,9 +32,9 @@ fn main(rt: HostRuntime) -> ExitCode {
 }
 
 /// Does what the words of the process ask for, and answers the exit status.
-fn start<E: Write>(
-    rt: &HostRuntime,
-    limit: SizeLimit,
+fn start<'a, E: Write>(
+    rt: &'a HostRuntime,
+    limit: &'a SizeLimit,
     line: &ProgressLine<HostRuntime>,
     faults: &mut OutputStream<'_, E>,
 ) -> Result<u8, ProgramFault> {

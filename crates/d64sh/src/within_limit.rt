@@ -13,7 +13,7 @@ use std::rt::Files;
 #[derive(Drop)]
 pub struct WithinLimit<'a, R, W> {
     rt: &'a R,
-    limit: SizeLimit,
+    limit: &'a SizeLimit,
     stream: StandardStream,
     writer: W,
 }
@@ -22,7 +22,7 @@ impl<'a, R, W> WithinLimit<'a, R, W> {
     /// What writes to this stream by this writer, under the process's limit.
     pub fn new(
         rt: &'a R,
-        limit: SizeLimit,
+        limit: &'a SizeLimit,
         stream: StandardStream,
         writer: W,
     ) -> WithinLimit<'a, R, W> {
