@@ -8,7 +8,7 @@ use Rattle.cbm_text.specs.declared.mode.Mode.TheVariants.{Free, Quoted, Remark, 
 use Rattle.std.specs.Option.{is_some, option_map_or}
 use Rattle.cbm_text.specs.Keywords.{keywords, token_from}
 use Rattle.cbm_text.proofs.Keywords.{found, code_in, rest_in, token_shrinks, token_shown}
-use Rattle.cbm_text.specs.Modes.{after, crunches_anyhow, single_code, free_code, first_code, CrunchedFrom, expanded_from, shown}
+use Rattle.cbm_text.specs.Modes.{next_mode, crunches_anyhow, single_code, free_code, first_code, CrunchedFrom, expanded_from, text_of_code}
 
 -- what has been crunched of a text, and what is left, read in this mode: what the rest crunches to
 -- follows, and every crunched form of the whole comes so
@@ -28,22 +28,22 @@ abbrev it_is : ℕ × List ℕ → Option (ℕ × List ℕ)
 it_is it = Some it
 
 -- one crunched byte more
-crunched_one : (mode : Mode) (left : List ℕ) (code : ℕ) (rest more : List ℕ) → first_code mode left ≡ Some (code, rest) → CrunchedFrom (after mode code) rest more → CrunchedFrom mode left (code ∷ more)
+crunched_one : (mode : Mode) (left : List ℕ) (code : ℕ) (rest more : List ℕ) → first_code mode left ≡ Some (code, rest) → CrunchedFrom (next_mode mode code) rest more → CrunchedFrom mode left (code ∷ more)
 unfolding CrunchedFrom
 crunched_one mode left code rest more first crunched = (rest, first, crunched)
 
 -- no text that has bytes crunches to nothing, and what it crunches to begins with its first
 -- crunched byte
-crunched_inverted : (mode : Mode) (left : List ℕ) (code : ℕ) (rest all : List ℕ) → left ≢ [] → first_code mode left ≡ Some (code, rest) → CrunchedFrom mode left all → (more : List ℕ) × CrunchedFrom (after mode code) rest more
+crunched_inverted : (mode : Mode) (left : List ℕ) (code : ℕ) (rest all : List ℕ) → left ≢ [] → first_code mode left ≡ Some (code, rest) → CrunchedFrom mode left all → (more : List ℕ) × CrunchedFrom (next_mode mode code) rest more
 unfolding CrunchedFrom
 crunched_inverted mode left code rest [] some first nothing = absurd (some nothing)
 crunched_inverted mode left code rest (other ∷ more) some first (behind, is, crunched) =
     let same : found other behind ≡ found code rest = sym is ∙ first in
     let codes : other ≡ code = ap code_in same in
     let rests : behind ≡ rest = ap rest_in same in
-    (more, subst (λ (c : ℕ). CrunchedFrom (after mode c) rest more) codes (subst (λ (w : List ℕ). CrunchedFrom (after mode other) w more) rests crunched))
+    (more, subst (λ (c : ℕ). CrunchedFrom (next_mode mode c) rest more) codes (subst (λ (w : List ℕ). CrunchedFrom (next_mode mode other) w more) rests crunched))
 
-pub crunched_more : (text codes : List ℕ) (mode : Mode) (left : List ℕ) (code : ℕ) (rest : List ℕ) → CrunchedSoFar text codes mode left → left ≢ [] → first_code mode left ≡ Some (code, rest) → CrunchedSoFar text (codes ++ code ∷ []) (after mode code) rest
+pub crunched_more : (text codes : List ℕ) (mode : Mode) (left : List ℕ) (code : ℕ) (rest : List ℕ) → CrunchedSoFar text codes mode left → left ≢ [] → first_code mode left ≡ Some (code, rest) → CrunchedSoFar text (codes ++ code ∷ []) (next_mode mode code) rest
 crunched_more text codes mode left code rest so_far some first = record {
   completes = λ more crunched. subst (λ (w : List ℕ). CrunchedFrom Free text w) (sym (append_assoc codes (code ∷ []) more)) (so_far.completes (code ∷ more) (crunched_one mode left code rest more first crunched));
   only = λ all crunched. let before = so_far.only all crunched in crunched_inverted mode left code rest before.0 some first before.1;
@@ -161,7 +161,7 @@ anyhow_within zero mode (byte ∷ others) few all = absurd (omega arith)
 anyhow_within (suc most) mode (byte ∷ others) few all =
     let (code, rest, first, behind) = anyhow_first mode byte others all in
     let shorter = first_shrinks mode (byte ∷ others) code rest (some_byte byte others) first in
-    let (codes, crunched) = anyhow_within most (after mode code) rest (omega (arith, few, shorter)) behind in
+    let (codes, crunched) = anyhow_within most (next_mode mode code) rest (omega (arith, few, shorter)) behind in
     (code ∷ codes, (rest, first, crunched))
   where
     some_byte : (b : ℕ) (bs : List ℕ) → b ∷ bs ≢ []
@@ -177,7 +177,7 @@ crunched_anyhow text codes mode left so_far all =
 
 -- what one crunched byte stands for, and the rest
 pub expanded_one : (mode : Mode) (codes : List ℕ) (i : ℕ) → i < length codes
-    → expanded_from mode (drop i codes) ≡ shown mode (get_or codes i 0) ++ expanded_from (after mode (get_or codes i 0)) (drop (i + 1) codes)
+    → expanded_from mode (drop i codes) ≡ text_of_code mode (get_or codes i 0) ++ expanded_from (next_mode mode (get_or codes i 0)) (drop (i + 1) codes)
 unfolding expanded_from
 expanded_one mode codes i within = ap (λ (w : List ℕ). expanded_from mode w) (drop_more codes i 0 within)
 
@@ -205,5 +205,5 @@ crunched_once mode text (code ∷ codes) (code' ∷ other) (rest, is, crunched) 
     let same : found code' rest' ≡ found code rest = sym is' ∙ is in
     let codes_same : code' ≡ code = ap code_in same in
     let rests_same : rest' ≡ rest = ap rest_in same in
-    let moved : CrunchedFrom (after mode code) rest other = subst (λ (c : ℕ). CrunchedFrom (after mode c) rest other) codes_same (subst (λ (w : List ℕ). CrunchedFrom (after mode code') w other) rests_same crunched') in
-    ap (λ (w : List ℕ). code ∷ w) (crunched_once (after mode code) rest codes other crunched moved) ∙ ap (λ (c : ℕ). c ∷ other) (sym codes_same)
+    let moved : CrunchedFrom (next_mode mode code) rest other = subst (λ (c : ℕ). CrunchedFrom (next_mode mode c) rest other) codes_same (subst (λ (w : List ℕ). CrunchedFrom (next_mode mode code') w other) rests_same crunched') in
+    ap (λ (w : List ℕ). code ∷ w) (crunched_once (next_mode mode code) rest codes other crunched moved) ∙ ap (λ (c : ℕ). c ∷ other) (sym codes_same)

@@ -6,7 +6,7 @@ use Rattle.std.specs.List.{flat_map}
 use Rattle.std.proofs.lemmas.List.Elements.{All-nil, All-cons, All-head, All-tail, All-append}
 use Rattle.d64_script.specs.RawLines.{lines_of, text_of}
 use Rattle.cbm_text.specs.Kept.{Opener, QuoteMark, RemWord, DataWord, opening, code_of}
-use Rattle.cbm_text.specs.Pieces.{Piece, Kept, Token, Question, Single, print_token, crunched, AreCut}
+use Rattle.cbm_text.specs.Pieces.{Piece, Kept, Token, Question, Single, print_token, crunched_piece, AreCut}
 use Rattle.cbm_text.specs.Keywords.{keywords, token_from}
 use Rattle.cbm_text.specs.Crunching.{question, AreTextPieces, Crunched}
 use Rattle.cbm_text.specs.Program.{Line, Program, word, address_behind, line_layout, lines_layout}
@@ -50,24 +50,24 @@ code_small RemWord = omega arith
 code_small DataWord = omega arith
 
 -- bytes crunch to bytes
-pieces_small : (pieces : List Piece) (text : List ℕ) → AreTextPieces text pieces → AreBytes text → AreBytes (flat_map crunched pieces)
+pieces_small : (pieces : List Piece) (text : List ℕ) → AreTextPieces text pieces → AreBytes text → AreBytes (flat_map crunched_piece pieces)
 unfolding AreCut
 pieces_small [] text cut small = All-nil (λ b. b < 256)
 pieces_small (Kept opener run ∷ pieces) text (rest, (text_is, kept), others) small =
     let cut = parts (opening opener ++ run) rest (subst AreBytes text_is small) in
     let run_small = (parts (opening opener) run cut.0).1 in
-    joined (code_of opener ∷ run) (flat_map crunched pieces) (All-cons (λ b. b < 256) (code_of opener) run (code_small opener) run_small)
+    joined (code_of opener ∷ run) (flat_map crunched_piece pieces) (All-cons (λ b. b < 256) (code_of opener) run (code_small opener) run_small)
     (pieces_small pieces rest others cut.1)
 pieces_small (Token token ∷ pieces) text (rest, (no_opener, is), others) small =
     let shown_word = token_shown text token rest is in
     let cut = parts shown_word.0 rest (subst AreBytes shown_word.2 small) in
-    joined (token ∷ []) (flat_map crunched pieces) (one token (token_small text token rest is)) (pieces_small pieces rest others cut.1)
+    joined (token ∷ []) (flat_map crunched_piece pieces) (one token (token_small text token rest is)) (pieces_small pieces rest others cut.1)
 pieces_small (Question ∷ pieces) text (rest, text_is, others) small =
     let cut = parts (question ∷ []) rest (subst AreBytes text_is small) in
-    joined (print_token ∷ []) (flat_map crunched pieces) (one print_token (omega arith)) (pieces_small pieces rest others cut.1)
+    joined (print_token ∷ []) (flat_map crunched_piece pieces) (one print_token (omega arith)) (pieces_small pieces rest others cut.1)
 pieces_small (Single byte ∷ pieces) text (rest, (no_opener, no_token, text_is, plain, kept), others) small =
     let cut = parts (byte ∷ []) rest (subst AreBytes text_is small) in
-    joined (byte ∷ []) (flat_map crunched pieces) cut.0 (pieces_small pieces rest others cut.1)
+    joined (byte ∷ []) (flat_map crunched_piece pieces) cut.0 (pieces_small pieces rest others cut.1)
 
 crunched_small : (text codes : List ℕ) → Crunched text codes → AreBytes text → AreBytes codes
 unfolding Crunched

@@ -7,7 +7,7 @@ use Rattle.std.proofs.lemmas.Bool.{eqb-true, eqb-false}
 use Rattle.cbm_text.specs.declared.mode.Mode.{Mode}
 use Rattle.cbm_text.specs.declared.mode.Mode.TheVariants.{Free, Quoted, Remark, Data, QuotedData}
 use Rattle.cbm_text.specs.Kept.{quote, colon, Opener, QuoteMark, RemWord, DataWord, code_of, quotes_in, ends, HasNoEnd, IsKept}
-use Rattle.cbm_text.specs.Modes.{after, CrunchedFrom, first_code, shown, expanded_from}
+use Rattle.cbm_text.specs.Modes.{next_mode, CrunchedFrom, first_code, text_of_code, expanded_from}
 use Rattle.cbm_text.proofs.CodesSoFar.{kept_code}
 
 -- how the place behind bytes of a run without an end is read
@@ -16,7 +16,7 @@ mode_in QuoteMark before = Quoted
 mode_in RemWord before = Remark
 mode_in DataWord before = cond (quotes_in before % 2 == 0) Data QuotedData
 
-pub mode_behind : (opener : Opener) → after Free (code_of opener) ≡ mode_in opener []
+pub mode_behind : (opener : Opener) → next_mode Free (code_of opener) ≡ mode_in opener []
 mode_behind QuoteMark = refl
 mode_behind RemWord = refl
 mode_behind DataWord = refl
@@ -24,7 +24,7 @@ mode_behind DataWord = refl
 -- no place of the run is free; behind it a place is free, or there is nothing
 abbrev pub RunsOn : Mode → List ℕ → List ℕ → Type 0
 RunsOn mode [] rest = (mode ≡ Free) ⊎ (rest ≡ [])
-RunsOn mode (byte ∷ run) rest = (mode ≢ Free) × RunsOn (after mode byte) run rest
+RunsOn mode (byte ∷ run) rest = (mode ≢ Free) × RunsOn (next_mode mode byte) run rest
 
 -- ---- one byte more
 
@@ -56,7 +56,7 @@ data_step false true false next apart is = ap (λ (b : Bool). cond b Data Quoted
 data_step false false true next apart is = ap (λ (b : Bool). cond b Data QuotedData) (sym is)
 data_step false false false next apart is = ap (λ (b : Bool). cond b Data QuotedData) (sym is)
 
-by_parity : (even : Bool) (byte : ℕ) → after (cond even Data QuotedData) byte ≡ cond even (cond (byte == quote) QuotedData (cond (byte == colon) Free Data)) (cond (byte == quote) Data QuotedData)
+by_parity : (even : Bool) (byte : ℕ) → next_mode (cond even Data QuotedData) byte ≡ cond even (cond (byte == quote) QuotedData (cond (byte == colon) Free Data)) (cond (byte == quote) Data QuotedData)
 by_parity true byte = refl
 by_parity false byte = refl
 
@@ -64,7 +64,7 @@ no_colon : (byte : ℕ) → (byte == quote) ≡ true → (byte == colon) ≡ fal
 no_colon byte is = let same : byte ≡ quote = eqb-true _ _ is in ap (λ (n : ℕ). n == colon) same
 
 -- a byte that ends the run makes the next place free, another one does not
-step : (opener : Opener) (before : List ℕ) (byte : ℕ) → after (mode_in opener before) byte ≡ cond (ends opener before byte) Free (mode_in opener (before ++ byte ∷ []))
+step : (opener : Opener) (before : List ℕ) (byte : ℕ) → next_mode (mode_in opener before) byte ≡ cond (ends opener before byte) Free (mode_in opener (before ++ byte ∷ []))
 step QuoteMark before byte = refl
 step RemWord before byte = refl
 step DataWord before byte =
@@ -152,11 +152,11 @@ kept_by_modes opener before (byte ∷ run) rest none (kept, runs) =
     of_end : (b : Bool) → ends opener before byte ≡ b
         → (HasNoEnd opener (before ++ byte ∷ []) → RunsOn (mode_in opener (before ++ byte ∷ [])) run rest → IsKept opener ((before ++ byte ∷ []) ++ run) rest) → IsKept opener (before ++ byte ∷ run) rest
     of_end true at later =
-        let free : after (mode_in opener before) byte ≡ Free = step opener before byte ∙ ap (λ (b : Bool). cond b Free (mode_in opener (before ++ byte ∷ []))) at in
+        let free : next_mode (mode_in opener before) byte ≡ Free = step opener before byte ∙ ap (λ (b : Bool). cond b Free (mode_in opener (before ++ byte ∷ []))) at in
         let none_left : run ≡ [] = nothing_free run rest (subst (λ (m : Mode). RunsOn m run rest) free runs) in
         inl (record { before = before; byte = byte; is = ap (λ (w : List ℕ). before ++ byte ∷ w) none_left; no_end = none; end = at })
     of_end false at later =
-        let still : after (mode_in opener before) byte ≡ mode_in opener (before ++ byte ∷ []) = step opener before byte ∙ ap (λ (b : Bool). cond b Free (mode_in opener (before ++ byte ∷ []))) at in
+        let still : next_mode (mode_in opener before) byte ≡ mode_in opener (before ++ byte ∷ []) = step opener before byte ∙ ap (λ (b : Bool). cond b Free (mode_in opener (before ++ byte ∷ []))) at in
         subst (λ (w : List ℕ). IsKept opener w rest) (append_assoc before (byte ∷ []) run) (later (no_end_more opener before byte none at) (subst (λ (m : Mode). RunsOn m run rest) still runs))
 
 pub modes_of_kept : (opener : Opener) (before run rest : List ℕ) → HasNoEnd opener before → IsKept opener (before ++ run) rest → RunsOn (mode_in opener before) run rest
@@ -165,12 +165,12 @@ modes_of_kept opener before (byte ∷ run) rest none kept =
     (kept_place opener before, of_end (ends opener before byte) refl (λ none_more kept_more. modes_of_kept opener (before ++ byte ∷ []) run rest none_more kept_more))
   where
     of_end : (b : Bool) → ends opener before byte ≡ b
-        → (HasNoEnd opener (before ++ byte ∷ []) → IsKept opener ((before ++ byte ∷ []) ++ run) rest → RunsOn (mode_in opener (before ++ byte ∷ [])) run rest) → RunsOn (after (mode_in opener before) byte) run rest
+        → (HasNoEnd opener (before ++ byte ∷ []) → IsKept opener ((before ++ byte ∷ []) ++ run) rest → RunsOn (mode_in opener (before ++ byte ∷ [])) run rest) → RunsOn (next_mode (mode_in opener before) byte) run rest
     of_end true at later =
-        let free : after (mode_in opener before) byte ≡ Free = step opener before byte ∙ ap (λ (b : Bool). cond b Free (mode_in opener (before ++ byte ∷ []))) at in
+        let free : next_mode (mode_in opener before) byte ≡ Free = step opener before byte ∙ ap (λ (b : Bool). cond b Free (mode_in opener (before ++ byte ∷ []))) at in
         subst (λ (m : Mode). RunsOn m run rest) (sym free) (subst (λ (w : List ℕ). RunsOn Free w rest) (sym (last_of_run opener before byte run rest at kept)) (inl refl))
     of_end false at later =
-        let still : after (mode_in opener before) byte ≡ mode_in opener (before ++ byte ∷ []) = step opener before byte ∙ ap (λ (b : Bool). cond b Free (mode_in opener (before ++ byte ∷ []))) at in
+        let still : next_mode (mode_in opener before) byte ≡ mode_in opener (before ++ byte ∷ []) = step opener before byte ∙ ap (λ (b : Bool). cond b Free (mode_in opener (before ++ byte ∷ []))) at in
         subst (λ (m : Mode). RunsOn m run rest) (sym still) (later (no_end_more opener before byte none at) (subst (λ (w : List ℕ). IsKept opener w rest) (sym (append_assoc before (byte ∷ []) run)) kept))
 
 -- ---- what a run crunches to, and what it stands for
@@ -186,15 +186,15 @@ crunched_along mode [] rest others (inl free) crunched = subst (λ (m : Mode). C
 crunched_along mode [] rest others (inr empty) crunched =
     let nothing : others ≡ [] = nothing_crunched others (subst (λ (w : List ℕ). CrunchedFrom Free w others) empty crunched) in
     subst (λ (w : List ℕ). CrunchedFrom mode rest w) (sym nothing) empty
-crunched_along mode (byte ∷ run) rest others (kept, runs) crunched = (run ++ rest, kept_code mode byte (run ++ rest) kept, crunched_along (after mode byte) run rest others runs crunched)
+crunched_along mode (byte ∷ run) rest others (kept, runs) crunched = (run ++ rest, kept_code mode byte (run ++ rest) kept, crunched_along (next_mode mode byte) run rest others runs crunched)
 
 pub expanded_along : (mode : Mode) (run rest : List ℕ) → RunsOn mode run rest → expanded_from mode (run ++ rest) ≡ run ++ expanded_from Free rest
 unfolding expanded_from
 expanded_along mode [] rest (inl free) = ap (λ (m : Mode). expanded_from m rest) free
 expanded_along mode [] rest (inr empty) = ap (λ (w : List ℕ). expanded_from mode w) empty ∙ ap (λ (w : List ℕ). expanded_from Free w) (sym empty)
-expanded_along mode (byte ∷ run) rest (kept, runs) = ap (λ (w : List ℕ). w ++ expanded_from (after mode byte) (run ++ rest)) (itself mode kept) ∙ ap (λ (w : List ℕ). byte ∷ w) (expanded_along (after mode byte) run rest runs)
+expanded_along mode (byte ∷ run) rest (kept, runs) = ap (λ (w : List ℕ). w ++ expanded_from (next_mode mode byte) (run ++ rest)) (itself mode kept) ∙ ap (λ (w : List ℕ). byte ∷ w) (expanded_along (next_mode mode byte) run rest runs)
   where
-    itself : (m : Mode) → m ≢ Free → shown m byte ≡ byte ∷ []
+    itself : (m : Mode) → m ≢ Free → text_of_code m byte ≡ byte ∷ []
     itself Free kept = absurd (kept refl)
     itself Quoted kept = refl
     itself Remark kept = refl
@@ -218,9 +218,9 @@ pub record CutBytes (mode : Mode) (bytes : List ℕ) : Type 0 where
 
 pub cut_bytes : (mode : Mode) (bytes : List ℕ) → CutBytes mode bytes
 cut_bytes mode [] = record { run = []; rest = []; joined = refl; runs = inr refl }
-cut_bytes mode (byte ∷ bytes) = of_mode (free_or_not mode) (cut_bytes (after mode byte) bytes)
+cut_bytes mode (byte ∷ bytes) = of_mode (free_or_not mode) (cut_bytes (next_mode mode byte) bytes)
   where
-    of_mode : (mode ≡ Free) ⊎ (mode ≢ Free) → CutBytes (after mode byte) bytes → CutBytes mode (byte ∷ bytes)
+    of_mode : (mode ≡ Free) ⊎ (mode ≢ Free) → CutBytes (next_mode mode byte) bytes → CutBytes mode (byte ∷ bytes)
     of_mode (inl free) cut = record { run = []; rest = byte ∷ bytes; joined = refl; runs = inl free }
     of_mode (inr kept) cut = record { run = byte ∷ cut.run; rest = cut.rest; joined = ap (λ (w : List ℕ). byte ∷ w) cut.joined; runs = (kept, cut.runs) }
 
@@ -255,9 +255,9 @@ kept_first mode (byte ∷ others) code rest kept first =
 pub cut_text : (mode : Mode) (text codes : List ℕ) → CrunchedFrom mode text codes → CutText mode text codes
 unfolding CrunchedFrom
 cut_text mode text [] none = record { run = []; rest = []; others = []; text_is = none; codes_is = refl; runs = inr refl; crunched = refl }
-cut_text mode text (code ∷ codes) (rest, first, others) = of_mode (free_or_not mode) (cut_text (after mode code) rest codes others)
+cut_text mode text (code ∷ codes) (rest, first, others) = of_mode (free_or_not mode) (cut_text (next_mode mode code) rest codes others)
   where
-    of_mode : (mode ≡ Free) ⊎ (mode ≢ Free) → CutText (after mode code) rest codes → CutText mode text (code ∷ codes)
+    of_mode : (mode ≡ Free) ⊎ (mode ≢ Free) → CutText (next_mode mode code) rest codes → CutText mode text (code ∷ codes)
     of_mode (inl free) cut = record {
       run = [];
       rest = text;
@@ -265,7 +265,7 @@ cut_text mode text (code ∷ codes) (rest, first, others) = of_mode (free_or_not
       text_is = refl;
       codes_is = refl;
       runs = inl free;
-      crunched = (rest, subst (λ (m : Mode). first_code m text ≡ Some (code, rest)) free first, subst (λ (m : Mode). CrunchedFrom (after m code) rest codes) free others);
+      crunched = (rest, subst (λ (m : Mode). first_code m text ≡ Some (code, rest)) free first, subst (λ (m : Mode). CrunchedFrom (next_mode m code) rest codes) free others);
     }
     of_mode (inr kept) cut = record {
       run = code ∷ cut.run;

@@ -10,10 +10,10 @@ use Rattle.cbm_text.specs.declared.mode.Mode.{Mode}
 use Rattle.cbm_text.specs.declared.mode.Mode.TheVariants.{Free, Quoted, Remark, Data}
 use Rattle.cbm_text.specs.Keywords.{keywords, keyword, token_from}
 use Rattle.cbm_text.specs.Kept.{quote, rem_token, data_token, Opener, QuoteMark, RemWord, DataWord, opening, code_of, IsKept}
-use Rattle.cbm_text.specs.Pieces.{Piece, Kept, Token, Question, Single, print_token, written, crunched, AreCut}
+use Rattle.cbm_text.specs.Pieces.{Piece, Kept, Token, Question, Single, print_token, written_piece, crunched_piece, AreCut}
 use Rattle.cbm_text.specs.Crunching.{question, pi, HasNoOpener, TextBegins, AreTextPieces, Crunched}
 use Rattle.cbm_text.specs.Listing.{IsNoOpener, CodesBegin, AreCodePieces, Listed}
-use Rattle.cbm_text.specs.Modes.{after, single_code, free_code, first_code, CrunchedFrom, shown, expanded_from, expanded}
+use Rattle.cbm_text.specs.Modes.{next_mode, single_code, free_code, first_code, CrunchedFrom, text_of_code, expanded_from, expanded_bytes}
 use Rattle.cbm_text.proofs.Keywords.{found, code_in, rest_in, BeginsWithRow, row_of}
 use Rattle.cbm_text.proofs.CodesSoFar.{token_first, single_first}
 use Rattle.cbm_text.proofs.KeptRuns.{mode_in, mode_behind, RunsOn, no_end_nothing, kept_by_modes, modes_of_kept, crunched_along, expanded_along, cut_bytes, cut_text}
@@ -52,7 +52,7 @@ opens_or_not code = of_tests (code == quote) refl (code == rem_token) refl (code
     of_tests false quote_at false rem_at false data_at = inr (none quote_at rem_at data_at)
 
 -- behind other crunched bytes a place is free
-stays_free : (code : ℕ) → IsNoOpener code → after Free code ≡ Free
+stays_free : (code : ℕ) → IsNoOpener code → next_mode Free code ≡ Free
 stays_free code none = of_quote (code == quote) refl
   where
     of_data : (b : Bool) → (code == data_token) ≡ b → cond b Data Free ≡ Free
@@ -76,7 +76,7 @@ opener_first QuoteMark rest = refl
 opener_first RemWord rest = refl
 opener_first DataWord rest = refl
 
-opener_shown : (opener : Opener) → shown Free (code_of opener) ≡ opening opener
+opener_shown : (opener : Opener) → text_of_code Free (code_of opener) ≡ opening opener
 unfolding keyword keywords
 opener_shown QuoteMark = refl
 opener_shown RemWord = refl
@@ -125,7 +125,7 @@ print_no_opener DataWord opens = absurd (omega arith)
 record FirstOther (text : List ℕ) (code : ℕ) (rest : List ℕ) : Type 0 where
   pub piece : Piece
   pub begins : TextBegins text piece rest
-  pub is : crunched piece ≡ code ∷ []
+  pub is : crunched_piece piece ≡ code ∷ []
   pub opens : IsNoOpener code
 
 first_single : (byte : ℕ) (others : List ℕ) (code : ℕ) (rest : List ℕ) → HasNoOpener (byte ∷ others) → token_from 128 keywords (byte ∷ others) ≡ None
@@ -189,7 +189,7 @@ first_piece (byte ∷ others) code rest is = of_opener (begins_with_opener (byte
 -- ---- a text, by pieces and byte after byte
 
 text_by_opener : (opener : Opener) (text run rest codes others : List ℕ) (pieces : List Piece) → text ≡ opening opener ++ (run ++ rest) → IsKept opener run rest → AreTextPieces rest pieces
-    → others ≡ flat_map crunched pieces → codes ≡ code_of opener ∷ (run ++ others) → (pieces : List Piece) × AreTextPieces text pieces × (codes ≡ flat_map crunched pieces)
+    → others ≡ flat_map crunched_piece pieces → codes ≡ code_of opener ∷ (run ++ others) → (pieces : List Piece) × AreTextPieces text pieces × (codes ≡ flat_map crunched_piece pieces)
 unfolding AreCut
 text_by_opener opener text run rest codes others pieces text_is kept cut is codes_is = (
   Kept opener run ∷ pieces,
@@ -197,7 +197,7 @@ text_by_opener opener text run rest codes others pieces text_is kept cut is code
   codes_is ∙ ap (λ (w : List ℕ). code_of opener ∷ (run ++ w)) is,
 )
 
-pieces_by_modes : (n : ℕ) (text codes : List ℕ) → length codes ≤ n → CrunchedFrom Free text codes → (pieces : List Piece) × AreTextPieces text pieces × (codes ≡ flat_map crunched pieces)
+pieces_by_modes : (n : ℕ) (text codes : List ℕ) → length codes ≤ n → CrunchedFrom Free text codes → (pieces : List Piece) × AreTextPieces text pieces × (codes ≡ flat_map crunched_piece pieces)
 unfolding CrunchedFrom AreCut
 pieces_by_modes zero text [] short none = ([], none, refl)
 pieces_by_modes zero text (code ∷ codes) short more = absurd (omega arith)
@@ -205,10 +205,10 @@ pieces_by_modes (suc n) text [] short none = ([], none, refl)
 pieces_by_modes (suc n) text (code ∷ codes) short (rest, first, others) = of_first (first_piece text code rest first) (λ next left small more. pieces_by_modes n next left small more)
   where
     of_first : ((opener : Opener) × (code ≡ code_of opener) × (text ≡ opening opener ++ rest)) ⊎ FirstOther text code rest
-        → ((next left : List ℕ) → length left ≤ n → CrunchedFrom Free next left → (pieces : List Piece) × AreTextPieces next pieces × (left ≡ flat_map crunched pieces))
-        → (pieces : List Piece) × AreTextPieces text pieces × (code ∷ codes ≡ flat_map crunched pieces)
+        → ((next left : List ℕ) → length left ≤ n → CrunchedFrom Free next left → (pieces : List Piece) × AreTextPieces next pieces × (left ≡ flat_map crunched_piece pieces))
+        → (pieces : List Piece) × AreTextPieces text pieces × (code ∷ codes ≡ flat_map crunched_piece pieces)
     of_first (inl (opener, code_is, text_is)) later =
-        let behind : CrunchedFrom (mode_in opener []) rest codes = subst (λ (m : Mode). CrunchedFrom m rest codes) (ap (λ (k : ℕ). after Free k) code_is ∙ mode_behind opener) others in
+        let behind : CrunchedFrom (mode_in opener []) rest codes = subst (λ (m : Mode). CrunchedFrom m rest codes) (ap (λ (k : ℕ). next_mode Free k) code_is ∙ mode_behind opener) others in
         let cut = cut_text (mode_in opener []) rest codes behind in
         let kept : IsKept opener cut.run cut.rest = kept_by_modes opener [] cut.run cut.rest (no_end_nothing opener) cut.runs in
         let small : length cut.others ≤ n = omega (arith, ap length cut.codes_is, length-append cut.run cut.others) in
@@ -220,7 +220,7 @@ pieces_by_modes (suc n) text (code ∷ codes) short (rest, first, others) = of_f
         let (pieces, is, same) = later rest codes (omega arith) free in (
           other.piece ∷ pieces,
           (rest, other.begins, is),
-          ap (λ (w : List ℕ). code ∷ w) same ∙ ap (λ (w : List ℕ). w ++ flat_map crunched pieces) (sym other.is),
+          ap (λ (w : List ℕ). code ∷ w) same ∙ ap (λ (w : List ℕ). w ++ flat_map crunched_piece pieces) (sym other.is),
         )
 
 pub crunched_by_modes : (text codes : List ℕ) → CrunchedFrom Free text codes → Crunched text codes
@@ -263,18 +263,18 @@ opener_more opener text run rest others text_is kept crunched =
       subst (λ (m : Mode). CrunchedFrom m (run ++ rest) (run ++ others)) (sym (mode_behind opener)) (crunched_along (mode_in opener []) run rest others runs crunched),
     )
 
-modes_of_pieces : (pieces : List Piece) (text : List ℕ) → AreTextPieces text pieces → CrunchedFrom Free text (flat_map crunched pieces)
+modes_of_pieces : (pieces : List Piece) (text : List ℕ) → AreTextPieces text pieces → CrunchedFrom Free text (flat_map crunched_piece pieces)
 unfolding AreCut CrunchedFrom
 modes_of_pieces [] text none = none
-modes_of_pieces (Kept opener run ∷ pieces) text (rest, (text_is, kept), others) = opener_more opener text run rest (flat_map crunched pieces) text_is kept (modes_of_pieces pieces rest others)
+modes_of_pieces (Kept opener run ∷ pieces) text (rest, (text_is, kept), others) = opener_more opener text run rest (flat_map crunched_piece pieces) text_is kept (modes_of_pieces pieces rest others)
 modes_of_pieces (Token token ∷ pieces) text (rest, (none, is), others) =
-    one_more text token rest (flat_map crunched pieces) (token_at_free text token rest is) (token_no_opener text token rest none is) (modes_of_pieces pieces rest others)
+    one_more text token rest (flat_map crunched_piece pieces) (token_at_free text token rest is) (token_no_opener text token rest none is) (modes_of_pieces pieces rest others)
 modes_of_pieces (Question ∷ pieces) text (rest, text_is, others) =
-    one_more text print_token rest (flat_map crunched pieces) (ap (λ (w : List ℕ). first_code Free w) text_is ∙ question_first rest) print_no_opener (modes_of_pieces pieces rest others)
+    one_more text print_token rest (flat_map crunched_piece pieces) (ap (λ (w : List ℕ). first_code Free w) text_is ∙ question_first rest) print_no_opener (modes_of_pieces pieces rest others)
 modes_of_pieces (Single byte ∷ pieces) text (rest, (none, no_token, text_is, plain, kept), others) =
     let begins : HasNoOpener (byte ∷ rest) = subst HasNoOpener text_is none in
     let no_word : token_from 128 keywords (byte ∷ rest) ≡ None = ap (λ (w : List ℕ). token_from 128 keywords w) (sym text_is) ∙ no_token in
-    one_more text byte rest (flat_map crunched pieces) (ap (λ (w : List ℕ). first_code Free w) text_is ∙ single_first Free byte rest (Some byte) refl no_word (single_is byte plain kept))
+    one_more text byte rest (flat_map crunched_piece pieces) (ap (λ (w : List ℕ). first_code Free w) text_is ∙ single_first Free byte rest (Some byte) refl no_word (single_is byte plain kept))
     (single_no_opener byte rest begins kept) (modes_of_pieces pieces rest others)
 
 pub modes_of_crunched : (text codes : List ℕ) → Crunched text codes → CrunchedFrom Free text codes
@@ -284,10 +284,10 @@ modes_of_crunched text codes (pieces, cut, is) = subst (λ (w : List ℕ). Crunc
 -- ---- crunched bytes, by pieces and byte after byte
 
 -- what a crunched byte that opens nothing stands for
-plain_piece : (code : ℕ) (rest : List ℕ) → IsNoOpener code → (piece : Piece) × CodesBegin (code ∷ rest) piece rest × (written piece ≡ shown Free code)
+plain_piece : (code : ℕ) (rest : List ℕ) → IsNoOpener code → (piece : Piece) × CodesBegin (code ∷ rest) piece rest × (written_piece piece ≡ text_of_code Free code)
 plain_piece code rest opens = of_word (keyword code) refl
   where
-    of_word : (word : Option (List ℕ)) → keyword code ≡ word → (piece : Piece) × CodesBegin (code ∷ rest) piece rest × (written piece ≡ shown Free code)
+    of_word : (word : Option (List ℕ)) → keyword code ≡ word → (piece : Piece) × CodesBegin (code ∷ rest) piece rest × (written_piece piece ≡ text_of_code Free code)
     of_word None at = (Single code, (opens, at, refl), sym (ap (λ (o : Option (List ℕ)). option_map_or (λ w. w) o (code ∷ [])) at))
     of_word (Some word) at = (
       Token code,
@@ -299,28 +299,28 @@ plain_piece code rest opens = of_word (keyword code) refl
         some word at none = let never : Some word ≡ None = sym at ∙ none in absurd cc
 
 -- what stands behind a crunched byte that opens nothing is read as at the start
-plain_expanded : (code : ℕ) (rest : List ℕ) → IsNoOpener code → expanded (code ∷ rest) ≡ shown Free code ++ expanded rest
+plain_expanded : (code : ℕ) (rest : List ℕ) → IsNoOpener code → expanded_bytes (code ∷ rest) ≡ text_of_code Free code ++ expanded_bytes rest
 unfolding expanded_from
-plain_expanded code rest opens = ap (λ (m : Mode). shown Free code ++ expanded_from m rest) (stays_free code opens)
+plain_expanded code rest opens = ap (λ (m : Mode). text_of_code Free code ++ expanded_from m rest) (stays_free code opens)
 
 -- an opener stands for its word, and what is kept behind it for itself
-opener_expanded : (opener : Opener) (run rest : List ℕ) → RunsOn (mode_in opener []) run rest → expanded (code_of opener ∷ (run ++ rest)) ≡ opening opener ++ run ++ expanded rest
+opener_expanded : (opener : Opener) (run rest : List ℕ) → RunsOn (mode_in opener []) run rest → expanded_bytes (code_of opener ∷ (run ++ rest)) ≡ opening opener ++ run ++ expanded_bytes rest
 unfolding expanded_from
 opener_expanded opener run rest runs =
-    ap (λ (m : Mode). shown Free (code_of opener) ++ expanded_from m (run ++ rest)) (mode_behind opener)
-    ∙ ap (λ (w : List ℕ). shown Free (code_of opener) ++ w) (expanded_along (mode_in opener []) run rest runs)
-    ∙ ap (λ (w : List ℕ). w ++ (run ++ expanded rest)) (opener_shown opener) ∙ sym (append_assoc (opening opener) run (expanded rest))
+    ap (λ (m : Mode). text_of_code Free (code_of opener) ++ expanded_from m (run ++ rest)) (mode_behind opener)
+    ∙ ap (λ (w : List ℕ). text_of_code Free (code_of opener) ++ w) (expanded_along (mode_in opener []) run rest runs)
+    ∙ ap (λ (w : List ℕ). w ++ (run ++ expanded_bytes rest)) (opener_shown opener) ∙ sym (append_assoc (opening opener) run (expanded_bytes rest))
 
 codes_by_opener : (opener : Opener) (codes run rest : List ℕ) (pieces : List Piece) → codes ≡ code_of opener ∷ (run ++ rest) → IsKept opener run rest → RunsOn (mode_in opener []) run rest → AreCodePieces rest pieces
-    → expanded rest ≡ flat_map written pieces → (pieces : List Piece) × AreCodePieces codes pieces × (expanded codes ≡ flat_map written pieces)
+    → expanded_bytes rest ≡ flat_map written_piece pieces → (pieces : List Piece) × AreCodePieces codes pieces × (expanded_bytes codes ≡ flat_map written_piece pieces)
 unfolding AreCut
 codes_by_opener opener codes run rest pieces codes_is kept runs cut is = (
   Kept opener run ∷ pieces,
   (rest, (codes_is, kept), cut),
-  ap (λ (w : List ℕ). expanded w) codes_is ∙ opener_expanded opener run rest runs ∙ ap (λ (w : List ℕ). opening opener ++ run ++ w) is,
+  ap (λ (w : List ℕ). expanded_bytes w) codes_is ∙ opener_expanded opener run rest runs ∙ ap (λ (w : List ℕ). opening opener ++ run ++ w) is,
 )
 
-pieces_of_codes : (n : ℕ) (codes : List ℕ) → length codes ≤ n → (pieces : List Piece) × AreCodePieces codes pieces × (expanded codes ≡ flat_map written pieces)
+pieces_of_codes : (n : ℕ) (codes : List ℕ) → length codes ≤ n → (pieces : List Piece) × AreCodePieces codes pieces × (expanded_bytes codes ≡ flat_map written_piece pieces)
 unfolding AreCut expanded_from
 pieces_of_codes zero [] short = ([], refl, refl)
 pieces_of_codes zero (code ∷ codes) short = absurd (omega arith)
@@ -328,8 +328,8 @@ pieces_of_codes (suc n) [] short = ([], refl, refl)
 pieces_of_codes (suc n) (code ∷ codes) short = of_opener (opens_or_not code) (λ left small. pieces_of_codes n left small)
   where
     of_opener : ((opener : Opener) × (code ≡ code_of opener)) ⊎ IsNoOpener code
-        → ((left : List ℕ) → length left ≤ n → (pieces : List Piece) × AreCodePieces left pieces × (expanded left ≡ flat_map written pieces))
-        → (pieces : List Piece) × AreCodePieces (code ∷ codes) pieces × (expanded (code ∷ codes) ≡ flat_map written pieces)
+        → ((left : List ℕ) → length left ≤ n → (pieces : List Piece) × AreCodePieces left pieces × (expanded_bytes left ≡ flat_map written_piece pieces))
+        → (pieces : List Piece) × AreCodePieces (code ∷ codes) pieces × (expanded_bytes (code ∷ codes) ≡ flat_map written_piece pieces)
     of_opener (inl (opener, code_is)) later =
         let cut = cut_bytes (mode_in opener []) codes in
         let kept : IsKept opener cut.run cut.rest = kept_by_modes opener [] cut.run cut.rest (no_end_nothing opener) cut.runs in
@@ -339,21 +339,21 @@ pieces_of_codes (suc n) (code ∷ codes) short = of_opener (opens_or_not code) (
     of_opener (inr opens) later =
         let (piece, begins, word) = plain_piece code codes opens in
         let (pieces, is, same) = later codes (omega arith) in
-        (piece ∷ pieces, (codes, begins, is), plain_expanded code codes opens ∙ ap (λ (w : List ℕ). w ++ expanded codes) (sym word) ∙ ap (λ (w : List ℕ). written piece ++ w) same)
+        (piece ∷ pieces, (codes, begins, is), plain_expanded code codes opens ∙ ap (λ (w : List ℕ). w ++ expanded_bytes codes) (sym word) ∙ ap (λ (w : List ℕ). written_piece piece ++ w) same)
 
-pub listed_by_modes : (codes : List ℕ) → Listed codes (expanded codes)
+pub listed_by_modes : (codes : List ℕ) → Listed codes (expanded_bytes codes)
 unfolding Listed
 listed_by_modes codes = pieces_of_codes (length codes) codes (omega arith)
 
-modes_of_listed_pieces : (pieces : List Piece) (codes : List ℕ) → AreCodePieces codes pieces → flat_map written pieces ≡ expanded codes
+modes_of_listed_pieces : (pieces : List Piece) (codes : List ℕ) → AreCodePieces codes pieces → flat_map written_piece pieces ≡ expanded_bytes codes
 unfolding AreCut expanded_from
-modes_of_listed_pieces [] codes none = sym (ap (λ (w : List ℕ). expanded w) none)
+modes_of_listed_pieces [] codes none = sym (ap (λ (w : List ℕ). expanded_bytes w) none)
 modes_of_listed_pieces (Kept opener run ∷ pieces) codes (rest, (codes_is, kept), others) =
     let runs = modes_of_kept opener [] run rest (no_end_nothing opener) kept in
-    ap (λ (w : List ℕ). opening opener ++ run ++ w) (modes_of_listed_pieces pieces rest others) ∙ sym (opener_expanded opener run rest runs) ∙ ap (λ (w : List ℕ). expanded w) (sym codes_is)
+    ap (λ (w : List ℕ). opening opener ++ run ++ w) (modes_of_listed_pieces pieces rest others) ∙ sym (opener_expanded opener run rest runs) ∙ ap (λ (w : List ℕ). expanded_bytes w) (sym codes_is)
 modes_of_listed_pieces (Token token ∷ pieces) codes (rest, (opens, some, codes_is), others) =
-    ap (λ (w : List ℕ). written (Token token) ++ w) (modes_of_listed_pieces pieces rest others) ∙ ap (λ (w : List ℕ). w ++ expanded rest) (of_word (keyword token) some)
-    ∙ sym (plain_expanded token rest opens) ∙ ap (λ (w : List ℕ). expanded w) (sym codes_is)
+    ap (λ (w : List ℕ). written_piece (Token token) ++ w) (modes_of_listed_pieces pieces rest others) ∙ ap (λ (w : List ℕ). w ++ expanded_bytes rest) (of_word (keyword token) some)
+    ∙ sym (plain_expanded token rest opens) ∙ ap (λ (w : List ℕ). expanded_bytes w) (sym codes_is)
   where
     of_word : (word : Option (List ℕ)) → word ≢ None → option_map_or (λ w. w) word [] ≡ option_map_or (λ w. w) word (token ∷ [])
     of_word None some = absurd (some refl)
@@ -361,9 +361,9 @@ modes_of_listed_pieces (Token token ∷ pieces) codes (rest, (opens, some, codes
 modes_of_listed_pieces (Question ∷ pieces) codes (rest, never, others) = absurd never
 modes_of_listed_pieces (Single byte ∷ pieces) codes (rest, (opens, none, codes_is), others) =
     ap (λ (w : List ℕ). byte ∷ w) (modes_of_listed_pieces pieces rest others)
-    ∙ ap (λ (w : List ℕ). w ++ expanded rest) (sym (ap (λ (o : Option (List ℕ)). option_map_or (λ w. w) o (byte ∷ [])) none)) ∙ sym (plain_expanded byte rest opens)
-    ∙ ap (λ (w : List ℕ). expanded w) (sym codes_is)
+    ∙ ap (λ (w : List ℕ). w ++ expanded_bytes rest) (sym (ap (λ (o : Option (List ℕ)). option_map_or (λ w. w) o (byte ∷ [])) none)) ∙ sym (plain_expanded byte rest opens)
+    ∙ ap (λ (w : List ℕ). expanded_bytes w) (sym codes_is)
 
-pub modes_of_listed : (codes bytes : List ℕ) → Listed codes bytes → bytes ≡ expanded codes
+pub modes_of_listed : (codes bytes : List ℕ) → Listed codes bytes → bytes ≡ expanded_bytes codes
 unfolding Listed
 modes_of_listed codes bytes (pieces, cut, is) = is ∙ modes_of_listed_pieces pieces codes cut

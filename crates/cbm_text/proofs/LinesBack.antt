@@ -5,11 +5,11 @@ use Rattle.std.specs.List.{flat_map}
 use Rattle.cbm_text.specs.declared.mode.Mode.TheVariants.{Free}
 use Rattle.cbm_text.specs.Keywords.{keywords, keyword}
 use Rattle.cbm_text.specs.Kept.{Opener, QuoteMark, RemWord, DataWord, opening, IsKept}
-use Rattle.cbm_text.specs.Pieces.{Piece, Kept, Token, Question, Single, written, crunched, AreCut}
+use Rattle.cbm_text.specs.Pieces.{Piece, Kept, Token, Question, Single, written_piece, crunched_piece, AreCut}
 use Rattle.cbm_text.specs.Crunching.{pi, HasNoOpener, TextBegins, AreTextPieces, Crunched}
 use Rattle.cbm_text.specs.Listing.{AreCodePieces, Listed}
 use Rattle.cbm_text.specs.Laws.{HasNoFreeQuestion, CrunchesOnce, ListsOnce}
-use Rattle.cbm_text.specs.Modes.{expanded}
+use Rattle.cbm_text.specs.Modes.{expanded_bytes}
 use Rattle.cbm_text.proofs.Keywords.{token_shown, keyword_below, keyword_past}
 use Rattle.cbm_text.proofs.CodesSoFar.{crunched_once}
 use Rattle.cbm_text.proofs.LinePieces.{token_no_opener, single_no_opener, modes_of_crunched, listed_by_modes, modes_of_listed}
@@ -30,9 +30,9 @@ nothing_cut [] text none cut = refl
 nothing_cut (piece ∷ pieces) text none (rest, begins, others) = absurd (nothing_begins piece rest (subst (λ (w : List ℕ). TextBegins w piece rest) none begins))
 
 -- what is kept in a text is kept in its crunched bytes
-still_kept : (opener : Opener) (run rest : List ℕ) (pieces : List Piece) → AreTextPieces rest pieces → IsKept opener run rest → IsKept opener run (flat_map crunched pieces)
+still_kept : (opener : Opener) (run rest : List ℕ) (pieces : List Piece) → AreTextPieces rest pieces → IsKept opener run rest → IsKept opener run (flat_map crunched_piece pieces)
 still_kept opener run rest pieces cut (inl ends) = inl ends
-still_kept opener run rest pieces cut (inr (none, empty)) = inr (none, ap (λ (ps : List Piece). flat_map crunched ps) (nothing_cut pieces rest empty cut))
+still_kept opener run rest pieces cut (inr (none, empty)) = inr (none, ap (λ (ps : List Piece). flat_map crunched_piece ps) (nothing_cut pieces rest empty cut))
 
 -- a byte that crunches to itself is no token
 no_keyword : (byte : ℕ) → (byte ≡ pi) ⊎ (byte < 128) → keyword byte ≡ None
@@ -47,17 +47,17 @@ later_in : (piece other : Piece) (pieces : List Piece) → Contains pieces other
 later_in piece other pieces (k, within, is) = (suc k, omega arith, is)
 
 -- the pieces of a text without a free `?` are those of its crunched bytes
-same_pieces : (pieces : List Piece) (text : List ℕ) → AreTextPieces text pieces → ¬ (Contains pieces Question) → AreCodePieces (flat_map crunched pieces) pieces × (text ≡ flat_map written pieces)
+same_pieces : (pieces : List Piece) (text : List ℕ) → AreTextPieces text pieces → ¬ (Contains pieces Question) → AreCodePieces (flat_map crunched_piece pieces) pieces × (text ≡ flat_map written_piece pieces)
 unfolding AreCut
 same_pieces [] text none plain = (refl, none)
 same_pieces (Kept opener run ∷ pieces) text (rest, (text_is, kept), others) plain =
     let (cut, is) = same_pieces pieces rest others (λ within. plain (later_in (Kept opener run) Question pieces within)) in
-    ((flat_map crunched pieces, (refl, still_kept opener run rest pieces others kept), cut), text_is ∙ ap (λ (w : List ℕ). opening opener ++ run ++ w) is)
+    ((flat_map crunched_piece pieces, (refl, still_kept opener run rest pieces others kept), cut), text_is ∙ ap (λ (w : List ℕ). opening opener ++ run ++ w) is)
 same_pieces (Token token ∷ pieces) text (rest, (none, found_is), others) plain =
     let (cut, is) = same_pieces pieces rest others (λ within. plain (later_in (Token token) Question pieces within)) in
     let (word, at, joined) = token_shown text token rest found_is in (
-      (flat_map crunched pieces, (token_no_opener text token rest none found_is, some word at, refl), cut),
-      joined ∙ ap (λ (w : List ℕ). word ++ w) is ∙ ap (λ (o : Option (List ℕ)). option_map_or (λ w. w) o [] ++ flat_map written pieces) (sym at),
+      (flat_map crunched_piece pieces, (token_no_opener text token rest none found_is, some word at, refl), cut),
+      joined ∙ ap (λ (w : List ℕ). word ++ w) is ∙ ap (λ (o : Option (List ℕ)). option_map_or (λ w. w) o [] ++ flat_map written_piece pieces) (sym at),
     )
   where
     some : (word : List ℕ) → keyword token ≡ Some word → keyword token ≢ None
@@ -65,7 +65,7 @@ same_pieces (Token token ∷ pieces) text (rest, (none, found_is), others) plain
 same_pieces (Question ∷ pieces) text (rest, text_is, others) plain = absurd (plain (first_in Question pieces))
 same_pieces (Single byte ∷ pieces) text (rest, (none, no_token, text_is, question, kept), others) plain =
     let (cut, is) = same_pieces pieces rest others (λ within. plain (later_in (Single byte) Question pieces within)) in
-    ((flat_map crunched pieces, (single_no_opener byte rest (subst (λ (w : List ℕ). HasNoOpener w) text_is none) kept, no_keyword byte kept, refl), cut), text_is ∙ ap (λ (w : List ℕ). byte ∷ w) is)
+    ((flat_map crunched_piece pieces, (single_no_opener byte rest (subst (λ (w : List ℕ). HasNoOpener w) text_is none) kept, no_keyword byte kept, refl), cut), text_is ∙ ap (λ (w : List ℕ). byte ∷ w) is)
 
 pub comes_back : (text codes : List ℕ) → HasNoFreeQuestion text → Crunched text codes → Listed codes text
 unfolding Crunched Listed
@@ -79,4 +79,4 @@ pub crunches_once : (text : List ℕ) → CrunchesOnce text
 crunches_once text codes other crunched again = crunched_once Free text codes other (modes_of_crunched text codes crunched) (modes_of_crunched text other again)
 
 pub lists_once : (codes : List ℕ) → ListsOnce codes
-lists_once codes = record { some = (expanded codes, listed_by_modes codes); once = λ bytes other listed again. modes_of_listed codes bytes listed ∙ sym (modes_of_listed codes other again) }
+lists_once codes = record { some = (expanded_bytes codes, listed_by_modes codes); once = λ bytes other listed again. modes_of_listed codes bytes listed ∙ sym (modes_of_listed codes other again) }

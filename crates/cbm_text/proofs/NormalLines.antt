@@ -18,7 +18,7 @@ use Rattle.petscii.proofs.Readings.{spelling_read}
 use Rattle.d64_script.specs.RawLines.{lines_of, is_ended, before_end, text_of, is_skipped}
 use Rattle.d64_script.proofs.LineCuts.{lines_of-end, lines_of-inside}
 use Rattle.cbm_text.specs.Listing.{line_text}
-use Rattle.cbm_text.specs.TextLine.{space, is_no_space, is_no_digit, unspaced, number_digits, line_number, without_space, rest_of}
+use Rattle.cbm_text.specs.TextLine.{space, is_no_space, is_no_digit, unspaced_line, number_digits, line_number, without_space, rest_of}
 use Rattle.cbm_text.proofs.TextLines.{digits_model}
 
 -- ---- bytes that end no line
@@ -111,8 +111,8 @@ text_of_line line none =
 -- ---- a number, a space, and a rest
 
 -- a line that begins with digits
-begins_unspaced : (digits rest : List ℕ) → list_all is_ascii_digit digits ≡ true → 0 < length digits → unspaced (digits ++ rest) ≡ digits ++ rest
-unfolding unspaced
+begins_unspaced : (digits rest : List ℕ) → list_all is_ascii_digit digits ≡ true → 0 < length digits → unspaced_line (digits ++ rest) ≡ digits ++ rest
+unfolding unspaced_line
 begins_unspaced [] rest all some = absurd (omega arith)
 begins_unspaced (digit ∷ digits) rest all some =
     let plain = plain_digit digit (and_parts _ _ all).0 in

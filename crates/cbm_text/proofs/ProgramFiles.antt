@@ -8,7 +8,7 @@ use Rattle.std.proofs.lemmas.List.Sums.{fails_before_first}
 use Rattle.std.specs.List.{position_or_len}
 use Rattle.cbm_text.specs.Program.{Line, Program, BeginsLine, LinesRead, Reads, word}
 use Rattle.cbm_text.specs.Listing.{IsListing, Lists}
-use Rattle.cbm_text.specs.Modes.{expanded, listing, line_listing}
+use Rattle.cbm_text.specs.Modes.{expanded_bytes, listing, line_listing}
 use Rattle.cbm_text.proofs.LinePieces.{listed_by_modes}
 
 -- ---- bytes without $00
@@ -221,7 +221,7 @@ file_never (a ∷ b ∷ lines) long never program (low, high, rest, is, read) =
 pub listing_of_program : (program : Program) → IsListing program (listing program)
 unfolding IsListing listing
 listing_of_program [] = refl
-listing_of_program (line ∷ lines) = (expanded line.bytes, listing lines, listed_by_modes line.bytes, listing_of_program lines, refl)
+listing_of_program (line ∷ lines) = (expanded_bytes line.bytes, listing lines, listed_by_modes line.bytes, listing_of_program lines, refl)
 
 pub lists_program : (file text : List ℕ) (program : Program) → Reads file program → text ≡ listing program → Lists file text
 unfolding Lists

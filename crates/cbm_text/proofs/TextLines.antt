@@ -12,7 +12,7 @@ use Rattle.std.proofs.lemmas.Bool.Decides.{nat_tests}
 use Rattle.std.proofs.lemmas.List.Elements.{All-weaker}
 use Rattle.std.proofs.lemmas.Str.Ascii.{IsAscii-from_all}
 use Rattle.std.proofs.lemmas.Str.Parse.{IsNumeralModel, numerals_by_value, parse_digits}
-use Rattle.cbm_text.specs.TextLine.{is_no_digit, unspaced, number_digits, fitting_number, without_space, rest_of}
+use Rattle.cbm_text.specs.TextLine.{is_no_digit, unspaced_line, number_digits, fitting_number, without_space, rest_of}
 
 -- the first place, or the length
 pub place_or_length : (test : ℕ → Bool) (text : List ℕ) → unwrap_or (position test text) (length text) ≡ position_or_len test text
@@ -74,10 +74,10 @@ number_too_large digits is = of_test (nat_lt (digits_value 10 digits) (2 ^ 16)) 
 -- ---- a line's number, and what follows
 
 -- the digits and the rest of a line, by what stands behind its spaces
-pub digits_of_line : (text unspaced_text digits : List ℕ) → unspaced_text ≡ unspaced text → digits ≡ before_first is_no_digit unspaced_text → digits ≡ number_digits text
+pub digits_of_line : (text unspaced_text digits : List ℕ) → unspaced_text ≡ unspaced_line text → digits ≡ before_first is_no_digit unspaced_text → digits ≡ number_digits text
 unfolding number_digits
 digits_of_line text unspaced_text digits is digits_is = digits_is ∙ ap (λ (w : List ℕ). before_first is_no_digit w) is
 
-pub rest_of_line : (text unspaced_text rest : List ℕ) → unspaced_text ≡ unspaced text → rest ≡ drop (position_or_len is_no_digit unspaced_text) unspaced_text → without_space rest ≡ rest_of text
+pub rest_of_line : (text unspaced_text rest : List ℕ) → unspaced_text ≡ unspaced_line text → rest ≡ drop (position_or_len is_no_digit unspaced_text) unspaced_text → without_space rest ≡ rest_of text
 unfolding rest_of
 rest_of_line text unspaced_text rest is rest_is = ap (λ (w : List ℕ). without_space w) (rest_is ∙ ap (λ (w : List ℕ). drop (position_or_len is_no_digit w) w) is)

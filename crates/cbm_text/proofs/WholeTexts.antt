@@ -15,7 +15,7 @@ use Rattle.d64_script.proofs.LineCuts.{lines_of-nil}
 use Rattle.cbm_text.specs.declared.fault.BasicFault.{BasicFault}
 use Rattle.cbm_text.specs.declared.fault.BasicFault.TheVariants.{NoNumber, NumberTooLarge, Text, TokenByte, ZeroByte, TooLong, Memory}
 use Rattle.cbm_text.specs.Kept.{Opener, QuoteMark, RemWord, DataWord, opening, code_of}
-use Rattle.cbm_text.specs.Pieces.{Piece, Kept, Token, Question, Single, print_token, crunched, AreCut}
+use Rattle.cbm_text.specs.Pieces.{Piece, Kept, Token, Question, Single, print_token, crunched_piece, AreCut}
 use Rattle.cbm_text.specs.Keywords.{keywords, token_from}
 use Rattle.cbm_text.specs.Crunching.{question, AreTextPieces, Crunched}
 use Rattle.cbm_text.specs.Program.{Line, Program, word, address_behind, line_layout, lines_layout, layout, BeginsLine, LinesRead, Reads}
@@ -60,23 +60,23 @@ opener_some QuoteMark run none = none
 opener_some RemWord run none = none
 opener_some DataWord run none = none
 
-pieces_no_zero : (pieces : List Piece) (text : List ℕ) → AreTextPieces text pieces → has_zero text ≡ false → has_zero (flat_map crunched pieces) ≡ false
+pieces_no_zero : (pieces : List Piece) (text : List ℕ) → AreTextPieces text pieces → has_zero text ≡ false → has_zero (flat_map crunched_piece pieces) ≡ false
 unfolding AreCut
 pieces_no_zero [] text cut none = refl
 pieces_no_zero (Kept opener run ∷ pieces) text (rest, (text_is, kept), others) none =
     let parts = zero_parts (opening opener ++ run) rest (ap (λ (w : List ℕ). has_zero w) (sym text_is) ∙ none) in
     let kept_parts = zero_parts (opening opener) run parts.0 in
-    zero_joined (code_of opener ∷ run) (flat_map crunched pieces) (opener_some opener run kept_parts.1) (pieces_no_zero pieces rest others parts.1)
+    zero_joined (code_of opener ∷ run) (flat_map crunched_piece pieces) (opener_some opener run kept_parts.1) (pieces_no_zero pieces rest others parts.1)
 pieces_no_zero (Token token ∷ pieces) text (rest, (no_opener, is), others) none =
     let shown_word = token_shown text token rest is in
     let parts = zero_parts shown_word.0 rest (ap (λ (w : List ℕ). has_zero w) (sym shown_word.2) ∙ none) in
-    zero_joined (token ∷ []) (flat_map crunched pieces) (token_some text token rest is) (pieces_no_zero pieces rest others parts.1)
+    zero_joined (token ∷ []) (flat_map crunched_piece pieces) (token_some text token rest is) (pieces_no_zero pieces rest others parts.1)
 pieces_no_zero (Question ∷ pieces) text (rest, text_is, others) none =
     let parts = zero_parts (question ∷ []) rest (ap (λ (w : List ℕ). has_zero w) (sym text_is) ∙ none) in
-    zero_joined (print_token ∷ []) (flat_map crunched pieces) refl (pieces_no_zero pieces rest others parts.1)
+    zero_joined (print_token ∷ []) (flat_map crunched_piece pieces) refl (pieces_no_zero pieces rest others parts.1)
 pieces_no_zero (Single byte ∷ pieces) text (rest, (no_opener, no_token, text_is, plain, kept), others) none =
     let parts = zero_parts (byte ∷ []) rest (ap (λ (w : List ℕ). has_zero w) (sym text_is) ∙ none) in
-    zero_joined (byte ∷ []) (flat_map crunched pieces) parts.0 (pieces_no_zero pieces rest others parts.1)
+    zero_joined (byte ∷ []) (flat_map crunched_piece pieces) parts.0 (pieces_no_zero pieces rest others parts.1)
 
 crunched_no_zero : (text codes : List ℕ) → Crunched text codes → ¬ (Contains text 0) → ¬ (Contains codes 0)
 unfolding Crunched

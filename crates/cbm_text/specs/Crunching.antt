@@ -3,7 +3,7 @@ use Rattle.std.specs.Prelude.{◌≡◌, ◌≢◌, ℕ, ◌<◌, ◌⊎◌, fal
 use Rattle.std.specs.List.{starts_with, flat_map}
 use Rattle.cbm_text.specs.Keywords.{keywords, token_from}
 use Rattle.cbm_text.specs.Kept.{Opener, opening, IsKept}
-use Rattle.cbm_text.specs.Pieces.{Piece, Kept, Token, Question, Single, AreCut, crunched}
+use Rattle.cbm_text.specs.Pieces.{Piece, Kept, Token, Question, Single, AreCut, crunched_piece}
 
 -- `?`
 abbrev pub question : ℕ
@@ -33,4 +33,4 @@ AreTextPieces text pieces = AreCut TextBegins text pieces
 
 -- The bytes of a line crunch to these.
 unfoldable pub Crunched : List ℕ → List ℕ → Type 0
-Crunched text codes = (pieces : List Piece) × AreTextPieces text pieces × (codes ≡ flat_map crunched pieces)
+Crunched text codes = (pieces : List Piece) × AreTextPieces text pieces × (codes ≡ flat_map crunched_piece pieces)

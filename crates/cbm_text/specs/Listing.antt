@@ -4,7 +4,7 @@ use Rattle.std.specs.List.{flat_map}
 use Rattle.petscii.specs.Spelling.{spelling}
 use Rattle.cbm_text.specs.Keywords.{keyword}
 use Rattle.cbm_text.specs.Kept.{Opener, code_of, IsKept}
-use Rattle.cbm_text.specs.Pieces.{Piece, Kept, Token, Question, Single, AreCut, written}
+use Rattle.cbm_text.specs.Pieces.{Piece, Kept, Token, Question, Single, AreCut, written_piece}
 use Rattle.cbm_text.specs.Program.{Program, Reads}
 
 -- The crunched byte opens no run.
@@ -25,7 +25,7 @@ AreCodePieces codes pieces = AreCut CodesBegin codes pieces
 
 -- The crunched bytes of a line stand for these bytes.
 unfoldable pub Listed : List ℕ → List ℕ → Type 0
-Listed codes bytes = (pieces : List Piece) × AreCodePieces codes pieces × (bytes ≡ flat_map written pieces)
+Listed codes bytes = (pieces : List Piece) × AreCodePieces codes pieces × (bytes ≡ flat_map written_piece pieces)
 
 -- A line as text: its number in decimal, a space, the bytes that it stands for in text form, LF.
 abbrev pub line_text : ℕ → List ℕ → List ℕ

@@ -15,12 +15,12 @@ use Rattle.cbm_text.specs.Program.{Line, Program}
 
 -- How the place behind a crunched byte is read. A quote is kept up to and with the next one, what
 -- follows `rem` to the line's end, and what follows `data` up to and with a colon outside quotes.
-abbrev pub after : Mode → ℕ → Mode
-after Free code = if code == quote then Quoted else if code == rem_token then Remark else if code == data_token then Data else Free
-after Quoted code = if code == quote then Free else Quoted
-after Remark code = Remark
-after Data code = if code == quote then QuotedData else if code == colon then Free else Data
-after QuotedData code = if code == quote then Data else QuotedData
+abbrev pub next_mode : Mode → ℕ → Mode
+next_mode Free code = if code == quote then Quoted else if code == rem_token then Remark else if code == data_token then Data else Free
+next_mode Quoted code = if code == quote then Free else Quoted
+next_mode Remark code = Remark
+next_mode Data code = if code == quote then QuotedData else if code == colon then Free else Data
+next_mode QuotedData code = if code == quote then Data else QuotedData
 
 -- ---- crunching
 
@@ -44,7 +44,7 @@ first_code kept (byte ∷ rest) = Some (byte, rest)
 -- A text that begins at such a place crunches to these bytes.
 unfoldable pub CrunchedFrom : Mode → List ℕ → List ℕ → Type 0
 CrunchedFrom mode text [] = text ≡ []
-CrunchedFrom mode text (code ∷ codes) = (rest : List ℕ) × (first_code mode text ≡ Some (code, rest)) × CrunchedFrom (after mode code) rest codes
+CrunchedFrom mode text (code ∷ codes) = (rest : List ℕ) × (first_code mode text ≡ Some (code, rest)) × CrunchedFrom (next_mode mode code) rest codes
 
 -- No byte is one that crunches to nothing at a free place.
 abbrev pub crunches_anyhow : List ℕ → Bool
@@ -60,22 +60,22 @@ pub record CrunchesUpTo (most : ℕ) (text codes : List ℕ) : Type 0 where
 -- ---- listing
 
 -- What a crunched byte stands for: at a free place the keyword of a token, else itself.
-abbrev pub shown : Mode → ℕ → List ℕ
-shown Free code = option_map_or (λ word. word) (keyword code) (code ∷ [])
-shown kept code = code ∷ []
+abbrev pub text_of_code : Mode → ℕ → List ℕ
+text_of_code Free code = option_map_or (λ word. word) (keyword code) (code ∷ [])
+text_of_code kept code = code ∷ []
 
 -- What crunched bytes from such a place on stand for.
 unfoldable pub expanded_from : Mode → List ℕ → List ℕ
 expanded_from mode [] = []
-expanded_from mode (code ∷ rest) = shown mode code ++ expanded_from (after mode code) rest
+expanded_from mode (code ∷ rest) = text_of_code mode code ++ expanded_from (next_mode mode code) rest
 
 -- The bytes that a line's crunched bytes stand for.
-abbrev pub expanded : List ℕ → List ℕ
-expanded bytes = expanded_from Free bytes
+abbrev pub expanded_bytes : List ℕ → List ℕ
+expanded_bytes bytes = expanded_from Free bytes
 
 -- A line as text, and a program.
 abbrev pub line_listing : Line → List ℕ
-line_listing line = line_text line.number (expanded line.bytes)
+line_listing line = line_text line.number (expanded_bytes line.bytes)
 
 unfoldable pub listing : Program → List ℕ
 listing program = flat_map line_listing program

@@ -17,18 +17,18 @@ abbrev pub print_token : ℕ
 print_token = 0x99
 
 -- The bytes of a piece in a text.
-abbrev pub written : Piece → List ℕ
-written (Kept opener run) = opening opener ++ run
-written (Token token) = option_map_or (λ word. word) (keyword token) []
-written Question = codes "?"
-written (Single byte) = byte ∷ []
+abbrev pub written_piece : Piece → List ℕ
+written_piece (Kept opener run) = opening opener ++ run
+written_piece (Token token) = option_map_or (λ word. word) (keyword token) []
+written_piece Question = codes "?"
+written_piece (Single byte) = byte ∷ []
 
 -- The crunched bytes of a piece in a program.
-abbrev pub crunched : Piece → List ℕ
-crunched (Kept opener run) = code_of opener ∷ run
-crunched (Token token) = token ∷ []
-crunched Question = print_token ∷ []
-crunched (Single byte) = byte ∷ []
+abbrev pub crunched_piece : Piece → List ℕ
+crunched_piece (Kept opener run) = code_of opener ∷ run
+crunched_piece (Token token) = token ∷ []
+crunched_piece Question = print_token ∷ []
+crunched_piece (Single byte) = byte ∷ []
 
 -- Bytes are these pieces, one after the other, where a relation says which piece bytes begin with
 -- and what follows it.

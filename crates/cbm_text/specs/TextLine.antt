@@ -16,12 +16,12 @@ abbrev pub is_no_digit : ℕ → Bool
 is_no_digit byte = not (is_ascii_digit byte)
 
 -- A text line without the spaces that it begins with.
-unfoldable pub unspaced : List ℕ → List ℕ
-unspaced line = drop (position_or_len is_no_space line) line
+unfoldable pub unspaced_line : List ℕ → List ℕ
+unspaced_line line = drop (position_or_len is_no_space line) line
 
 -- The digits of a line's number: the longest run of digits behind its spaces.
 unfoldable pub number_digits : List ℕ → List ℕ
-number_digits line = before_first is_no_digit (unspaced line)
+number_digits line = before_first is_no_digit (unspaced_line line)
 
 -- The number that they spell.
 abbrev pub line_number : List ℕ → ℕ
@@ -38,4 +38,4 @@ without_space (byte ∷ rest) = if byte == space then rest else byte ∷ rest
 
 -- What follows the number and one space.
 unfoldable pub rest_of : List ℕ → List ℕ
-rest_of line = without_space (drop (position_or_len is_no_digit (unspaced line)) (unspaced line))
+rest_of line = without_space (drop (position_or_len is_no_digit (unspaced_line line)) (unspaced_line line))

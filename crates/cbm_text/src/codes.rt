@@ -3,7 +3,7 @@
 ghost use Rattle.std.specs.Prelude.{◌≡◌, ℕ, List, ◌++◌, MatchOption, IfOk, OnOk};
 ghost use Rattle.cbm_text.specs.BasicText.{most_bytes};
 ghost use Rattle.cbm_text.specs.Crunching.{Crunched};
-ghost use Rattle.cbm_text.specs.Modes.{CrunchesUpTo, crunches_anyhow, expanded, first_code, free_code, shown, single_code};
+ghost use Rattle.cbm_text.specs.Modes.{CrunchesUpTo, crunches_anyhow, expanded_bytes, first_code, free_code, text_of_code, single_code};
 
 use crate::keyword::{first_token, keyword_of};
 use crate::mode::Mode;
@@ -82,7 +82,7 @@ fn crunches_anyhow(text: &[u8]) -> bool
 
 /// What the crunched bytes of a line stand for.
 pub(crate) fn expand(alloc: Global, codes: &[u8]) -> Result<Vec<u8>, AllocError>
-    ensures { IfOk result (λ bytes. bytes.items ≡ expanded codes.now) }
+    ensures { IfOk result (λ bytes. bytes.items ≡ expanded_bytes codes.now) }
 {
     let mut bytes = Vec::new(alloc);
     let mut mode = Mode::Free;
@@ -95,7 +95,7 @@ pub(crate) fn expand(alloc: Global, codes: &[u8]) -> Result<Vec<u8>, AllocError>
 
 /// Adds what a crunched byte stands for.
 fn push_shown(bytes: &mut Vec<u8>, mode: Mode, code: u8) -> Result<(), AllocError>
-    ensures { OnOk result (bytes.new.items ≡ bytes.old.items ++ shown mode code) }
+    ensures { OnOk result (bytes.new.items ≡ bytes.old.items ++ text_of_code mode code) }
 {
     if mode == Mode::Free
         && let Some(word) = keyword_of(code)

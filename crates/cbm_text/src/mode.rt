@@ -1,7 +1,7 @@
 //! How the bytes at a place of a line are read.
 
 ghost use Rattle.std.specs.Prelude.{◌≡◌};
-ghost use Rattle.cbm_text.specs.Modes.{after};
+ghost use Rattle.cbm_text.specs.Modes.{next_mode};
 
 /// The token of `data`.
 const DATA: u8 = 0x83;
@@ -27,7 +27,7 @@ pub(crate) enum Mode {
 impl Mode {
     /// How the place behind a crunched byte is read.
     pub(crate) fn after(self, code: u8) -> Mode
-        ensures { result ≡ after self code }
+        ensures { result ≡ next_mode self code }
     {
         match (self, code) {
             (Mode::Free, b'"') => Mode::Quoted,

@@ -3,7 +3,7 @@
 ghost use Rattle.std.specs.Prelude.{position, ◌≡◌, ◌≢◌, ℕ, true, ◌≤◌, ◌<◌, ◌^◌, ◌==◌, [], IfOk, IfErr, MatchOption, MatchResult, drop, length};
 ghost use Rattle.std.specs.Char.{is_ascii_digit};
 ghost use Rattle.std.specs.List.{before_first, position_or_len, list_all};
-ghost use Rattle.cbm_text.specs.TextLine.{is_no_space, is_no_digit, unspaced, number_digits, line_number, fitting_number, rest_of, without_space};
+ghost use Rattle.cbm_text.specs.TextLine.{is_no_space, is_no_digit, unspaced_line, number_digits, line_number, fitting_number, rest_of, without_space};
 ghost use Rattle.cbm_text.specs.BasicText.{IsNumbered, HasFault};
 
 use crate::fault::BasicFault;
@@ -28,7 +28,7 @@ pub(crate) fn split_number(text: &[u8], place: usize) -> Result<(u16, &[u8]), Ba
 
 /// A text line without the spaces that it begins with.
 fn after_spaces(text: &[u8]) -> &[u8]
-    ensures { result.now ≡ unspaced text.now }
+    ensures { result.now ≡ unspaced_line text.now }
 {
     let spaces = first_other_than_space(text).unwrap_or(text.len());
     &text[spaces..]

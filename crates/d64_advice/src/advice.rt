@@ -1,6 +1,6 @@
 //! What is wrong with a refused line, in plain words.
 ghost use Rattle.std.specs.Prelude.{◌≡◌};
-ghost use Rattle.d64_advice.specs.Advice.{advice, file_piece, host_piece, missing_word, not_number, one, piece_of, pieces, plain, said_piece, surplus_piece, two, wrong_block, wrong_host_file, wrong_line, wrong_name, wrong_words};
+ghost use Rattle.d64_advice.specs.Advice.{advice, file_piece, host_piece, missing_word, not_number, one_piece, piece_of, pieces, plain_pieces, said_piece, surplus_piece, two_pieces, wrong_block, wrong_host_file, wrong_line, wrong_name, wrong_words};
 
 use crate::command::Command;
 use crate::faults::{basic_fault, condition_text, list_fault};
@@ -45,14 +45,14 @@ pub(crate) struct Advice {
 impl Advice {
     /// A text alone.
     fn plain(text: &'static [u8]) -> Advice
-        ensures { pieces result ≡ plain text.now }
+        ensures { pieces result ≡ plain_pieces text.now }
     {
         Advice::two(text, Piece::Text(b""), b"", Piece::Text(b""), b"")
     }
 
     /// A piece between two texts.
     fn one(before: &'static [u8], piece: Piece, after: &'static [u8]) -> Advice
-        ensures { pieces result ≡ one before.now (piece_of piece) after.now }
+        ensures { pieces result ≡ one_piece before.now (piece_of piece) after.now }
     {
         Advice::two(before, piece, after, Piece::Text(b""), b"")
     }
@@ -65,7 +65,7 @@ impl Advice {
         other: Piece,
         after: &'static [u8],
     ) -> Advice
-        ensures { pieces result ≡ two before.now (piece_of piece) between.now (piece_of other) after.now }
+        ensures { pieces result ≡ two_pieces before.now (piece_of piece) between.now (piece_of other) after.now }
     {
         Advice {
             pieces: [

@@ -13,8 +13,8 @@ use Rattle.d64_survey.specs.declared.read_error.ReadError.{ReadError}
 use Rattle.petscii.specs.Spelling.{spelling}
 use Rattle.d64_wording.specs.CheckText.{contents_text, state_text}
 use Rattle.d64_wording.specs.FaultText.{fault_text, read_error_text}
-use Rattle.d64_wording.specs.Shown.{shown}
-use Rattle.d64_markup.specs.Markup.{element, held}
+use Rattle.d64_wording.specs.Shown.{shown_name}
+use Rattle.d64_markup.specs.Markup.{element, held_text}
 use Rattle.d64_picture.specs.Svg.{svg_of}
 use Rattle.d64_catalogue.specs.Elements.{text_line}
 use Rattle.d64_catalogue.specs.Files.{table}
@@ -29,7 +29,7 @@ id_line image = text_line (codes "span") (codes " class=\"id\"") (spelling (disk
 
 -- a name of the host as it is shown, in an element of this name
 unfoldable pub host_line : List ℕ → Bytes → List ℕ
-host_line element_name name = text_line element_name (codes " class=\"host\"") (held (shown name))
+host_line element_name name = text_line element_name (codes " class=\"host\"") (held_text (shown_name name))
 
 -- what is on the disk
 unfoldable pub contents_line : Disk → List ℕ
@@ -84,6 +84,6 @@ unfoldable pub section : Bool → Bytes → DumpView → List ℕ
 section maps name dump = element (codes "details") (amiss_class (is_amiss dump)) (content maps name dump) ++ codes "\n"
 
 -- the section of a file that is not answered, with what is wrong with it
-unfoldable pub unanswered : Bytes → List ℕ → List ℕ
-unanswered name wrong =
+unfoldable pub unanswered_section : Bytes → List ℕ → List ℕ
+unanswered_section name wrong =
     element (codes "section") (codes " class=\"amiss\"") (codes "\n" ++ (host_line (codes "h2") name ++ text_line (codes "p") [] wrong)) ++ codes "\n"

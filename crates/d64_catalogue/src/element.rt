@@ -1,6 +1,6 @@
 //! Elements whose content is a text.
 ghost use Rattle.std.specs.Prelude.{◌≡◌, ◌++◌, codes, OnOk};
-ghost use Rattle.d64_markup.specs.Markup.{element, tag, escaped};
+ghost use Rattle.d64_markup.specs.Markup.{element, tag, escaped_text};
 ghost use Rattle.d64_catalogue.specs.Elements.{text_in, text_line};
 
 use d64_markup::push_escaped;

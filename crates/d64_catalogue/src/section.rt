@@ -2,7 +2,7 @@
 ghost use Rattle.std.specs.Prelude.{◌≡◌, [], ◌++◌, codes, OnOk};
 ghost use Rattle.std.specs.List.{flat_map};
 ghost use Rattle.d64_catalogue.specs.Elements.{text_line};
-ghost use Rattle.d64_catalogue.specs.Sections.{disk_line, id_line, host_line, contents_line, state_line, label_lines, summary, fault_item, error_item, fault_items, error_items, wrongs, picture_where, content, amiss_class, section, unanswered};
+ghost use Rattle.d64_catalogue.specs.Sections.{disk_line, id_line, host_line, contents_line, state_line, label_lines, summary, fault_item, error_item, fault_items, error_items, wrongs, picture_where, content, amiss_class, section, unanswered_section};
 
 use crate::element::push_text_line;
 use crate::files::push_table;
@@ -267,13 +267,13 @@ fn push_wrong_lines(out: &mut Vec<u8>, name: &[u8], wrong: &[u8]) -> Result<(), 
 }
 
 /// Adds the section of a file that is not answered, with what is wrong with it.
-#[tactic(auto, unfolding(crate::specs::Sections::unanswered, d64_markup::specs::Markup::element, d64_markup::specs::Markup::tag))]
+#[tactic(auto, unfolding(crate::specs::Sections::unanswered_section, d64_markup::specs::Markup::element, d64_markup::specs::Markup::tag))]
 pub(crate) fn push_unanswered(
     out: &mut Vec<u8>,
     name: &[u8],
     wrong: &[u8],
 ) -> Result<(), AllocError>
-    ensures { OnOk result (out.new.items ≡ out.old.items ++ unanswered name.now wrong.now) }
+    ensures { OnOk result (out.new.items ≡ out.old.items ++ unanswered_section name.now wrong.now) }
 {
     out.extend_from_slice(b"<section class=\"amiss\">\n")?;
     push_wrong_lines(out, name, wrong)?;

@@ -6,7 +6,7 @@ use Rattle.std.proofs.lemmas.Bool.{cases_Bool, false_from_ne_true, lt-ltb, eqb-t
 use Rattle.std.proofs.lemmas.List.{map-append, length-take, length-take-le, take-append-le, take_all}
 use Rattle.std.proofs.lemmas.List.Elements.{filter-append}
 use Rattle.std.proofs.lemmas.List.Splits.{slice_split_none, slice_split-cons_yes, slice_split-cons_no, length-slice_split}
-use Rattle.d64_collection.specs.Names.{kept, is_name, names_in, listed, asked_by}
+use Rattle.d64_collection.specs.Names.{kept_name, is_name, names_in, listed_name, asked_by}
 use Rattle.d64_collection.specs.Lists.{IsEnded}
 
 -- a byte goes before the first part, whatever parts come after
@@ -33,9 +33,9 @@ split_append p (x ∷ xs) y ys ends = elim (cases_Bool (p x)) [
 pub names_in-append : (separator : ℕ) (xs ys : List ℕ) → names_in separator (xs ++ separator ∷ ys) ≡ names_in separator xs ++ names_in separator ys
 unfolding names_in
 names_in-append separator xs ys =
-    ap (λ l. map kept (filter is_name l)) (split_append (nat_eq separator) xs separator ys (search rules))
-    ∙ ap (map kept) (filter-append is_name (slice_split (nat_eq separator) xs) (slice_split (nat_eq separator) ys))
-    ∙ map-append kept (filter is_name (slice_split (nat_eq separator) xs)) (filter is_name (slice_split (nat_eq separator) ys))
+    ap (λ l. map kept_name (filter is_name l)) (split_append (nat_eq separator) xs separator ys (search rules))
+    ∙ ap (map kept_name) (filter-append is_name (slice_split (nat_eq separator) xs) (slice_split (nat_eq separator) ys))
+    ∙ map-append kept_name (filter is_name (slice_split (nat_eq separator) xs)) (filter is_name (slice_split (nat_eq separator) ys))
 
 -- no bytes have no name
 pub names_in-nil : (separator : ℕ) → names_in separator [] ≡ []
@@ -55,27 +55,27 @@ names_in-ended separator ended more (inr last) =
     (sym (ap (names_in separator) last.1 ∙ names_in-append separator last.0 [] ∙ ap (λ l. names_in separator last.0 ++ l) (names_in-nil separator) ∙ append-nil (names_in separator last.0)))
 
 -- a piece is a name where what is kept of it is one
-is_name-kept : (piece : List ℕ) → is_name (kept piece) ≡ is_name piece
-is_name-kept [] = refl
-is_name-kept (x ∷ xs) =
-    lt-ltb 0 (length (kept (x ∷ xs))) (omega (arith, length-take 4097 (x ∷ xs))) ∙ sym (lt-ltb 0 (length (x ∷ xs)) (omega arith))
+is_name-kept_name : (piece : List ℕ) → is_name (kept_name piece) ≡ is_name piece
+is_name-kept_name [] = refl
+is_name-kept_name (x ∷ xs) =
+    lt-ltb 0 (length (kept_name (x ∷ xs))) (omega (arith, length-take 4097 (x ∷ xs))) ∙ sym (lt-ltb 0 (length (x ∷ xs)) (omega arith))
 
 -- none of the bytes of a piece is found to be the separator
 others : (separator : ℕ) (piece : List ℕ) → All (λ byte. byte ≢ separator) piece → All (λ byte. nat_eq separator byte ≡ false) piece
 others separator piece none = λ k d within. false_from_ne_true (nat_eq separator (get_or piece k d)) (λ same. none k d within (sym (eqb-true separator (get_or piece k d) same)))
 
 -- of one piece the kept bytes ask, where it is a name
-one_piece : (piece : List ℕ) (test : Bool) → is_name piece ≡ test → map listed (map kept (filter is_name (piece ∷ []))) ≡ asked_by (kept piece)
+one_piece : (piece : List ℕ) (test : Bool) → is_name piece ≡ test → map listed_name (map kept_name (filter is_name (piece ∷ []))) ≡ asked_by (kept_name piece)
 one_piece piece true is =
-    ap (λ t. map listed (map kept (if t then piece ∷ [] else []))) is ∙ sym (ap (λ t. if t then listed (kept piece) ∷ [] else []) (is_name-kept piece ∙ is))
+    ap (λ t. map listed_name (map kept_name (if t then piece ∷ [] else []))) is ∙ sym (ap (λ t. if t then listed_name (kept_name piece) ∷ [] else []) (is_name-kept_name piece ∙ is))
 one_piece piece false is =
-    ap (λ t. map listed (map kept (if t then piece ∷ [] else []))) is ∙ sym (ap (λ t. if t then listed (kept piece) ∷ [] else []) (is_name-kept piece ∙ is))
+    ap (λ t. map listed_name (map kept_name (if t then piece ∷ [] else []))) is ∙ sym (ap (λ t. if t then listed_name (kept_name piece) ∷ [] else []) (is_name-kept_name piece ∙ is))
 
 -- a piece without a separator asks for what its kept bytes ask for
-pub asked_by-piece : (separator : ℕ) (piece : List ℕ) → All (λ byte. byte ≢ separator) piece → map listed (names_in separator piece) ≡ asked_by (kept piece)
+pub asked_by-piece : (separator : ℕ) (piece : List ℕ) → All (λ byte. byte ≢ separator) piece → map listed_name (names_in separator piece) ≡ asked_by (kept_name piece)
 unfolding names_in
 asked_by-piece separator piece none =
-    ap (λ l. map listed (map kept (filter is_name l))) (slice_split_none (nat_eq separator) piece (others separator piece none))
+    ap (λ l. map listed_name (map kept_name (filter is_name l))) (slice_split_none (nat_eq separator) piece (others separator piece none))
     ∙ one_piece piece (is_name piece) refl
 
 -- keeping byte by byte is keeping at once
@@ -91,5 +91,5 @@ taken_push n bytes more = elim (cases_Bool (nat_le n (length bytes))) [
       ap (λ l. take n (l ++ more)) (take_all n bytes few)
 ]
 
-pub kept-push : (piece : List ℕ) (byte : ℕ) → take 4097 (kept piece ++ byte ∷ []) ≡ kept (piece ++ byte ∷ [])
-kept-push piece byte = taken_push 4097 piece (byte ∷ [])
+pub kept_name-push : (piece : List ℕ) (byte : ℕ) → take 4097 (kept_name piece ++ byte ∷ []) ≡ kept_name (piece ++ byte ∷ [])
+kept_name-push piece byte = taken_push 4097 piece (byte ∷ [])

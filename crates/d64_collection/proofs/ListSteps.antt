@@ -3,13 +3,13 @@ use Rattle.std.proofs.Common.{◌≡◌, ◌≢◌, ℕ, ◌+◌, ◌<◌, Bool,
 use Rattle.std.specs.Prelude.{All, IfErr}
 use Rattle.std.proofs.lemmas.List.{map-append, take_more, take-append-drop}
 use Rattle.std.proofs.lemmas.List.Elements.{All-append, All-cons}
-use Rattle.d64_collection.specs.Names.{Asked, File, NoFile, kept, is_name, is_file_name, shortened, names_in, listed, asked_by}
+use Rattle.d64_collection.specs.Names.{Asked, File, NoFile, kept_name, is_name, is_file_name, shortened_name, names_in, listed_name, asked_by}
 use Rattle.d64_collection.specs.Answers.{Conduct}
 use Rattle.d64_collection.specs.Runs.{Stand, Steps, Runs, StopsIn, EndsAt}
 use Rattle.d64_collection.specs.Lists.{HasCome, IsEnded, StopsInList}
 use Rattle.d64_collection.specs.declared.desk.RunFault.{RunFault}
 use Rattle.d64_collection.proofs.RunSteps.{Steps-none, Runs-one, Runs-append, StopsIn-more}
-use Rattle.d64_collection.proofs.ListNames.{names_in-ended, names_in-append, names_in-nil, asked_by-piece, kept-push}
+use Rattle.d64_collection.proofs.ListNames.{names_in-ended, names_in-append, names_in-nil, asked_by-piece, kept_name-push}
 
 -- a list without elements has none
 no_element : (k : ℕ) → k < 0 → ⊥
@@ -21,18 +21,18 @@ one_other separator byte other = All-cons (λ y. y ≢ separator) byte [] other 
 
 -- what the ended names ask for, and then the piece at the end
 asks_last : (separator : ℕ) (ended raw : List ℕ) → IsEnded separator ended → All (λ byte. byte ≢ separator) raw
-    → map listed (names_in separator (ended ++ raw)) ≡ map listed (names_in separator ended) ++ asked_by (kept raw)
+    → map listed_name (names_in separator (ended ++ raw)) ≡ map listed_name (names_in separator ended) ++ asked_by (kept_name raw)
 asks_last separator ended raw is_ended none =
-    ap (map listed) (names_in-ended separator ended raw is_ended)
-    ∙ map-append listed (names_in separator ended) (names_in separator raw)
-    ∙ ap (λ (l : List Asked). map listed (names_in separator ended) ++ l) (asked_by-piece separator raw none)
+    ap (map listed_name) (names_in-ended separator ended raw is_ended)
+    ∙ map-append listed_name (names_in separator ended) (names_in separator raw)
+    ∙ ap (λ (l : List Asked). map listed_name (names_in separator ended) ++ l) (asked_by-piece separator raw none)
 
 -- a separator ends the piece: what came until then asks for the same, and what comes after it for
 -- more
 asks_ended : (separator : ℕ) (came more : List ℕ)
-    → map listed (names_in separator (came ++ separator ∷ more)) ≡ map listed (names_in separator came) ++ map listed (names_in separator more)
+    → map listed_name (names_in separator (came ++ separator ∷ more)) ≡ map listed_name (names_in separator came) ++ map listed_name (names_in separator more)
 asks_ended separator came more =
-    ap (map listed) (names_in-append separator came more) ∙ map-append listed (names_in separator came) (names_in separator more)
+    ap (map listed_name) (names_in-append separator came more) ∙ map-append listed_name (names_in separator came) (names_in separator more)
 
 -- nothing has come
 pub HasCome-none : (conduct : Conduct) (separator : ℕ) (a : Stand) (held : List ℕ) → held ≡ [] → HasCome conduct separator a a held []
@@ -43,7 +43,7 @@ HasCome-none conduct separator a held is_nil = record {
   is_ended = inl refl;
   unended = λ k d within. absurd (no_element k within);
   keeps = is_nil;
-  answered = subst (λ (l : List (List ℕ)). Steps conduct (map listed l) a a) (sym (names_in-nil separator)) (Steps-none conduct a);
+  answered = subst (λ (l : List (List ℕ)). Steps conduct (map listed_name l) a a) (sym (names_in-nil separator)) (Steps-none conduct a);
 }
 
 -- a byte of a name has come
@@ -55,24 +55,24 @@ HasCome-byte conduct separator byte a b held new came come other pushed = record
   parts = sym (append_assoc come.ended come.raw (byte ∷ [])) ∙ ap (λ (l : List ℕ). l ++ byte ∷ []) come.parts;
   is_ended = come.is_ended;
   unended = All-append (λ byte. byte ≢ separator) come.raw (byte ∷ []) come.unended (one_other separator byte other);
-  keeps = pushed ∙ ap (λ (l : List ℕ). take 4097 (l ++ byte ∷ [])) come.keeps ∙ kept-push come.raw byte;
+  keeps = pushed ∙ ap (λ (l : List ℕ). take 4097 (l ++ byte ∷ [])) come.keeps ∙ kept_name-push come.raw byte;
   answered = come.answered;
 }
 
 -- all that has come asks for what was answered, and for what is held
 asks_came : (conduct : Conduct) (separator : ℕ) (a b : Stand) (held came : List ℕ) (come : HasCome conduct separator a b held came)
-    → map listed (names_in separator came) ≡ map listed (names_in separator come.ended) ++ asked_by held
+    → map listed_name (names_in separator came) ≡ map listed_name (names_in separator come.ended) ++ asked_by held
 asks_came conduct separator a b held came come =
-    ap (λ (l : List ℕ). map listed (names_in separator l)) (sym come.parts)
+    ap (λ (l : List ℕ). map listed_name (names_in separator l)) (sym come.parts)
     ∙ asks_last separator come.ended come.raw come.is_ended come.unended
-    ∙ ap (λ (l : List ℕ). map listed (names_in separator come.ended) ++ asked_by l) (sym come.keeps)
+    ∙ ap (λ (l : List ℕ). map listed_name (names_in separator come.ended) ++ asked_by l) (sym come.keeps)
 
 -- what is held is answered too
 pub Runs-came : {A : Type 0} (conduct same : Conduct) (separator : ℕ) (a b c : Stand) (held came : List ℕ) (result : Result A RunFault)
-    → HasCome conduct separator a b held came → same ≡ conduct → Runs same (asked_by held) b c result → Runs conduct (map listed (names_in separator came)) a c result
+    → HasCome conduct separator a b held came → same ≡ conduct → Runs same (asked_by held) b c result → Runs conduct (map listed_name (names_in separator came)) a c result
 Runs-came {A} conduct same separator a b c held came result come is_same ran =
     subst (λ (l : List Asked). Runs conduct l a c result) (sym (asks_came conduct separator a b held came come))
-    (Runs-append conduct (map listed (names_in separator come.ended)) (asked_by held) a b c result come.answered
+    (Runs-append conduct (map listed_name (names_in separator come.ended)) (asked_by held) a b c result come.answered
     (subst (λ (r : Conduct). Runs r (asked_by held) b c result) is_same ran))
 
 -- a separator has come, and the name before it is answered
@@ -81,7 +81,7 @@ pub HasCome-separator : {A : Type 0} (conduct : Conduct) (separator byte : ℕ) 
     → HasCome conduct separator a c new (came ++ byte ∷ [])
 HasCome-separator {A} conduct separator byte a b c held new came result done come is ran is_ok cleared =
     let whole = Runs-came conduct conduct separator a b c held came result come refl ran in
-    let steps : Steps conduct (map listed (names_in separator came)) a c = subst (λ (r : Result A RunFault). Runs conduct (map listed (names_in separator came)) a c r) is_ok whole in
+    let steps : Steps conduct (map listed_name (names_in separator came)) a c = subst (λ (r : Result A RunFault). Runs conduct (map listed_name (names_in separator came)) a c r) is_ok whole in
     subst (λ (y : ℕ). HasCome conduct separator a c new (came ++ y ∷ [])) (sym is) record {
       ended = came ++ separator ∷ [];
       raw = [];
@@ -90,8 +90,8 @@ HasCome-separator {A} conduct separator byte a b c held new came result done com
       unended = λ k d within. absurd (no_element k within);
       keeps = cleared;
       answered = subst (λ (l : List Asked). Steps conduct l a c)
-          (sym (asks_ended separator came [] ∙ ap (λ (l : List (List ℕ)). map listed (names_in separator came) ++ map listed l) (names_in-nil separator)
-          ∙ append-nil (map listed (names_in separator came))))
+          (sym (asks_ended separator came [] ∙ ap (λ (l : List (List ℕ)). map listed_name (names_in separator came) ++ map listed_name l) (names_in-nil separator)
+          ∙ append-nil (map listed_name (names_in separator came))))
           steps;
     }
 
@@ -101,31 +101,31 @@ pub Stops-separator : {A B : Type 0} (conduct : Conduct) (separator byte : ℕ) 
     → IfErr answer (λ fault. (more : List ℕ) → StopsInList conduct separator ((came ++ byte ∷ []) ++ more) fault a c)
 Stops-separator {A} {B} conduct separator byte a b c held came result answer fault come is ran is_err answers =
     let whole = Runs-came conduct conduct separator a b c held came result come refl ran in
-    let stops : StopsIn conduct (map listed (names_in separator came)) fault a c =
-    subst (λ (r : Result A RunFault). Runs conduct (map listed (names_in separator came)) a c r) is_err whole in
+    let stops : StopsIn conduct (map listed_name (names_in separator came)) fault a c =
+    subst (λ (r : Result A RunFault). Runs conduct (map listed_name (names_in separator came)) a c r) is_err whole in
     subst (λ (r : Result B RunFault). IfErr r (λ fault. (more : List ℕ) → StopsInList conduct separator ((came ++ byte ∷ []) ++ more) fault a c)) (sym answers)
     (λ more. subst (λ (l : List Asked). StopsIn conduct l fault a c)
-    (sym (ap (λ (l : List ℕ). map listed (names_in separator l)) (append_assoc came (byte ∷ []) more ∙ ap (λ (y : ℕ). came ++ y ∷ more) is) ∙ asks_ended separator came more))
-    (StopsIn-more conduct (map listed (names_in separator came)) (map listed (names_in separator more)) fault a c stops))
+    (sym (ap (λ (l : List ℕ). map listed_name (names_in separator l)) (append_assoc came (byte ∷ []) more ∙ ap (λ (y : ℕ). came ++ y ∷ more) is) ∙ asks_ended separator came more))
+    (StopsIn-more conduct (map listed_name (names_in separator came)) (map listed_name (names_in separator more)) fault a c stops))
 
 -- what is no name asks for nothing
 pub Runs-no_name : (conduct : Conduct) (a : Stand) (held : List ℕ) → is_name held ≡ false → Steps conduct (asked_by held) a a
-Runs-no_name conduct a held none = subst (λ (t : Bool). Steps conduct (if t then listed held ∷ [] else []) a a) (sym none) (Steps-none conduct a)
+Runs-no_name conduct a held none = subst (λ (t : Bool). Steps conduct (if t then listed_name held ∷ [] else []) a a) (sym none) (Steps-none conduct a)
 
 -- a name asks for one file
 pub Runs-name : {A : Type 0} (conduct : Conduct) (asked : Asked) (a b : Stand) (held : List ℕ) (result : Result A RunFault)
-    → is_name held ≡ true → listed held ≡ asked → EndsAt conduct asked a b result → Runs conduct (asked_by held) a b result
+    → is_name held ≡ true → listed_name held ≡ asked → EndsAt conduct asked a b result → Runs conduct (asked_by held) a b result
 Runs-name conduct asked a b held result named is ends =
-    subst (λ (l : List Asked). Runs conduct l a b result) (sym (ap (λ (t : Bool). if t then listed held ∷ [] else []) named ∙ ap (λ (y : Asked). y ∷ []) is))
+    subst (λ (l : List Asked). Runs conduct l a b result) (sym (ap (λ (t : Bool). if t then listed_name held ∷ [] else []) named ∙ ap (λ (y : Asked). y ∷ []) is))
     (Runs-one conduct asked a b result ends)
 
 -- what a name asks for that can be a file's
-pub listed-file : (held name : List ℕ) → is_file_name held ≡ true → name ≡ held → listed held ≡ File name
-listed-file held name can is = ap (λ (t : Bool). if t then File held else NoFile (shortened held)) can ∙ ap File (sym is)
+pub listed_name-file : (held name : List ℕ) → is_file_name held ≡ true → name ≡ held → listed_name held ≡ File name
+listed_name-file held name can is = ap (λ (t : Bool). if t then File held else NoFile (shortened_name held)) can ∙ ap File (sym is)
 
 -- and what another one asks for
-pub listed-no_file : (held name : List ℕ) → is_file_name held ≡ false → name ≡ shortened held → listed held ≡ NoFile name
-listed-no_file held name cannot is = ap (λ (t : Bool). if t then File held else NoFile (shortened held)) cannot ∙ ap NoFile (sym is)
+pub listed_name-no_file : (held name : List ℕ) → is_file_name held ≡ false → name ≡ shortened_name held → listed_name held ≡ NoFile name
+listed_name-no_file held name cannot is = ap (λ (t : Bool). if t then File held else NoFile (shortened_name held)) cannot ∙ ap NoFile (sym is)
 
 -- the next bytes up to one more have come
 came_next : (came bytes : List ℕ) (i : ℕ) (byte : ℕ) → i < length bytes → byte ≡ get_or bytes i 0

@@ -4,7 +4,7 @@ use Rattle.std.specs.Io.KnownBytes.{Consumes, IsAtEnd}
 use Rattle.std.proofs.KnownBytes.{Consumes-trans, Consumes-all}
 use Rattle.std.proofs.lemmas.List.{length-append, length-take-le}
 use Rattle.d64_script.specs.Input.{read_limit}
-use Rattle.d64_collection.specs.Names.{names_in, listed}
+use Rattle.d64_collection.specs.Names.{names_in, listed_name}
 use Rattle.d64_collection.specs.Answers.{Conduct}
 use Rattle.d64_collection.specs.Runs.{Stand, Runs}
 use Rattle.d64_collection.specs.Lists.{HasCome, IsCutShort, RunsStream, StopsInList, StopsInStream, LosesStream, list_limit}
@@ -36,7 +36,7 @@ RunsStream-stopped {A} conduct separator reader left has_failed fault a c bytes 
 
 -- at the list's end, the run over its names is the run over it
 pub RunsStream-ended : {A : Type 0} (conduct : Conduct) (separator : ℕ) (reader left : Option (List ℕ)) (has_failed : Bool) (a c : Stand) (bytes : List ℕ) (result : Result A RunFault)
-    → Consumes reader left bytes → IsAtEnd left → Runs conduct (map listed (names_in separator bytes)) a c result → RunsStream conduct separator reader left has_failed a c result
+    → Consumes reader left bytes → IsAtEnd left → Runs conduct (map listed_name (names_in separator bytes)) a c result → RunsStream conduct separator reader left has_failed a c result
 RunsStream-ended conduct separator reader left has_failed a c bytes (Ok done) lost end ran =
     record { list = bytes; all = Consumes-all reader left bytes [] bytes lost end refl; answered = ran }
 RunsStream-ended conduct separator reader left has_failed a c bytes (Err faults.List) lost end ran = absurd ran.stopped

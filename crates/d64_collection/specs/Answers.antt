@@ -42,12 +42,12 @@ abbrev pub IsQuiet : Rule → Type 0
 IsQuiet rule = (name : List ℕ) (bytes : Option (List ℕ)) → (rule name bytes).verdict ≡ Clean → (rule name bytes).complaint ≡ []
 
 -- the worse of two verdicts
-abbrev pub worse : Verdict → Verdict → Verdict
-worse Failed verdict = Failed
-worse Amiss Failed = Failed
-worse Amiss Amiss = Amiss
-worse Amiss Clean = Amiss
-worse Clean verdict = verdict
+abbrev pub worse_verdict : Verdict → Verdict → Verdict
+worse_verdict Failed verdict = Failed
+worse_verdict Amiss Failed = Failed
+worse_verdict Amiss Amiss = Amiss
+worse_verdict Amiss Clean = Amiss
+worse_verdict Clean verdict = verdict
 
 -- the exit status that a verdict means
 abbrev pub status_of : Verdict → ℕ

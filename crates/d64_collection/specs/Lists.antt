@@ -2,7 +2,7 @@
 use Rattle.std.specs.Prelude.{◌≡◌, ◌≢◌, ◌<◌, ◌≤◌, ℕ, Bool, true, List, [], ◌∷◌, ◌++◌, ◌⊎◌, length, All, map, Option, IfSome, Result, Ok, Err}
 use Rattle.std.specs.Io.KnownBytes.{Consumes}
 use Rattle.d64_script.specs.Input.{read_limit}
-use Rattle.d64_collection.specs.Names.{kept, listed, names_in}
+use Rattle.d64_collection.specs.Names.{kept_name, listed_name, names_in}
 use Rattle.d64_collection.specs.Answers.{Conduct}
 use Rattle.d64_collection.specs.Runs.{Stand, Steps, StopsIn}
 use Rattle.d64_collection.specs.declared.desk.RunFault.{RunFault}
@@ -10,11 +10,11 @@ use Rattle.d64_collection.specs.declared.desk.RunFault.TheVariants as faults
 
 -- the names in these bytes of a list are answered
 abbrev pub AnswersList : Conduct → ℕ → List ℕ → Stand → Stand → Type 0
-AnswersList conduct separator bytes old new = Steps conduct (map listed (names_in separator bytes)) old new
+AnswersList conduct separator bytes old new = Steps conduct (map listed_name (names_in separator bytes)) old new
 
 -- a run stops at one of the names in these bytes
 abbrev pub StopsInList : Conduct → ℕ → List ℕ → RunFault → Stand → Stand → Type 0
-StopsInList conduct separator bytes fault old new = StopsIn conduct (map listed (names_in separator bytes)) fault old new
+StopsInList conduct separator bytes fault old new = StopsIn conduct (map listed_name (names_in separator bytes)) fault old new
 
 -- the bytes end with a separator, or there are none
 abbrev pub IsEnded : ℕ → List ℕ → Type 0
@@ -28,7 +28,7 @@ pub record HasCome (conduct : Conduct) (separator : ℕ) (first now : Stand) (he
   pub parts : ended ++ raw ≡ came
   pub is_ended : IsEnded separator ended
   pub unended : All (λ byte. byte ≢ separator) raw
-  pub keeps : held ≡ kept raw
+  pub keeps : held ≡ kept_name raw
   pub answered : AnswersList conduct separator ended first now
 
 -- the most bytes of a list that is read as it comes

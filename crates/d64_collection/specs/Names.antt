@@ -9,8 +9,8 @@ name_limit = 4096
 
 -- what is kept of a name in a list: all of it, or the first bytes of one that is too long, one more
 -- than a name has
-abbrev pub kept : List ℕ → List ℕ
-kept name = take 4097 name
+abbrev pub kept_name : List ℕ → List ℕ
+kept_name name = take 4097 name
 
 -- a piece between separators is a name, unless it is empty
 abbrev pub is_name : List ℕ → Bool
@@ -19,7 +19,7 @@ is_name piece = nat_lt 0 (length piece)
 -- the names of a list, as far as they are kept: its pieces between separators, but for the empty
 -- ones
 unfoldable pub names_in : ℕ → List ℕ → List (List ℕ)
-names_in separator list = map kept (filter is_name (slice_split (nat_eq separator) list))
+names_in separator list = map kept_name (filter is_name (slice_split (nat_eq separator) list))
 
 -- what is asked of a host: a file of this name; or no file, of a name that is shown so
 pub data Asked : Type 0 where
@@ -32,13 +32,13 @@ is_file_name name = is_utf8 name && nat_le (length name) name_limit
 
 -- what is shown of a name of a list: all of it, or the first 64 bytes of one that is too long, and
 -- two full stops
-abbrev pub shortened : List ℕ → List ℕ
-shortened name = if nat_le (length name) name_limit then name else take 64 name ++ codes ".."
+abbrev pub shortened_name : List ℕ → List ℕ
+shortened_name name = if nat_le (length name) name_limit then name else take 64 name ++ codes ".."
 
 -- what a name of a list asks for
-abbrev pub listed : List ℕ → Asked
-listed name = if is_file_name name then File name else NoFile (shortened name)
+abbrev pub listed_name : List ℕ → Asked
+listed_name name = if is_file_name name then File name else NoFile (shortened_name name)
 
 -- what a piece of a list asks for, of which this is kept: nothing where it is empty
 abbrev pub asked_by : List ℕ → List Asked
-asked_by piece = if is_name piece then listed piece ∷ [] else []
+asked_by piece = if is_name piece then listed_name piece ∷ [] else []

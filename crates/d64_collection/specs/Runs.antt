@@ -8,7 +8,7 @@ use Rattle.d64_host.specs.declared.host.HostFault.TheVariants.{Missing, Device, 
 use Rattle.d64_script.specs.Output.{Account, AppendsPart, Writes, account_of}
 use Rattle.d64_script.specs.declared.output.OutputStream.{OutputStream}
 use Rattle.d64_collection.specs.Names.{Asked, File, NoFile}
-use Rattle.d64_collection.specs.Answers.{Answer, Conduct, worse}
+use Rattle.d64_collection.specs.Answers.{Answer, Conduct, worse_verdict}
 use Rattle.d64_collection.specs.declared.report.Verdict.{Verdict}
 use Rattle.d64_script.specs.declared.output.WriteFault.{WriteFault}
 use Rattle.d64_collection.specs.declared.desk.RunFault.{RunFault}
@@ -69,9 +69,9 @@ IsRead (File name) old bytes new = (answer : Result (List ℕ) HostFault) × IsF
 IsRead (NoFile name) old bytes new = (bytes ≡ None) × (new ≡ old)
 
 -- how the name is shown to a report
-abbrev pub shown : Asked → List ℕ
-shown (File name) = name
-shown (NoFile name) = name
+abbrev pub shown_name : Asked → List ℕ
+shown_name (File name) = name
+shown_name (NoFile name) = name
 
 -- an answer was told: all of it went to the output, which was flushed, and to the standard error,
 -- unless that failed; and its verdict counts
@@ -79,7 +79,7 @@ pub record IsTold (answer : Answer) (old new : Told) : Type 0 where
   pub printed : Appends old.output.contents new.output.contents answer.printed
   pub unfailed : new.output.has_failed ≡ old.output.has_failed
   pub complained : Writes old.error new.error answer.complaint
-  pub worst : new.worst ≡ worse old.worst answer.verdict
+  pub worst : new.worst ≡ worse_verdict old.worst answer.verdict
 
 -- the output failed, and has a first part of an answer
 pub record IsCut (answer : Answer) (old new : Told) : Type 0 where
@@ -106,7 +106,7 @@ pub record Serves (conduct : Conduct) (asked : Asked) (old : HostState) (answer 
   pub bytes : Option (List ℕ)
   pub host : HostState
   pub read : IsRead asked old bytes host
-  pub done : conduct.does (shown asked) bytes host answer new
+  pub done : conduct.does (shown_name asked) bytes host answer new
 
 -- a file is answered: what is answered of it is told
 pub record Answers (conduct : Conduct) (asked : Asked) (old new : Stand) : Type 0 where
@@ -130,7 +130,7 @@ pub record Halts (conduct : Conduct) (asked : Asked) (old new : HostState) : Typ
   pub bytes : Option (List ℕ)
   pub host : HostState
   pub read : IsRead asked old bytes host
-  pub halted : conduct.halts (shown asked) bytes host new
+  pub halted : conduct.halts (shown_name asked) bytes host new
 
 -- there was no memory to read a file, or to answer it
 abbrev pub Wants : Conduct → Asked → HostState → HostState → Type 0

@@ -2,7 +2,7 @@
 ghost use Rattle.std.specs.Prelude.{◌≡◌, ◌≢◌, Err, [], ◌∷◌, ◌++◌, List, ℕ, true, map, OnOk, IfErr};
 ghost use Rattle.d64_script.specs.Input.{IsUnread, IsUnreadable, reading_of};
 ghost use Rattle.d64_collection.specs.Answers.{KeepsQuiet};
-ghost use Rattle.d64_collection.specs.Names.{asked_by, listed, names_in};
+ghost use Rattle.d64_collection.specs.Names.{asked_by, listed_name, names_in};
 ghost use Rattle.d64_collection.specs.Runs.{Runs, Stand, stand_at};
 ghost use Rattle.d64_collection.specs.Lists.{HasCome, RunsStream, StopsInList};
 

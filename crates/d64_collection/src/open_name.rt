@@ -1,6 +1,6 @@
 //! The name of a list that is being read.
 ghost use Rattle.std.specs.Prelude.{◌≡◌, ◌≤◌, ◌<◌, if◌then◌else◌, [], ◌∷◌, ◌++◌, length, take, MatchOption, true, false, ◌==◌};
-ghost use Rattle.d64_collection.specs.Names.{is_file_name, is_name, shortened};
+ghost use Rattle.d64_collection.specs.Names.{is_file_name, is_name, shortened_name};
 
 use arrayvec::ArrayVec;
 use std::marker::Model;
@@ -80,7 +80,7 @@ impl OpenName {
     /// Keeps what is shown of a name: all of it, or the first 64 bytes of one that is too long, and
     /// two full stops.
     pub(crate) fn shorten(&mut self)
-        ensures { self.new ≡ shortened self.old }
+        ensures { self.new ≡ shortened_name self.old }
     {
         if self.bytes.len() > NAME_BYTES {
             self.bytes.truncate(SHOWN_BYTES);

@@ -1,6 +1,6 @@
 //! What is told of one file.
 ghost use Rattle.std.specs.Prelude.{◌≡◌, [], IfOk, OnOk, List, ℕ, Option, option_map};
-ghost use Rattle.d64_collection.specs.Answers.{Answer, IsQuiet, worse, status_of};
+ghost use Rattle.d64_collection.specs.Answers.{Answer, IsQuiet, worse_verdict, status_of};
 
 use std::alloc::{AllocError, Global};
 
@@ -18,7 +18,7 @@ pub enum Verdict {
 impl Verdict {
     /// The worse of two verdicts.
     pub fn worse(self, other: Verdict) -> Verdict
-        ensures { result ≡ worse self other }
+        ensures { result ≡ worse_verdict self other }
     {
         match (self, other) {
             (Verdict::Failed, _) | (_, Verdict::Failed) => Verdict::Failed,

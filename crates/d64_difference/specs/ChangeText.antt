@@ -10,7 +10,7 @@ use Rattle.d64_map.specs.Map.{blocks_free}
 use Rattle.d64_survey.specs.Dump.{DumpView}
 use Rattle.d64_names.specs.Names.{disk_dos}
 use Rattle.d64_wording.specs.CheckText.{label_text}
-use Rattle.d64_wording.specs.Shown.{shown}
+use Rattle.d64_wording.specs.Shown.{shown_name}
 use Rattle.d64_wording.specs.Words.{count_of, block_text}
 use Rattle.d64_listing.specs.FileTable.{file_line}
 use Rattle.d64_difference.specs.Changes.{Change, DiskChanged, Added, Removed, FileChanged, BlocksChanged, CodesChanged}
@@ -74,4 +74,4 @@ change_lines (CodesChanged blocks) = blocks_line (codes "blocks with another rea
 
 -- the names of the dumps, before all changes
 unfoldable pub heading : Bytes → Bytes → List ℕ
-heading old new = codes "--- " ++ (shown old ++ (codes "\n+++ " ++ (shown new ++ codes "\n")))
+heading old new = codes "--- " ++ (shown_name old ++ (codes "\n+++ " ++ (shown_name new ++ codes "\n")))

@@ -59,8 +59,8 @@ printed_fault Json name None = line_of (unread_object name)
 printed_fault Json name (Some bytes) = if is_some (dump_of bytes) then [] else line_of (wrong_length_object name (length bytes))
 
 -- what is answered where one of two files isn't, or neither
-abbrev pub unanswered : DiffForm → Bytes → Option Bytes → Bytes → Option Bytes → Answer
-unanswered form old_name old new_name new =
+abbrev pub unanswered_pair : DiffForm → Bytes → Option Bytes → Bytes → Option Bytes → Answer
+unanswered_pair form old_name old new_name new =
     record { printed = printed_fault form old_name old ++ printed_fault form new_name new; complaint = fault_line old_name old ++ fault_line new_name new; verdict = Failed }
 
 -- what is answered of two dumps that differ in a byte
@@ -76,12 +76,12 @@ silence = record { printed = []; complaint = []; verdict = Clean }
 abbrev pub difference_by : DiffForm → Bytes → Bytes → Bytes → Bytes → Option DumpView → Option DumpView → Answer
 difference_by form old_name old new_name new (Some old_dump) (Some new_dump) =
     if pointwise nat_eq old new then silence else amiss_with (printed_difference form old_name new_name old_dump new_dump)
-difference_by form old_name old new_name new (Some old_dump) None = unanswered form old_name (Some old) new_name (Some new)
-difference_by form old_name old new_name new None new_dump = unanswered form old_name (Some old) new_name (Some new)
+difference_by form old_name old new_name new (Some old_dump) None = unanswered_pair form old_name (Some old) new_name (Some new)
+difference_by form old_name old new_name new None new_dump = unanswered_pair form old_name (Some old) new_name (Some new)
 
 -- what `diff` answers of an old file and a new one in a form: of their bytes, or that they cannot
 -- be read
 abbrev pub difference_rule : DiffForm → Bytes → Option Bytes → Bytes → Option Bytes → Answer
 difference_rule form old_name (Some old) new_name (Some new) = difference_by form old_name old new_name new (dump_of old) (dump_of new)
-difference_rule form old_name (Some old) new_name None = unanswered form old_name (Some old) new_name None
-difference_rule form old_name None new_name new = unanswered form old_name None new_name new
+difference_rule form old_name (Some old) new_name None = unanswered_pair form old_name (Some old) new_name None
+difference_rule form old_name None new_name new = unanswered_pair form old_name None new_name new

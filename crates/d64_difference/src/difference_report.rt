@@ -1,7 +1,7 @@
 //! What `diff` says of two files.
 ghost use Rattle.std.specs.Prelude.{◌≡◌, ◌++◌, [], Some, None, option_map, IfOk, OnOk};
 ghost use Rattle.d64_collection.specs.Answers.{Answer};
-ghost use Rattle.d64_difference.specs.Differences.{printed_difference, unanswered, difference_rule, difference_by};
+ghost use Rattle.d64_difference.specs.Differences.{printed_difference, unanswered_pair, difference_rule, difference_by};
 
 use crate::drafts::Drafts;
 use crate::dump_room::DumpRoom;
@@ -90,7 +90,7 @@ impl DifferenceReport {
         ensures form { self.new.form ≡ self.old.form }
         ensures answered { room.old.printed.items ≡ [] → room.old.complaint.items ≡ [] → IfOk result (λ verdict.
             record { printed = room.new.printed.items; complaint = room.new.complaint.items; verdict = verdict }
-            ≡ unanswered self.old.form old_name.now (option_map (λ bytes. bytes.now) old.entry) new_name.now (option_map (λ bytes. bytes.now) new.entry)) }
+            ≡ unanswered_pair self.old.form old_name.now (option_map (λ bytes. bytes.now) old.entry) new_name.now (option_map (λ bytes. bytes.now) new.entry)) }
     {
         let out = mem::replace(&mut room.printed, Vec::new(self.alloc));
         let first = print_fault(self.form, &mut self.scratch, old_name, old, out)?;

@@ -12,7 +12,7 @@ use Rattle.d64_map.specs.Map.{all_of}
 use Rattle.d64_map.proofs.FreeBlocks.{any-below}
 use Rattle.d64_effects.specs.Clear.{with_freed}
 use Rattle.d64_effects.specs.Validate.{all_but}
-use Rattle.d64_effects.proofs.TakenBlocks.{contains-without}
+use Rattle.d64_effects.proofs.TakenBlocks.{contains-blocks_without}
 use Rattle.d64_effects.proofs.ClearedDisks.{contains-with_freed}
 
 -- a number that isn't below another
@@ -149,7 +149,7 @@ all_others members others n count owned all listed so = same_set nat_cmp_total n
     ∙ ap₂ (λ (a b : Bool). a && not b)
     (sym (contains-all_of count q)) (ap (λ (one : set.FinSet nat_cmp). set.contains one q) listed ∙ contains-listed owned q)
     ∙ swapped (set.contains (all_of count) q) (not (list_any (nat_eq q) owned))
-    ∙ sym (contains-without (all_of count) owned q))
+    ∙ sym (contains-blocks_without (all_of count) owned q))
   where
     swapped : (a b : Bool) → (a && b) ≡ (b && a)
     swapped true true = refl

@@ -7,7 +7,7 @@ use Rattle.std.specs.FinSet as set
 use Rattle.std.proofs.lemmas.List.{append_assoc, append-nil, length-append}
 use Rattle.std.proofs.lemmas.List.Sums.{fold-append}
 use Rattle.d64_map.specs.Plan.{plan_after, plan}
-use Rattle.d64_effects.specs.Write.{without}
+use Rattle.d64_effects.specs.Write.{blocks_without}
 use Rattle.d64_dos.specs.Planning.{order_after}
 
 -- the plan of so many blocks after the block that was taken last, or from the first block on
@@ -41,7 +41,7 @@ then_planned-step taken next (Some more) = ap Some (sym (append_assoc taken (nex
 -- what a plan takes, as far as some blocks were taken
 pub record PlanGoesOn (start free : set.FinSet nat_cmp) (count : ℕ) (taken : List ℕ) (last : Option ℕ) : Type 0 where
   pub planned : plan start count ≡ then_planned taken (plan_from free last (count - length taken))
-  pub left : free ≡ without start taken
+  pub left : free ≡ blocks_without start taken
 
 -- at first, none
 pub goes_on-start : (free : set.FinSet nat_cmp) (count : ℕ) → PlanGoesOn free free count [] None

@@ -11,7 +11,7 @@ use Rattle.d64_map.specs.Plan.{is_outside, room}
 use Rattle.d64_map.proofs.FreeBlocks.{all_blocks}
 use Rattle.d64_files.specs.Writing.{entry_bytes, with_chain}
 use Rattle.d64_files.specs.declared.kind.Kind.{Kind}
-use Rattle.d64_effects.specs.Write.{taken_by, without, with_new_entry, with_file, written}
+use Rattle.d64_effects.specs.Write.{taken_by, blocks_without, with_new_entry, with_file, written_disk}
 use Rattle.d64_dos.specs.Space.{IsSpace}
 use Rattle.d64_dos.specs.declared.write.Space.{Space}
 use Rattle.d64_dos.proofs.Entries.{directory_grown-is}
@@ -29,15 +29,15 @@ room-bound free =
     omega (arith, l, h)
 
 -- the image with a file in its space
-pub written-in_space : (image : List (List ℕ)) (name : List ℕ) (kind : Kind) (bytes taken : List ℕ) (space : Space)
+pub written_disk-in_space : (image : List (List ℕ)) (name : List ℕ) (kind : Kind) (bytes taken : List ℕ) (space : Space)
     → IsSpace image (length bytes) taken space
-    → written image name kind bytes
+    → written_disk image name kind bytes
     ≡ with_map (with_chain (with_new_entry image (entry_bytes name kind (get_or taken 0 0) (length taken))) taken bytes) space.free
-unfolding written with_file
-written-in_space image name kind bytes taken space is =
+unfolding written_disk with_file
+written_disk-in_space image name kind bytes taken space is =
     let same : taken_by (free_blocks image) (length bytes) ≡ taken =
     ap (λ (found : Option (List ℕ)). option_map_or (λ blocks. blocks) found []) is.taken in
     let entry : List ℕ = entry_bytes name kind (get_or taken 0 0) (length taken) in
     ap (with_file image name kind bytes) same
     ∙ ap (with_map (with_chain (with_new_entry image entry) taken bytes))
-    (ap (λ (grown : List ℕ). without (free_blocks image) (taken ++ grown)) (directory_grown-is image space.place is.place) ∙ sym is.left)
+    (ap (λ (grown : List ℕ). blocks_without (free_blocks image) (taken ++ grown)) (directory_grown-is image space.place is.place) ∙ sym is.left)

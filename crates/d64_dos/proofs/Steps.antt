@@ -14,21 +14,21 @@ use Rattle.d64_files.specs.declared.dir_fault.DirFault.{DirFault}
 use Rattle.d64_files.specs.declared.kind.Kind.{Kind}
 use Rattle.d64_files.specs.declared.kind.Kind.TheVariants.{Del, Seq, Prg, Usr, Rel}
 use Rattle.d64_files.specs.Name.{IsName}
-use Rattle.d64_effects.specs.Format.{formatted}
+use Rattle.d64_effects.specs.Format.{formatted_disk}
 use Rattle.d64_effects.specs.Laws.{AreTwoBytes, HasRoom, IsWritable}
 use Rattle.d64_effects.specs.View.{IsSound, view}
 use Rattle.d64_effects.specs.ViewAfter.{formatted_view}
 use Rattle.d64_effects.specs.Write.{next_of_directory}
-use Rattle.d64_effects.proofs.EmptyDisks.{IsImage-formatted}
-use Rattle.d64_effects.proofs.FormattedDisks.{holds-formatted, view-formatted}
+use Rattle.d64_effects.proofs.EmptyDisks.{IsImage-formatted_disk}
+use Rattle.d64_effects.proofs.FormattedDisks.{holds-formatted_disk, view-formatted_disk}
 use Rattle.d64_effects.proofs.RenamedDisks.{renamed-is_image, renamed-is_sound, renamed-shows}
 use Rattle.d64_effects.proofs.ScratchedDisks.{scratched-is_image, scratched-is_sound, scratched-shows, scratched-are_counted}
 use Rattle.d64_effects.proofs.ValidatedDisks.{validated-is_image, validated-is_sound, validated-shows}
 use Rattle.d64_effects.proofs.WrittenDisks.{written-is_image, written-is_sound, written-shows}
 use Rattle.d64_image.specs.Image.{IsImage}
-use Rattle.d64_image.specs.Patch.{Kept, back}
+use Rattle.d64_image.specs.Patch.{Kept, restored_image}
 use Rattle.d64_dos.specs.Change.{Change, Format, Write, Delete, Rename, Validate, BlockWrite}
-use Rattle.d64_dos.specs.Command.{after, reply_to, refusal_of, IsFileCommand, StartsFrom}
+use Rattle.d64_dos.specs.Command.{image_after, reply_to, refusal_of, IsFileCommand, StartsFrom}
 use Rattle.d64_dos.specs.FileRefusals.{rename_refusal, validate_refusal}
 use Rattle.d64_dos.specs.Refusal.{refused_by}
 use Rattle.d64_dos.specs.Step.{FileCommandsKeepDisksSound, IsMade, Leaves}
@@ -94,18 +94,18 @@ owning_conditions-hold : (image : List (List ℕ)) → validate_refusal image �
 owning_conditions-hold image h = (owning_tells image).0.0 (none_found (first_fault image owning_conditions) h)
 
 -- a formatted disk has as many blocks as before
-formatted-shows : (image : List (List ℕ)) (name id : List ℕ) → IsImage image → IsName name → AreTwoBytes id
-    → view (formatted (length image) name id) ≡ formatted_view (view image).count name id
+formatted_disk-shows : (image : List (List ℕ)) (name id : List ℕ) → IsImage image → IsName name → AreTwoBytes id
+    → view (formatted_disk (length image) name id) ≡ formatted_view (view image).count name id
 unfolding view
-formatted-shows image name id is named two = view-formatted (length image) is.0 name id named two
+formatted_disk-shows image name id is named two = view-formatted_disk (length image) is.0 name id named two
 
 -- each accepted file command leaves a sound disk, which shows its change
 pub keeps_sound : FileCommandsKeepDisksSound
 keeps_sound image (Format name id) is made none from =
     record {
-      is_image = IsImage-formatted (length image) is.0 name id made.0 made.1;
-      sound = λ fault first last. holds-formatted (length image) is.0 name id fault;
-      shows = (refl, formatted-shows image name id is made.0 made.1);
+      is_image = IsImage-formatted_disk (length image) is.0 name id made.0 made.1;
+      sound = λ fault first last. holds-formatted_disk (length image) is.0 name id fault;
+      shows = (refl, formatted_disk-shows image name id is made.0 made.1);
     }
 keeps_sound image (Write name kind bytes) is made none from =
     let passes = accepted image name kind (length bytes) none in
@@ -183,7 +183,7 @@ starts_from_accepted image (BlockWrite at block) is none = absurd (cc)
 -- what the answer of a command says of its image and its reply makes the step
 pub step_of : (image next : List (List ℕ)) (change : Change) (result : Result Reply Refusal)
     → IsImage image → IsMade change → refused_by result ≡ refusal_of image change
-    → IfOk result (λ reply. reply ≡ reply_to image change) → OnOk result (next ≡ after image change)
+    → IfOk result (λ reply. reply ≡ reply_to image change) → OnOk result (next ≡ image_after image change)
     → IfOk result (λ reply. StartsFrom change image → Leaves image change reply next)
 step_of image next change (Err refusal) is made refused reply accepted = tt
 step_of image next change (Ok answer) is made refused reply accepted =
@@ -194,16 +194,16 @@ step_of image next change (Ok answer) is made refused reply accepted =
 -- and what an accepted file command leaves is sound
 pub sound_of : (image next : List (List ℕ)) (change : Change) (result : Result Reply Refusal)
     → IsImage image → IsMade change → refused_by result ≡ refusal_of image change
-    → IfOk result (λ reply. reply ≡ reply_to image change) → OnOk result (next ≡ after image change)
+    → IfOk result (λ reply. reply ≡ reply_to image change) → OnOk result (next ≡ image_after image change)
     → OnOk result (IsFileCommand change → IsSound next)
 sound_of image next change (Err refusal) is made refused reply accepted = tt
 sound_of image next change (Ok answer) is made refused reply accepted =
     λ file. (step_of image next change (Ok answer) is made refused reply accepted (starts_from_accepted image change file (sym refused))).sound
 
 -- an empty patch puts nothing back
-pub nothing_back : (image : List (List ℕ)) (patch : Kept) → patch ≡ [] → back image patch ≡ image
-unfolding back
-nothing_back image patch empty = ap (back image) empty
+pub nothing_back : (image : List (List ℕ)) (patch : Kept) → patch ≡ [] → restored_image image patch ≡ image
+unfolding restored_image
+nothing_back image patch empty = ap (restored_image image) empty
 
 -- what holds whatever is answered holds after a refusal
 pub on_err : {T E P : Type 0} (result : Result T E) → P → OnErr result P

@@ -22,10 +22,10 @@ pub data Change : Type 0 where
   BlockWrite : ℕ → Bytes → Change
 
 -- the change that a command asks for
-abbrev pub said : Command → Change
-said (commands.Format name id) = Format name id
-said (commands.Write name kind bytes) = Write name kind bytes.items
-said (commands.Delete patterns) = Delete patterns.items
-said (commands.Rename old new) = Rename old new
-said commands.Validate = Validate
-said (commands.BlockWrite at block) = BlockWrite at block
+abbrev pub change_of : Command → Change
+change_of (commands.Format name id) = Format name id
+change_of (commands.Write name kind bytes) = Write name kind bytes.items
+change_of (commands.Delete patterns) = Delete patterns.items
+change_of (commands.Rename old new) = Rename old new
+change_of commands.Validate = Validate
+change_of (commands.BlockWrite at block) = BlockWrite at block

@@ -4,13 +4,13 @@ use Rattle.d64_image.specs.Disk.{Disk, Bytes}
 use Rattle.d64_image.specs.Image.{with_sector}
 use Rattle.d64_effects.specs.Contents.{names_and_contents}
 use Rattle.d64_effects.specs.ContentsAfter.{is_scratched_row}
-use Rattle.d64_effects.specs.Delete.{scratched, scratched_count}
-use Rattle.d64_effects.specs.Format.{formatted}
-use Rattle.d64_effects.specs.Rename.{renamed}
-use Rattle.d64_effects.specs.Validate.{validated}
+use Rattle.d64_effects.specs.Delete.{scratched_disk, scratched_count}
+use Rattle.d64_effects.specs.Format.{formatted_disk}
+use Rattle.d64_effects.specs.Rename.{renamed_disk}
+use Rattle.d64_effects.specs.Validate.{validated_disk}
 use Rattle.d64_effects.specs.View.{View, IsSound}
 use Rattle.d64_effects.specs.ViewAfter.{formatted_view, written_view, scratched_view, renamed_view, validated_view}
-use Rattle.d64_effects.specs.Write.{written}
+use Rattle.d64_effects.specs.Write.{written_disk}
 use Rattle.d64_dos.specs.Change.{Change, Format, Write, Delete, Rename, Validate, BlockWrite}
 use Rattle.d64_dos.specs.FileRefusals.{unsound_refusal, rename_refusal, validate_refusal}
 use Rattle.d64_dos.specs.WriteRefusal.{write_refusal}
@@ -47,31 +47,31 @@ scratched_of shown patterns = length (filter (is_scratched_row patterns) (names_
 abbrev pub row : Change → Row
 row (Format name id) = record {
   refusal = λ image. None;
-  effect = λ image. formatted (length image) name id;
+  effect = λ image. formatted_disk (length image) name id;
   reply = λ image. Done;
   block = None;
 }
 row (Write name kind bytes) = record {
   refusal = λ image. write_refusal image name kind (length bytes);
-  effect = λ image. written image name kind bytes;
+  effect = λ image. written_disk image name kind bytes;
   reply = λ image. Done;
   block = None;
 }
 row (Delete patterns) = record {
   refusal = unsound_refusal;
-  effect = λ image. scratched image patterns;
+  effect = λ image. scratched_disk image patterns;
   reply = λ image. Scratched (scratched_count image patterns);
   block = None;
 }
 row (Rename old new) = record {
   refusal = λ image. rename_refusal image old new;
-  effect = λ image. renamed image old new;
+  effect = λ image. renamed_disk image old new;
   reply = λ image. Done;
   block = None;
 }
 row Validate = record {
   refusal = validate_refusal;
-  effect = validated;
+  effect = validated_disk;
   reply = λ image. Done;
   block = None;
 }
@@ -98,8 +98,8 @@ abbrev pub refusal_of : Disk → Change → Option Refusal
 refusal_of image change = (row change).refusal image
 
 -- the image after a command
-abbrev pub after : Disk → Change → Disk
-after image change = (row change).effect image
+abbrev pub image_after : Disk → Change → Disk
+image_after image change = (row change).effect image
 
 -- what an accepted command answers
 abbrev pub reply_to : Disk → Change → Reply

@@ -7,7 +7,7 @@ use Rattle.d64_files.specs.Directory.{slots}
 use Rattle.d64_files.specs.Name.{IsName, name_in}
 use Rattle.d64_files.specs.Slot.{EntryView, is_used, name_of, is_closed, is_locked, kind_of, size_of}
 use Rattle.d64_files.specs.declared.kind.Kind.{Kind}
-use Rattle.d64_effects.specs.Format.{formatted}
+use Rattle.d64_effects.specs.Format.{formatted_disk}
 use Rattle.d64_effects.specs.Laws.{AreTwoBytes, free_count_of}
 use Rattle.d64_effects.specs.View.{disk_field, disk_id}
 use Rattle.d64_dos.specs.declared.row.Row.{Row}
@@ -67,4 +67,4 @@ shown_listing listing = record {
 abbrev pub FormattedDiskLists : Type 0
 FormattedDiskLists =
     (count : ℕ) (name id : Bytes) → IsSize count → IsName name → AreTwoBytes id
-    → listing_of (formatted count name id) ≡ record { name = name; id = id; dos = 0x32 ∷ 0x41 ∷ []; rows = []; free = free_count_of count }
+    → listing_of (formatted_disk count name id) ≡ record { name = name; id = id; dos = 0x32 ∷ 0x41 ∷ []; rows = []; free = free_count_of count }

@@ -6,7 +6,7 @@ use Rattle.d64_map.specs.Map.{free_blocks}
 use Rattle.d64_map.specs.Plan.{plan}
 use Rattle.d64_files.specs.Directory.{slots}
 use Rattle.d64_files.specs.Writing.{blocks_for, first_unused, dir_last, slot_block}
-use Rattle.d64_effects.specs.Write.{next_of_directory, without}
+use Rattle.d64_effects.specs.Write.{next_of_directory, blocks_without}
 use Rattle.d64_dos.specs.declared.write.Place.{Place}
 use Rattle.d64_dos.specs.declared.write.Place.TheVariants.{Vacant, New}
 use Rattle.d64_dos.specs.declared.write.Space.{Space}
@@ -36,4 +36,4 @@ grown_at (New last block) = block ∷ []
 pub record IsSpace (image : Disk) (bytes : ℕ) (blocks : Blocks) (space : Space) : Type 0 where
   pub taken : plan (free_blocks image) (blocks_for bytes) ≡ Some blocks
   pub place : IsPlace image (free_blocks image) space.place
-  pub left : space.free ≡ without (free_blocks image) (blocks ++ grown_at space.place)
+  pub left : space.free ≡ blocks_without (free_blocks image) (blocks ++ grown_at space.place)

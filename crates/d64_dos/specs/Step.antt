@@ -6,7 +6,7 @@ use Rattle.d64_image.specs.Image.{IsImage}
 use Rattle.d64_effects.specs.Laws.{AreTwoBytes, AreBytes}
 use Rattle.d64_effects.specs.View.{IsSound, view}
 use Rattle.d64_dos.specs.Change.{Change, Format, Write, Delete, Rename, Validate, BlockWrite}
-use Rattle.d64_dos.specs.Command.{after, reply_to, refusal_of, StartsFrom, ViewStep}
+use Rattle.d64_dos.specs.Command.{image_after, reply_to, refusal_of, StartsFrom, ViewStep}
 use Rattle.d64_dos.specs.declared.command.Reply.{Reply}
 
 -- what is left is an image, sound, and shows what it did before with the command's change
@@ -29,4 +29,4 @@ abbrev pub FileCommandsKeepDisksSound : Type 0
 FileCommandsKeepDisksSound =
     (image : Disk) (change : Change)
     → IsImage image → IsMade change → refusal_of image change ≡ None → StartsFrom change image
-    → Leaves image change (reply_to image change) (after image change)
+    → Leaves image change (reply_to image change) (image_after image change)

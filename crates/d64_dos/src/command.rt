@@ -1,12 +1,12 @@
 //! Commands on an image, and what they answer.
 ghost use Rattle.std.specs.Prelude.{◌≡◌, ◌↔◌, true, [], length, IfOk, OnOk, OnErr};
-ghost use Rattle.d64_dos.specs.Change.{said};
-ghost use Rattle.d64_dos.specs.Command.{after, reply_to, refusal_of, IsFileCommand, IsWithin, StartsFrom};
+ghost use Rattle.d64_dos.specs.Change.{change_of};
+ghost use Rattle.d64_dos.specs.Command.{image_after, reply_to, refusal_of, IsFileCommand, IsWithin, StartsFrom};
 ghost use Rattle.d64_dos.specs.Refusal.{refused_by};
 ghost use Rattle.d64_dos.specs.Step.{IsMade, Leaves};
 ghost use Rattle.d64_effects.specs.View.{IsSound};
 ghost use Rattle.d64_image.specs.Image.{IsImage};
-ghost use Rattle.d64_image.specs.Patch.{IsPatchOf, back, changed};
+ghost use Rattle.d64_image.specs.Patch.{IsPatchOf, restored_image, changed_blocks};
 
 use crate::delete::scratch;
 use crate::format::format;
@@ -60,7 +60,7 @@ impl Command {
     /// Whether it is a file command, which leaves a sound disk where it is accepted: each is but a
     /// block write.
     pub fn is_file_command(&self) -> bool
-        ensures { (result ≡ true) ↔ IsFileCommand (said self.now) }
+        ensures { (result ≡ true) ↔ IsFileCommand (change_of self.now) }
     {
         match self {
             Command::BlockWrite { at: _, block: _ } => false,
@@ -108,16 +108,16 @@ pub enum Reply {
 /// disk was sound.
 pub fn apply(image: &mut Image, patch: &mut Patch, command: &Command) -> Result<Reply, Refusal>
     requires patch { patch.old ≡ [] }
-    requires block { IsWithin image.old (said command.now) }
-    ensures refused { refused_by result ≡ refusal_of image.old (said command.now) }
-    ensures reply { IfOk result (λ reply. reply ≡ reply_to image.old (said command.now)) }
-    ensures accepted { OnOk result (image.new ≡ after image.old (said command.now)) }
-    ensures changed { OnOk result (patch.new ≡ changed image.old image.new) }
-    ensures back { OnOk result (back image.new patch.new ≡ image.old) }
+    requires block { IsWithin image.old (change_of command.now) }
+    ensures refused { refused_by result ≡ refusal_of image.old (change_of command.now) }
+    ensures reply { IfOk result (λ reply. reply ≡ reply_to image.old (change_of command.now)) }
+    ensures accepted { OnOk result (image.new ≡ image_after image.old (change_of command.now)) }
+    ensures changed { OnOk result (patch.new ≡ changed_blocks image.old image.new) }
+    ensures back { OnOk result (restored_image image.new patch.new ≡ image.old) }
     ensures unchanged { OnErr result (image.new ≡ image.old) }
     ensures forgotten { OnErr result (patch.new ≡ []) }
     ensures kind { length image.new ≡ length image.old }
-    ensures step { IfOk result (λ reply. StartsFrom (said command.now) image.old → Leaves image.old (said command.now) reply image.new) }
+    ensures step { IfOk result (λ reply. StartsFrom (change_of command.now) image.old → Leaves image.old (change_of command.now) reply image.new) }
 {
     apply_knowing(image, patch, command, false)
 }
@@ -131,18 +131,18 @@ pub fn apply_knowing(
     is_sound: bool,
 ) -> Result<Reply, Refusal>
     requires patch { patch.old ≡ [] }
-    requires block { IsWithin image.old (said command.now) }
+    requires block { IsWithin image.old (change_of command.now) }
     requires known { is_sound ≡ true → IsSound image.old }
-    ensures refused { refused_by result ≡ refusal_of image.old (said command.now) }
-    ensures reply { IfOk result (λ reply. reply ≡ reply_to image.old (said command.now)) }
-    ensures accepted { OnOk result (image.new ≡ after image.old (said command.now)) }
-    ensures changed { OnOk result (patch.new ≡ changed image.old image.new) }
-    ensures back { OnOk result (back image.new patch.new ≡ image.old) }
+    ensures refused { refused_by result ≡ refusal_of image.old (change_of command.now) }
+    ensures reply { IfOk result (λ reply. reply ≡ reply_to image.old (change_of command.now)) }
+    ensures accepted { OnOk result (image.new ≡ image_after image.old (change_of command.now)) }
+    ensures changed { OnOk result (patch.new ≡ changed_blocks image.old image.new) }
+    ensures back { OnOk result (restored_image image.new patch.new ≡ image.old) }
     ensures unchanged { OnErr result (image.new ≡ image.old) }
     ensures forgotten { OnErr result (patch.new ≡ []) }
     ensures kind { length image.new ≡ length image.old }
-    ensures step { IfOk result (λ reply. StartsFrom (said command.now) image.old → Leaves image.old (said command.now) reply image.new) }
-    ensures sound { OnOk result (IsFileCommand (said command.now) → IsSound image.new) }
+    ensures step { IfOk result (λ reply. StartsFrom (change_of command.now) image.old → Leaves image.old (change_of command.now) reply image.new) }
+    ensures sound { OnOk result (IsFileCommand (change_of command.now) → IsSound image.new) }
 {
     let answer = carried_out(image, patch, command, is_sound);
     if answer.is_ok() {
@@ -156,7 +156,7 @@ pub fn apply_knowing(
 
 /// The parts of a command are known to be what they should.
 fn known_command(command: &Command)
-    ensures { IsMade (said command.now) }
+    ensures { IsMade (change_of command.now) }
 {
     match command {
         Command::Format { name, id } => {
@@ -190,14 +190,14 @@ fn carried_out(
     command: &Command,
     is_sound: bool,
 ) -> Result<Reply, Refusal>
-    requires block { IsWithin image.old (said command.now) }
+    requires block { IsWithin image.old (change_of command.now) }
     requires known { is_sound ≡ true → IsSound image.old }
-    ensures refused { refused_by result ≡ refusal_of image.old (said command.now) }
-    ensures reply { IfOk result (λ reply. reply ≡ reply_to image.old (said command.now)) }
-    ensures accepted { OnOk result (image.new ≡ after image.old (said command.now)) }
-    ensures back { back image.new patch.new ≡ back image.old patch.old }
+    ensures refused { refused_by result ≡ refusal_of image.old (change_of command.now) }
+    ensures reply { IfOk result (λ reply. reply ≡ reply_to image.old (change_of command.now)) }
+    ensures accepted { OnOk result (image.new ≡ image_after image.old (change_of command.now)) }
+    ensures back { restored_image image.new patch.new ≡ restored_image image.old patch.old }
     ensures held { IsPatchOf image.old patch.old → IsPatchOf image.new patch.new }
-    ensures known { IsImage image.old × IsMade (said command.now) }
+    ensures known { IsImage image.old × IsMade (change_of command.now) }
 {
     known_command(command);
     image.known_image();

@@ -2,13 +2,13 @@
 ghost use Rattle.std.specs.Prelude.{◌≡◌, ◌<◌, true, ℕ, List, length, All, IfOk, OnOk};
 ghost use Rattle.std.specs.List.{list_any, flat_map};
 ghost use Rattle.std.specs.FinSet as set;
-ghost use Rattle.d64_image.specs.Patch.{IsPatchOf, back};
+ghost use Rattle.d64_image.specs.Patch.{IsPatchOf, restored_image};
 ghost use Rattle.d64_map.specs.Map.{free_blocks};
 ghost use Rattle.d64_files.specs.Directory.{slots, slot_owns, AllHold};
 ghost use Rattle.d64_files.specs.Pattern.{matches as is_match};
 ghost use Rattle.d64_effects.specs.Clear.{with_cleared, with_freed};
 ghost use Rattle.d64_effects.specs.View.{IsSound};
-ghost use Rattle.d64_effects.specs.Delete.{is_scratched_slot, scratched_slots, scratched_count, scratched};
+ghost use Rattle.d64_effects.specs.Delete.{is_scratched_slot, scratched_slots, scratched_count, scratched_disk};
 ghost use Rattle.d64_dos.specs.FileRefusals.{unsound_refusal};
 ghost use Rattle.d64_dos.specs.Refusal.{refused_by};
 
@@ -96,7 +96,7 @@ pub(crate) fn clear_slots(
 ) -> Result<(), AllocError>
     requires { All (λ place. place < length (slots image.old)) places.now }
     ensures cleared { OnOk result (image.new ≡ with_cleared image.old places.now) }
-    ensures back { back image.new patch.new ≡ back image.old patch.old }
+    ensures back { restored_image image.new patch.new ≡ restored_image image.old patch.old }
     ensures held { IsPatchOf image.old patch.old → IsPatchOf image.new patch.new }
 {
     clearing_keeps_the_directory();
@@ -126,8 +126,8 @@ pub(crate) fn scratch(
     requires { is_sound ≡ true → IsSound image.old }
     ensures refused { refused_by result ≡ unsound_refusal image.old }
     ensures count { IfOk result (λ count. count ≡ scratched_count image.old patterns.now) }
-    ensures image { OnOk result (image.new ≡ scratched image.old patterns.now) }
-    ensures back { back image.new patch.new ≡ back image.old patch.old }
+    ensures image { OnOk result (image.new ≡ scratched_disk image.old patterns.now) }
+    ensures back { restored_image image.new patch.new ≡ restored_image image.old patch.old }
     ensures held { IsPatchOf image.old patch.old → IsPatchOf image.new patch.new }
 {
     clearing_keeps_the_directory();

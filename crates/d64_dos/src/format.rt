@@ -2,8 +2,8 @@
 ghost use Rattle.std.specs.Prelude.{◌≡◌, ◌<◌, length, replicate, OnOk};
 ghost use Rattle.d64_image.specs.declared.image.TheConstants.{BLOCK_BYTES};
 ghost use Rattle.d64_image.specs.Image.{with_sector};
-ghost use Rattle.d64_image.specs.Patch.{IsPatchOf, back};
-ghost use Rattle.d64_effects.specs.Format.{directory_start, header, free_when_formatted, blank, formatted};
+ghost use Rattle.d64_image.specs.Patch.{IsPatchOf, restored_image};
+ghost use Rattle.d64_effects.specs.Format.{directory_start, header, free_when_formatted, blank_disk, formatted_disk};
 
 use crate::block_count::block_count;
 use d64_files::{DIRECTORY_SECTOR, FILLER, Name, empty_directory, write_at};
@@ -72,7 +72,7 @@ fn free_when_formatted(image: &Image) -> BlockSet
 fn blank_block(image: &mut Image, patch: &mut Patch, block: BlockNo) -> Result<(), AllocError>
     requires { block < length image.old }
     ensures blank { OnOk result (image.new ≡ with_sector image.old block (replicate BLOCK_BYTES 0)) }
-    ensures back { back image.new patch.new ≡ back image.old patch.old }
+    ensures back { restored_image image.new patch.new ≡ restored_image image.old patch.old }
     ensures held { IsPatchOf image.old patch.old → IsPatchOf image.new patch.new }
 {
     let blank = [0; BLOCK_BYTES];
@@ -84,8 +84,8 @@ fn blank_block(image: &mut Image, patch: &mut Patch, block: BlockNo) -> Result<(
 
 /// Writes zeros into all blocks.
 fn blank(image: &mut Image, patch: &mut Patch) -> Result<(), AllocError>
-    ensures blank { OnOk result (image.new ≡ blank (length image.old)) }
-    ensures back { back image.new patch.new ≡ back image.old patch.old }
+    ensures blank { OnOk result (image.new ≡ blank_disk (length image.old)) }
+    ensures back { restored_image image.new patch.new ≡ restored_image image.old patch.old }
     ensures held { IsPatchOf image.old patch.old → IsPatchOf image.new patch.new }
 {
     for index in 0..block_count(image) {
@@ -106,8 +106,8 @@ pub(crate) fn format(
     name: &Name,
     id: &[u8; 2],
 ) -> Result<(), AllocError>
-    ensures formatted { OnOk result (image.new ≡ formatted (length image.old) name.now id.now) }
-    ensures back { back image.new patch.new ≡ back image.old patch.old }
+    ensures formatted { OnOk result (image.new ≡ formatted_disk (length image.old) name.now id.now) }
+    ensures back { restored_image image.new patch.new ≡ restored_image image.old patch.old }
     ensures held { IsPatchOf image.old patch.old → IsPatchOf image.new patch.new }
 {
     image.known_image();

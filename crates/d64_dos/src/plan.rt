@@ -3,7 +3,7 @@ ghost use Rattle.std.specs.Prelude.{◌≡◌, ◌≤◌, find, option_map, OnSo
 ghost use Rattle.std.specs.FinSet as set;
 ghost use Rattle.d64_image.specs.declared.block.TheConstants.{BLOCKS};
 ghost use Rattle.d64_map.specs.Plan.{plan};
-ghost use Rattle.d64_effects.specs.Write.{without};
+ghost use Rattle.d64_effects.specs.Write.{blocks_without};
 ghost use Rattle.d64_dos.specs.Planning.{order_after};
 
 use arrayvec::ArrayVec;
@@ -31,7 +31,7 @@ pub(crate) fn take_plan(
 ) -> Option<()>
     requires { count ≤ BLOCKS }
     ensures plan { option_map (λ _. blocks.new.items) result ≡ plan free.old count }
-    ensures left { OnSome result (free.new ≡ without free.old blocks.new.items) }
+    ensures left { OnSome result (free.new ≡ blocks_without free.old blocks.new.items) }
 {
     blocks.clear();
     let mut last = None;

@@ -1,9 +1,9 @@
 //! The renaming of a file.
 ghost use Rattle.std.specs.Prelude.{◌≡◌, ◌<◌, true, Some, length, IfOk, IfSome, OnOk};
-ghost use Rattle.d64_image.specs.Patch.{IsPatchOf, back};
+ghost use Rattle.d64_image.specs.Patch.{IsPatchOf, restored_image};
 ghost use Rattle.d64_files.specs.Directory.{slots};
 ghost use Rattle.d64_effects.specs.View.{IsSound};
-ghost use Rattle.d64_effects.specs.Rename.{first_of_name, renamed};
+ghost use Rattle.d64_effects.specs.Rename.{first_of_name, renamed_disk};
 ghost use Rattle.d64_dos.specs.FileRefusals.{rename_refusal};
 ghost use Rattle.d64_dos.specs.Refusal.{refused_by};
 
@@ -60,8 +60,8 @@ pub(crate) fn rename(
 ) -> Result<(), Refusal>
     requires { is_sound ≡ true → IsSound image.old }
     ensures refused { refused_by result ≡ rename_refusal image.old old.now new.now }
-    ensures image { OnOk result (image.new ≡ renamed image.old old.now new.now) }
-    ensures back { back image.new patch.new ≡ back image.old patch.old }
+    ensures image { OnOk result (image.new ≡ renamed_disk image.old old.now new.now) }
+    ensures back { restored_image image.new patch.new ≡ restored_image image.old patch.old }
     ensures held { IsPatchOf image.old patch.old → IsPatchOf image.new patch.new }
 {
     let slot = slot_to_rename(image, old, new, is_sound)?;

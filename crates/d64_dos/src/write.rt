@@ -1,10 +1,10 @@
 //! The writing of a file: its blocks, its entry, and the map.
 ghost use Rattle.std.specs.Prelude.{◌≡◌, true, length, is_some, IfOk, OnOk, IfSome, MatchOption};
-ghost use Rattle.d64_image.specs.Patch.{IsPatchOf, back};
+ghost use Rattle.d64_image.specs.Patch.{IsPatchOf, restored_image};
 ghost use Rattle.d64_map.specs.Map.{free_blocks};
 ghost use Rattle.d64_files.specs.Writing.{entry_bytes};
 ghost use Rattle.d64_effects.specs.View.{IsSound};
-ghost use Rattle.d64_effects.specs.Write.{with_new_entry, written};
+ghost use Rattle.d64_effects.specs.Write.{with_new_entry, written_disk};
 ghost use Rattle.d64_dos.specs.Refusal.{refused_by};
 ghost use Rattle.d64_dos.specs.Space.{IsPlace, IsSpace, NoPlace};
 ghost use Rattle.d64_dos.specs.WriteRefusal.{has_room, is_writable, write_refusal};
@@ -135,7 +135,7 @@ fn put_new_entry(
 ) -> Result<(), AllocError>
     requires { IsPlace image.old (free_blocks image.old) place }
     ensures written { OnOk result (image.new ≡ with_new_entry image.old (entry_bytes file.now.name.now file.now.kind file.now.first file.now.blocks)) }
-    ensures back { back image.new patch.new ≡ back image.old patch.old }
+    ensures back { restored_image image.new patch.new ≡ restored_image image.old patch.old }
     ensures held { IsPatchOf image.old patch.old → IsPatchOf image.new patch.new }
 {
     match place {
@@ -157,8 +157,8 @@ fn put_file(
     space: &Space,
 ) -> Result<(), AllocError>
     requires { IsSpace image.old (length file.now.bytes.now) blocks.now space.now }
-    ensures written { OnOk result (image.new ≡ written image.old file.now.name.now file.now.kind file.now.bytes.now) }
-    ensures back { back image.new patch.new ≡ back image.old patch.old }
+    ensures written { OnOk result (image.new ≡ written_disk image.old file.now.name.now file.now.kind file.now.bytes.now) }
+    ensures back { restored_image image.new patch.new ≡ restored_image image.old patch.old }
     ensures held { IsPatchOf image.old patch.old → IsPatchOf image.new patch.new }
 {
     plan_takes_free_blocks();
@@ -191,8 +191,8 @@ pub(crate) fn write(
 ) -> Result<(), Refusal>
     requires { is_sound ≡ true → IsSound image.old }
     ensures refused { refused_by result ≡ write_refusal image.old name.now kind (length bytes.now) }
-    ensures written { OnOk result (image.new ≡ written image.old name.now kind bytes.now) }
-    ensures back { back image.new patch.new ≡ back image.old patch.old }
+    ensures written { OnOk result (image.new ≡ written_disk image.old name.now kind bytes.now) }
+    ensures back { restored_image image.new patch.new ≡ restored_image image.old patch.old }
     ensures held { IsPatchOf image.old patch.old → IsPatchOf image.new patch.new }
 {
     let file = NewFile { name, kind, bytes };

@@ -11,13 +11,13 @@ use Rattle.std.proofs.lemmas.List.Elements.{All-nil, All-cons, All-append, All-r
 use Rattle.d64_image.specs.declared.block.TheConstants.{BLOCKS}
 use Rattle.d64_image.specs.Block.{pair_at}
 use Rattle.d64_map.proofs.Maps.{IsPlaced, placed_at, sectors_few}
-use Rattle.d64_files.specs.Name.{IsName, filled}
+use Rattle.d64_files.specs.Name.{IsName, filled_field}
 use Rattle.d64_files.specs.Ownership.{roots, roots_of, chain_at, owned_by, HasItsChains}
 use Rattle.d64_files.specs.Slot.{type_byte, has_bit, is_used, kind_number, HasKind, kinds, kind_of, is_closed, is_locked, first_pair, field_of, side_pair, size_of}
 use Rattle.d64_files.specs.Writing.{number_of_kind, entry_bytes}
 use Rattle.d64_files.specs.declared.kind.Kind.{Kind}
 use Rattle.d64_files.specs.declared.kind.Kind.TheVariants.{Del, Seq, Prg, Usr, Rel}
-use Rattle.d64_files.proofs.WrittenBytes.{length-filled}
+use Rattle.d64_files.proofs.WrittenBytes.{length-filled_field}
 
 -- slots that are the same from the type byte on
 abbrev pub SameBeyondLink : List ℕ → List ℕ → Type 0
@@ -94,11 +94,11 @@ roots-beyond_link cell other same =
 -- the bytes of a new entry, part after part
 entry-parts : (name : List ℕ) (kind : Kind) (first blocks : ℕ)
     → entry_bytes name kind first blocks
-    ≡ (0x80 + number_of_kind kind) ∷ (pair_at first).0 ∷ (pair_at first).1 ∷ (filled name ++ (replicate 9 0 ++ ((blocks % 256) ∷ (blocks / 256) ∷ [])))
+    ≡ (0x80 + number_of_kind kind) ∷ (pair_at first).0 ∷ (pair_at first).1 ∷ (filled_field name ++ (replicate 9 0 ++ ((blocks % 256) ∷ (blocks / 256) ∷ [])))
 unfolding entry_bytes
 entry-parts name kind first blocks =
     ap (λ (bytes : List ℕ). (0x80 + number_of_kind kind) ∷ (pair_at first).0 ∷ (pair_at first).1 ∷ bytes)
-    (append_assoc (filled name) (replicate 9 0) ((blocks % 256) ∷ (blocks / 256) ∷ []))
+    (append_assoc (filled_field name) (replicate 9 0) ((blocks % 256) ∷ (blocks / 256) ∷ []))
 
 -- a slot whose bytes from the type byte on are those of a new entry
 pub record IsNewEntry (cell name : List ℕ) (kind : Kind) (first blocks : ℕ) : Type 0 where
@@ -108,8 +108,8 @@ pub record IsNewEntry (cell name : List ℕ) (kind : Kind) (first blocks : ℕ) 
 pub length-entry_bytes : (name : List ℕ) (kind : Kind) (first blocks : ℕ) → length name ≤ 16 → length (entry_bytes name kind first blocks) ≡ 30
 length-entry_bytes name kind first blocks short =
     let tail : List ℕ = replicate 9 0 ++ ((blocks % 256) ∷ (blocks / 256) ∷ []) in
-    let field : length (filled name) ≡ 16 = length-filled name short in
-    let both : length (filled name ++ tail) ≡ length (filled name) + length tail = length-append (filled name) tail in
+    let field : length (filled_field name) ≡ 16 = length-filled_field name short in
+    let both : length (filled_field name ++ tail) ≡ length (filled_field name) + length tail = length-append (filled_field name) tail in
     let few : length tail ≡ 11 = refl in
     ap length (entry-parts name kind first blocks) ∙ omega arith
 
@@ -134,19 +134,19 @@ are_bytes-entry_bytes name kind first blocks named here few =
     let tail : All P (replicate 9 0 ++ size) =
     All-append P (replicate 9 0) size (All-replicate P 9 0 (omega arith))
     (All-cons P (blocks % 256) ((blocks / 256) ∷ []) low (All-cons P (blocks / 256) [] high (All-nil P))) in
-    let field : All P (filled name) =
+    let field : All P (filled_field name) =
     All-append P name (replicate (16 - length name) 0xA0) named.in_range (All-replicate P (16 - length name) 0xA0 (omega arith)) in
-    let rest : List ℕ = filled name ++ (replicate 9 0 ++ size) in
+    let rest : List ℕ = filled_field name ++ (replicate 9 0 ++ size) in
     subst (All P) (sym (entry-parts name kind first blocks))
     (All-cons P (0x80 + number_of_kind kind) ((pair_at first).0 ∷ (pair_at first).1 ∷ rest) (kind_byte kind)
     (All-cons P (pair_at first).0 ((pair_at first).1 ∷ rest) track
-    (All-cons P (pair_at first).1 rest sector (All-append P (filled name) (replicate 9 0 ++ size) field tail))))
+    (All-cons P (pair_at first).1 rest sector (All-append P (filled_field name) (replicate 9 0 ++ size) field tail))))
 
 -- a byte of a new entry
 entry-byte : (cell name : List ℕ) (kind : Kind) (first blocks place i : ℕ) → place ≡ 2 + i → IsNewEntry cell name kind first blocks
     → slice_index cell place
     ≡ slice_index
-    ((0x80 + number_of_kind kind) ∷ (pair_at first).0 ∷ (pair_at first).1 ∷ (filled name ++ (replicate 9 0 ++ ((blocks % 256) ∷ (blocks / 256) ∷ [])))) i
+    ((0x80 + number_of_kind kind) ∷ (pair_at first).0 ∷ (pair_at first).1 ∷ (filled_field name ++ (replicate 9 0 ++ ((blocks % 256) ∷ (blocks / 256) ∷ [])))) i
 entry-byte cell name kind first blocks place i at entry =
     byte-drop cell place i at ∙ ap (λ (bytes : List ℕ). slice_index bytes i) (entry.bytes ∙ entry-parts name kind first blocks)
 
@@ -155,12 +155,12 @@ entry-byte-behind : (cell name : List ℕ) (kind : Kind) (first blocks place i :
     → slice_index cell place ≡ slice_index (replicate 9 0 ++ ((blocks % 256) ∷ (blocks / 256) ∷ [])) i
 entry-byte-behind cell name kind first blocks place i at entry =
     let tail : List ℕ = replicate 9 0 ++ ((blocks % 256) ∷ (blocks / 256) ∷ []) in
-    let long : length (filled name) ≡ 16 = length-filled name entry.short in
+    let long : length (filled_field name) ≡ 16 = length-filled_field name entry.short in
     let from : place ≡ 2 + (3 + (16 + i)) = omega arith in
     entry-byte cell name kind first blocks place (3 + (16 + i)) from entry
-    ∙ sym (get_or-drop 3 ((0x80 + number_of_kind kind) ∷ (pair_at first).0 ∷ (pair_at first).1 ∷ (filled name ++ tail)) (16 + i) 0)
-    ∙ ap (λ (n : ℕ). get_or (filled name ++ tail) (n + i) 0) (sym long)
-    ∙ get_or-append-add (filled name) tail i 0
+    ∙ sym (get_or-drop 3 ((0x80 + number_of_kind kind) ∷ (pair_at first).0 ∷ (pair_at first).1 ∷ (filled_field name ++ tail)) (16 + i) 0)
+    ∙ ap (λ (n : ℕ). get_or (filled_field name ++ tail) (n + i) 0) (sym long)
+    ∙ get_or-append-add (filled_field name) tail i 0
 
 pub type_byte-new : (cell name : List ℕ) (kind : Kind) (first blocks : ℕ) → IsNewEntry cell name kind first blocks → type_byte cell ≡ 0x80 + number_of_kind kind
 type_byte-new cell name kind first blocks entry = entry-byte cell name kind first blocks 2 0 refl entry
@@ -224,11 +224,11 @@ pub first_pair-new : (cell name : List ℕ) (kind : Kind) (first blocks : ℕ) �
 first_pair-new cell name kind first blocks entry =
     ap₂ (λ (track sector : ℕ). (track, sector)) (entry-byte cell name kind first blocks 3 1 refl entry) (entry-byte cell name kind first blocks 4 2 refl entry)
 
-pub field_of-new : (cell name : List ℕ) (kind : Kind) (first blocks : ℕ) → IsNewEntry cell name kind first blocks → field_of cell ≡ filled name
+pub field_of-new : (cell name : List ℕ) (kind : Kind) (first blocks : ℕ) → IsNewEntry cell name kind first blocks → field_of cell ≡ filled_field name
 field_of-new cell name kind first blocks entry =
     field_of-drop cell
     ∙ ap (λ (bytes : List ℕ). take 16 (drop 3 bytes)) (entry.bytes ∙ entry-parts name kind first blocks)
-    ∙ take_at (filled name) (replicate 9 0 ++ ((blocks % 256) ∷ (blocks / 256) ∷ [])) 16 (length-filled name entry.short)
+    ∙ take_at (filled_field name) (replicate 9 0 ++ ((blocks % 256) ∷ (blocks / 256) ∷ [])) 16 (length-filled_field name entry.short)
 
 pub side_pair-new : (cell name : List ℕ) (kind : Kind) (first blocks : ℕ) → IsNewEntry cell name kind first blocks → side_pair cell ≡ None
 side_pair-new cell name kind first blocks entry =

@@ -4,8 +4,8 @@ use Rattle.std.specs.Prelude.{position, filter, option_map, bytes_eq}
 use Rattle.std.specs.List.{filter_map, cons_option}
 use Rattle.std.proofs.lemmas.List.Elements.{filter_agree}
 use Rattle.d64_files.specs.Name.{IsName, name_in}
-use Rattle.d64_files.proofs.FilledNames.{name_in-filled}
-use Rattle.d64_effects.specs.Contents.{ListedFile, listed, names_and_contents}
+use Rattle.d64_files.proofs.FilledNames.{name_in-filled_field}
+use Rattle.d64_effects.specs.Contents.{ListedFile, listed_file, names_and_contents}
 use Rattle.d64_effects.specs.ContentsAfter.{list_with, is_scratched_row, row_named, renamed_rows}
 use Rattle.d64_effects.specs.ContentsLaws.{FormattedListsNothing, WrittenListsTheFile, ScratchedListsTheOthers, RenamedListsTheName, ValidatedListsTheClosed}
 use Rattle.d64_effects.specs.View.{FileView}
@@ -15,7 +15,7 @@ use Rattle.d64_effects.proofs.Rows.{position-cons}
 
 -- what slots list
 abbrev rows_of : List (Option FileView) → List ListedFile
-rows_of slots = filter_map (option_map listed) slots
+rows_of slots = filter_map (option_map listed_file) slots
 
 pub formatted-lists_nothing : FormattedListsNothing
 unfolding formatted_view
@@ -23,21 +23,21 @@ formatted-lists_nothing count name id = refl
 
 -- a file in the first vacant slot
 rows-with : (slots : List (Option FileView)) (file : FileView) (place : Option ℕ) → position is_vacant slots ≡ place
-    → rows_of (slots_with slots place file) ≡ list_with (rows_of slots) place (listed file)
+    → rows_of (slots_with slots place file) ≡ list_with (rows_of slots) place (listed_file file)
 rows-with [] file None e = refl
 rows-with [] file (Some place) e = cc
 rows-with (None ∷ slots) file place e =
-    subst (λ (p : Option ℕ). rows_of (slots_with (None ∷ slots) p file) ≡ list_with (rows_of slots) p (listed file))
+    subst (λ (p : Option ℕ). rows_of (slots_with (None ∷ slots) p file) ≡ list_with (rows_of slots) p (listed_file file))
     (sym (position-cons is_vacant None slots) ∙ e) refl
 rows-with (Some first ∷ slots) file place e =
-    subst (λ (p : Option ℕ). rows_of (slots_with (Some first ∷ slots) p file) ≡ list_with (listed first ∷ rows_of slots) p (listed file))
+    subst (λ (p : Option ℕ). rows_of (slots_with (Some first ∷ slots) p file) ≡ list_with (listed_file first ∷ rows_of slots) p (listed_file file))
     (sym (position-cons is_vacant (Some first) slots) ∙ e) (behind (position is_vacant slots) (rows-with slots file (position is_vacant slots) refl))
   where
-    behind : (later : Option ℕ) → rows_of (slots_with slots later file) ≡ list_with (rows_of slots) later (listed file)
+    behind : (later : Option ℕ) → rows_of (slots_with slots later file) ≡ list_with (rows_of slots) later (listed_file file)
         → rows_of (slots_with (Some first ∷ slots) (option_map (λ (k : ℕ). suc k) later) file)
-        ≡ list_with (listed first ∷ rows_of slots) (option_map (λ (k : ℕ). suc k) later) (listed file)
-    behind None same = ap (λ (rows : List ListedFile). listed first ∷ rows) same
-    behind (Some k) same = ap (λ (rows : List ListedFile). listed first ∷ rows) same
+        ≡ list_with (listed_file first ∷ rows_of slots) (option_map (λ (k : ℕ). suc k) later) (listed_file file)
+    behind None same = ap (λ (rows : List ListedFile). listed_file first ∷ rows) same
+    behind (Some k) same = ap (λ (rows : List ListedFile). listed_file first ∷ rows) same
 
 pub written-lists_the_file : WrittenListsTheFile
 unfolding written_view
@@ -45,19 +45,19 @@ written-lists_the_file shown name kind bytes named =
     let taken : List ℕ = taken_by shown.free (length bytes) in
     rows-with shown.slots (new_file name kind bytes taken) (first_vacant shown) refl
     ∙ ap (λ (known : List ℕ). list_with (names_and_contents shown) (first_vacant shown)
-    record { name = known; kind = kind; closed = true; locked = false; size = length taken; content = bytes }) (name_in-filled name named)
+    record { name = known; kind = kind; closed = true; locked = false; size = length taken; content = bytes }) (name_in-filled_field name named)
 
 -- the files that are left
 rows-emptied : (goes : ListedFile → Bool) (slots : List (Option FileView))
-    → rows_of (map (emptied_if (λ file. goes (listed file))) slots) ≡ filter (λ row. not (goes row)) (rows_of slots)
+    → rows_of (map (emptied_if (λ file. goes (listed_file file))) slots) ≡ filter (λ row. not (goes row)) (rows_of slots)
 rows-emptied goes [] = refl
 rows-emptied goes (None ∷ slots) = rows-emptied goes slots
 rows-emptied goes (Some file ∷ slots) =
-    ap (cons_option (option_map listed (emptied_if (λ f. goes (listed f)) (Some file)))) (rows-emptied goes slots)
-    ∙ by_test (goes (listed file)) (filter (λ row. not (goes row)) (rows_of slots))
+    ap (cons_option (option_map listed_file (emptied_if (λ f. goes (listed_file f)) (Some file)))) (rows-emptied goes slots)
+    ∙ by_test (goes (listed_file file)) (filter (λ row. not (goes row)) (rows_of slots))
   where
     by_test : (b : Bool) (rows : List ListedFile)
-        → cons_option (option_map listed (cond b None (Some file))) rows ≡ cond (not b) (listed file ∷ rows) rows
+        → cons_option (option_map listed_file (cond b None (Some file))) rows ≡ cond (not b) (listed_file file ∷ rows) rows
     by_test true rows = refl
     by_test false rows = refl
 
@@ -85,9 +85,9 @@ rows-renamed (Some file ∷ slots) old new named =
   where
     by_test : (b : Bool) → rows_of (renamed_slots slots old new) ≡ renamed_rows (rows_of slots) old new
         → rows_of (cond b (Some (with_field file new) ∷ slots) (Some file ∷ renamed_slots slots old new))
-        ≡ cond b (row_named (listed file) new ∷ rows_of slots) (listed file ∷ renamed_rows (rows_of slots) old new)
-    by_test true same = ap (λ (name : List ℕ). row_named (listed file) name ∷ rows_of slots) (name_in-filled new named)
-    by_test false same = ap (λ (rows : List ListedFile). listed file ∷ rows) same
+        ≡ cond b (row_named (listed_file file) new ∷ rows_of slots) (listed_file file ∷ renamed_rows (rows_of slots) old new)
+    by_test true same = ap (λ (name : List ℕ). row_named (listed_file file) name ∷ rows_of slots) (name_in-filled_field new named)
+    by_test false same = ap (λ (rows : List ListedFile). listed_file file ∷ rows) same
 
 pub renamed-lists_the_name : RenamedListsTheName
 unfolding renamed_view

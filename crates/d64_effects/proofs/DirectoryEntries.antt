@@ -11,7 +11,7 @@ use Rattle.std.proofs.lemmas.List.Folds.{list_any_at}
 use Rattle.std.proofs.lemmas.Map.Keys.{apart_from_distinct}
 use Rattle.d64_image.specs.declared.image.TheConstants.{BLOCK_BYTES}
 use Rattle.d64_image.specs.Image.{IsBlock, IsSize, IsImage, sector_at}
-use Rattle.d64_files.specs.Chain.{Chain, chain, chain_by, block_in, held, link_at, link_of}
+use Rattle.d64_files.specs.Chain.{Chain, chain, chain_by, block_in, held_block, link_at, link_of}
 use Rattle.d64_files.specs.Directory.{directory, slots, slots_in}
 use Rattle.d64_files.specs.Slot.{cell, cells}
 use Rattle.d64_files.specs.Writing.{written_at, slot_block, slot_start, with_entry}
@@ -118,7 +118,7 @@ same_cell bytes entry i long full small =
 pub directory-is_chain : (image : List (List ℕ)) → directory image ≡ chain image directory_start
 unfolding block_in chain
 directory-is_chain image =
-    ap (λ (block : Option ℕ). option_map_or (chain image) (option_and_then (held image) block) []) directory_start-place
+    ap (λ (block : Option ℕ). option_map_or (chain image) (option_and_then (held_block image) block) []) directory_start-place
     ∙ by_test (ltb directory_start (length image)) refl
   where
     by_test : (t : Bool) → ltb directory_start (length image) ≡ t

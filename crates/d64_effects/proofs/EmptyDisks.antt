@@ -22,11 +22,11 @@ use Rattle.d64_map.specs.Map.{map_block, count_of, all_of, free_blocks, blocks_f
 use Rattle.d64_map.proofs.Ranges.{range_push, count_more}
 use Rattle.d64_map.proofs.FreeBlocks.{any-below}
 use Rattle.d64_map.proofs.Maps.{length-with_map, free_blocks-with_map, counts-with_map, IsImage-with_map}
-use Rattle.d64_files.specs.Name.{IsName, filled}
-use Rattle.d64_effects.specs.Format.{directory_start, header, free_when_formatted, blank, formatted}
+use Rattle.d64_files.specs.Name.{IsName, filled_field}
+use Rattle.d64_effects.specs.Format.{directory_start, header, free_when_formatted, blank_disk, formatted_disk}
 use Rattle.d64_files.specs.Writing.{empty_directory}
 use Rattle.d64_effects.specs.Laws.{AreTwoBytes, free_count_of}
-use Rattle.d64_files.proofs.WrittenBytes.{length-filled}
+use Rattle.d64_files.proofs.WrittenBytes.{length-filled_field}
 
 -- one step of the set of all blocks
 pub from_range_more : (n block : ℕ) (s t : set.FinSet nat_cmp) → s ≡ set.from_list (range_with_len 0 n) → block ≡ n
@@ -59,22 +59,22 @@ abbrev zeros : List ℕ
 zeros = replicate 256 0
 
 -- the blank image has its blocks
-pub length-parts : (count : ℕ) (size : IsSize count) (name id : List ℕ) → length (with_sector (with_sector (blank count) map_block (header name id)) directory_start empty_directory) ≡ count
-unfolding blank
+pub length-parts : (count : ℕ) (size : IsSize count) (name id : List ℕ) → length (with_sector (with_sector (blank_disk count) map_block (header name id)) directory_start empty_directory) ≡ count
+unfolding blank_disk
 length-parts count size name id =
-    length-set (with_sector (blank count) map_block (header name id)) directory_start empty_directory ∙ length-set (blank count) map_block (header name id) ∙ length-replicate count zeros
+    length-set (with_sector (blank_disk count) map_block (header name id)) directory_start empty_directory ∙ length-set (blank_disk count) map_block (header name id) ∙ length-replicate count zeros
 
-pub free_blocks-formatted : (count : ℕ) (size : IsSize count) (name id : List ℕ) → free_blocks (formatted count name id) ≡ free_when_formatted count
-unfolding formatted
-free_blocks-formatted count size name id =
-    free_blocks-with_map (with_sector (with_sector (blank count) map_block (header name id)) directory_start empty_directory) (free_when_formatted count)
+pub free_blocks-formatted_disk : (count : ℕ) (size : IsSize count) (name id : List ℕ) → free_blocks (formatted_disk count name id) ≡ free_when_formatted count
+unfolding formatted_disk
+free_blocks-formatted_disk count size name id =
+    free_blocks-with_map (with_sector (with_sector (blank_disk count) map_block (header name id)) directory_start empty_directory) (free_when_formatted count)
     (subst IsSize (sym (length-parts count size name id)) size)
     (subst (λ (n : ℕ). MembersAreBelow n (free_when_formatted count)) (sym (length-parts count size name id)) (members_are_below count size))
 
-pub counts-formatted : (count : ℕ) (size : IsSize count) (name id : List ℕ) → CountsFit (formatted count name id)
-unfolding formatted
-counts-formatted count size name id =
-    counts-with_map (with_sector (with_sector (blank count) map_block (header name id)) directory_start empty_directory) (free_when_formatted count)
+pub counts-formatted_disk : (count : ℕ) (size : IsSize count) (name id : List ℕ) → CountsFit (formatted_disk count name id)
+unfolding formatted_disk
+counts-formatted_disk count size name id =
+    counts-with_map (with_sector (with_sector (blank_disk count) map_block (header name id)) directory_start empty_directory) (free_when_formatted count)
     (subst IsSize (sym (length-parts count size name id)) size)
     (subst (λ (n : ℕ). MembersAreBelow n (free_when_formatted count)) (sym (length-parts count size name id)) (members_are_below count size))
 
@@ -111,10 +111,10 @@ whole_track count size track one last other =
     (λ e. other (ap (λ (pair : ℕ × ℕ). pair.0) (sym p ∙ ap pair_at e ∙ map_block-pair)))
     (λ e. other (ap (λ (pair : ℕ × ℕ). pair.0) (sym p ∙ ap pair_at e ∙ directory_start-pair)))))
 
-pub length-formatted : (count : ℕ) (size : IsSize count) (name id : List ℕ) → length (formatted count name id) ≡ count
-unfolding formatted
-length-formatted count size name id =
-    length-with_map (with_sector (with_sector (blank count) map_block (header name id)) directory_start empty_directory) (free_when_formatted count) ∙ length-parts count size name id
+pub length-formatted_disk : (count : ℕ) (size : IsSize count) (name id : List ℕ) → length (formatted_disk count name id) ≡ count
+unfolding formatted_disk
+length-formatted_disk count size name id =
+    length-with_map (with_sector (with_sector (blank_disk count) map_block (header name id)) directory_start empty_directory) (free_when_formatted count) ∙ length-parts count size name id
 
 -- a track that the directory's sum counts, of so many tracks
 abbrev is_counted : ℕ → ℕ → Bool
@@ -127,25 +127,25 @@ summed_tracks tracks = filter (λ track. not (nat_eq track 18)) (range_with_len 
 -- each of them counts all its sectors
 counts_summed : (count : ℕ) (size : IsSize count) (name id : List ℕ) (tracks total : ℕ) → tracks ≡ tracks_of count
     → list_all (is_counted tracks) (summed_tracks tracks) ≡ true → sum_by sectors_on (summed_tracks tracks) ≡ total
-    → sum_by (count_of (formatted count name id)) (summed_tracks tracks) ≡ total
+    → sum_by (count_of (formatted_disk count name id)) (summed_tracks tracks) ≡ total
 counts_summed count size name id tracks total same legal summed =
-    sum_by-same (count_of (formatted count name id)) sectors_on (summed_tracks tracks)
-    (All-weaker (λ t. is_counted tracks t ≡ true) (λ t. count_of (formatted count name id) t ≡ sectors_on t) (λ t h.
+    sum_by-same (count_of (formatted_disk count name id)) sectors_on (summed_tracks tracks)
+    (All-weaker (λ t. is_counted tracks t ≡ true) (λ t. count_of (formatted_disk count name id) t ≡ sectors_on t) (λ t h.
     let one : 1 ≤ t = grind (arith, nat_tests) in
     let last : t ≤ tracks = grind (arith, nat_tests) in
     let other : t ≢ 18 = grind (arith, nat_tests) in
     let within : t ≤ tracks_of count = subst (λ (n : ℕ). t ≤ n) same last in
-    let fits : CountsFit (formatted count name id) = counts-formatted count size name id in
-    fits.each t one (subst (λ (n : ℕ). t ≤ tracks_of n) (sym (length-formatted count size name id)) within)
-    ∙ ap (λ (s : set.FinSet nat_cmp). members_on s t) (free_blocks-formatted count size name id) ∙ whole_track count size t one within other)
+    let fits : CountsFit (formatted_disk count name id) = counts-formatted_disk count size name id in
+    fits.each t one (subst (λ (n : ℕ). t ≤ tracks_of n) (sym (length-formatted_disk count size name id)) within)
+    ∙ ap (λ (s : set.FinSet nat_cmp). members_on s t) (free_blocks-formatted_disk count size name id) ∙ whole_track count size t one within other)
     (summed_tracks tracks) (AllPass-from_list_all (is_counted tracks) (summed_tracks tracks) legal))
     ∙ summed
 
-pub blocks_free-formatted : (count : ℕ) (size : IsSize count) (name id : List ℕ) → blocks_free (formatted count name id) ≡ free_count_of count
+pub blocks_free-formatted_disk : (count : ℕ) (size : IsSize count) (name id : List ℕ) → blocks_free (formatted_disk count name id) ≡ free_count_of count
 unfolding blocks_free
-blocks_free-formatted count size name id =
-    let summed : ℕ → ℕ = λ tracks. sum_by (count_of (formatted count name id)) (summed_tracks tracks) in
-    ap (λ (n : ℕ). summed (tracks_of n)) (length-formatted count size name id)
+blocks_free-formatted_disk count size name id =
+    let summed : ℕ → ℕ = λ tracks. sum_by (count_of (formatted_disk count name id)) (summed_tracks tracks) in
+    ap (λ (n : ℕ). summed (tracks_of n)) (length-formatted_disk count size name id)
     ∙ elim size [
       | inl fewer ↦ ap (λ (n : ℕ). summed (tracks_of n)) fewer
           ∙ counts_summed count (inl fewer) name id 35 664 (sym (ap tracks_of fewer)) refl refl ∙ sym (ap free_count_of fewer)
@@ -195,7 +195,7 @@ unfolding header
 IsBlock-header name id named two =
     let P : ℕ → Type 0 = λ byte. byte < 256 in
     let start : List ℕ = 0x12 ∷ 0x01 ∷ 0x41 ∷ 0x00 ∷ replicate 140 0 in
-    label_is_block start (filled name) id (replicate 85 0) refl (length-filled name named.short) two.0 refl
+    label_is_block start (filled_field name) id (replicate 85 0) refl (length-filled_field name named.short) two.0 refl
     (are_bytes start refl)
     (All-append P name (replicate (16 - length name) 0xA0) named.in_range (All-replicate P (16 - length name) 0xA0 (omega arith)))
     two.1 (are_bytes (replicate 85 0) refl)
@@ -205,25 +205,25 @@ pub IsBlock-empty_directory : IsBlock empty_directory
 unfolding empty_directory
 IsBlock-empty_directory = (refl, are_bytes (0x00 ∷ 0xFF ∷ replicate 254 0) refl)
 
-blank_blocks : (count : ℕ) (size : IsSize count) → All IsBlock (blank count)
-unfolding blank
+blank_blocks : (count : ℕ) (size : IsSize count) → All IsBlock (blank_disk count)
+unfolding blank_disk
 blank_blocks count size = All-replicate IsBlock count zeros (refl, are_bytes zeros refl)
 
-pub IsImage-formatted : (count : ℕ) (size : IsSize count) (name id : List ℕ) → IsName name → AreTwoBytes id → IsImage (formatted count name id)
-unfolding formatted
-IsImage-formatted count size name id named two =
-    IsImage-with_map (with_sector (with_sector (blank count) map_block (header name id)) directory_start empty_directory) (free_when_formatted count) (
+pub IsImage-formatted_disk : (count : ℕ) (size : IsSize count) (name id : List ℕ) → IsName name → AreTwoBytes id → IsImage (formatted_disk count name id)
+unfolding formatted_disk
+IsImage-formatted_disk count size name id named two =
+    IsImage-with_map (with_sector (with_sector (blank_disk count) map_block (header name id)) directory_start empty_directory) (free_when_formatted count) (
       subst IsSize (sym (length-parts count size name id)) size,
-      All-set IsBlock (with_sector (blank count) map_block (header name id)) directory_start empty_directory IsBlock-empty_directory
-          (All-set IsBlock (blank count) map_block (header name id) (IsBlock-header name id named two) (blank_blocks count size)),
+      All-set IsBlock (with_sector (blank_disk count) map_block (header name id)) directory_start empty_directory IsBlock-empty_directory
+          (All-set IsBlock (blank_disk count) map_block (header name id) (IsBlock-header name id named two) (blank_blocks count size)),
     )
 
 -- the parts that the code puts together
 pub formatted_from_parts : (count : ℕ) (name id : List ℕ) (image made : List (List ℕ)) (place start : ℕ) (label directory : List ℕ) (free : set.FinSet nat_cmp)
-    → image ≡ blank count → place ≡ map_block → label ≡ header name id → start ≡ directory_start
+    → image ≡ blank_disk count → place ≡ map_block → label ≡ header name id → start ≡ directory_start
     → directory ≡ empty_directory → free ≡ free_when_formatted count → made ≡ with_map (with_sector (with_sector image place label) start directory) free
-    → made ≡ formatted count name id
-unfolding formatted blank
+    → made ≡ formatted_disk count name id
+unfolding formatted_disk blank_disk
 formatted_from_parts count name id image made place start label directory free i p l s d f m =
     m ∙ ap₂ with_map (ap (λ (x : List (List ℕ)). with_sector (with_sector x place label) start directory) i
     ∙ ap₂ (λ (b : ℕ) (x : List ℕ). with_sector (with_sector (replicate count (replicate BLOCK_BYTES 0)) b x) start directory) p l

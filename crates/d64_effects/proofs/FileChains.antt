@@ -13,7 +13,7 @@ use Rattle.d64_image.specs.Block.{pair_at, block_of}
 use Rattle.d64_image.specs.Image.{IsBlock, IsSize, IsImage, sector_at, with_sector}
 use Rattle.d64_image.proofs.Pairs.{counted_apart, block_of-pair_at}
 use Rattle.d64_map.proofs.Maps.{sectors_few}
-use Rattle.d64_files.specs.Chain.{Chain, link_to, link_of, led_by, block_in, held}
+use Rattle.d64_files.specs.Chain.{Chain, link_to, link_of, led_by, block_in, held_block}
 use Rattle.d64_files.specs.FileData.{data_of, data_along}
 use Rattle.d64_files.specs.Writing.{blocks_for, linked_block, last_block, with_chain}
 use Rattle.d64_files.proofs.Chains.{chain_of_one, chain_before}
@@ -205,9 +205,9 @@ ends image block n rest inside e =
 pub leads_to : (image : List (List ℕ)) (next : ℕ) → next < BLOCKS → next < length image → led_by image (pair_at next) ≡ link_to (Some next)
 unfolding led_by block_in
 leads_to image next inside there =
-    ap (λ (t : Bool). cond t (led_by image (0, 0)) (link_to (option_and_then (held image) (block_of (pair_at next).0 (pair_at next).1))))
+    ap (λ (t : Bool). cond t (led_by image (0, 0)) (link_to (option_and_then (held_block image) (block_of (pair_at next).0 (pair_at next).1))))
     (track_some next inside)
-    ∙ ap (λ (found : Option ℕ). link_to (option_and_then (held image) found)) (block_of-pair_at next inside)
+    ∙ ap (λ (found : Option ℕ). link_to (option_and_then (held_block image) found)) (block_of-pair_at next inside)
     ∙ ap (λ (t : Bool). link_to (cond t (Some next) None)) (lt-ltb next (length image) there)
 
 -- so does the link of a block that holds it

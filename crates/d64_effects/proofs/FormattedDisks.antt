@@ -17,9 +17,9 @@ use Rattle.d64_image.specs.declared.image.TheConstants.{BLOCK_BYTES}
 use Rattle.d64_image.specs.Image.{IsBlock, IsSize, tracks_of, sector_at, with_sector}
 use Rattle.d64_map.specs.Map.{map_block, is_entry, map_for, free_blocks}
 use Rattle.d64_map.proofs.Maps.{elsewhere, length-map_for, sector_at-with_map, sector_at-with_map-other}
-use Rattle.d64_files.specs.Chain.{chain, held, block_in, led_by}
+use Rattle.d64_files.specs.Chain.{chain, held_block, block_in, led_by}
 use Rattle.d64_files.specs.Directory.{directory, slots, slots_in, owned_blocks, Holds}
-use Rattle.d64_files.specs.Name.{IsName, filled}
+use Rattle.d64_files.specs.Name.{IsName, filled_field}
 use Rattle.d64_files.specs.Ownership.{owned_by, HasItsChains}
 use Rattle.d64_files.specs.Slot.{cells, is_used, HasKind}
 use Rattle.d64_files.specs.Writing.{empty_directory}
@@ -27,41 +27,41 @@ use Rattle.d64_files.specs.declared.dir_fault.DirFault.{DirFault}
 use Rattle.d64_files.specs.declared.dir_fault.DirFault.TheVariants.{WrongCounts, NoDirectory, UnknownKind, NoChain, CrossLinked, MarkedFree}
 use Rattle.d64_files.proofs.Chains.{chain_of_one, chain-is}
 use Rattle.d64_files.proofs.SlotLists.{length-cells}
-use Rattle.d64_effects.specs.Format.{directory_start, header, free_when_formatted, blank, formatted}
+use Rattle.d64_effects.specs.Format.{directory_start, header, free_when_formatted, blank_disk, formatted_disk}
 use Rattle.d64_effects.specs.Laws.{AreTwoBytes}
 use Rattle.d64_effects.specs.View.{View, FileView, slot_view, disk_field, disk_id, view}
 use Rattle.d64_effects.specs.ViewAfter.{formatted_view}
 use Rattle.d64_effects.proofs.CellFields.{HasKind-unused, owned_by-unused, HasItsChains-unused}
-use Rattle.d64_effects.proofs.EmptyDisks.{length-formatted, length-parts, contains-free, free_blocks-formatted, counts-formatted, IsBlock-header}
-use Rattle.d64_files.proofs.WrittenBytes.{length-filled}
+use Rattle.d64_effects.proofs.EmptyDisks.{length-formatted_disk, length-parts, contains-free, free_blocks-formatted_disk, counts-formatted_disk, IsBlock-header}
+use Rattle.d64_files.proofs.WrittenBytes.{length-filled_field}
 use Rattle.d64_effects.proofs.Frames.{slot_view-unused}
 use Rattle.d64_effects.proofs.Places.{directory_start-place}
 
 -- the blank image with the map's block alone
-length-labelled : (count : ℕ) (size : IsSize count) (name id : List ℕ) → length (with_sector (blank count) map_block (header name id)) ≡ count
-length-labelled count size name id = sym (length-set (with_sector (blank count) map_block (header name id)) directory_start empty_directory) ∙ length-parts count size name id
+length-labelled : (count : ℕ) (size : IsSize count) (name id : List ℕ) → length (with_sector (blank_disk count) map_block (header name id)) ≡ count
+length-labelled count size name id = sym (length-set (with_sector (blank_disk count) map_block (header name id)) directory_start empty_directory) ∙ length-parts count size name id
 
-length-blank : (count : ℕ) (size : IsSize count) → length (blank count) ≡ count
-unfolding blank
-length-blank count size = let zeros : List ℕ = replicate BLOCK_BYTES 0 in length-replicate count zeros
+length-blank_disk : (count : ℕ) (size : IsSize count) → length (blank_disk count) ≡ count
+unfolding blank_disk
+length-blank_disk count size = let zeros : List ℕ = replicate BLOCK_BYTES 0 in length-replicate count zeros
 
 -- the directory's first block is empty
-directory_start-formatted : (count : ℕ) (size : IsSize count) (name id : List ℕ) → sector_at (formatted count name id) directory_start ≡ empty_directory
-unfolding formatted
-directory_start-formatted count size name id =
-    sector_at-with_map-other (with_sector (with_sector (blank count) map_block (header name id)) directory_start empty_directory) (free_when_formatted count) directory_start
+directory_start-formatted_disk : (count : ℕ) (size : IsSize count) (name id : List ℕ) → sector_at (formatted_disk count name id) directory_start ≡ empty_directory
+unfolding formatted_disk
+directory_start-formatted_disk count size name id =
+    sector_at-with_map-other (with_sector (with_sector (blank_disk count) map_block (header name id)) directory_start empty_directory) (free_when_formatted count) directory_start
     (λ e. omega arith)
-    ∙ get_or-set_same (with_sector (blank count) map_block (header name id)) directory_start empty_directory [] (let l = length-labelled count size name id in omega arith)
+    ∙ get_or-set_same (with_sector (blank_disk count) map_block (header name id)) directory_start empty_directory [] (let l = length-labelled count size name id in omega arith)
 
 -- the map's block is the label with the map
-map_block-formatted : (count : ℕ) (size : IsSize count) (name id : List ℕ) → sector_at (formatted count name id) map_block ≡ map_for (tracks_of count) (header name id) (free_when_formatted count)
-unfolding formatted
-map_block-formatted count size name id =
-    sector_at-with_map (with_sector (with_sector (blank count) map_block (header name id)) directory_start empty_directory) (free_when_formatted count)
+map_block-formatted_disk : (count : ℕ) (size : IsSize count) (name id : List ℕ) → sector_at (formatted_disk count name id) map_block ≡ map_for (tracks_of count) (header name id) (free_when_formatted count)
+unfolding formatted_disk
+map_block-formatted_disk count size name id =
+    sector_at-with_map (with_sector (with_sector (blank_disk count) map_block (header name id)) directory_start empty_directory) (free_when_formatted count)
     (let l = length-parts count size name id in omega arith)
     ∙ ap₂ (λ (n : ℕ) (bytes : List ℕ). map_for (tracks_of n) bytes (free_when_formatted count)) (length-parts count size name id)
-    (get_or-set_other (with_sector (blank count) map_block (header name id)) directory_start map_block empty_directory [] (λ e. omega arith)
-    ∙ get_or-set_same (blank count) map_block (header name id) [] (let l = length-blank count size in omega arith))
+    (get_or-set_other (with_sector (blank_disk count) map_block (header name id)) directory_start map_block empty_directory [] (λ e. omega arith)
+    ∙ get_or-set_same (blank_disk count) map_block (header name id) [] (let l = length-blank_disk count size in omega arith))
 
 -- a directory whose first block is linked to none
 directory-of_one : (image : List (List ℕ)) → directory_start < length image → slice_index (sector_at image directory_start) 0 ≡ 0
@@ -69,7 +69,7 @@ directory-of_one : (image : List (List ℕ)) → directory_start < length image 
 unfolding block_in led_by
 directory-of_one image inside ends =
     let second : ℕ = slice_index (sector_at image directory_start) 1 in
-    ap (λ (block : Option ℕ). option_map_or (chain image) (option_and_then (held image) block) []) directory_start-place
+    ap (λ (block : Option ℕ). option_map_or (chain image) (option_and_then (held_block image) block) []) directory_start-place
     ∙ ap (λ (has : Bool). option_map_or (chain image) (cond has (Some directory_start) None) []) (lt-ltb directory_start (length image) inside)
     ∙ chain-is image directory_start (directory_start ∷ [])
     (chain_of_one image directory_start inside (ap (λ (track : ℕ). led_by image (track, second)) ends))
@@ -78,17 +78,17 @@ first_byte : slice_index empty_directory 0 ≡ 0
 unfolding empty_directory
 first_byte = refl
 
-pub directory-formatted : (count : ℕ) (size : IsSize count) (name id : List ℕ) → directory (formatted count name id) ≡ directory_start ∷ []
-directory-formatted count size name id =
-    directory-of_one (formatted count name id) (let l = length-formatted count size name id in omega arith)
-    (ap (λ (bytes : List ℕ). slice_index bytes 0) (directory_start-formatted count size name id) ∙ first_byte)
+pub directory-formatted_disk : (count : ℕ) (size : IsSize count) (name id : List ℕ) → directory (formatted_disk count name id) ≡ directory_start ∷ []
+directory-formatted_disk count size name id =
+    directory-of_one (formatted_disk count name id) (let l = length-formatted_disk count size name id in omega arith)
+    (ap (λ (bytes : List ℕ). slice_index bytes 0) (directory_start-formatted_disk count size name id) ∙ first_byte)
 
 -- its slots are those of the empty block
-pub slots-formatted : (count : ℕ) (size : IsSize count) (name id : List ℕ) → slots (formatted count name id) ≡ cells empty_directory
-slots-formatted count size name id =
-    ap (slots_in (formatted count name id)) (directory-formatted count size name id)
-    ∙ append-nil (cells (sector_at (formatted count name id) directory_start))
-    ∙ ap cells (directory_start-formatted count size name id)
+pub slots-formatted_disk : (count : ℕ) (size : IsSize count) (name id : List ℕ) → slots (formatted_disk count name id) ≡ cells empty_directory
+slots-formatted_disk count size name id =
+    ap (slots_in (formatted_disk count name id)) (directory-formatted_disk count size name id)
+    ∙ append-nil (cells (sector_at (formatted_disk count name id) directory_start))
+    ∙ ap cells (directory_start-formatted_disk count size name id)
 
 -- each slot of the empty block is unused
 abbrev IsUnused : List ℕ → Type 0
@@ -100,8 +100,8 @@ unused_slots =
     All-weaker (λ (cell : List ℕ). not (is_used cell) ≡ true) IsUnused (λ cell h. not-true (is_used cell) h) (cells empty_directory)
     (AllPass-from_list_all (λ (cell : List ℕ). not (is_used cell)) (cells empty_directory) refl)
 
-pub unused-formatted : (count : ℕ) (size : IsSize count) (name id : List ℕ) → All IsUnused (slots (formatted count name id))
-unused-formatted count size name id = subst (All IsUnused) (sym (slots-formatted count size name id)) unused_slots
+pub unused-formatted_disk : (count : ℕ) (size : IsSize count) (name id : List ℕ) → All IsUnused (slots (formatted_disk count name id))
+unused-formatted_disk count size name id = subst (All IsUnused) (sym (slots-formatted_disk count size name id)) unused_slots
 
 -- slots that own nothing
 flat_map-none : (f : List ℕ → List ℕ) (cells : List (List ℕ)) → All (λ cell. f cell ≡ []) cells → flat_map f cells ≡ []
@@ -117,35 +117,35 @@ map-none f (cell ∷ cells) none =
     (map-none f cells (All-tail (λ c. f c ≡ None) cell cells none))
 
 -- the map's block and the directory's are owned, and no other
-pub owned_blocks-formatted : (count : ℕ) (size : IsSize count) (name id : List ℕ) → owned_blocks (formatted count name id) ≡ map_block ∷ directory_start ∷ []
+pub owned_blocks-formatted_disk : (count : ℕ) (size : IsSize count) (name id : List ℕ) → owned_blocks (formatted_disk count name id) ≡ map_block ∷ directory_start ∷ []
 unfolding owned_blocks
-owned_blocks-formatted count size name id =
-    let image : List (List ℕ) = formatted count name id in
-    ap₂ (λ (xs ys : List ℕ). map_block ∷ (xs ++ ys)) (directory-formatted count size name id)
+owned_blocks-formatted_disk count size name id =
+    let image : List (List ℕ) = formatted_disk count name id in
+    ap₂ (λ (xs ys : List ℕ). map_block ∷ (xs ++ ys)) (directory-formatted_disk count size name id)
     (flat_map-none (owned_by image) (slots image)
-    (All-weaker IsUnused (λ cell. owned_by image cell ≡ []) (λ cell unused. owned_by-unused image cell unused) (slots image) (unused-formatted count size name id)))
+    (All-weaker IsUnused (λ cell. owned_by image cell ≡ []) (λ cell unused. owned_by-unused image cell unused) (slots image) (unused-formatted_disk count size name id)))
 
 two_blocks : IsDistinct nat_eq (map_block ∷ directory_start ∷ [])
 unfolding IsDistinct
 two_blocks = IsDistinct-cons nat_eq map_block (directory_start ∷ []) (refl, tt) (IsDistinct-cons nat_eq directory_start [] tt tt)
 
 -- a block of the two isn't free
-is_marked : (count : ℕ) (size : IsSize count) (name id : List ℕ) (block : ℕ) → set.contains (free_when_formatted count) block ≡ false → set.contains (free_blocks (formatted count name id)) block ≡ false
-is_marked count size name id block marked = ap (λ (free : set.FinSet nat_cmp). set.contains free block) (free_blocks-formatted count size name id) ∙ marked
+is_marked : (count : ℕ) (size : IsSize count) (name id : List ℕ) (block : ℕ) → set.contains (free_when_formatted count) block ≡ false → set.contains (free_blocks (formatted_disk count name id)) block ≡ false
+is_marked count size name id block marked = ap (λ (free : set.FinSet nat_cmp). set.contains free block) (free_blocks-formatted_disk count size name id) ∙ marked
 
 -- a formatted disk meets each condition
-pub holds-formatted : (count : ℕ) (size : IsSize count) (name id : List ℕ) (fault : DirFault) → Holds (formatted count name id) fault
-holds-formatted count size name id WrongCounts = counts-formatted count size name id
-holds-formatted count size name id NoDirectory = λ none. let e : directory_start ∷ [] ≡ [] = sym (directory-formatted count size name id) ∙ none in cc
-holds-formatted count size name id UnknownKind =
-    All-weaker IsUnused HasKind (λ cell unused. HasKind-unused cell unused) (slots (formatted count name id)) (unused-formatted count size name id)
-holds-formatted count size name id NoChain =
-    All-weaker IsUnused (HasItsChains (formatted count name id)) (λ cell unused. HasItsChains-unused (formatted count name id) cell unused)
-    (slots (formatted count name id)) (unused-formatted count size name id)
-holds-formatted count size name id CrossLinked = subst (IsDistinct nat_eq) (sym (owned_blocks-formatted count size name id)) two_blocks
-holds-formatted count size name id MarkedFree =
-    let P : ℕ → Type 0 = λ block. set.contains (free_blocks (formatted count name id)) block ≡ false in
-    subst (All P) (sym (owned_blocks-formatted count size name id))
+pub holds-formatted_disk : (count : ℕ) (size : IsSize count) (name id : List ℕ) (fault : DirFault) → Holds (formatted_disk count name id) fault
+holds-formatted_disk count size name id WrongCounts = counts-formatted_disk count size name id
+holds-formatted_disk count size name id NoDirectory = λ none. let e : directory_start ∷ [] ≡ [] = sym (directory-formatted_disk count size name id) ∙ none in cc
+holds-formatted_disk count size name id UnknownKind =
+    All-weaker IsUnused HasKind (λ cell unused. HasKind-unused cell unused) (slots (formatted_disk count name id)) (unused-formatted_disk count size name id)
+holds-formatted_disk count size name id NoChain =
+    All-weaker IsUnused (HasItsChains (formatted_disk count name id)) (λ cell unused. HasItsChains-unused (formatted_disk count name id) cell unused)
+    (slots (formatted_disk count name id)) (unused-formatted_disk count size name id)
+holds-formatted_disk count size name id CrossLinked = subst (IsDistinct nat_eq) (sym (owned_blocks-formatted_disk count size name id)) two_blocks
+holds-formatted_disk count size name id MarkedFree =
+    let P : ℕ → Type 0 = λ block. set.contains (free_blocks (formatted_disk count name id)) block ≡ false in
+    subst (All P) (sym (owned_blocks-formatted_disk count size name id))
     (All-cons P map_block (directory_start ∷ []) (is_marked count size name id map_block (contains-free count size map_block))
     (All-cons P directory_start [] (is_marked count size name id directory_start (contains-free count size directory_start)) (All-nil P)))
 
@@ -207,46 +207,46 @@ name_and_id field id back sixteen two bytes is =
       shorter 0xA2 0xA4 (omega arith) (omega arith) ∙ range_at_end w2 id 0xA2 0xA4 (omega arith) two,
     )
 
-label : (name id : List ℕ) → IsName name → AreTwoBytes id → (slice_range (header name id) 0x90 0xA0 ≡ filled name) × (slice_range (header name id) 0xA2 0xA4 ≡ id)
+label : (name id : List ℕ) → IsName name → AreTwoBytes id → (slice_range (header name id) 0x90 0xA0 ≡ filled_field name) × (slice_range (header name id) 0xA2 0xA4 ≡ id)
 unfolding header
-label name id named two = name_and_id (filled name) id (replicate 85 0) (length-filled name named.short) two.0 (header name id) refl
+label name id named two = name_and_id (filled_field name) id (replicate 85 0) (length-filled_field name named.short) two.0 (header name id) refl
 
 -- the same in the formatted disk
-part-formatted : (count : ℕ) (size : IsSize count) (name id : List ℕ) (from to : ℕ) → IsName name → AreTwoBytes id → 144 ≤ from → from + (to - from) ≤ 192
-    → slice_range (sector_at (formatted count name id) map_block) from to ≡ slice_range (header name id) from to
-part-formatted count size name id from to named two past before =
+part-formatted_disk : (count : ℕ) (size : IsSize count) (name id : List ℕ) (from to : ℕ) → IsName name → AreTwoBytes id → 144 ≤ from → from + (to - from) ≤ 192
+    → slice_range (sector_at (formatted_disk count name id) map_block) from to ≡ slice_range (header name id) from to
+part-formatted_disk count size name id from to named two past before =
     let block : IsBlock (header name id) = IsBlock-header name id named two in
-    ap (λ (bytes : List ℕ). slice_range bytes from to) (map_block-formatted count size name id)
+    ap (λ (bytes : List ℕ). slice_range bytes from to) (map_block-formatted_disk count size name id)
     ∙ part-map_for (tracks_of count) (header name id) (free_when_formatted count) from (to - from) block.0 past before
 
-disk_field-formatted : (count : ℕ) (size : IsSize count) (name id : List ℕ) → IsName name → AreTwoBytes id → disk_field (formatted count name id) ≡ filled name
-disk_field-formatted count size name id named two =
-    let both = label name id named two in part-formatted count size name id 0x90 0xA0 named two (omega arith) (omega arith) ∙ both.0
+disk_field-formatted_disk : (count : ℕ) (size : IsSize count) (name id : List ℕ) → IsName name → AreTwoBytes id → disk_field (formatted_disk count name id) ≡ filled_field name
+disk_field-formatted_disk count size name id named two =
+    let both = label name id named two in part-formatted_disk count size name id 0x90 0xA0 named two (omega arith) (omega arith) ∙ both.0
 
-disk_id-formatted : (count : ℕ) (size : IsSize count) (name id : List ℕ) → IsName name → AreTwoBytes id → disk_id (formatted count name id) ≡ id
-disk_id-formatted count size name id named two =
-    let both = label name id named two in part-formatted count size name id 0xA2 0xA4 named two (omega arith) (omega arith) ∙ both.1
+disk_id-formatted_disk : (count : ℕ) (size : IsSize count) (name id : List ℕ) → IsName name → AreTwoBytes id → disk_id (formatted_disk count name id) ≡ id
+disk_id-formatted_disk count size name id named two =
+    let both = label name id named two in part-formatted_disk count size name id 0xA2 0xA4 named two (omega arith) (omega arith) ∙ both.1
 
 -- so it shows nothing
-shown-formatted : (count : ℕ) (size : IsSize count) (name id : List ℕ) → map (slot_view (formatted count name id)) (slots (formatted count name id)) ≡ replicate 8 None
-shown-formatted count size name id =
-    let image : List (List ℕ) = formatted count name id in
+shown-formatted_disk : (count : ℕ) (size : IsSize count) (name id : List ℕ) → map (slot_view (formatted_disk count name id)) (slots (formatted_disk count name id)) ≡ replicate 8 None
+shown-formatted_disk count size name id =
+    let image : List (List ℕ) = formatted_disk count name id in
     let none : ℕ → List (Option FileView) = λ n. replicate n None in
     map-none (slot_view image) (slots image)
-    (All-weaker IsUnused (λ cell. slot_view image cell ≡ None) (λ cell unused. slot_view-unused image cell unused) (slots image) (unused-formatted count size name id))
-    ∙ ap none (ap length (slots-formatted count size name id) ∙ length-cells empty_directory)
+    (All-weaker IsUnused (λ cell. slot_view image cell ≡ None) (λ cell unused. slot_view-unused image cell unused) (slots image) (unused-formatted_disk count size name id))
+    ∙ ap none (ap length (slots-formatted_disk count size name id) ∙ length-cells empty_directory)
 
 -- a view by its parts
 abbrev pub view_of : ℕ → List ℕ → List ℕ → List ℕ → List (Option FileView) → set.FinSet nat_cmp → View
 view_of count name id directory slots free = record { count = count; name = name; id = id; directory = directory; slots = slots; free = free }
 
-pub view-formatted : (count : ℕ) (size : IsSize count) (name id : List ℕ) → IsName name → AreTwoBytes id → view (formatted count name id) ≡ formatted_view count name id
+pub view-formatted_disk : (count : ℕ) (size : IsSize count) (name id : List ℕ) → IsName name → AreTwoBytes id → view (formatted_disk count name id) ≡ formatted_view count name id
 unfolding view formatted_view
-view-formatted count size name id named two =
-    let image : List (List ℕ) = formatted count name id in
-    ap (λ (n : ℕ). view_of n (disk_field image) (disk_id image) (directory image) (map (slot_view image) (slots image)) (free_blocks image)) (length-formatted count size name id)
+view-formatted_disk count size name id named two =
+    let image : List (List ℕ) = formatted_disk count name id in
+    ap (λ (n : ℕ). view_of n (disk_field image) (disk_id image) (directory image) (map (slot_view image) (slots image)) (free_blocks image)) (length-formatted_disk count size name id)
     ∙ ap₂ (λ (x y : List ℕ). view_of count x y (directory image) (map (slot_view image) (slots image)) (free_blocks image))
-    (disk_field-formatted count size name id named two) (disk_id-formatted count size name id named two)
-    ∙ ap₂ (λ (x : List ℕ) (y : List (Option FileView)). view_of count (filled name) id x y (free_blocks image)) (directory-formatted count size name id)
-    (shown-formatted count size name id)
-    ∙ ap (view_of count (filled name) id (directory_start ∷ []) (replicate 8 None)) (free_blocks-formatted count size name id)
+    (disk_field-formatted_disk count size name id named two) (disk_id-formatted_disk count size name id named two)
+    ∙ ap₂ (λ (x : List ℕ) (y : List (Option FileView)). view_of count (filled_field name) id x y (free_blocks image)) (directory-formatted_disk count size name id)
+    (shown-formatted_disk count size name id)
+    ∙ ap (view_of count (filled_field name) id (directory_start ∷ []) (replicate 8 None)) (free_blocks-formatted_disk count size name id)

@@ -2,9 +2,9 @@
 use Rattle.std.proofs.Common.{◌≡◌, ℕ, ◌+◌, ◌-◌, ◌≤◌, List, [], ◌∷◌, ◌++◌, length, drop, refl, sym, ap, ap₂, ◌∙◌, arith}
 use Rattle.std.proofs.Math.ListN.{replicate}
 use Rattle.std.proofs.lemmas.List.{append_assoc, take_at, drop_at, length-append, length-replicate, replicate-append-replicate}
-use Rattle.d64_files.specs.Name.{filled}
+use Rattle.d64_files.specs.Name.{filled_field}
 use Rattle.d64_files.specs.Writing.{written_at}
-use Rattle.d64_files.proofs.WrittenBytes.{length-filled}
+use Rattle.d64_files.proofs.WrittenBytes.{length-filled_field}
 use Rattle.d64_effects.specs.Format.{header}
 
 -- a part in the middle that is written over by one as long
@@ -58,17 +58,17 @@ labelled : (start back name id third fourth fifth : List ℕ) → length name �
     → third ≡ written_at (start ++ (replicate 27 160 ++ back)) 144 name
     → fourth ≡ written_at third 162 id
     → fifth ≡ written_at fourth 165 (0x32 ∷ 0x41 ∷ [])
-    → fifth ≡ start ++ filled name ++ (160 ∷ 160 ∷ []) ++ id ++ (160 ∷ []) ++ (0x32 ∷ 0x41 ∷ []) ++ replicate 4 160 ++ back
+    → fifth ≡ start ++ filled_field name ++ (160 ∷ 160 ∷ []) ++ id ++ (160 ∷ []) ++ (0x32 ∷ 0x41 ∷ []) ++ replicate 4 160 ++ back
 labelled start back name id third fourth fifth short two long e3 e4 e5 =
     let rest : List ℕ = replicate (16 - length name) 160 in
-    let f3 : third ≡ start ++ (filled name ++ (replicate 11 160 ++ back)) =
+    let f3 : third ≡ start ++ (filled_field name ++ (replicate 11 160 ++ back)) =
     e3 ∙ named start back name (replicate 27 160) short long refl ∙ ap (λ (xs : List ℕ). start ++ xs) (sym (append_assoc name rest (replicate 11 160 ++ back))) in
-    let f4 : fourth ≡ (start ++ filled name ++ (160 ∷ 160 ∷ [])) ++ (id ++ (replicate 7 160 ++ back)) =
-    e4 ∙ ap (λ (xs : List ℕ). written_at xs 162 id) f3 ∙ with_id start (filled name) (replicate 7 160 ++ back) id long (length-filled name short) two in
+    let f4 : fourth ≡ (start ++ filled_field name ++ (160 ∷ 160 ∷ [])) ++ (id ++ (replicate 7 160 ++ back)) =
+    e4 ∙ ap (λ (xs : List ℕ). written_at xs 162 id) f3 ∙ with_id start (filled_field name) (replicate 7 160 ++ back) id long (length-filled_field name short) two in
     e5 ∙ ap (λ (xs : List ℕ). written_at xs 165 (0x32 ∷ 0x41 ∷ [])) f4
-    ∙ with_version (start ++ filled name ++ (160 ∷ 160 ∷ [])) id (replicate 4 160 ++ back) (0x32 ∷ 0x41 ∷ [])
-    (length-append (start ++ filled name) (160 ∷ 160 ∷ []) ∙ (let e = length-append start (filled name) in let f = length-filled name short in omega arith)) two refl
-    ∙ sym (append_assoc (start ++ filled name ++ (160 ∷ 160 ∷ []) ++ id ++ (160 ∷ []) ++ (0x32 ∷ 0x41 ∷ [])) (replicate 4 160) back)
+    ∙ with_version (start ++ filled_field name ++ (160 ∷ 160 ∷ [])) id (replicate 4 160 ++ back) (0x32 ∷ 0x41 ∷ [])
+    (length-append (start ++ filled_field name) (160 ∷ 160 ∷ []) ∙ (let e = length-append start (filled_field name) in let f = length-filled_field name short in omega arith)) two refl
+    ∙ sym (append_assoc (start ++ filled_field name ++ (160 ∷ 160 ∷ []) ++ id ++ (160 ∷ []) ++ (0x32 ∷ 0x41 ∷ [])) (replicate 4 160) back)
 
 -- the bytes before the label
 abbrev before_label : List ℕ

@@ -7,10 +7,10 @@ use Rattle.d64_files.specs.Directory.{slots}
 use Rattle.d64_files.specs.Writing.{with_bytes, first_unused, with_growth}
 use Rattle.d64_files.specs.declared.kind.Kind.{Kind}
 use Rattle.d64_effects.specs.Clear.{with_cleared}
-use Rattle.d64_effects.specs.Delete.{without_files, scratched, scratched_slots}
-use Rattle.d64_effects.specs.Rename.{first_of_name, with_name_in, renamed}
-use Rattle.d64_effects.specs.Validate.{unclosed_slots, validated}
-use Rattle.d64_effects.specs.Write.{directory_grown, with_entry_in, with_new_entry, with_file, written}
+use Rattle.d64_effects.specs.Delete.{without_files, scratched_disk, scratched_slots}
+use Rattle.d64_effects.specs.Rename.{first_of_name, with_name_in, renamed_disk}
+use Rattle.d64_effects.specs.Validate.{unclosed_slots, validated_disk}
+use Rattle.d64_effects.specs.Write.{directory_grown, with_entry_in, with_new_entry, with_file, written_disk}
 use Rattle.d64_effects.proofs.DirectoryEntries.{length-with_entry}
 use Rattle.d64_effects.proofs.FileChains.{length-with_chain}
 
@@ -38,27 +38,27 @@ pub length-with_new_entry : (image : List (List ℕ)) (entry : List ℕ) → len
 unfolding with_new_entry
 length-with_new_entry image entry = length-entry_in image (first_unused (slots image)) (directory_grown image) entry
 
-pub length-written : (image : List (List ℕ)) (name : List ℕ) (kind : Kind) (bytes : List ℕ) → length (written image name kind bytes) ≡ length image
-unfolding written with_file
-length-written image name kind bytes = length-with_map _ _ ∙ length-with_chain _ _ bytes ∙ length-with_new_entry image _
+pub length-written_disk : (image : List (List ℕ)) (name : List ℕ) (kind : Kind) (bytes : List ℕ) → length (written_disk image name kind bytes) ≡ length image
+unfolding written_disk with_file
+length-written_disk image name kind bytes = length-with_map _ _ ∙ length-with_chain _ _ bytes ∙ length-with_new_entry image _
 
 without_files-long : (image : List (List ℕ)) (numbers : List ℕ) → length (without_files image numbers) ≡ length image
 without_files-long image [] = refl
 without_files-long image (slot ∷ numbers) = length-with_map _ _ ∙ length-with_cleared image (slot ∷ numbers)
 
-pub length-scratched : (image patterns : List (List ℕ)) → length (scratched image patterns) ≡ length image
-unfolding scratched
-length-scratched image patterns = without_files-long image (scratched_slots image patterns)
+pub length-scratched_disk : (image patterns : List (List ℕ)) → length (scratched_disk image patterns) ≡ length image
+unfolding scratched_disk
+length-scratched_disk image patterns = without_files-long image (scratched_slots image patterns)
 
-pub length-validated : (image : List (List ℕ)) → length (validated image) ≡ length image
-unfolding validated
-length-validated image = length-with_map _ _ ∙ length-with_cleared image (unclosed_slots image)
+pub length-validated_disk : (image : List (List ℕ)) → length (validated_disk image) ≡ length image
+unfolding validated_disk
+length-validated_disk image = length-with_map _ _ ∙ length-with_cleared image (unclosed_slots image)
 
 renamed-long : (image : List (List ℕ)) (slot : Option ℕ) (name : List ℕ) → length (with_name_in image slot name) ≡ length image
 unfolding with_name
 renamed-long image None name = refl
 renamed-long image (Some slot) name = length-set image _ _
 
-pub length-renamed : (image : List (List ℕ)) (old new : List ℕ) → length (renamed image old new) ≡ length image
-unfolding renamed
-length-renamed image old new = renamed-long image (first_of_name old (slots image)) new
+pub length-renamed_disk : (image : List (List ℕ)) (old new : List ℕ) → length (renamed_disk image old new) ≡ length image
+unfolding renamed_disk
+length-renamed_disk image old new = renamed-long image (first_of_name old (slots image)) new

@@ -6,7 +6,7 @@ use Rattle.d64_effects.specs.ContentsLaws.{FormattedDiskLists, WrittenDiskLists,
 use Rattle.d64_effects.specs.View.{view}
 use Rattle.d64_effects.specs.ViewAfter.{first_vacant}
 use Rattle.d64_effects.proofs.ContentSteps.{formatted-lists_nothing, written-lists_the_file, scratched-lists_the_others, renamed-lists_the_name, validated-lists_the_closed}
-use Rattle.d64_effects.proofs.FormattedDisks.{view-formatted}
+use Rattle.d64_effects.proofs.FormattedDisks.{view-formatted_disk}
 use Rattle.d64_effects.proofs.RenamedDisks.{renamed-shows}
 use Rattle.d64_effects.proofs.ScratchedDisks.{scratched-shows}
 use Rattle.d64_effects.proofs.TakenBlocks.{takes}
@@ -14,7 +14,7 @@ use Rattle.d64_effects.proofs.ValidatedDisks.{validated-shows}
 use Rattle.d64_effects.proofs.WrittenDisks.{written-shows}
 
 pub formatted-disk_lists : FormattedDiskLists
-formatted-disk_lists count name id size named two = ap names_and_contents (view-formatted count size name id named two) ∙ formatted-lists_nothing count name id
+formatted-disk_lists count name id size named two = ap names_and_contents (view-formatted_disk count size name id named two) ∙ formatted-lists_nothing count name id
 
 -- a file takes as many blocks as its bytes need
 pub written-disk_lists : WrittenDiskLists

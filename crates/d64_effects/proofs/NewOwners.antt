@@ -13,7 +13,7 @@ use Rattle.d64_image.specs.declared.block.TheConstants.{BLOCKS}
 use Rattle.d64_image.specs.Block.{pair_at}
 use Rattle.d64_image.proofs.Pairs.{block_of-pair_at}
 use Rattle.d64_map.specs.Map.{map_block, free_blocks}
-use Rattle.d64_files.specs.Chain.{chain, held, block_in}
+use Rattle.d64_files.specs.Chain.{chain, held_block, block_in}
 use Rattle.d64_files.specs.Directory.{directory, slots, owned_blocks}
 use Rattle.d64_files.specs.FileData.{data_along}
 use Rattle.d64_files.specs.Ownership.{roots, chain_at, owned_by, HasItsChains, NoneIsFree}
@@ -30,7 +30,7 @@ use Rattle.d64_effects.proofs.Frames.{shown, Agree, Framed, framed, owned_by-sam
 use Rattle.d64_effects.proofs.NewDirectory.{has_directory}
 use Rattle.d64_effects.proofs.Occurrences.{tally, occurs, occurs-append, occurs-distinct, distinct-from_occurs, All-from_occurs, present-from_occurs, joined}
 use Rattle.d64_effects.proofs.Rows.{with_row, bare, map-same, map-slots, All-slots, occurs-with_row, joined-map}
-use Rattle.d64_effects.proofs.TakenBlocks.{Takes, Grows, occurs-owned, owned_once, owned_not_free, owned_not_taken, owned_not_grown, grown_not_taken, contains-without}
+use Rattle.d64_effects.proofs.TakenBlocks.{Takes, Grows, occurs-owned, owned_once, owned_not_free, owned_not_taken, owned_not_grown, grown_not_taken, contains-blocks_without}
 use Rattle.d64_effects.proofs.WrittenImages.{LeftByWriting, file_entry, append_some}
 
 -- the slot of a new file, and one that is empty
@@ -94,7 +94,7 @@ module _ (image other : List (List ℕ)) (name : List ℕ) (kind : Kind) (bytes 
       let inside = starts_within other first taken left.chain in
       let size = left.is_image.0 in
       let below : first < BLOCKS = omega arith in
-      ap (λ (block : Option ℕ). option_map_or (chain other) (option_and_then (held other) block) []) (block_of-pair_at first below)
+      ap (λ (block : Option ℕ). option_map_or (chain other) (option_and_then (held_block other) block) []) (block_of-pair_at first below)
       ∙ ap (λ (b : Bool). option_map_or (chain other) (cond b (Some first) None) []) (lt-ltb first (length other) inside)
       ∙ chain-is other first taken left.chain
 
@@ -161,7 +161,7 @@ module _ (image other : List (List ℕ)) (name : List ℕ) (kind : Kind) (bytes 
   none_free_after = All-from_occurs (λ block. set.contains (free_blocks other) block ≡ false) (owned_blocks other) (λ q there.
       let after = occurs-owned_after q in
       let parts = occurs-append q taken grown in
-      ap (λ (free : set.FinSet nat_cmp). set.contains free q) left.free ∙ contains-without (free_blocks image) (taken ++ grown) q
+      ap (λ (free : set.FinSet nat_cmp). set.contains free q) left.free ∙ contains-blocks_without (free_blocks image) (taken ++ grown) q
       ∙ elim (cases_lt 0 (occurs q (taken ++ grown))) [
         | inl new ↦
             and_left (not (list_any (nat_eq q) (taken ++ grown))) (set.contains (free_blocks image) q) (ap not (present-from_occurs q (taken ++ grown) new))

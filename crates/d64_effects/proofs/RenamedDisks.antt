@@ -12,16 +12,16 @@ use Rattle.d64_map.specs.Map.{free_blocks}
 use Rattle.d64_files.specs.Clearing.{with_name}
 use Rattle.d64_files.specs.Directory.{has_name, directory, slots, owned_blocks}
 use Rattle.d64_files.specs.FileData.{data_along}
-use Rattle.d64_files.specs.Name.{IsName, filled, name_in}
+use Rattle.d64_files.specs.Name.{IsName, filled_field, name_in}
 use Rattle.d64_files.specs.Ownership.{roots, roots_of, chain_at, owned_by, HasItsChains}
 use Rattle.d64_files.specs.Slot.{type_byte, has_bit, is_used, HasKind, kinds, kind_of, is_closed, is_locked, first_pair, field_of, name_of, side_pair, size_of}
 use Rattle.d64_files.specs.Writing.{written_at}
 use Rattle.d64_files.specs.declared.dir_fault.DirFault.TheVariants.{WrongCounts, UnknownKind, NoChain, CrossLinked}
 use Rattle.d64_files.specs.declared.kind.Kind.{Kind}
 use Rattle.d64_files.specs.declared.kind.Kind.TheVariants.{Del}
-use Rattle.d64_files.proofs.WrittenBytes.{length-filled}
+use Rattle.d64_files.proofs.WrittenBytes.{length-filled_field}
 use Rattle.d64_effects.specs.Laws.{RenamedIsImage, RenamedIsSound, RenamedShows}
-use Rattle.d64_effects.specs.Rename.{first_of_name, with_name_in, renamed}
+use Rattle.d64_effects.specs.Rename.{first_of_name, with_name_in, renamed_disk}
 use Rattle.d64_effects.specs.View.{FileView, IsSound, disk_field, disk_id, view, slot_view, file_view}
 use Rattle.d64_effects.specs.ViewAfter.{with_field, renamed_slots, renamed_view}
 use Rattle.d64_effects.proofs.AlteredDisks.{Altered, same_map, map_not_listed, held_by, sound_after, view_after}
@@ -41,18 +41,18 @@ chain_of image from place = option_map_or (chain_at image) (slice_get from place
 
 -- a slot with another name in its field
 abbrev named : List ℕ → List ℕ → List ℕ
-named cell name = written_at cell 5 (filled name)
+named cell name = written_at cell 5 (filled_field name)
 
 -- the fields of a slot with another name
 module _ (cell name : List ℕ) (long : length cell ≡ 32) (short : length name ≤ 16) where
-  length-field : length (filled name) ≡ 16
-  length-field = length-filled name short
+  length-field : length (filled_field name) ≡ 16
+  length-field = length-filled_field name short
 
   byte_before : (place : ℕ) → place < 5 → get_or (named cell name) place 0 ≡ get_or cell place 0
-  byte_before place h = get_or-written_before cell (filled name) 5 place (omega arith) h
+  byte_before place h = get_or-written_before cell (filled_field name) 5 place (omega arith) h
 
   byte_past : (place : ℕ) → 21 ≤ place → get_or (named cell name) place 0 ≡ get_or cell place 0
-  byte_past place h = get_or-written_past cell (filled name) 5 place (omega arith) (let e = length-field in omega arith)
+  byte_past place h = get_or-written_past cell (filled_field name) 5 place (omega arith) (let e = length-field in omega arith)
 
   type_byte-named : type_byte (named cell name) ≡ type_byte cell
   type_byte-named = byte_before 2 (omega arith)
@@ -82,11 +82,11 @@ module _ (cell name : List ℕ) (long : length cell ≡ 32) (short : length name
   size_of-named : size_of (named cell name) ≡ size_of cell
   size_of-named = ap₂ (λ (low high : ℕ). low + 256 * high) (byte_past 0x1E (omega arith)) (byte_past 0x1F (omega arith))
 
-  field_of-named : field_of (named cell name) ≡ filled name
+  field_of-named : field_of (named cell name) ≡ filled_field name
   unfolding written_at
   field_of-named =
-      ap (take 16) (drop_at (take 5 cell) (filled name ++ drop (5 + length (filled name)) cell) 5 (length-take-le 5 cell (omega arith)))
-      ∙ take_at (filled name) (drop (5 + length (filled name)) cell) 16 length-field
+      ap (take 16) (drop_at (take 5 cell) (filled_field name ++ drop (5 + length (filled_field name)) cell) 5 (length-take-le 5 cell (omega arith)))
+      ∙ take_at (filled_field name) (drop (5 + length (filled_field name)) cell) 16 length-field
 
   roots-named : roots (named cell name) ≡ roots cell
   roots-named =
@@ -168,7 +168,7 @@ renamed-shown image (cell ∷ cells) old new short sized =
     ∙ renamed_slots-cons (file_view image cell) (is_used cell) rows old new)
 
 -- a name in its field is made of bytes
-field_bytes : (name : List ℕ) → IsName name → All (λ byte. byte < 256) (filled name)
+field_bytes : (name : List ℕ) → IsName name → All (λ byte. byte < 256) (filled_field name)
 field_bytes name named =
     All-append (λ byte. byte < 256) name (replicate (16 - length name) 0xA0) named.in_range (All-replicate (λ byte. byte < 256) (16 - length name) 0xA0 (omega arith))
 
@@ -178,8 +178,8 @@ named_changed : (image : List (List ℕ)) (place : Option ℕ) (new : List ℕ) 
 unfolding with_name
 named_changed image None new is good there = record { is_image = is; long = refl; blocks = refl; entries = refl; kept = λ block absent. refl }
 named_changed image (Some slot) new is good there =
-    let e = length-filled new good.short in
-    slot_changed image slot 5 (32 * (slot % 8) + 2 + 3) (filled new) is there (omega arith) (omega arith) (omega arith) (field_bytes new good)
+    let e = length-filled_field new good.short in
+    slot_changed image slot 5 (32 * (slot % 8) + 2 + 3) (filled_field new) is there (omega arith) (omega arith) (omega arith) (field_bytes new good)
 
 -- what holds of each slot, with another name too
 All-named_in : (P : List ℕ → Type 0) (cells : List (List ℕ)) (place : Option ℕ) (new : List ℕ) → All P cells
@@ -222,8 +222,8 @@ module _ (image : List (List ℕ)) (old new : List ℕ) (is : IsImage image) (go
   distinct : IsDistinct nat_eq (owned_blocks image)
   distinct = sound CrossLinked (omega arith) (omega arith)
 
-  left : Altered image (renamed image old new) (named_cells image old new) (free_blocks image)
-  unfolding renamed
+  left : Altered image (renamed_disk image old new) (named_cells image old new) (free_blocks image)
+  unfolding renamed_disk
   left =
       same_map image (with_name_in image (first_of_name old (slots image)) new) (named_cells image old new)
       (named_changed image (first_of_name old (slots image)) new is good there) (map_not_listed image distinct) (sound WrongCounts (omega arith) (omega arith))
@@ -250,20 +250,20 @@ module _ (image : List (List ℕ)) (old new : List ℕ) (is : IsImage image) (go
       owned_not_free image sound q
       (let e = ap (occurs q) owned in let f = occurs-owned image q in omega arith)
 
-  pub renamed-keeps_sound : IsSound (renamed image old new)
+  pub renamed-keeps_sound : IsSound (renamed_disk image old new)
   renamed-keeps_sound =
-      sound_after image (renamed image old new) (named_cells image old new) (free_blocks image) is
+      sound_after image (renamed_disk image old new) (named_cells image old new) (free_blocks image) is
       (has_directory image sound) distinct left chains fewer kinds_known unfree
 
-  pub renamed-views : view (renamed image old new) ≡ renamed_view (view image) old new
+  pub renamed-views : view (renamed_disk image old new) ≡ renamed_view (view image) old new
   unfolding view renamed_view
   renamed-views =
-      view_after image (renamed image old new) (named_cells image old new) (free_blocks image) is
+      view_after image (renamed_disk image old new) (named_cells image old new) (free_blocks image) is
       (has_directory image sound) distinct left chains fewer
       ∙ ap (λ (rows : List (Option FileView)). view_of (length image) (disk_field image) (disk_id image) (directory image) rows (free_blocks image))
       (renamed-shown image (slots image) old new good.short sized)
 
-  pub renamed-stays_image : IsImage (renamed image old new)
+  pub renamed-stays_image : IsImage (renamed_disk image old new)
   renamed-stays_image = left.is_image
 
 pub renamed-is_image : RenamedIsImage

@@ -13,9 +13,9 @@ use Rattle.d64_files.specs.Ownership.{owned_by, HasItsChains}
 use Rattle.d64_files.specs.Slot.{HasKind, is_used}
 use Rattle.d64_files.specs.declared.dir_fault.DirFault.TheVariants.{WrongCounts, UnknownKind, NoChain, CrossLinked}
 use Rattle.d64_effects.specs.Clear.{with_cleared, with_freed}
-use Rattle.d64_effects.specs.Contents.{ListedFile, listed}
+use Rattle.d64_effects.specs.Contents.{ListedFile, listed_file}
 use Rattle.d64_effects.specs.ContentsAfter.{is_scratched_row}
-use Rattle.d64_effects.specs.Delete.{is_scratched_slot, scratched_slots, without_files, scratched}
+use Rattle.d64_effects.specs.Delete.{is_scratched_slot, scratched_slots, without_files, scratched_disk}
 use Rattle.d64_effects.specs.Laws.{ScratchedIsImage, ScratchedIsSound, ScratchedShows, ScratchedAreCounted}
 use Rattle.d64_effects.specs.View.{FileView, IsSound, disk_field, disk_id, slot_view, file_view, view}
 use Rattle.d64_effects.specs.ViewAfter.{is_scratched_file, scratched_view}
@@ -87,9 +87,9 @@ module _ (image patterns : List (List ℕ)) (is : IsImage image) (sound : IsSoun
         | inr free ↦ free_is_block image q free
       ]
 
-  left : Altered image (scratched image patterns) (cells_left image patterns)
+  left : Altered image (scratched_disk image patterns) (cells_left image patterns)
       (with_freed (free_blocks image) (given_back image patterns))
-  unfolding scratched
+  unfolding scratched_disk
   left =
       altered image (cells_left image patterns) (scratched_slots image patterns) is some distinct
       (sound WrongCounts (omega arith) (omega arith)) members (slots_cleared (is_scratched_slot patterns) image is)
@@ -119,22 +119,22 @@ module _ (image patterns : List (List ℕ)) (is : IsImage image) (sound : IsSoun
       ∙ or_from (list_any (nat_eq q) given) (set.contains (free_blocks image) q) (absent-from_occurs q given (omega arith))
       (owned_not_free image sound q (omega arith))
 
-  scratched-keeps_sound : IsSound (scratched image patterns)
+  scratched-keeps_sound : IsSound (scratched_disk image patterns)
   scratched-keeps_sound =
-      sound_after image (scratched image patterns) (cells_left image patterns)
+      sound_after image (scratched_disk image patterns) (cells_left image patterns)
       (with_freed (free_blocks image) (given_back image patterns)) is some distinct left chains fewer kinds_known unfree
 
-  scratched-views : view (scratched image patterns) ≡ scratched_view (view image) patterns
+  scratched-views : view (scratched_disk image patterns) ≡ scratched_view (view image) patterns
   unfolding view scratched_view
   scratched-views =
-      view_after image (scratched image patterns) (cells_left image patterns)
+      view_after image (scratched_disk image patterns) (cells_left image patterns)
       (with_freed (free_blocks image) (given_back image patterns)) is some distinct left chains fewer
       ∙ ap₂ (λ (rows : List (Option FileView)) (given : List ℕ).
       view_of (length image) (disk_field image) (disk_id image) (directory image) rows (with_freed (free_blocks image) given))
       (shown-cleared image (is_scratched_slot patterns) (is_scratched_file patterns) (λ cell. refl) (slots image) sized)
       (same_given ∙ sym (blocks-given image (is_scratched_slot patterns) (is_scratched_file patterns) (λ cell. refl) (slots image)))
 
-  scratched-stays_image : IsImage (scratched image patterns)
+  scratched-stays_image : IsImage (scratched_disk image patterns)
   scratched-stays_image = left.is_image
 
 pub scratched-is_image : ScratchedIsImage
@@ -148,19 +148,19 @@ scratched-shows image patterns is sound = scratched-views image patterns is soun
 
 -- what slots list
 abbrev listed_slots : List (List ℕ) → List (List ℕ) → List ListedFile
-listed_slots image cells = filter_map (option_map listed) (map (slot_view image) cells)
+listed_slots image cells = filter_map (option_map listed_file) (map (slot_view image) cells)
 
 -- one slot more
 counted_once : (image patterns : List (List ℕ)) (cell : List ℕ) (n : ℕ) (passed : List (ℕ × List ℕ)) (rows : List ListedFile)
     → length (map (λ (slot : ℕ × List ℕ). slot.0) passed) ≡ length (filter (is_scratched_row patterns) rows)
     → (used : Bool)
     → length (map (λ (slot : ℕ × List ℕ). slot.0) (cond (used && is_scratched_file patterns (file_view image cell)) ((n, cell) ∷ passed) passed))
-    ≡ length (filter (is_scratched_row patterns) (cons_option (option_map listed (cond used (Some (file_view image cell)) None)) rows))
+    ≡ length (filter (is_scratched_row patterns) (cons_option (option_map listed_file (cond used (Some (file_view image cell)) None)) rows))
 counted_once image patterns cell n passed rows later false = later
 counted_once image patterns cell n passed rows later true = by_test (is_scratched_file patterns (file_view image cell))
   where
     by_test : (b : Bool) → length (map (λ (slot : ℕ × List ℕ). slot.0) (cond b ((n, cell) ∷ passed) passed))
-        ≡ length (cond b (listed (file_view image cell) ∷ filter (is_scratched_row patterns) rows) (filter (is_scratched_row patterns) rows))
+        ≡ length (cond b (listed_file (file_view image cell) ∷ filter (is_scratched_row patterns) rows) (filter (is_scratched_row patterns) rows))
     by_test true = ap (λ (count : ℕ). suc count) later
     by_test false = later
 
@@ -170,7 +170,7 @@ counted image patterns [] n = refl
 counted image patterns (cell ∷ cells) n =
     counted_once image patterns cell n (filter (λ (slot : ℕ × List ℕ). is_scratched_slot patterns slot.1) (enumerate_from (n + 1) cells))
     (listed_slots image cells) (counted image patterns cells (n + 1)) (is_used cell)
-    ∙ ap (λ (shown : Option FileView). length (filter (is_scratched_row patterns) (cons_option (option_map listed shown) (listed_slots image cells))))
+    ∙ ap (λ (shown : Option FileView). length (filter (is_scratched_row patterns) (cons_option (option_map listed_file shown) (listed_slots image cells))))
     (sym (slot_view-is image cell))
 
 pub scratched-are_counted : ScratchedAreCounted

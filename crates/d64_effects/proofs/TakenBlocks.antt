@@ -21,7 +21,7 @@ use Rattle.d64_files.specs.Writing.{blocks_for, first_unused, dir_last}
 use Rattle.d64_files.specs.declared.dir_fault.DirFault.TheVariants.{CrossLinked, MarkedFree}
 use Rattle.d64_effects.specs.Laws.{HasRoom}
 use Rattle.d64_effects.specs.View.{IsSound}
-use Rattle.d64_effects.specs.Write.{taken_by, next_of_directory, grown_by, directory_grown, without}
+use Rattle.d64_effects.specs.Write.{taken_by, next_of_directory, grown_by, directory_grown, blocks_without}
 use Rattle.d64_effects.proofs.Occurrences.{tally, occurs, occurs-append, occurs-distinct, occurs-from_All}
 
 -- the blocks that a file takes: as many as it needs, different ones, and free outside track 18
@@ -129,11 +129,11 @@ free_is_block image q member =
     ltb-true q (length image) (and_parts (ltb q (length image)) (is_free image q) (sym (contains-free_blocks-both image q) ∙ member)).0
 
 -- the free blocks without those that were taken
-pub contains-without : (free : set.FinSet nat_cmp) (taken : List ℕ) (q : ℕ)
-    → set.contains (without free taken) q ≡ (not (list_any (nat_eq q) taken) && set.contains free q)
-contains-without free [] q = refl
-contains-without free (block ∷ taken) q =
-    contains-without (set.remove free block) taken q
+pub contains-blocks_without : (free : set.FinSet nat_cmp) (taken : List ℕ) (q : ℕ)
+    → set.contains (blocks_without free taken) q ≡ (not (list_any (nat_eq q) taken) && set.contains free q)
+contains-blocks_without free [] q = refl
+contains-blocks_without free (block ∷ taken) q =
+    contains-blocks_without (set.remove free block) taken q
     ∙ ap (λ (b : Bool). not (list_any (nat_eq q) taken) && b)
     (contains-remove nat_cmp_total free block q ∙ ap (λ (b : Bool). not b && set.contains free q) (unsigned_tied q block))
     ∙ regrouped (nat_eq q block) (list_any (nat_eq q) taken) (set.contains free q)

@@ -15,7 +15,7 @@ use Rattle.d64_files.specs.Slot.{HasKind}
 use Rattle.d64_files.specs.declared.dir_fault.DirFault.TheVariants.{NoDirectory, UnknownKind, NoChain, CrossLinked}
 use Rattle.d64_effects.specs.Clear.{with_cleared}
 use Rattle.d64_effects.specs.Laws.{ValidatedIsImage, ValidatedIsSound, ValidatedShows}
-use Rattle.d64_effects.specs.Validate.{is_unclosed, unclosed_slots, all_but, validated}
+use Rattle.d64_effects.specs.Validate.{is_unclosed, unclosed_slots, all_but, validated_disk}
 use Rattle.d64_effects.specs.View.{FileView, IsSound, disk_field, disk_id, view}
 use Rattle.d64_effects.specs.ViewAfter.{validated_view, blocks_owned}
 use Rattle.d64_effects.proofs.AlteredDisks.{Altered, remapped, map_not_listed, held_by, sound_after, view_after}
@@ -24,7 +24,7 @@ use Rattle.d64_effects.proofs.ClearedDisks.{is_used-cleared, All-cleared, occurs
 use Rattle.d64_effects.proofs.FormattedDisks.{view_of}
 use Rattle.d64_effects.proofs.Occurrences.{occurs, present-from_occurs}
 use Rattle.d64_effects.proofs.SlotChanges.{cleared, cleared_if, slots_sized, slots_cleared}
-use Rattle.d64_effects.proofs.TakenBlocks.{occurs-owned, contains-without}
+use Rattle.d64_effects.proofs.TakenBlocks.{occurs-owned, contains-blocks_without}
 
 -- a member of all blocks is a block
 below_all : (n q : ℕ) → set.contains (all_of n) q ≡ true → q < n
@@ -34,7 +34,7 @@ below_all n q member = ltb-true q n (sym (contains-from_list_nat (range_with_len
 pub members-all_but : (count : ℕ) (owned : List ℕ) → MembersAreBelow count (all_but count owned)
 members-all_but count owned q member =
     below_all count q
-    (and_parts (not (list_any (nat_eq q) owned)) (set.contains (all_of count) q) (sym (contains-without (all_of count) owned q) ∙ member)).1
+    (and_parts (not (list_any (nat_eq q) owned)) (set.contains (all_of count) q) (sym (contains-blocks_without (all_of count) owned q) ∙ member)).1
 
 -- the slots after a validation
 abbrev cells_left : List (List ℕ) → List (List ℕ)
@@ -51,8 +51,8 @@ module _ (image : List (List ℕ)) (is : IsImage image) (accepted : AllHold imag
   sized : All (λ cell. length cell ≡ 32) (slots image)
   sized = slots_sized image is some
 
-  left : Altered image (validated image) (cells_left image) (all_but (length image) (owned_blocks image))
-  unfolding validated
+  left : Altered image (validated_disk image) (cells_left image) (all_but (length image) (owned_blocks image))
+  unfolding validated_disk
   left =
       remapped image (with_cleared image (unclosed_slots image)) (cells_left image) (all_but (length image) (owned_blocks image)) is some
       (slots_cleared is_unclosed image is) (map_not_listed image distinct) (members-all_but (length image) (owned_blocks image))
@@ -74,27 +74,27 @@ module _ (image : List (List ℕ)) (is : IsImage image) (accepted : AllHold imag
   unfree q held =
       let own = occurs-owned image q in
       let less = fewer q in
-      contains-without (all_of (length image)) (owned_blocks image) q
+      contains-blocks_without (all_of (length image)) (owned_blocks image) q
       ∙ and_left (not (list_any (nat_eq q) (owned_blocks image))) (set.contains (all_of (length image)) q)
       (ap not (present-from_occurs q (owned_blocks image) (omega arith)))
 
-  validated-keeps_sound : IsSound (validated image)
+  validated-keeps_sound : IsSound (validated_disk image)
   validated-keeps_sound =
-      sound_after image (validated image) (cells_left image) (all_but (length image) (owned_blocks image)) is some distinct left chains fewer
+      sound_after image (validated_disk image) (cells_left image) (all_but (length image) (owned_blocks image)) is some distinct left chains fewer
       kinds_known unfree
 
   same_owned : owned_blocks image ≡ blocks_owned (view image)
   unfolding owned_blocks view
   same_owned = ap (λ (files : List ℕ). map_block ∷ (directory image ++ files)) (sym (blocks-owned image (slots image)))
 
-  validated-views : view (validated image) ≡ validated_view (view image)
+  validated-views : view (validated_disk image) ≡ validated_view (view image)
   unfolding view validated_view
   validated-views =
-      view_after image (validated image) (cells_left image) (all_but (length image) (owned_blocks image)) is some distinct left chains fewer
+      view_after image (validated_disk image) (cells_left image) (all_but (length image) (owned_blocks image)) is some distinct left chains fewer
       ∙ ap₂ (λ (rows : List (Option FileView)) (owned : List ℕ). view_of (length image) (disk_field image) (disk_id image) (directory image) rows (all_but (length image) owned))
       (shown-cleared image is_unclosed (λ file. not file.closed) (λ cell. refl) (slots image) sized) same_owned
 
-  validated-stays_image : IsImage (validated image)
+  validated-stays_image : IsImage (validated_disk image)
   validated-stays_image = left.is_image
 
 pub validated-is_image : ValidatedIsImage

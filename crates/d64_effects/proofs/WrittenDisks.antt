@@ -8,7 +8,7 @@ use Rattle.d64_files.specs.Writing.{first_unused, dir_last}
 use Rattle.d64_effects.specs.Laws.{WrittenIsImage, WrittenIsSound, WrittenShows}
 use Rattle.d64_effects.specs.View.{FileView, view, slot_view, file_view}
 use Rattle.d64_effects.specs.ViewAfter.{is_vacant, slots_with, view_with, new_file, written_view}
-use Rattle.d64_effects.specs.Write.{grown_by, directory_grown, written}
+use Rattle.d64_effects.specs.Write.{grown_by, directory_grown, written_disk}
 use Rattle.d64_effects.proofs.NewOwners.{sound_after, shown_rows}
 use Rattle.d64_effects.proofs.Rows.{with_row, position-map}
 use Rattle.d64_effects.proofs.TakenBlocks.{takes, grows}
@@ -21,7 +21,7 @@ written-is_image image name kind bytes is named small sound fits = let left = wr
 -- it is sound
 pub written-is_sound : WrittenIsSound
 written-is_sound image name kind bytes is named writable small sound fits =
-    sound_after image (written image name kind bytes) name kind bytes (taken_for image bytes) (directory_grown image) sound named.short writable.0
+    sound_after image (written_disk image name kind bytes) name kind bytes (taken_for image bytes) (directory_grown image) sound named.short writable.0
     (takes image (length bytes) fits) (grows image) (written_leaves image name kind bytes is named small sound fits)
 
 -- a slot is vacant in the view where it isn't used
@@ -51,7 +51,7 @@ written-shows image name kind bytes is named writable small sound fits =
     let file : FileView = new_file name kind bytes taken in
     let rows : List (Option FileView) = map (slot_view image) (slots image) in
     let shown =
-    shown_rows image (written image name kind bytes) name kind bytes taken (directory_grown image) sound named.short writable.0
+    shown_rows image (written_disk image name kind bytes) name kind bytes taken (directory_grown image) sound named.short writable.0
     (takes image (length bytes) fits) (grows image) left
     ∙ slots_with-rows rows (first_unused (slots image)) file in
     (λ i. record { count = left.long i; name = left.name i; id = left.id i; directory = left.blocks i; slots = shown i; free = left.free i })

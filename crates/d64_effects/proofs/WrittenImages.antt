@@ -23,7 +23,7 @@ use Rattle.d64_files.proofs.Chains.{kept}
 use Rattle.d64_files.proofs.FileBlocks.{needs_one}
 use Rattle.d64_effects.specs.Laws.{AreBytes, HasRoom}
 use Rattle.d64_effects.specs.View.{IsSound, disk_field, disk_id}
-use Rattle.d64_effects.specs.Write.{taken_by, directory_grown, without, with_new_entry, with_file, written}
+use Rattle.d64_effects.specs.Write.{taken_by, directory_grown, blocks_without, with_new_entry, with_file, written_disk}
 use Rattle.d64_effects.proofs.CellFields.{length-entry_bytes, are_bytes-entry_bytes}
 use Rattle.d64_effects.proofs.DirectoryEntries.{link_same, directory-same, slots-same}
 use Rattle.d64_effects.proofs.FileChains.{Fits, length-with_chain, sector_at-with_chain, IsImage-with_chain, Chain-with_chain, data_along-same, data_along-with_chain}
@@ -31,14 +31,14 @@ use Rattle.d64_effects.proofs.FormattedDisks.{part-map_for}
 use Rattle.d64_effects.proofs.NewDirectory.{NewEntry, has_directory, new_entry}
 use Rattle.d64_effects.proofs.Occurrences.{occurs, occurs-append, occurs-present, occurs-from_All, All-from_occurs, absent-from_occurs}
 use Rattle.d64_effects.proofs.Rows.{with_row}
-use Rattle.d64_effects.proofs.TakenBlocks.{free_is_block, Takes, takes, Grows, grows, occurs-owned, owned_once, owned_not_taken, owned_not_grown, grown_not_taken, contains-without}
+use Rattle.d64_effects.proofs.TakenBlocks.{free_is_block, Takes, takes, Grows, grows, occurs-owned, owned_once, owned_not_taken, owned_not_grown, grown_not_taken, contains-blocks_without}
 
 -- what the writing of a file leaves
 pub record LeftByWriting (image other : List (List ℕ)) (place : Option ℕ) (taken grown entry bytes : List ℕ) : Type 0 where
   pub is_image : IsImage other
   pub long : length other ≡ length image
   pub counts : CountsFit other
-  pub free : free_blocks other ≡ without (free_blocks image) (taken ++ grown)
+  pub free : free_blocks other ≡ blocks_without (free_blocks image) (taken ++ grown)
   pub blocks : directory other ≡ directory image ++ grown
   pub entries : map (drop 2) (slots other) ≡ with_row (map (drop 2) (slots image)) place entry (replicate 30 0)
   pub kept : (block : ℕ) → block ≢ map_block → occurs block taken ≡ 0 → occurs block (directory image ++ grown) ≡ 0
@@ -75,10 +75,10 @@ apart image taken grown bytes sound file dir =
     }
 
 -- the members that are left are blocks of the image
-pub left_are_blocks : (image : List (List ℕ)) (taken : List ℕ) → MembersAreBelow (length image) (without (free_blocks image) taken)
+pub left_are_blocks : (image : List (List ℕ)) (taken : List ℕ) → MembersAreBelow (length image) (blocks_without (free_blocks image) taken)
 left_are_blocks image taken q member =
     free_is_block image q
-    (and_parts (not (list_any (nat_eq q) taken)) (set.contains (free_blocks image) q) (sym (contains-without (free_blocks image) taken q) ∙ member)).1
+    (and_parts (not (list_any (nat_eq q) taken)) (set.contains (free_blocks image) q) (sym (contains-blocks_without (free_blocks image) taken q) ∙ member)).1
 
 -- the image with a file's data and a new map
 abbrev filed : List (List ℕ) → List ℕ → List ℕ → set.FinSet nat_cmp → List (List ℕ)
@@ -168,7 +168,7 @@ module _ (image listed : List (List ℕ)) (place : Option ℕ) (taken grown entr
       ∙ part-map_for tracks (sector_at image map_block) free n count (is.1 map_block [] inside).0 past before
 
   -- what is left, where these blocks are marked free
-  pub leaves : free ≡ without (free_blocks image) (taken ++ grown) → LeftByWriting image (filed listed taken bytes free) place taken grown entry bytes
+  pub leaves : free ≡ blocks_without (free_blocks image) (taken ++ grown) → LeftByWriting image (filed listed taken bytes free) place taken grown entry bytes
   leaves left = record {
     is_image = IsImage-with_map (with_chain listed taken bytes) free (IsImage-with_chain (length image) most listed taken bytes new.is_image small fits);
     long = length_filed ∙ new.long;
@@ -220,7 +220,7 @@ file_leaves image name kind bytes taken is named small sound fits file =
     let new = new_entry image entry (length bytes) is sound fits (length-entry_bytes name kind (get_or taken 0 0) (length taken) named.short)
     (are_bytes-entry_bytes name kind (get_or taken 0 0) (length taken) named (omega arith) (omega arith)) in
     leaves image (with_new_entry image entry) (first_unused (slots image)) taken (directory_grown image) entry bytes
-    (without (free_blocks image) (taken ++ directory_grown image))
+    (blocks_without (free_blocks image) (taken ++ directory_grown image))
     (has_directory image sound) is new small fit (apart image taken (directory_grown image) (length bytes) sound file (grows image))
     (left_are_blocks image (taken ++ directory_grown image)) refl
 
@@ -230,8 +230,8 @@ taken_for image bytes = taken_by (free_blocks image) (length bytes)
 
 pub written_leaves : (image : List (List ℕ)) (name : List ℕ) (kind : Kind) (bytes : List ℕ) → IsImage image → IsName name → AreBytes bytes
     → IsSound image → HasRoom image (length bytes)
-    → LeftByWriting image (written image name kind bytes) (first_unused (slots image)) (taken_for image bytes) (directory_grown image)
+    → LeftByWriting image (written_disk image name kind bytes) (first_unused (slots image)) (taken_for image bytes) (directory_grown image)
     (file_entry name kind (taken_for image bytes)) bytes
-unfolding written
+unfolding written_disk
 written_leaves image name kind bytes is named small sound fits =
     file_leaves image name kind bytes (taken_for image bytes) is named small sound fits (takes image (length bytes) fits)

@@ -4,11 +4,11 @@ use Rattle.std.specs.FinSet as set
 use Rattle.d64_image.specs.Disk.{Disk, Bytes, Blocks}
 use Rattle.d64_image.specs.BlockSet.{BlockSet}
 use Rattle.d64_files.specs.Clearing.{with_cleared_slot}
-use Rattle.d64_files.specs.Directory.{numbered}
+use Rattle.d64_files.specs.Directory.{numbered_slots}
 
 -- the numbers of the slots that pass a test, in the directory's order
 abbrev pub slots_where : (Bytes → Bool) → List Bytes → List ℕ
-slots_where test cells = map (λ slot. slot.0) (filter (λ slot. test slot.1) (numbered cells))
+slots_where test cells = map (λ slot. slot.0) (filter (λ slot. test slot.1) (numbered_slots cells))
 
 -- the image with unused slots at these numbers
 abbrev pub with_cleared : Disk → List ℕ → Disk

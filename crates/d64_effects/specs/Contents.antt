@@ -16,9 +16,9 @@ pub record ListedFile : Type 0 where
   pub content : Bytes
 
 -- what the list says of a file
-abbrev pub listed : FileView → ListedFile
-listed file = record { name = name_in file.field; kind = file.kind; closed = file.closed; locked = file.locked; size = file.size; content = file.content }
+abbrev pub listed_file : FileView → ListedFile
+listed_file file = record { name = name_in file.field; kind = file.kind; closed = file.closed; locked = file.locked; size = file.size; content = file.content }
 
 -- the files of the used slots, in the directory's order
 abbrev pub names_and_contents : View → List ListedFile
-names_and_contents shown = filter_map (option_map listed) shown.slots
+names_and_contents shown = filter_map (option_map listed_file) shown.slots

@@ -8,14 +8,14 @@ use Rattle.d64_files.specs.Name.{IsName}
 use Rattle.d64_files.specs.Writing.{blocks_for}
 use Rattle.d64_effects.specs.Contents.{ListedFile, names_and_contents}
 use Rattle.d64_effects.specs.ContentsAfter.{list_with, new_row, is_scratched_row, renamed_rows}
-use Rattle.d64_effects.specs.Delete.{scratched}
-use Rattle.d64_effects.specs.Format.{formatted}
+use Rattle.d64_effects.specs.Delete.{scratched_disk}
+use Rattle.d64_effects.specs.Format.{formatted_disk}
 use Rattle.d64_effects.specs.Laws.{AreTwoBytes, AreBytes, HasRoom, IsWritable}
-use Rattle.d64_effects.specs.Rename.{renamed}
-use Rattle.d64_effects.specs.Validate.{validated}
+use Rattle.d64_effects.specs.Rename.{renamed_disk}
+use Rattle.d64_effects.specs.Validate.{validated_disk}
 use Rattle.d64_effects.specs.View.{View, IsSound, view}
 use Rattle.d64_effects.specs.ViewAfter.{formatted_view, written_view, first_vacant, scratched_view, renamed_view, validated_view}
-use Rattle.d64_effects.specs.Write.{taken_by, written}
+use Rattle.d64_effects.specs.Write.{taken_by, written_disk}
 use Rattle.d64_files.specs.declared.kind.Kind.{Kind}
 
 -- a formatted disk lists nothing
@@ -54,7 +54,7 @@ files_of image = names_and_contents (view image)
 -- so a formatted disk lists nothing
 abbrev pub FormattedDiskLists : Type 0
 FormattedDiskLists =
-    (count : ℕ) (name id : Bytes) → IsSize count → IsName name → AreTwoBytes id → files_of (formatted count name id) ≡ []
+    (count : ℕ) (name id : Bytes) → IsSize count → IsName name → AreTwoBytes id → files_of (formatted_disk count name id) ≡ []
 
 -- a sound disk with a new file lists that file, of as many blocks as its bytes need, beside the
 -- others
@@ -62,22 +62,22 @@ abbrev pub WrittenDiskLists : Type 0
 WrittenDiskLists =
     (image : Disk) (name : Bytes) (kind : Kind) (bytes : Bytes)
     → IsImage image → IsName name → IsWritable kind → AreBytes bytes → IsSound image → HasRoom image (length bytes)
-    → files_of (written image name kind bytes)
+    → files_of (written_disk image name kind bytes)
     ≡ list_with (files_of image) (first_vacant (view image)) (new_row name kind bytes (blocks_for (length bytes)))
 
 -- a sound disk without deleted files lists the others
 abbrev pub ScratchedDiskLists : Type 0
 ScratchedDiskLists =
     (image : Disk) (patterns : List Bytes)
-    → IsImage image → IsSound image → files_of (scratched image patterns) ≡ filter (λ row. not (is_scratched_row patterns row)) (files_of image)
+    → IsImage image → IsSound image → files_of (scratched_disk image patterns) ≡ filter (λ row. not (is_scratched_row patterns row)) (files_of image)
 
 -- a sound disk with a renamed file lists its other name
 abbrev pub RenamedDiskLists : Type 0
 RenamedDiskLists =
     (image : Disk) (old new : Bytes)
-    → IsImage image → IsName new → IsSound image → files_of (renamed image old new) ≡ renamed_rows (files_of image) old new
+    → IsImage image → IsName new → IsSound image → files_of (renamed_disk image old new) ≡ renamed_rows (files_of image) old new
 
 -- and a validated disk lists the closed files
 abbrev pub ValidatedDiskLists : Type 0
 ValidatedDiskLists =
-    (image : Disk) → IsImage image → AllHold image 2 5 → files_of (validated image) ≡ filter (λ row. row.closed) (files_of image)
+    (image : Disk) → IsImage image → AllHold image 2 5 → files_of (validated_disk image) ≡ filter (λ row. row.closed) (files_of image)

@@ -33,5 +33,5 @@ without_files image (slot ∷ others) =
     with_map (with_cleared image (slot ∷ others)) (with_freed (free_blocks image) (flat_map (slot_owns image) (slot ∷ others)))
 
 -- the image after the deleting of the files that patterns match
-unfoldable pub scratched : Disk → List Bytes → Disk
-scratched image patterns = without_files image (scratched_slots image patterns)
+unfoldable pub scratched_disk : Disk → List Bytes → Disk
+scratched_disk image patterns = without_files image (scratched_slots image patterns)

@@ -6,7 +6,7 @@ use Rattle.d64_image.specs.BlockSet.{BlockSet}
 use Rattle.d64_image.specs.declared.image.TheConstants.{BLOCK_BYTES}
 use Rattle.d64_image.specs.Image.{with_sector}
 use Rattle.d64_map.specs.Map.{map_block, all_of, with_map}
-use Rattle.d64_files.specs.Name.{filled}
+use Rattle.d64_files.specs.Name.{filled_field}
 use Rattle.d64_files.specs.Writing.{empty_directory}
 
 -- the directory's first block: track 18, sector 1
@@ -20,7 +20,7 @@ header name id =
     (0x12 ∷ 0x01 ∷ [])
     ++ (0x41 ∷ 0x00 ∷ [])
     ++ replicate 140 0x00
-    ++ filled name
+    ++ filled_field name
     ++ (0xA0 ∷ 0xA0 ∷ [])
     ++ id
     ++ (0xA0 ∷ [])
@@ -33,11 +33,11 @@ unfoldable pub free_when_formatted : ℕ → BlockSet
 free_when_formatted count = set.remove (set.remove (all_of count) map_block) directory_start
 
 -- the blank image of so many blocks, all of whose bytes are 0
-unfoldable pub blank : ℕ → Disk
-blank count = replicate count (replicate BLOCK_BYTES 0)
+unfoldable pub blank_disk : ℕ → Disk
+blank_disk count = replicate count (replicate BLOCK_BYTES 0)
 
 -- the blank image of so many blocks with the map's block and the directory's first one, and the map
 -- of the free blocks
-unfoldable pub formatted : ℕ → Bytes → Bytes → Disk
-formatted count name id =
-    with_map (with_sector (with_sector (blank count) map_block (header name id)) directory_start empty_directory) (free_when_formatted count)
+unfoldable pub formatted_disk : ℕ → Bytes → Bytes → Disk
+formatted_disk count name id =
+    with_map (with_sector (with_sector (blank_disk count) map_block (header name id)) directory_start empty_directory) (free_when_formatted count)

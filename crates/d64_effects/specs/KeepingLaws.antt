@@ -4,13 +4,13 @@ use Rattle.d64_image.specs.Disk.{Disk, Bytes}
 use Rattle.d64_files.specs.Name.{IsName, name_in}
 use Rattle.d64_files.specs.Directory.{AllHold}
 use Rattle.d64_image.specs.Image.{IsImage}
-use Rattle.d64_effects.specs.Delete.{scratched}
+use Rattle.d64_effects.specs.Delete.{scratched_disk}
 use Rattle.d64_effects.specs.Laws.{HasRoom, AreBytes, IsWritable}
-use Rattle.d64_effects.specs.Rename.{renamed}
-use Rattle.d64_effects.specs.Validate.{validated}
+use Rattle.d64_effects.specs.Rename.{renamed_disk}
+use Rattle.d64_effects.specs.Validate.{validated_disk}
 use Rattle.d64_effects.specs.View.{FileView, IsSound, view}
 use Rattle.d64_effects.specs.ViewAfter.{is_scratched_file}
-use Rattle.d64_effects.specs.Write.{written}
+use Rattle.d64_effects.specs.Write.{written_disk}
 use Rattle.d64_files.specs.declared.kind.Kind.{Kind}
 
 -- a disk has a file in that slot, in these blocks and with this content
@@ -22,7 +22,7 @@ abbrev pub WritingKeepsFiles : Type 0
 WritingKeepsFiles =
     (image : Disk) (name : Bytes) (kind : Kind) (bytes : Bytes)
     → IsImage image → IsName name → IsWritable kind → AreBytes bytes → IsSound image → HasRoom image (length bytes)
-    → (slot : ℕ) (file : FileView) → HasFile image slot file → HasFile (written image name kind bytes) slot file
+    → (slot : ℕ) (file : FileView) → HasFile image slot file → HasFile (written_disk image name kind bytes) slot file
 
 -- the deleting of files keeps those that are not closed, or locked, or matched by no pattern
 abbrev pub DeletingKeepsOtherFiles : Type 0
@@ -30,18 +30,18 @@ DeletingKeepsOtherFiles =
     (image : Disk) (patterns : List Bytes)
     → IsImage image → IsSound image
     → (slot : ℕ) (file : FileView)
-    → is_scratched_file patterns file ≡ false → HasFile image slot file → HasFile (scratched image patterns) slot file
+    → is_scratched_file patterns file ≡ false → HasFile image slot file → HasFile (scratched_disk image patterns) slot file
 
 -- the renaming of a file keeps those of other names
 abbrev pub RenamingKeepsOtherFiles : Type 0
 RenamingKeepsOtherFiles =
     (image : Disk) (old new : Bytes)
     → IsImage image → IsName new → IsSound image
-    → (slot : ℕ) (file : FileView) → name_in file.field ≢ old → HasFile image slot file → HasFile (renamed image old new) slot file
+    → (slot : ℕ) (file : FileView) → name_in file.field ≢ old → HasFile image slot file → HasFile (renamed_disk image old new) slot file
 
 -- a validation keeps every closed file
 abbrev pub ValidatingKeepsClosedFiles : Type 0
 ValidatingKeepsClosedFiles =
     (image : Disk)
     → IsImage image → AllHold image 2 5
-    → (slot : ℕ) (file : FileView) → file.closed ≡ true → HasFile image slot file → HasFile (validated image) slot file
+    → (slot : ℕ) (file : FileView) → file.closed ≡ true → HasFile image slot file → HasFile (validated_disk image) slot file

@@ -10,13 +10,13 @@ use Rattle.d64_map.specs.Map.{free_blocks, blocks_free, CountsFit}
 use Rattle.d64_map.specs.Plan.{room}
 use Rattle.d64_effects.specs.Contents.{names_and_contents}
 use Rattle.d64_effects.specs.ContentsAfter.{is_scratched_row}
-use Rattle.d64_effects.specs.Delete.{scratched_count, scratched}
-use Rattle.d64_effects.specs.Format.{formatted, free_when_formatted}
-use Rattle.d64_effects.specs.Rename.{renamed}
-use Rattle.d64_effects.specs.Validate.{validated}
+use Rattle.d64_effects.specs.Delete.{scratched_count, scratched_disk}
+use Rattle.d64_effects.specs.Format.{formatted_disk, free_when_formatted}
+use Rattle.d64_effects.specs.Rename.{renamed_disk}
+use Rattle.d64_effects.specs.Validate.{validated_disk}
 use Rattle.d64_effects.specs.View.{IsSound, view}
 use Rattle.d64_effects.specs.ViewAfter.{formatted_view, written_view, scratched_view, renamed_view, validated_view}
-use Rattle.d64_effects.specs.Write.{written, next_of_directory}
+use Rattle.d64_effects.specs.Write.{written_disk, next_of_directory}
 use Rattle.d64_files.specs.declared.kind.Kind.{Kind}
 use Rattle.d64_files.specs.declared.kind.Kind.TheVariants.{Del, Rel}
 
@@ -26,16 +26,16 @@ AreTwoBytes id = (length id ≡ 2) × All (λ byte. byte < 256) id
 
 -- a formatted disk is an image
 abbrev pub FormattedIsImage : Type 0
-FormattedIsImage = (count : ℕ) (name id : Bytes) → IsSize count → IsName name → AreTwoBytes id → IsImage (formatted count name id)
+FormattedIsImage = (count : ℕ) (name id : Bytes) → IsSize count → IsName name → AreTwoBytes id → IsImage (formatted_disk count name id)
 
 -- its map marks free all blocks but its own and the directory's first one, whatever its name and
 -- its id are
 abbrev pub FormattedIsFree : Type 0
-FormattedIsFree = (count : ℕ) (name id : Bytes) → IsSize count → free_blocks (formatted count name id) ≡ free_when_formatted count
+FormattedIsFree = (count : ℕ) (name id : Bytes) → IsSize count → free_blocks (formatted_disk count name id) ≡ free_when_formatted count
 
 -- and the counts of its map fit
 abbrev pub FormattedCountsFit : Type 0
-FormattedCountsFit = (count : ℕ) (name id : Bytes) → IsSize count → CountsFit (formatted count name id)
+FormattedCountsFit = (count : ℕ) (name id : Bytes) → IsSize count → CountsFit (formatted_disk count name id)
 
 -- how many blocks the directory of a formatted disk of so many shows as free: all but those of
 -- track 18, so 664 on 35 tracks, and 749 on 40
@@ -44,15 +44,15 @@ free_count_of count = count - sectors_on 18
 
 -- the directory shows so many free blocks
 abbrev pub FormattedShowsItsFree : Type 0
-FormattedShowsItsFree = (count : ℕ) (name id : Bytes) → IsSize count → blocks_free (formatted count name id) ≡ free_count_of count
+FormattedShowsItsFree = (count : ℕ) (name id : Bytes) → IsSize count → blocks_free (formatted_disk count name id) ≡ free_count_of count
 
 -- a formatted disk is sound, whatever its name and its id are
 abbrev pub FormattedIsSound : Type 0
-FormattedIsSound = (count : ℕ) (name id : Bytes) → IsSize count → IsSound (formatted count name id)
+FormattedIsSound = (count : ℕ) (name id : Bytes) → IsSize count → IsSound (formatted_disk count name id)
 
 -- and shows what it should
 abbrev pub FormattedShows : Type 0
-FormattedShows = (count : ℕ) (name id : Bytes) → IsSize count → IsName name → AreTwoBytes id → view (formatted count name id) ≡ formatted_view count name id
+FormattedShows = (count : ℕ) (name id : Bytes) → IsSize count → IsName name → AreTwoBytes id → view (formatted_disk count name id) ≡ formatted_view count name id
 
 -- there is room for a file of so many bytes and its entry
 pub record HasRoom (image : Disk) (bytes : ℕ) : Type 0 where
@@ -71,48 +71,48 @@ IsWritable kind = (kind ≢ Del) × (kind ≢ Rel)
 abbrev pub WrittenIsImage : Type 0
 WrittenIsImage =
     (image : Disk) (name : Bytes) (kind : Kind) (bytes : Bytes)
-    → IsImage image → IsName name → AreBytes bytes → IsSound image → HasRoom image (length bytes) → IsImage (written image name kind bytes)
+    → IsImage image → IsName name → AreBytes bytes → IsSound image → HasRoom image (length bytes) → IsImage (written_disk image name kind bytes)
 
 -- a sound image stays sound under the writing of a file
 abbrev pub WrittenIsSound : Type 0
 WrittenIsSound =
     (image : Disk) (name : Bytes) (kind : Kind) (bytes : Bytes)
     → IsImage image → IsName name → IsWritable kind → AreBytes bytes → IsSound image → HasRoom image (length bytes)
-    → IsSound (written image name kind bytes)
+    → IsSound (written_disk image name kind bytes)
 
 -- and its view changes as the definition says
 abbrev pub WrittenShows : Type 0
 WrittenShows =
     (image : Disk) (name : Bytes) (kind : Kind) (bytes : Bytes)
     → IsImage image → IsName name → IsWritable kind → AreBytes bytes → IsSound image → HasRoom image (length bytes)
-    → view (written image name kind bytes) ≡ written_view (view image) name kind bytes
+    → view (written_disk image name kind bytes) ≡ written_view (view image) name kind bytes
 
 -- the renaming of a file leaves an image
 abbrev pub RenamedIsImage : Type 0
-RenamedIsImage = (image : Disk) (old new : Bytes) → IsImage image → IsName new → IsSound image → IsImage (renamed image old new)
+RenamedIsImage = (image : Disk) (old new : Bytes) → IsImage image → IsName new → IsSound image → IsImage (renamed_disk image old new)
 
 -- a sound image stays sound under the renaming of a file
 abbrev pub RenamedIsSound : Type 0
-RenamedIsSound = (image : Disk) (old new : Bytes) → IsImage image → IsName new → IsSound image → IsSound (renamed image old new)
+RenamedIsSound = (image : Disk) (old new : Bytes) → IsImage image → IsName new → IsSound image → IsSound (renamed_disk image old new)
 
 -- and its view changes as the definition says
 abbrev pub RenamedShows : Type 0
 RenamedShows =
     (image : Disk) (old new : Bytes)
-    → IsImage image → IsName new → IsSound image → view (renamed image old new) ≡ renamed_view (view image) old new
+    → IsImage image → IsName new → IsSound image → view (renamed_disk image old new) ≡ renamed_view (view image) old new
 
 -- the deleting of files leaves an image
 abbrev pub ScratchedIsImage : Type 0
-ScratchedIsImage = (image : Disk) (patterns : List Bytes) → IsImage image → IsSound image → IsImage (scratched image patterns)
+ScratchedIsImage = (image : Disk) (patterns : List Bytes) → IsImage image → IsSound image → IsImage (scratched_disk image patterns)
 
 -- a sound image stays sound under the deleting of files
 abbrev pub ScratchedIsSound : Type 0
-ScratchedIsSound = (image : Disk) (patterns : List Bytes) → IsImage image → IsSound image → IsSound (scratched image patterns)
+ScratchedIsSound = (image : Disk) (patterns : List Bytes) → IsImage image → IsSound image → IsSound (scratched_disk image patterns)
 
 -- its view changes as the definition says
 abbrev pub ScratchedShows : Type 0
 ScratchedShows =
-    (image : Disk) (patterns : List Bytes) → IsImage image → IsSound image → view (scratched image patterns) ≡ scratched_view (view image) patterns
+    (image : Disk) (patterns : List Bytes) → IsImage image → IsSound image → view (scratched_disk image patterns) ≡ scratched_view (view image) patterns
 
 -- and as many slots are scratched as files of the directory's list are closed, not locked, and
 -- matched by a pattern or more
@@ -124,13 +124,13 @@ ScratchedAreCounted =
 
 -- a validation leaves an image
 abbrev pub ValidatedIsImage : Type 0
-ValidatedIsImage = (image : Disk) → IsImage image → AllHold image 2 5 → IsImage (validated image)
+ValidatedIsImage = (image : Disk) → IsImage image → AllHold image 2 5 → IsImage (validated_disk image)
 
 -- a validation gives a sound image from any whose directory, files and chains are in order,
 -- whatever its map says
 abbrev pub ValidatedIsSound : Type 0
-ValidatedIsSound = (image : Disk) → IsImage image → AllHold image 2 5 → IsSound (validated image)
+ValidatedIsSound = (image : Disk) → IsImage image → AllHold image 2 5 → IsSound (validated_disk image)
 
 -- and its view changes as the definition says
 abbrev pub ValidatedShows : Type 0
-ValidatedShows = (image : Disk) → IsImage image → AllHold image 2 5 → view (validated image) ≡ validated_view (view image)
+ValidatedShows = (image : Disk) → IsImage image → AllHold image 2 5 → view (validated_disk image) ≡ validated_view (view image)

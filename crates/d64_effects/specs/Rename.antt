@@ -14,5 +14,5 @@ with_name_in image None name = image
 with_name_in image (Some slot) name = with_name image slot name
 
 -- the image after the renaming of the first file of a name
-unfoldable pub renamed : Disk → Bytes → Bytes → Disk
-renamed image old new = with_name_in image (first_of_name old (slots image)) new
+unfoldable pub renamed_disk : Disk → Bytes → Bytes → Disk
+renamed_disk image old new = with_name_in image (first_of_name old (slots image)) new

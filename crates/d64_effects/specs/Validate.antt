@@ -6,7 +6,7 @@ use Rattle.d64_map.specs.Map.{all_of, with_map}
 use Rattle.d64_files.specs.Directory.{slots, owned_blocks}
 use Rattle.d64_files.specs.Slot.{is_used, is_closed}
 use Rattle.d64_effects.specs.Clear.{slots_where, with_cleared}
-use Rattle.d64_effects.specs.Write.{without}
+use Rattle.d64_effects.specs.Write.{blocks_without}
 
 -- whether a slot is used, and its file isn't closed
 abbrev pub is_unclosed : Bytes → Bool
@@ -18,8 +18,8 @@ unclosed_slots image = slots_where is_unclosed (slots image)
 
 -- all of so many blocks but these
 abbrev pub all_but : ℕ → Blocks → BlockSet
-all_but count owned = without (all_of count) owned
+all_but count owned = blocks_without (all_of count) owned
 
 -- the image after a validation: without the unclosed files, and free is what nobody owns
-unfoldable pub validated : Disk → Disk
-validated image = with_map (with_cleared image (unclosed_slots image)) (all_but (length image) (owned_blocks image))
+unfoldable pub validated_disk : Disk → Disk
+validated_disk image = with_map (with_cleared image (unclosed_slots image)) (all_but (length image) (owned_blocks image))

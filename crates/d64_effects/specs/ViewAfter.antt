@@ -3,13 +3,13 @@ use Rattle.std.specs.Prelude.{ℕ, ◌-◌, true, false, not, if◌then◌else�
 use Rattle.std.specs.List.{flat_map}
 use Rattle.d64_image.specs.Disk.{Bytes, Blocks}
 use Rattle.d64_map.specs.Map.{map_block}
-use Rattle.d64_files.specs.Name.{filled, name_in}
+use Rattle.d64_files.specs.Name.{filled_field, name_in}
 use Rattle.d64_effects.specs.Clear.{with_freed}
 use Rattle.d64_effects.specs.Delete.{is_scratched}
 use Rattle.d64_effects.specs.Format.{directory_start, free_when_formatted}
 use Rattle.d64_effects.specs.View.{View, FileView}
 use Rattle.d64_effects.specs.Validate.{all_but}
-use Rattle.d64_effects.specs.Write.{taken_by, grown_by, without}
+use Rattle.d64_effects.specs.Write.{taken_by, grown_by, blocks_without}
 use Rattle.d64_files.specs.declared.kind.Kind.{Kind}
 
 -- after a format of a disk of so many blocks: the name and the id, eight unused slots in one block,
@@ -17,7 +17,7 @@ use Rattle.d64_files.specs.declared.kind.Kind.{Kind}
 unfoldable pub formatted_view : ℕ → Bytes → Bytes → View
 formatted_view count name id = record {
   count = count;
-  name = filled name;
+  name = filled_field name;
   id = id;
   directory = directory_start ∷ [];
   slots = replicate 8 None;
@@ -27,7 +27,7 @@ formatted_view count name id = record {
 -- a new file: closed, not locked, in the blocks that it took
 abbrev pub new_file : Bytes → Kind → Bytes → Blocks → FileView
 new_file name kind bytes taken = record {
-  field = filled name;
+  field = filled_field name;
   kind = kind;
   closed = true;
   locked = false;
@@ -53,7 +53,7 @@ abbrev pub view_with : View → Option ℕ → FileView → Blocks → Blocks �
 view_with old vacant file taken grown = record old {
   directory = old.directory ++ grown;
   slots = slots_with old.slots vacant file;
-  free = without old.free (taken ++ grown);
+  free = blocks_without old.free (taken ++ grown);
 }
 
 -- the number of the first unused slot
@@ -94,7 +94,7 @@ scratched_view old patterns = record old {
 
 -- a file with another name
 abbrev pub with_field : FileView → Bytes → FileView
-with_field file name = record file { field = filled name }
+with_field file name = record file { field = filled_field name }
 
 -- slots of which the first file of a name has another
 abbrev pub renamed_slots : List (Option FileView) → Bytes → Bytes → List (Option FileView)

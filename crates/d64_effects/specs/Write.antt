@@ -29,8 +29,8 @@ abbrev pub directory_grown : Disk → Blocks
 directory_grown image = grown_by (free_blocks image) (dir_last image) (first_unused (slots image))
 
 -- the free blocks without those that were taken
-abbrev pub without : BlockSet → Blocks → BlockSet
-without free taken = fold set.remove free taken
+abbrev pub blocks_without : BlockSet → Blocks → BlockSet
+blocks_without free taken = fold set.remove free taken
 
 -- the image with an entry in an unused slot, or in the first slot of a new block of the directory
 abbrev pub with_entry_in : Disk → Option ℕ → Blocks → Bytes → Disk
@@ -46,8 +46,8 @@ with_new_entry image entry = with_entry_in image (first_unused (slots image)) (d
 unfoldable pub with_file : Disk → Bytes → Kind → Bytes → Blocks → Disk
 with_file image name kind bytes taken =
     with_map (with_chain (with_new_entry image (entry_bytes name kind (slice_index taken 0) (length taken))) taken bytes)
-    (without (free_blocks image) (taken ++ directory_grown image))
+    (blocks_without (free_blocks image) (taken ++ directory_grown image))
 
 -- the image after the writing of a file
-unfoldable pub written : Disk → Bytes → Kind → Bytes → Disk
-written image name kind bytes = with_file image name kind bytes (taken_by (free_blocks image) (length bytes))
+unfoldable pub written_disk : Disk → Bytes → Kind → Bytes → Disk
+written_disk image name kind bytes = with_file image name kind bytes (taken_by (free_blocks image) (length bytes))

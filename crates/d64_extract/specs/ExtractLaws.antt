@@ -4,7 +4,7 @@ use Rattle.d64_image.specs.Disk.{Disk, Bytes}
 use Rattle.d64_files.specs.Slot.{is_used, is_closed}
 use Rattle.d64_files.specs.Reading.{file_refusal, file_content}
 use Rattle.d64_extract.specs.Portions.{Portion, portion}
-use Rattle.d64_extract.specs.Limits.{written, byte_counts}
+use Rattle.d64_extract.specs.Limits.{written_portions, byte_counts}
 use Rattle.d64_extract.specs.declared.extent.Extent.TheVariants.{Content}
 
 -- where parts aren't wanted, the file of a used slot is written exactly where reading it isn't
@@ -25,4 +25,4 @@ PartsChangeNoContent = (image : Disk) (cell : Bytes) → IfSome (portion false i
 -- the files that are written have together at most as many bytes as they may have
 abbrev pub WrittenFits : Type 0
 WrittenFits =
-    (with_parts : Bool) (image : Disk) (left : Option ℕ) (cells : List Bytes) → byte_counts (written with_parts image left cells) ≤ unwrap_or left 0
+    (with_parts : Bool) (image : Disk) (left : Option ℕ) (cells : List Bytes) → byte_counts (written_portions with_parts image left cells) ≤ unwrap_or left 0

@@ -10,24 +10,24 @@ limit = 16777216
 
 -- how many bytes later files may have after one of so many; none where with this one there are too
 -- many, or were before
-abbrev pub less : Option ℕ → ℕ → Option ℕ
-less None count = None
-less (Some left) count = if nat_le count left then Some (left - count) else None
+abbrev pub remaining_bytes : Option ℕ → ℕ → Option ℕ
+remaining_bytes None count = None
+remaining_bytes (Some left) count = if nat_le count left then Some (left - count) else None
 
 -- the same after what there is to write of a slot, if anything
 abbrev pub left_after : Option ℕ → Option Portion → Option ℕ
 left_after left None = left
-left_after left (Some portion) = less left (length portion.bytes)
+left_after left (Some portion) = remaining_bytes left (length portion.bytes)
 
 -- what is written, of what there is to write of a slot: nothing where that is too much
-abbrev pub within : Option ℕ → Option Portion → Option Portion
-within left portion = if is_some (left_after left portion) then portion else None
+abbrev pub portion_within : Option ℕ → Option Portion → Option Portion
+portion_within left portion = if is_some (left_after left portion) then portion else None
 
 -- what is written of slots, one after another, where their files may have so many bytes
-unfoldable pub written : Bool → Disk → Option ℕ → List Bytes → List (Option Portion)
-written with_parts image left [] = []
-written with_parts image left (cell ∷ cells) =
-    within left (portion with_parts image cell) ∷ written with_parts image (left_after left (portion with_parts image cell)) cells
+unfoldable pub written_portions : Bool → Disk → Option ℕ → List Bytes → List (Option Portion)
+written_portions with_parts image left [] = []
+written_portions with_parts image left (cell ∷ cells) =
+    portion_within left (portion with_parts image cell) ∷ written_portions with_parts image (left_after left (portion with_parts image cell)) cells
 
 -- how many bytes are written of a slot
 abbrev pub byte_count : Option Portion → ℕ

@@ -1,7 +1,7 @@
 //! The extraction of an image, file by file.
 ghost use Rattle.std.specs.Prelude.{◌≡◌, not, is_some, Some, None, IfOk, OnOk, option_map};
 ghost use Rattle.d64_extract.specs.Portions.{Portion, portion_at};
-ghost use Rattle.d64_extract.specs.Limits.{less, left_after, within};
+ghost use Rattle.d64_extract.specs.Limits.{remaining_bytes, left_after, portion_within};
 
 use crate::extent::Extent;
 use crate::finding::put_portion;
@@ -32,7 +32,7 @@ impl Model for Extraction {
 
 /// How many bytes later files may have after one of so many, or None where there are too many.
 fn less(left: Option<usize>, count: usize) -> Option<usize>
-    ensures { result ≡ less left count }
+    ensures { result ≡ remaining_bytes left count }
 {
     match left {
         Some(left) => left.checked_sub(count),
@@ -61,7 +61,7 @@ impl Extraction {
         bytes: &mut Vec<u8>,
     ) -> Result<Option<Extent>, AllocError>
         ensures written { IfOk result (λ extent. option_map (λ extent. record { bytes = bytes.new.items; extent = extent }) extent
-            ≡ within self.old (portion_at with_parts survey.now slot)) }
+            ≡ portion_within self.old (portion_at with_parts survey.now slot)) }
         ensures left { OnOk result (self.new ≡ left_after self.old (portion_at with_parts survey.now slot)) }
     {
         let Some(entry) = survey.entry(slot) else {

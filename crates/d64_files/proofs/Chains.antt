@@ -13,7 +13,7 @@ use Rattle.d64_image.specs.Block.{block_of}
 use Rattle.d64_files.specs.declared.chain.Link.{Link}
 use Rattle.d64_files.specs.declared.chain.Link.TheVariants.{End, To, Broken}
 use Rattle.d64_files.specs.ChainLaws.{LinkedAlike}
-use Rattle.d64_files.specs.Chain.{Chain, chain, chain_by, before, link_at, link_to, link_of, led_by, block_in, held, chain_from, LieIn}
+use Rattle.d64_files.specs.Chain.{Chain, chain, chain_by, chain_behind, link_at, link_to, link_of, led_by, block_in, held_block, chain_from, LieIn}
 
 -- a chain begins with the block from which it leads
 pub begins : (image : List (List ℕ)) (start : ℕ) (blocks : List ℕ) → Chain image start blocks → (rest : List ℕ) × (blocks ≡ start ∷ rest)
@@ -130,25 +130,25 @@ follows_chain links image start (block ∷ []) h short = subst (λ (link : Link)
 follows_chain zero image start (block ∷ next ∷ rest) h short = absurd (omega arith)
 follows_chain (suc links) image start (block ∷ next ∷ rest) h short =
     let e : chain_by links image next (link_of image next) ≡ next ∷ rest = follows_chain links image next (next ∷ rest) h.3 (omega arith) in
-    let joined : before start (next ∷ rest) ≡ start ∷ next ∷ rest = ap (λ (t : Bool). cond t [] (start ∷ next ∷ rest)) h.4 in
+    let joined : chain_behind start (next ∷ rest) ≡ start ∷ next ∷ rest = ap (λ (t : Bool). cond t [] (start ∷ next ∷ rest)) h.4 in
     subst (λ (link : Link). chain_by (suc links) image start link ≡ block ∷ next ∷ rest) (sym h.2)
-    (ap (before start) e ∙ joined ∙ ap (λ (b : ℕ). b ∷ next ∷ rest) (sym h.0))
+    (ap (chain_behind start) e ∙ joined ∙ ap (λ (b : ℕ). b ∷ next ∷ rest) (sym h.0))
 
 -- a block that the image has is one of it
-held_within : (image : List (List ℕ)) (block next : ℕ) → link_to (held image block) ≡ To next → next < length image
+held_within : (image : List (List ℕ)) (block next : ℕ) → link_to (held_block image block) ≡ To next → next < length image
 held_within image block next e =
     elim (cases_lt block (length image)) [
       | inl below ↦
-          let is : link_to (held image block) ≡ To block = ap (λ (t : Bool). link_to (cond t (Some block) None)) (lt-ltb block (length image) below) in
+          let is : link_to (held_block image block) ≡ To block = ap (λ (t : Bool). link_to (cond t (Some block) None)) (lt-ltb block (length image) below) in
           let both : To block ≡ To next = sym is ∙ e in
           let same : block ≡ next = cc in subst (λ (b : ℕ). b < length image) same below
       | inr past ↦
-          let is : link_to (held image block) ≡ Broken = ap (λ (t : Bool). link_to (cond t (Some block) None)) (le-ltb block (length image) past) in
+          let is : link_to (held_block image block) ≡ Broken = ap (λ (t : Bool). link_to (cond t (Some block) None)) (le-ltb block (length image) past) in
           let both : Broken ≡ To next = sym is ∙ e in cc
     ]
 
 -- a link leads to blocks of the image alone
-leads_within : (image : List (List ℕ)) (ends : Bool) (block : Option ℕ) (next : ℕ) → cond ends End (link_to (option_and_then (held image) block)) ≡ To next → next < length image
+leads_within : (image : List (List ℕ)) (ends : Bool) (block : Option ℕ) (next : ℕ) → cond ends End (link_to (option_and_then (held_block image) block)) ≡ To next → next < length image
 leads_within image true block next e = cc
 leads_within image false None next e = cc
 leads_within image false (Some block) next e = held_within image block next e
@@ -177,17 +177,17 @@ block_in-within image track sector block e = leads_within image false (block_of 
 
 -- a block that was put before a chain
 joins : (image : List (List ℕ)) (start next : ℕ) (rest blocks : List ℕ) → start < length image → link_of image start ≡ To next
-    → (rest ≢ [] → Chain image next rest) → before start rest ≡ blocks → blocks ≢ [] → Chain image start blocks
+    → (rest ≢ [] → Chain image next rest) → chain_behind start rest ≡ blocks → blocks ≢ [] → Chain image start blocks
 joins image start next [] blocks inside link chained e some = absurd (some (sym e))
 joins image start next (other ∷ rest) blocks inside link chained e some =
     let h : Chain image next (other ∷ rest) = chained (λ (f : other ∷ rest ≡ []). cc) in
     let b = begins image next (other ∷ rest) h in
     let same : other ≡ next = let f = b.1 in cc in
     let here : Chain image next (next ∷ rest) = subst (λ (n : ℕ). Chain image next (n ∷ rest)) same h in
-    by_test image start next rest blocks inside link here (ap (λ (n : ℕ). before start (n ∷ rest)) (sym same) ∙ e) some (list_any (eqb start) (next ∷ rest)) refl
+    by_test image start next rest blocks inside link here (ap (λ (n : ℕ). chain_behind start (n ∷ rest)) (sym same) ∙ e) some (list_any (eqb start) (next ∷ rest)) refl
   where
     by_test : (image : List (List ℕ)) (start next : ℕ) (rest blocks : List ℕ) → start < length image → link_of image start ≡ To next
-        → Chain image next (next ∷ rest) → before start (next ∷ rest) ≡ blocks → blocks ≢ []
+        → Chain image next (next ∷ rest) → chain_behind start (next ∷ rest) ≡ blocks → blocks ≢ []
         → (found : Bool) → list_any (eqb start) (next ∷ rest) ≡ found → Chain image start blocks
     by_test image start next rest blocks inside link h e some true t =
         absurd (some (sym e ∙ ap (λ (b : Bool). cond b [] (start ∷ next ∷ rest)) t))

@@ -4,7 +4,7 @@ use Rattle.std.specs.Prelude.{All, Contains, replicate}
 use Rattle.std.proofs.lemmas.Bool.Decides.{eqb_tells}
 use Rattle.std.proofs.lemmas.List.Elements.{All-head, All-tail}
 use Rattle.std.proofs.lemmas.List.Sums.{take_while-cons}
-use Rattle.d64_files.specs.Name.{IsName, forbidden_in_names, filled, name_in}
+use Rattle.d64_files.specs.Name.{IsName, forbidden_in_names, filled_field, name_in}
 
 -- a byte that a name may hold is no shifted space
 pub no_filler : (byte : ℕ) → ¬ (Contains forbidden_in_names byte) → not (byte == 0xA0) ≡ true
@@ -25,5 +25,5 @@ before_fillers (byte ∷ bytes) n all =
     ∙ ap (λ (xs : List ℕ). byte ∷ xs) (before_fillers bytes n (All-tail P byte bytes all))
 
 -- the name in its field
-pub name_in-filled : (name : List ℕ) → IsName name → name_in (filled name) ≡ name
-name_in-filled name named = before_fillers name (16 - length name) named.allowed
+pub name_in-filled_field : (name : List ℕ) → IsName name → name_in (filled_field name) ≡ name
+name_in-filled_field name named = before_fillers name (16 - length name) named.allowed

@@ -14,7 +14,7 @@ use Rattle.std.proofs.lemmas.Iterator.Adapters.{position_from-zero}
 use Rattle.d64_image.specs.Image.{sector_at}
 use Rattle.d64_files.specs.Chain.{LieIn}
 use Rattle.d64_files.specs.Slot.{EntryView, cell, cells, HasKind}
-use Rattle.d64_files.specs.Directory.{directory, slots, slots_in, numbered, entry_of, entries}
+use Rattle.d64_files.specs.Directory.{directory, slots, slots_in, numbered_slots, entry_of, entries}
 use Rattle.d64_files.specs.Writing.{dir_last, slot_block}
 use Rattle.d64_files.proofs.Chains.{chain_from-lies}
 use Rattle.d64_files.proofs.Owners.{entries_from}
@@ -71,17 +71,17 @@ pub next_entry : (image : List (List ℕ)) (blocks : List ℕ) (place : ℕ) →
 next_entry image blocks place within =
     let cells = slots_in image blocks in
     let inside = within_slots image blocks place within in
-    let long : place < length (numbered cells) = omega (arith, length-enumerate_from 0 cells) in
-    let all : place < length (entries image cells) = omega (arith, length-map (numbered cells) (entry_of image)) in
+    let long : place < length (numbered_slots cells) = omega (arith, length-enumerate_from 0 cells) in
+    let all : place < length (entries image cells) = omega (arith, length-map (numbered_slots cells) (entry_of image)) in
     drop_more (entries image cells) place (entry_of image (0, [])) all
     ∙ ap (λ (e : EntryView). e ∷ drop (place + 1) (entries image cells))
-    (get_or-map (entry_of image) (numbered cells) place (0, []) (entry_of image (0, [])) long
+    (get_or-map (entry_of image) (numbered_slots cells) place (0, []) (entry_of image (0, [])) long
     ∙ ap (entry_of image) (get_or-enumerate_from 0 cells place (0, []) inside
     ∙ ap₂ (λ (n : ℕ) (s : List ℕ). (n, s)) (let e : 0 + place ≡ place = omega arith in e) (slot_at_place image blocks place within)))
 
 -- slots have an entry each
 pub length-entries : (image cells : List (List ℕ)) → length (entries image cells) ≡ length cells
-length-entries image cells = length-map (numbered cells) (entry_of image) ∙ length-enumerate_from 0 cells
+length-entries image cells = length-map (numbered_slots cells) (entry_of image) ∙ length-enumerate_from 0 cells
 
 -- past the last block nothing is left of a walk
 pub no_entry : (image : List (List ℕ)) (blocks : List ℕ) (place : ℕ) → length blocks ≤ place / 8 → drop place (entries image (slots_in image blocks)) ≡ []

@@ -2,7 +2,7 @@
 use Rattle.std.proofs.Common.{◌≡◌, ℕ, ◌+◌, ◌-◌, ◌≤◌, List, ◌∷◌, ◌++◌, length, take, drop, sym, ap, ap₂, ◌∙◌, arith}
 use Rattle.std.proofs.Math.ListN.{replicate, drop_of_length-le}
 use Rattle.std.proofs.lemmas.List.{append_assoc, append-nil, take_at, drop_at, drop-drop, length-append, length-replicate, length-drop, length-take-le, drop-replicate, replicate-append-replicate}
-use Rattle.d64_files.specs.Name.{filled}
+use Rattle.d64_files.specs.Name.{filled_field}
 use Rattle.d64_files.specs.Writing.{written_at}
 
 -- bytes that a part is written over are as many as before
@@ -71,8 +71,8 @@ written_over bytes part start n x inside short =
     ∙ ap (λ (k : ℕ). front ++ ((part ++ kept) ++ drop k bytes)) place
 
 -- a name in its field has 16 bytes
-pub length-filled : (name : List ℕ) → length name ≤ 16 → length (filled name) ≡ 16
-length-filled name short =
+pub length-filled_field : (name : List ℕ) → length name ≤ 16 → length (filled_field name) ≡ 16
+length-filled_field name short =
     let rest : List ℕ = replicate (16 - length name) 160 in
     let e : length (name ++ rest) ≡ length name + length rest = length-append name rest in
     let f : length rest ≡ 16 - length name = length-replicate (16 - length name) 160 in
@@ -86,26 +86,26 @@ pub entry_from_parts : (bytes head name size first second third fourth fifth : L
     → third ≡ written_at second (start + 3) name
     → fourth ≡ written_at third (start + 19) (replicate 9 0)
     → fifth ≡ written_at fourth (start + 28) size
-    → fifth ≡ written_at bytes start (head ++ filled name ++ replicate 9 0 ++ size)
+    → fifth ≡ written_at bytes start (head ++ filled_field name ++ replicate 9 0 ++ size)
 entry_from_parts bytes head name size first second third fourth fifth start inside three short e1 e2 e3 e4 e5 =
     let rest : List ℕ = replicate (16 - length name) 0xA0 in
-    let field = length-filled name short in
+    let field = length-filled_field name short in
     let long : length first ≡ length bytes = ap length e1 ∙ length-written_at bytes head start (omega arith) in
-    let to_name = length-append head (filled name) in
-    let to_side = length-append (head ++ filled name) (replicate 9 0) in
-    let f3 : third ≡ written_at bytes start (head ++ filled name) =
+    let to_name = length-append head (filled_field name) in
+    let to_side = length-append (head ++ filled_field name) (replicate 9 0) in
+    let f3 : third ≡ written_at bytes start (head ++ filled_field name) =
     e3
     ∙ ap (λ (xs : List ℕ). written_at xs (start + 3) name) e2
     ∙ written_over first name (start + 3) 16 0xA0 (omega arith) short
-    ∙ ap (λ (xs : List ℕ). written_at xs (start + 3) (filled name)) e1
-    ∙ written_after bytes head (filled name) start (start + 3) (omega arith) (omega arith) in
-    let f4 : fourth ≡ written_at bytes start (head ++ filled name ++ replicate 9 0) =
+    ∙ ap (λ (xs : List ℕ). written_at xs (start + 3) (filled_field name)) e1
+    ∙ written_after bytes head (filled_field name) start (start + 3) (omega arith) (omega arith) in
+    let f4 : fourth ≡ written_at bytes start (head ++ filled_field name ++ replicate 9 0) =
     e4
     ∙ ap (λ (xs : List ℕ). written_at xs (start + 19) (replicate 9 0)) f3
-    ∙ written_after bytes (head ++ filled name) (replicate 9 0) start (start + 19) (omega arith) (omega arith) in
+    ∙ written_after bytes (head ++ filled_field name) (replicate 9 0) start (start + 19) (omega arith) (omega arith) in
     e5
     ∙ ap (λ (xs : List ℕ). written_at xs (start + 28) size) f4
-    ∙ written_after bytes (head ++ filled name ++ replicate 9 0) size start (start + 28) (omega arith) (omega arith)
+    ∙ written_after bytes (head ++ filled_field name ++ replicate 9 0) size start (start + 28) (omega arith) (omega arith)
 
 -- a link and the data after it fill a block
 pub linked_from_parts : (bytes link content first second : List ℕ) → length bytes ≡ 256 → length link ≡ 2 → length content ≡ 254

@@ -13,8 +13,8 @@ abbrev pub link_at : Disk → ℕ → ℕ × ℕ
 link_at image block = (slice_index (sector_at image block) 0, slice_index (sector_at image block) 1)
 
 -- a block, where the image has it
-abbrev pub held : Disk → ℕ → Option ℕ
-held image block = if nat_lt block (length image) then Some block else None
+abbrev pub held_block : Disk → ℕ → Option ℕ
+held_block image block = if nat_lt block (length image) then Some block else None
 
 -- the image has each of these blocks
 abbrev pub LieIn : Disk → Blocks → Type 0
@@ -22,7 +22,7 @@ LieIn image blocks = All (λ block. block < length image) blocks
 
 -- the block of a track and a sector, where the image has that block
 unfoldable pub block_in : Disk → ℕ → ℕ → Option ℕ
-block_in image track sector = option_and_then (held image) (block_of track sector)
+block_in image track sector = option_and_then (held_block image) (block_of track sector)
 
 -- a link to a block, or to none
 abbrev pub link_to : Option ℕ → Link
@@ -48,16 +48,16 @@ Chain image start (block ∷ next ∷ rest) =
     (block ≡ start) × (start < length image) × (link_of image start ≡ To next) × Chain image next (next ∷ rest) × (list_any (nat_eq start) (next ∷ rest) ≡ false)
 
 -- a block before a chain that doesn't hold it; none where there is no chain, or it holds the block
-abbrev pub before : ℕ → Blocks → Blocks
-before block [] = []
-before block (next ∷ rest) = if list_any (nat_eq block) (next ∷ rest) then [] else block ∷ next ∷ rest
+abbrev pub chain_behind : ℕ → Blocks → Blocks
+chain_behind block [] = []
+chain_behind block (next ∷ rest) = if list_any (nat_eq block) (next ∷ rest) then [] else block ∷ next ∷ rest
 
 -- the chain from a block that is linked so, where it follows at most that many links; else none
 unfoldable pub chain_by : ℕ → Disk → ℕ → Link → Blocks
 chain_by links image block End = block ∷ []
 chain_by links image block Broken = []
 chain_by zero image block (To next) = []
-chain_by (suc links) image block (To next) = before block (chain_by links image next (link_of image next))
+chain_by (suc links) image block (To next) = chain_behind block (chain_by links image next (link_of image next))
 
 -- the chain from a block, or the empty list where there is none
 unfoldable pub chain : Disk → ℕ → Blocks

@@ -33,8 +33,8 @@ abbrev pub slot_owns : Disk → ℕ → Blocks
 slot_owns image slot = option_map_or (owned_by image) (slice_get (slots image) slot) []
 
 -- slots with their numbers, from 0
-abbrev pub numbered : List Bytes → List (ℕ × Bytes)
-numbered cells = enumerate_from 0 cells
+abbrev pub numbered_slots : List Bytes → List (ℕ × Bytes)
+numbered_slots cells = enumerate_from 0 cells
 
 -- the entry of a numbered slot of an image
 abbrev pub entry_of : Disk → ℕ × Bytes → EntryView
@@ -42,7 +42,7 @@ entry_of image slot = record { slot = slot.0; bytes = slot.1; image = image }
 
 -- the entries of slots of an image
 abbrev pub entries : Disk → List Bytes → List EntryView
-entries image cells = map (entry_of image) (numbered cells)
+entries image cells = map (entry_of image) (numbered_slots cells)
 
 -- a used slot whose name the pattern matches
 abbrev pub is_named : Bytes → Bytes → Bool

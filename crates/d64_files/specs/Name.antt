@@ -20,5 +20,5 @@ abbrev pub name_in : Bytes → Bytes
 name_in field = take_while (λ byte. not (byte == 0xA0)) field
 
 -- a name in its field of 16 bytes, filled with shifted spaces
-abbrev pub filled : Bytes → Bytes
-filled name = name ++ replicate (16 - length name) 0xA0
+abbrev pub filled_field : Bytes → Bytes
+filled_field name = name ++ replicate (16 - length name) 0xA0

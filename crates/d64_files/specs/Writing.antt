@@ -4,7 +4,7 @@ use Rattle.d64_image.specs.Disk.{Disk, Bytes, Blocks}
 use Rattle.d64_image.specs.Block.{pair_at}
 use Rattle.d64_image.specs.Image.{sector_at, with_sector}
 use Rattle.d64_files.specs.Directory.{directory}
-use Rattle.d64_files.specs.Name.{filled}
+use Rattle.d64_files.specs.Name.{filled_field}
 use Rattle.d64_files.specs.Slot.{is_used}
 use Rattle.d64_files.specs.declared.kind.Kind.{Kind}
 use Rattle.d64_files.specs.declared.kind.Kind.TheVariants.{Del, Seq, Prg, Usr, Rel}
@@ -51,7 +51,7 @@ number_of_kind Rel = 4
 -- block, its name, no side blocks, and its size in blocks
 unfoldable pub entry_bytes : Bytes → Kind → ℕ → ℕ → Bytes
 entry_bytes name kind first blocks =
-    (0x80 + number_of_kind kind) ∷ (pair_bytes first ++ filled name ++ replicate 9 0 ++ ((blocks % 256) ∷ (blocks / 256) ∷ []))
+    (0x80 + number_of_kind kind) ∷ (pair_bytes first ++ filled_field name ++ replicate 9 0 ++ ((blocks % 256) ∷ (blocks / 256) ∷ []))
 
 -- the number of the first slot that isn't used
 abbrev pub first_unused : List Bytes → Option ℕ

@@ -3,10 +3,10 @@
 //!
 //! They write through a patch, so that what they write can be taken back.
 ghost use Rattle.std.specs.Prelude.{◌≡◌, ◌+◌, ◌<◌, ◌≤◌, length, OnOk};
-ghost use Rattle.d64_image.specs.Patch.{IsPatchOf, back};
+ghost use Rattle.d64_image.specs.Patch.{IsPatchOf, restored_image};
 ghost use Rattle.d64_files.specs.Clearing.{with_cleared_slot, with_name};
 ghost use Rattle.d64_files.specs.Directory.{slots};
-ghost use Rattle.d64_files.specs.Name.{filled};
+ghost use Rattle.d64_files.specs.Name.{filled_field};
 ghost use Rattle.d64_files.specs.Writing.{with_bytes, slot_block, slot_start};
 
 use crate::block_bytes::write_at;
@@ -35,7 +35,7 @@ fn write_in_slot(
     requires slot { slot < length (slots image.old) }
     requires part { place + length part.now ≤ 30 }
     ensures written { OnOk result (image.new ≡ with_bytes image.old (slot_block image.old slot) (slot_start slot + place) part.now) }
-    ensures back { back image.new patch.new ≡ back image.old patch.old }
+    ensures back { restored_image image.new patch.new ≡ restored_image image.old patch.old }
     ensures held { IsPatchOf image.old patch.old → IsPatchOf image.new patch.new }
 {
     let block = block_of_slot(image, slot);
@@ -47,7 +47,7 @@ fn write_in_slot(
 
 /// A name in its field of 16 bytes, filled with shifted spaces.
 fn filled(name: &Name) -> [u8; MAX_LEN]
-    ensures { result ≡ filled name.now }
+    ensures { result ≡ filled_field name.now }
 {
     let name = name.bytes();
     let mut field = [FILLER; MAX_LEN];
@@ -64,7 +64,7 @@ fn filled(name: &Name) -> [u8; MAX_LEN]
 pub fn clear_slot(image: &mut Image, patch: &mut Patch, slot: SlotNo) -> Result<(), AllocError>
     requires { slot < length (slots image.old) }
     ensures cleared { OnOk result (image.new ≡ with_cleared_slot image.old slot) }
-    ensures back { back image.new patch.new ≡ back image.old patch.old }
+    ensures back { restored_image image.new patch.new ≡ restored_image image.old patch.old }
     ensures held { IsPatchOf image.old patch.old → IsPatchOf image.new patch.new }
 {
     write_in_slot(image, patch, slot, 0, &[0])
@@ -84,7 +84,7 @@ pub fn set_name(
 ) -> Result<(), AllocError>
     requires { slot < length (slots image.old) }
     ensures named { OnOk result (image.new ≡ with_name image.old slot name.now) }
-    ensures back { back image.new patch.new ≡ back image.old patch.old }
+    ensures back { restored_image image.new patch.new ≡ restored_image image.old patch.old }
     ensures held { IsPatchOf image.old patch.old → IsPatchOf image.new patch.new }
 {
     write_in_slot(image, patch, slot, NAME_AFTER_TYPE, &filled(name))

@@ -13,14 +13,14 @@ fault_number TooLong = 3
 fault_number (Memory error) = 4
 
 -- the answer to a fetch, with the bytes as a list
-abbrev pub fetched : {A : Type 0} → Result (Vec ℕ A) HostFault → Result (List ℕ) HostFault
-fetched (Ok bytes) = Ok bytes.items
-fetched (Err fault) = Err fault
+abbrev pub fetched_bytes : {A : Type 0} → Result (Vec ℕ A) HostFault → Result (List ℕ) HostFault
+fetched_bytes (Ok bytes) = Ok bytes.items
+fetched_bytes (Err fault) = Err fault
 
 -- the answer to a fetch that fills a buffer, which then has the bytes
-abbrev pub filled : {A B : Type 0} → Result B HostFault → Vec ℕ A → Result (List ℕ) HostFault
-filled (Ok done) bytes = Ok bytes.items
-filled (Err fault) bytes = Err fault
+abbrev pub filled_bytes : {A B : Type 0} → Result B HostFault → Vec ℕ A → Result (List ℕ) HostFault
+filled_bytes (Ok done) bytes = Ok bytes.items
+filled_bytes (Err fault) bytes = Err fault
 
 -- what a fetch of a name may answer where these are the files: the file, of at most `limit` bytes;
 -- that it is not there; that it is longer; and in place of any of these the device's fault or want
@@ -40,9 +40,9 @@ Fetches None name limit (Ok bytes) = length bytes ≤ limit
 Fetches None name limit (Err fault) = ⊤
 
 -- the answer to an opening, with the bytes that the file has left, as far as it tells them
-abbrev pub opened : {F : Type 0} → (F → Option (List ℕ)) → Result F HostFault → Result (Option (List ℕ)) HostFault
-opened remaining (Ok file) = Ok (remaining file)
-opened remaining (Err fault) = Err fault
+abbrev pub opened_bytes : {F : Type 0} → (F → Option (List ℕ)) → Result F HostFault → Result (Option (List ℕ)) HostFault
+opened_bytes remaining (Ok file) = Ok (remaining file)
+opened_bytes remaining (Err fault) = Err fault
 
 -- what an opening of a name may answer where these are the files: all bytes of the file, which it
 -- tells; that it is not there; and in place of either the device's fault or want of memory

@@ -9,24 +9,24 @@ pub record Place : Type 0 where
   pub is_synced : Bool
 
 -- a file of these bytes, with nothing beside it
-abbrev pub alone : List ℕ → Place
-alone content = record { content = content; beside = None; is_synced = false }
+abbrev pub file_alone : List ℕ → Place
+file_alone content = record { content = content; beside = None; is_synced = false }
 
 -- the new file holds these bytes
-abbrev pub filled : List ℕ → Place → Place
-filled bytes place = record place { beside = Some bytes; is_synced = false }
+abbrev pub filled_place : List ℕ → Place → Place
+filled_place bytes place = record place { beside = Some bytes; is_synced = false }
 
 -- what the new file holds is on the disk
-abbrev pub synced : Place → Place
-synced place = record place { is_synced = true }
+abbrev pub synced_place : Place → Place
+synced_place place = record place { is_synced = true }
 
 -- the name stands for the new file's bytes
-abbrev pub published : Place → Place
-published place = alone (unwrap_or place.beside place.content)
+abbrev pub published_place : Place → Place
+published_place place = file_alone (unwrap_or place.beside place.content)
 
 -- the new file is gone
-abbrev pub discarded : Place → Place
-discarded place = alone place.content
+abbrev pub discarded_place : Place → Place
+discarded_place place = file_alone place.content
 
 -- what the name stands for, where it is told
 abbrev pub content_of : Option Place → Option (List ℕ)

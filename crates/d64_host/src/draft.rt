@@ -1,7 +1,7 @@
 //! A file that is replaced by a new one beside it, once that is whole and on the disk.
 
 ghost use Rattle.std.specs.Prelude.{◌≡◌, Option, option_map, IfErr, IfSome, OnOk, OnErr};
-ghost use Rattle.d64_host.specs.Replacement.{Place, alone, filled, synced, published, discarded, content_of, IsReady};
+ghost use Rattle.d64_host.specs.Replacement.{Place, file_alone, filled_place, synced_place, published_place, discarded_place, content_of, IsReady};
 
 use crate::host::HostFault;
 
@@ -15,32 +15,32 @@ pub trait Draft {
 
     /// Writes these bytes, all that the new file is to hold.
     fn fill(&mut self, bytes: &[u8]) -> Result<(), HostFault>
-        ensures filled { OnOk result (place self.new ≡ option_map (filled bytes.now) (place self.old)) }
+        ensures filled { OnOk result (place self.new ≡ option_map (filled_place bytes.now) (place self.old)) }
         ensures kept { OnErr result (content_of (place self.new) ≡ content_of (place self.old)) }
         ensures refused { IfErr result (λ fault. fault ≡ HostFault.Device) };
 
     /// Waits until the disk has what was written.
     fn sync(&mut self) -> Result<(), HostFault>
-        ensures synced { OnOk result (place self.new ≡ option_map synced (place self.old)) }
+        ensures synced { OnOk result (place self.new ≡ option_map synced_place (place self.old)) }
         ensures kept { OnErr result (content_of (place self.new) ≡ content_of (place self.old)) }
         ensures refused { IfErr result (λ fault. fault ≡ HostFault.Device) };
 
     /// Puts the new file in the place of the old one, in one step.
     fn publish(&mut self) -> Result<(), HostFault>
         requires { IfSome (place self.old) IsReady }
-        ensures published { OnOk result (place self.new ≡ option_map published (place self.old)) }
+        ensures published { OnOk result (place self.new ≡ option_map published_place (place self.old)) }
         ensures kept { OnErr result (content_of (place self.new) ≡ content_of (place self.old)) }
         ensures refused { IfErr result (λ fault. fault ≡ HostFault.Device) };
 
     /// Removes the new file.
     fn discard(&mut self)
-        ensures { place self.new ≡ option_map discarded (place self.old) };
+        ensures { place self.new ≡ option_map discarded_place (place self.old) };
 }
 
 /// Replaces the file by these bytes, or removes the new file and leaves the old one as it is.
 pub fn replace_by<D: Draft>(draft: &mut D, bytes: &[u8]) -> Result<(), HostFault>
-    ensures replaced { OnOk result (D.place draft.new ≡ option_map (λ place. alone bytes.now) (D.place draft.old)) }
-    ensures kept { OnErr result (D.place draft.new ≡ option_map discarded (D.place draft.old)) }
+    ensures replaced { OnOk result (D.place draft.new ≡ option_map (λ place. file_alone bytes.now) (D.place draft.old)) }
+    ensures kept { OnErr result (D.place draft.new ≡ option_map discarded_place (D.place draft.old)) }
     ensures refused { IfErr result (λ fault. fault ≡ HostFault.Device) }
 {
     match write_and_publish(draft, bytes) {
@@ -54,7 +54,7 @@ pub fn replace_by<D: Draft>(draft: &mut D, bytes: &[u8]) -> Result<(), HostFault
 
 /// Writes the new file, waits for the disk, and only then puts it in the place of the old one.
 fn write_and_publish<D: Draft>(draft: &mut D, bytes: &[u8]) -> Result<(), HostFault>
-    ensures replaced { OnOk result (D.place draft.new ≡ option_map (λ place. alone bytes.now) (D.place draft.old)) }
+    ensures replaced { OnOk result (D.place draft.new ≡ option_map (λ place. file_alone bytes.now) (D.place draft.old)) }
     ensures kept { OnErr result (content_of (D.place draft.new) ≡ content_of (D.place draft.old)) }
     ensures refused { IfErr result (λ fault. fault ≡ HostFault.Device) }
 {

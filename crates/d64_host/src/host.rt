@@ -4,7 +4,7 @@ ghost use Rattle.std.specs.Prelude.{◌≡◌, true, IfSome, OnOk};
 ghost use Rattle.std.specs.FinMap.{contains_key};
 ghost use Rattle.d64_host.specs.Files.{HostState};
 ghost use Rattle.d64_host.specs.Folders.{folder_name, with_folder, with_file, with_moved, Looks, Makes, CountsMaking};
-ghost use Rattle.d64_host.specs.Host.{fault_number, fetched, filled, opened, Fetches, Opens, Stores, CountsDevice, one_more_failure};
+ghost use Rattle.d64_host.specs.Host.{fault_number, fetched_bytes, filled_bytes, opened_bytes, Fetches, Opens, Stores, CountsDevice, one_more_failure};
 
 use std::alloc::{AllocError, Global};
 use std::io::Read;
@@ -69,7 +69,7 @@ pub trait Host {
     /// The bytes of the named file, of which there are at most `limit`. `Missing` where there is no
     /// such file, `TooLong` where it has more bytes, and else only `Device` or `Memory`.
     fn fetch(&mut self, alloc: Global, name: &str, limit: usize) -> Result<Vec<u8>, HostFault>
-        ensures answer { Fetches (state self.old).files name.now limit (fetched result) }
+        ensures answer { Fetches (state self.old).files name.now limit (fetched_bytes result) }
         ensures files_kept { (state self.new).files ≡ (state self.old).files }
         ensures counted { CountsDevice (state self.old).failures (state self.new).failures result };
 
@@ -77,7 +77,7 @@ pub trait Host {
     /// has, where that is enough. It is refused as `fetch` is; `bytes` then has no content that is
     /// told.
     fn fill(&mut self, name: &str, limit: usize, bytes: &mut Vec<u8>) -> Result<(), HostFault>
-        ensures answer { Fetches (state self.old).files name.now limit (filled result bytes.new) }
+        ensures answer { Fetches (state self.old).files name.now limit (filled_bytes result bytes.new) }
         ensures files_kept { (state self.new).files ≡ (state self.old).files }
         ensures counted { CountsDevice (state self.old).failures (state self.new).failures result };
 
@@ -85,7 +85,7 @@ pub trait Host {
     /// file, and else only `Device` or `Memory`. What is read is the file's, whatever becomes of
     /// the host.
     fn open(&mut self, name: &str) -> Result<Self::File, HostFault>
-        ensures answer { Opens (state self.old).files name.now (opened Self.File.remaining result) }
+        ensures answer { Opens (state self.old).files name.now (opened_bytes Self.File.remaining result) }
         ensures files_kept { (state self.new).files ≡ (state self.old).files }
         ensures counted { CountsDevice (state self.old).failures (state self.new).failures result };
 

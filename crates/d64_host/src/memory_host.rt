@@ -3,7 +3,7 @@
 ghost use Rattle.std.specs.Prelude.{◌≡◌, ℕ, ◌+◌, ◌-◌, ◌↔◌, Some, Ok, Err, MatchOption, true, OnOk, OnErr, IfOk, IfErr, IfSome, IsTrue, option_copied, string_bytes};
 ghost use Rattle.std.specs.FinMap.{contains_key, empty, get, insert};
 ghost use Rattle.d64_host.specs.Folders.{folder_name, is_at, moved_name, with_file, with_folder, with_moved, Looks, Makes, CountsMaking};
-ghost use Rattle.d64_host.specs.Host.{fetched, filled, opened, Fetches, Opens, Stores, CountsDevice, answered_fault, one_more_failure};
+ghost use Rattle.d64_host.specs.Host.{fetched_bytes, filled_bytes, opened_bytes, Fetches, Opens, Stores, CountsDevice, answered_fault, one_more_failure};
 ghost use Rattle.d64_host.specs.MemoryHost.{after_call, countdown_after, fetch_refusal, files_of, making_refusal, open_refusal, store_refusal};
 
 use crate::host::{FolderFault, Host, HostFault};
@@ -197,7 +197,7 @@ impl Host for MemoryHost {
     fn fetch(&mut self, alloc: Global, name: &str, limit: usize) -> Result<Vec<u8>, HostFault>
         ensures refused { answered_fault result ≡ fetch_refusal self.old name.now limit }
         ensures after { self.new ≡ after_call self.old }
-        ensures answer { Fetches (Some self.old.files) name.now limit (fetched result) }
+        ensures answer { Fetches (Some self.old.files) name.now limit (fetched_bytes result) }
         ensures files_kept { Some self.new.files ≡ Some self.old.files }
         ensures counted { CountsDevice self.old.failures self.new.failures result }
     {
@@ -209,7 +209,7 @@ impl Host for MemoryHost {
     fn fill(&mut self, name: &str, limit: usize, bytes: &mut Vec<u8>) -> Result<(), HostFault>
         ensures refused { answered_fault result ≡ fetch_refusal self.old name.now limit }
         ensures after { self.new ≡ after_call self.old }
-        ensures answer { Fetches (Some self.old.files) name.now limit (filled result bytes.new) }
+        ensures answer { Fetches (Some self.old.files) name.now limit (filled_bytes result bytes.new) }
         ensures files_kept { Some self.new.files ≡ Some self.old.files }
         ensures counted { CountsDevice self.old.failures self.new.failures result }
     {
@@ -229,7 +229,7 @@ impl Host for MemoryHost {
     fn open(&mut self, name: &str) -> Result<VecDeque<u8>, HostFault>
         ensures refused { answered_fault result ≡ open_refusal self.old name.now }
         ensures after { self.new ≡ after_call self.old }
-        ensures answer { Opens (Some self.old.files) name.now (opened (λ file. Some file.items) result) }
+        ensures answer { Opens (Some self.old.files) name.now (opened_bytes (λ file. Some file.items) result) }
         ensures files_kept { Some self.new.files ≡ Some self.old.files }
         ensures counted { CountsDevice self.old.failures self.new.failures result }
     {

@@ -6,7 +6,7 @@ use Rattle.std.proofs.lemmas.Bool.{both_ways, eqb-false, not-true}
 use Rattle.std.proofs.lemmas.List.{length-append}
 use Rattle.std.proofs.lemmas.List.Elements.{All-nil, All-cons, All-head, All-tail, All-append, All-take, All-filter, All-get_or, filter_passes}
 use Rattle.d64_host_names.specs.HostName.{slash}
-use Rattle.d64_host_names.specs.ImagePlace.{parts, is_folder, folders_of, last_part, finished, unfinished, image_name, partial_name}
+use Rattle.d64_host_names.specs.ImagePlace.{parts, is_folder, folders_of, last_part, finished_name, unfinished_name, image_name, partial_name}
 use Rattle.d64_host_names.specs.Laws.{StaysInFolder}
 use Rattle.d64_host_names.proofs.Parts.{is_slash, some_parts}
 use Rattle.d64_host_names.proofs.SafeNames.{all_from_test, stays_from_length}
@@ -60,22 +60,22 @@ is_other byte = not (byte == slash)
 other_from_test : (byte : ℕ) → is_other byte ≡ true → byte ≢ slash
 other_from_test byte passes = eqb-false byte slash (not-true (byte == slash) passes)
 
-finished_none : (last : List ℕ) → NoSlash last → NoSlash (finished last)
-unfolding finished
+finished_none : (last : List ℕ) → NoSlash last → NoSlash (finished_name last)
+unfolding finished_name
 finished_none last none = All-append (λ b. b ≢ slash) last (codes ".files") none (all_from_test (λ b. b ≢ slash) is_other other_from_test (codes ".files") refl)
 
-finished_long : (last : List ℕ) → 6 ≤ length (finished last)
-unfolding finished
+finished_long : (last : List ℕ) → 6 ≤ length (finished_name last)
+unfolding finished_name
 finished_long last = omega (arith, length-append last (codes ".files"))
 
-unfinished_none : (last : List ℕ) → NoSlash last → NoSlash (unfinished last)
-unfolding unfinished
+unfinished_none : (last : List ℕ) → NoSlash last → NoSlash (unfinished_name last)
+unfolding unfinished_name
 unfinished_none last none =
-    All-append (λ b. b ≢ slash) (finished last) (codes ".partial") (finished_none last none) (all_from_test (λ b. b ≢ slash) is_other other_from_test (codes ".partial") refl)
+    All-append (λ b. b ≢ slash) (finished_name last) (codes ".partial") (finished_none last none) (all_from_test (λ b. b ≢ slash) is_other other_from_test (codes ".partial") refl)
 
-unfinished_long : (last : List ℕ) → 6 ≤ length (unfinished last)
-unfolding unfinished
-unfinished_long last = omega (arith, length-append (finished last) (codes ".partial"), finished_long last)
+unfinished_long : (last : List ℕ) → 6 ≤ length (unfinished_name last)
+unfolding unfinished_name
+unfinished_long last = omega (arith, length-append (finished_name last) (codes ".partial"), finished_long last)
 
 pub image_stays : (path : List ℕ) → StaysInFolder (image_name path)
 image_stays path = stays_from_length (image_name path) (omega (arith, finished_long (last_part path))) (finished_none (last_part path) (last_none path))

@@ -8,7 +8,7 @@ use Rattle.std.proofs.lemmas.Fmt.{decimal_injective, decimal_by_steps}
 use Rattle.std.proofs.lemmas.List.{map-append, append_cancel_left, append_cancel_right}
 use Rattle.std.proofs.lemmas.List.Elements.{All-nil, All-cons, All-push, All-head, All-tail}
 use Rattle.std.proofs.lemmas.Str.Ascii.{lowercase_is}
-use Rattle.d64_host_names.specs.HostName.{is_same_name, mark, numbered}
+use Rattle.d64_host_names.specs.HostName.{is_same_name, mark, numbered_name}
 use Rattle.d64_host_names.proofs.SameNames.{lower_from_same, same_from_lower}
 
 -- a digit
@@ -78,27 +78,27 @@ marks_differ m n m_small n_small same =
 
 -- the small letters of a name that is tried
 pub lower_numbered : (front back : List ℕ) (number : ℕ)
-    → str_to_ascii_lowercase (numbered front back number) ≡ str_to_ascii_lowercase front ++ (str_to_ascii_lowercase (mark number) ++ str_to_ascii_lowercase back)
-unfolding numbered
+    → str_to_ascii_lowercase (numbered_name front back number) ≡ str_to_ascii_lowercase front ++ (str_to_ascii_lowercase (mark number) ++ str_to_ascii_lowercase back)
+unfolding numbered_name
 lower_numbered front back number =
     map-append to_ascii_lowercase front (mark number ++ back)
     ∙ ap (λ (bs : List ℕ). str_to_ascii_lowercase front ++ bs) (map-append to_ascii_lowercase (mark number) back)
 
 -- two names that are tried in different places aren't the same
-pub same_number : (front back : List ℕ) (m n : ℕ) → m < 2 ^ 64 → n < 2 ^ 64 → is_same_name (numbered front back m) (numbered front back n) ≡ true → m ≡ n
+pub same_number : (front back : List ℕ) (m n : ℕ) → m < 2 ^ 64 → n < 2 ^ 64 → is_same_name (numbered_name front back m) (numbered_name front back n) ≡ true → m ≡ n
 same_number front back m n m_small n_small is =
     let lower = str_to_ascii_lowercase in
-    let whole = sym (lower_numbered front back m) ∙ lower_from_same (numbered front back m) (numbered front back n) is ∙ lower_numbered front back n in
+    let whole = sym (lower_numbered front back m) ∙ lower_from_same (numbered_name front back m) (numbered_name front back n) is ∙ lower_numbered front back n in
     let without_front = append_cancel_left (lower front) (lower (mark m) ++ lower back) (lower (mark n) ++ lower back) whole in
     let marks = append_cancel_right (lower (mark m)) (lower (mark n)) (lower back) without_front in
     marks_differ m n m_small n_small (sym (lower_mark m m_small) ∙ marks ∙ lower_mark n n_small)
 
 -- names with one number whose parts are the same are the same
 pub same_parts : (front back other_front other_back : List ℕ) (number : ℕ) → str_to_ascii_lowercase front ≡ str_to_ascii_lowercase other_front
-    → str_to_ascii_lowercase back ≡ str_to_ascii_lowercase other_back → is_same_name (numbered front back number) (numbered other_front other_back number) ≡ true
+    → str_to_ascii_lowercase back ≡ str_to_ascii_lowercase other_back → is_same_name (numbered_name front back number) (numbered_name other_front other_back number) ≡ true
 same_parts front back other_front other_back number fronts backs =
     let lower = str_to_ascii_lowercase in
-    same_from_lower (numbered front back number) (numbered other_front other_back number)
+    same_from_lower (numbered_name front back number) (numbered_name other_front other_back number)
     (lower_numbered front back number
     ∙ ap (λ (bs : List ℕ). bs ++ (lower (mark number) ++ lower back)) fronts
     ∙ ap (λ (bs : List ℕ). lower other_front ++ (lower (mark number) ++ bs)) backs

@@ -12,7 +12,7 @@ use Rattle.std.proofs.lemmas.List.Folds.{list_any_none, list_any_at}
 use Rattle.d64_host_names.specs.declared.ending.Ending.{Ending}
 use Rattle.d64_host_names.specs.declared.taken_names.Taken.{Taken}
 use Rattle.d64_host_names.specs.Digest.{digest_of}
-use Rattle.d64_host_names.specs.HostName.{is_same_name, numbered, tail}
+use Rattle.d64_host_names.specs.HostName.{is_same_name, numbered_name, tail}
 use Rattle.d64_host_names.specs.TakenNames.{is_taken, first_free}
 use Rattle.d64_host_names.specs.Records.{names_of, EndsAt, AreTried, IsRecord, AreRecords}
 use Rattle.d64_host_names.proofs.SameNames.{same_laws, lower_from_same, taken_alike, taken_still, last_taken}
@@ -71,13 +71,13 @@ found_is_taken records name (Some place) within is = sym (same_at_taken records 
 -- where the search may begin: the names before are taken
 abbrev pub BeginsAt : List Taken → List ℕ → ℕ → List ℕ → ℕ → Type 0
 BeginsAt records name stem_len back first =
-    (1 ≤ first) × ((number : ℕ) → 1 ≤ number → number < first → is_taken (names_of records) (numbered (take stem_len name) back number) ≡ true)
+    (1 ≤ first) × ((number : ℕ) → 1 ≤ number → number < first → is_taken (names_of records) (numbered_name (take stem_len name) back number) ≡ true)
 
 -- the names that are made of a record are those that are made of a name that is the same
 pub made_alike : (names : List (List ℕ)) (taken : Taken) (name : List ℕ) (stem_len number : ℕ) (ending : Ending) (is_part : Bool)
     → is_same_name taken.name.items name ≡ true → taken.stem_len ≤ length taken.name.items → EndsAt taken.name.items taken.stem_len
     → stem_len ≤ length name → drop stem_len name ≡ tail ending is_part
-    → is_same_name (numbered (take stem_len name) (tail ending is_part) number) (numbered (take taken.stem_len taken.name.items) (drop taken.stem_len taken.name.items) number) ≡ true
+    → is_same_name (numbered_name (take stem_len name) (tail ending is_part) number) (numbered_name (take taken.stem_len taken.name.items) (drop taken.stem_len taken.name.items) number) ≡ true
 made_alike names taken name stem_len number ending is_part same within ends fits is =
     let kept = taken.name.items in
     let lower = lower_from_same kept name same in
@@ -101,7 +101,7 @@ begins_at_record (one ∷ records) name stem_len ending is_part place first all 
     let from : 1 ≤ first = subst (λ (n : ℕ). 1 ≤ n) (sym (next one)) holds.from in (
       from,
       λ number low below.
-          taken_alike names (numbered (take stem_len name) (tail ending is_part) number) (numbered (take taken.stem_len taken.name.items) (drop taken.stem_len taken.name.items) number)
+          taken_alike names (numbered_name (take stem_len name) (tail ending is_part) number) (numbered_name (take taken.stem_len taken.name.items) (drop taken.stem_len taken.name.items) number)
           (made_alike names taken name stem_len number ending is_part (same one) holds.within holds.ends fits is)
           ∙ holds.tried number low (subst (λ (n : ℕ). number < n) (next one) below),
     )
@@ -146,8 +146,8 @@ unfolding names_of
 kept_names records taken = map_push (λ taken. taken.name.items) records taken
 
 -- the name itself is the first that is made of it
-whole_name : (name : List ℕ) (stem_len : ℕ) → numbered (take stem_len name) (drop stem_len name) 1 ≡ name
-unfolding numbered
+whole_name : (name : List ℕ) (stem_len : ℕ) → numbered_name (take stem_len name) (drop stem_len name) 1 ≡ name
+unfolding numbered_name
 whole_name name stem_len = ap (λ (t : List ℕ). take stem_len name ++ (t ++ drop stem_len name)) first_mark ∙ take-append-drop stem_len name
 
 -- a record still holds where one name more is taken
@@ -157,7 +157,7 @@ still_record names more taken holds = record {
   within = holds.within;
   ends = holds.ends;
   from = holds.from;
-  tried = λ number low below. taken_still names more (numbered (take taken.stem_len taken.name.items) (drop taken.stem_len taken.name.items) number) (holds.tried number low below);
+  tried = λ number low below. taken_still names more (numbered_name (take taken.stem_len taken.name.items) (drop taken.stem_len taken.name.items) number) (holds.tried number low below);
 }
 
 pub kept_records : (records : List Taken) (taken : Taken) → AreRecords records → taken.digest ≡ digest_of taken.name.items → taken.stem_len ≤ length taken.name.items
@@ -173,8 +173,8 @@ kept_records records taken all digest within ends next =
       from = omega (arith, next);
       tried = λ number low below.
           let one : number ≡ 1 = omega (arith, next) in
-          last_taken (names_of records) name (numbered (take taken.stem_len name) (drop taken.stem_len name) number)
-          (ap (λ (n : ℕ). is_same_name (numbered (take taken.stem_len name) (drop taken.stem_len name) n) name) one
+          last_taken (names_of records) name (numbered_name (take taken.stem_len name) (drop taken.stem_len name) number)
+          (ap (λ (n : ℕ). is_same_name (numbered_name (take taken.stem_len name) (drop taken.stem_len name) n) name) one
           ∙ ap (λ (t : List ℕ). is_same_name t name) (whole_name name taken.stem_len) ∙ same_laws.refl name);
     } in
     subst (λ (all_names : List (List ℕ)). All (IsRecord all_names) (records ++ taken ∷ [])) (sym (kept_names records taken))
@@ -185,7 +185,7 @@ kept_records records taken all digest within ends next =
 pub tried_all : (records : List Taken) (name new : List ℕ) (stem_len place : ℕ) (d : Taken) (ending : Ending) (is_part : Bool)
     → AreRecords records → stem_len ≤ length name → drop stem_len name ≡ tail ending is_part → place < length records
     → is_same_name (get_or records place d).name.items name ≡ true
-    → new ≡ numbered (take stem_len name) (tail ending is_part) (first_free (names_of records) (take stem_len name) (tail ending is_part))
+    → new ≡ numbered_name (take stem_len name) (tail ending is_part) (first_free (names_of records) (take stem_len name) (tail ending is_part))
     → AreTried (names_of records ++ new ∷ []) (get_or records place d) (first_free (names_of records) (take stem_len name) (tail ending is_part) + 1)
 tried_all records name new stem_len place d ending is_part all fits is within same new_is =
     let taken = get_or records place d in
@@ -195,13 +195,13 @@ tried_all records name new stem_len place d ending is_part all fits is within sa
     let back = tail ending is_part in
     let last = first_free names front back in
     λ number low below.
-    let one = numbered front back number in
-    let other = numbered (take taken.stem_len taken.name.items) (drop taken.stem_len taken.name.items) number in
+    let one = numbered_name front back number in
+    let other = numbered_name (take taken.stem_len taken.name.items) (drop taken.stem_len taken.name.items) number in
     let alike : is_same_name one other ≡ true = made_alike names taken name stem_len number ending is_part same holds.within holds.ends fits is in
     sym (taken_alike (names ++ new ∷ []) one other alike)
     ∙ elim (cases_eq number last) [
       | inl end ↦
-          let new_one : one ≡ new = ap (numbered front back) end ∙ sym new_is in
+          let new_one : one ≡ new = ap (numbered_name front back) end ∙ sym new_is in
           last_taken names new one (ap (λ (t : List ℕ). is_same_name t new) new_one ∙ same_laws.refl new)
       | inr before ↦ taken_still names new one (before_first_free names front back number low (omega arith))
     ]

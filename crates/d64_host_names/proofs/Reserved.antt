@@ -10,7 +10,7 @@ use Rattle.std.proofs.lemmas.List.{map-append, length-append}
 use Rattle.std.proofs.lemmas.List.Folds.{list_all-append}
 use Rattle.d64_host_names.specs.declared.ending.Ending.{Ending}
 use Rattle.d64_host_names.specs.declared.ending.Ending.TheVariants.{Del, Seq, Prg, Usr, Rel}
-use Rattle.d64_host_names.specs.HostName.{full_stop, underscore, is_same_name, before_dot, devices, ports, is_port, is_reserved, allowed, shown, closed, filled, unreserved, stem, ending_text, part_text, tail, mark, numbered}
+use Rattle.d64_host_names.specs.HostName.{full_stop, underscore, is_same_name, before_dot, devices, ports, is_port, is_reserved, allowed_name, shown_name, closed_name, filled_name, unreserved_name, stem, ending_text, part_text, tail, mark, numbered_name}
 use Rattle.d64_host_names.specs.TakenNames.{first_free, next_name}
 use Rattle.d64_host_names.proofs.SameNames.{lower_from_same}
 use Rattle.d64_host_names.proofs.Numbers.{first_mark, other_mark}
@@ -121,7 +121,7 @@ before_tail Rel is_part = before_stop 46 (codes "rel" ++ part_text is_part) refl
 -- ---- names
 
 -- what a name begins with
-unreserved_free : (name : List ℕ) → is_reserved (before_dot (unreserved name)) ≡ false
+unreserved_free : (name : List ℕ) → is_reserved (before_dot (unreserved_name name)) ≡ false
 unreserved_free name = by_test (is_reserved (before_dot name)) refl
   where
     by_test : (t : Bool) → is_reserved (before_dot name) ≡ t → is_reserved (before_dot (if t then underscore ∷ name else name)) ≡ false
@@ -130,12 +130,12 @@ unreserved_free name = by_test (is_reserved (before_dot name)) refl
 
 stem_free : (text : List ℕ) → is_reserved (before_dot (stem text)) ≡ false
 unfolding stem
-stem_free text = unreserved_free (filled (closed (shown (allowed text))))
+stem_free text = unreserved_free (filled_name (closed_name (shown_name (allowed_name text))))
 
 -- a name whose front is free is free
 numbered_free : (front : List ℕ) (number : ℕ) (ending : Ending) (is_part : Bool) → is_reserved (before_dot front) ≡ false
-    → is_reserved (before_dot (numbered front (tail ending is_part) number)) ≡ false
-unfolding numbered
+    → is_reserved (before_dot (numbered_name front (tail ending is_part) number)) ≡ false
+unfolding numbered_name
 numbered_free front number ending is_part free =
     elim (before-append front (mark number ++ tail ending is_part)) [
       | inl same ↦ ap is_reserved same ∙ free

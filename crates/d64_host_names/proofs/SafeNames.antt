@@ -6,7 +6,7 @@ use Rattle.std.proofs.lemmas.Bool.{cases_eq, and_parts, both_ways, ltb-true, leb
 use Rattle.std.proofs.lemmas.List.{length-append}
 use Rattle.std.proofs.lemmas.List.Elements.{All-nil, All-cons, All-append, All-set, All-map, All-weaker}
 use Rattle.d64_host_names.specs.declared.ending.Ending.{Ending}
-use Rattle.d64_host_names.specs.HostName.{slash, underscore, full_stop, forbidden, is_forbidden, allowed, shown, is_loose, closed, filled, is_reserved, before_dot, stem, ending_text, part_text, tail, mark, numbered}
+use Rattle.d64_host_names.specs.HostName.{slash, underscore, full_stop, forbidden_characters, is_forbidden, allowed_name, shown_name, is_loose, closed_name, filled_name, is_reserved, before_dot, stem, ending_text, part_text, tail, mark, numbered_name}
 use Rattle.d64_host_names.specs.TakenNames.{first_free, next_name}
 use Rattle.d64_host_names.specs.Laws.{AreCounted, StaysInFolder, IsPrinted, EndsWith}
 use Rattle.d64_host_names.proofs.Numbers.{IsDigit, digits, first_mark, other_mark}
@@ -26,13 +26,13 @@ either P true one other a b = a
 either P false one other a b = b
 
 -- what holds of each allowed byte and of `_` holds of what a name begins with
-stem_all : (P : ℕ → Type 0) (text : List ℕ) → P underscore → All P (allowed text) → All P (stem text)
+stem_all : (P : ℕ → Type 0) (text : List ℕ) → P underscore → All P (allowed_name text) → All P (stem text)
 unfolding stem
 stem_all P text here all =
-    let first = allowed text in
-    let second = shown first in
-    let third = closed second in
-    let fourth = filled third in
+    let first = allowed_name text in
+    let second = shown_name first in
+    let third = closed_name second in
+    let fourth = filled_name third in
     let second_all : All P second = either P (get_or first 0 0 == full_stop) (set first 0 underscore) first (All-set P first 0 underscore here all) all in
     let third_all : All P third =
     either P (is_loose (get_or second (length second - 1) 0)) (set second (length second - 1) underscore) second (All-set P second (length second - 1) underscore here second_all) second_all in
@@ -53,8 +53,8 @@ mark_all P number small space left right digit =
 
 -- what holds of the parts holds of the name
 next_all : (P : ℕ → Type 0) (taken : List (List ℕ)) (text : List ℕ) (ending : Ending) (is_part : Bool) → AreCounted taken → P underscore → P 32 → P 40 → P 41
-    → ((byte : ℕ) → IsDigit byte → P byte) → All P (allowed text) → All P (tail ending is_part) → All P (next_name taken text ending is_part)
-unfolding next_name numbered
+    → ((byte : ℕ) → IsDigit byte → P byte) → All P (allowed_name text) → All P (tail ending is_part) → All P (next_name taken text ending is_part)
+unfolding next_name numbered_name
 next_all P taken text ending is_part counted here space left right digit all back_all =
     let back = tail ending is_part in
     let number = first_free taken (stem text) back in
@@ -68,12 +68,12 @@ abbrev pub IsAllowed : ℕ → Type 0
 IsAllowed byte = is_forbidden byte ≡ false
 
 allowed_if : (byte : ℕ) (t : Bool) → is_forbidden byte ≡ t → IsAllowed (if t then underscore else byte)
-unfolding is_forbidden forbidden
+unfolding is_forbidden forbidden_characters
 allowed_if byte true is = refl
 allowed_if byte false is = is
 
-allowed_all : (text : List ℕ) → All IsAllowed (allowed text)
-unfolding allowed
+allowed_all : (text : List ℕ) → All IsAllowed (allowed_name text)
+unfolding allowed_name
 allowed_all text = All-map IsAllowed (λ byte. if is_forbidden byte then underscore else byte) text (λ k d within. allowed_if (get_or text k d) (is_forbidden (get_or text k d)) refl)
 
 -- a byte that passes is allowed
@@ -81,7 +81,7 @@ abbrev is_allowed : ℕ → Bool
 is_allowed byte = not (is_forbidden byte)
 
 tail_allowed : (ending : Ending) (is_part : Bool) → All IsAllowed (tail ending is_part)
-unfolding tail ending_text part_text is_forbidden forbidden
+unfolding tail ending_text part_text is_forbidden forbidden_characters
 tail_allowed ending is_part =
     all_from_test IsAllowed is_allowed (λ byte passes. not-true (is_forbidden byte) passes) (tail ending is_part)
     (each_tail (λ bytes. list_all is_allowed bytes) refl refl refl refl refl refl refl refl refl refl ending is_part)
@@ -92,7 +92,7 @@ second_false true false is passes = refl
 second_false false b is passes = absurd (cc)
 
 digit_allowed : (byte : ℕ) → IsDigit byte → IsAllowed byte
-unfolding is_forbidden forbidden
+unfolding is_forbidden forbidden_characters
 digit_allowed byte digit =
     second_false (nat_le 48 byte) (is_forbidden byte)
     (agree_below_at (λ n. not (nat_le 48 n && is_forbidden n)) (λ _. true) 58 byte refl (omega (arith, digit.1)))
@@ -100,7 +100,7 @@ digit_allowed byte digit =
 
 -- each byte of a name is allowed
 pub name_allowed : (taken : List (List ℕ)) (text : List ℕ) (ending : Ending) (is_part : Bool) → AreCounted taken → All IsAllowed (next_name taken text ending is_part)
-unfolding is_forbidden forbidden
+unfolding is_forbidden forbidden_characters
 name_allowed taken text ending is_part counted =
     next_all IsAllowed taken text ending is_part counted refl refl refl refl digit_allowed (allowed_all text) (tail_allowed ending is_part)
 
@@ -110,8 +110,8 @@ printed_if : (byte : ℕ) (t : Bool) → IsPrinted byte → IsPrinted (if t then
 printed_if byte true is = (omega arith, omega arith)
 printed_if byte false is = is
 
-printed_all : (text : List ℕ) → All IsPrinted text → All IsPrinted (allowed text)
-unfolding allowed
+printed_all : (text : List ℕ) → All IsPrinted text → All IsPrinted (allowed_name text)
+unfolding allowed_name
 printed_all text all =
     All-map IsPrinted (λ byte. if is_forbidden byte then underscore else byte) text
     (λ k d within. printed_if (get_or text k d) (is_forbidden (get_or text k d)) (all k d within))
@@ -141,7 +141,7 @@ name_printed taken text ending is_part counted all =
 
 -- an allowed byte is no `/`
 not_slash : (byte : ℕ) → IsAllowed byte → byte ≢ slash
-unfolding is_forbidden forbidden
+unfolding is_forbidden forbidden_characters
 not_slash byte is same = both_ways (is_forbidden byte) is (ap is_forbidden same)
 
 -- a long name without a `/`
@@ -155,7 +155,7 @@ stays_from_length name long none = record {
 
 -- a name ends with its end
 pub name_ends : (taken : List (List ℕ)) (text : List ℕ) (ending : Ending) (is_part : Bool) → EndsWith (next_name taken text ending is_part) (tail ending is_part)
-unfolding next_name numbered
+unfolding next_name numbered_name
 name_ends taken text ending is_part =
     let back = tail ending is_part in
     let number = first_free taken (stem text) back in

@@ -9,7 +9,7 @@ use Rattle.std.proofs.lemmas.List.Folds.{Any-from_list_any}
 use Rattle.std.proofs.lemmas.List.FromFn.{length-range_with_len, get_or-range_with_len, length-map-range_with_len, get_or-map-range_with_len}
 use Rattle.std.proofs.lemmas.Map.Keys.{IsDistinct-cons}
 use Rattle.std.proofs.lemmas.Map.Made.{length-le_from_is_member}
-use Rattle.d64_host_names.specs.HostName.{is_same_name, numbered}
+use Rattle.d64_host_names.specs.HostName.{is_same_name, numbered_name}
 use Rattle.d64_host_names.specs.TakenNames.{is_taken, is_free, first_free}
 use Rattle.d64_host_names.proofs.SameNames.{same_laws, taken_alike}
 use Rattle.d64_host_names.proofs.Numbers.{same_number}
@@ -66,30 +66,30 @@ none_is_found p from count all = by_result (find p (range_with_len from count)) 
 
 -- the first name that is free, where the ones before it are taken
 pub first_free_at : (taken : List (List ℕ)) (front back : List ℕ) (number : ℕ) → 1 ≤ number → number ≤ length taken
-    → is_taken taken (numbered front back number) ≡ false
-    → ((k : ℕ) → 1 ≤ k → k < number → is_taken taken (numbered front back k) ≡ true) → number ≡ first_free taken front back
+    → is_taken taken (numbered_name front back number) ≡ false
+    → ((k : ℕ) → 1 ≤ k → k < number → is_taken taken (numbered_name front back k) ≡ true) → number ≡ first_free taken front back
 unfolding first_free
 first_free_at taken front back number low high free before =
     ap (λ (o : Option ℕ). unwrap_or o (length taken + 1))
-    (sym (is_found (is_free taken front back) 1 (length taken) number low (omega arith) (not_from_false (is_taken taken (numbered front back number)) free)
-    (λ k from below. not_from_true (is_taken taken (numbered front back k)) (before k from below))))
+    (sym (is_found (is_free taken front back) 1 (length taken) number low (omega arith) (not_from_false (is_taken taken (numbered_name front back number)) free)
+    (λ k from below. not_from_true (is_taken taken (numbered_name front back k)) (before k from below))))
 
 -- the one after those, as many as names are taken, where all of them are taken
 pub first_free_past : (taken : List (List ℕ)) (front back : List ℕ)
-    → ((k : ℕ) → 1 ≤ k → k < length taken + 1 → is_taken taken (numbered front back k) ≡ true) → length taken + 1 ≡ first_free taken front back
+    → ((k : ℕ) → 1 ≤ k → k < length taken + 1 → is_taken taken (numbered_name front back k) ≡ true) → length taken + 1 ≡ first_free taken front back
 unfolding first_free
 first_free_past taken front back before =
     ap (λ (o : Option ℕ). unwrap_or o (length taken + 1))
-    (sym (none_is_found (is_free taken front back) 1 (length taken) (λ k from below. not_from_true (is_taken taken (numbered front back k)) (before k from (omega arith)))))
+    (sym (none_is_found (is_free taken front back) 1 (length taken) (λ k from below. not_from_true (is_taken taken (numbered_name front back k)) (before k from (omega arith)))))
 
 -- ---- one of them is free
 
 -- the names that are tried differ
-tries_differ : (front back : List ℕ) (from count : ℕ) → from + count ≤ 2 ^ 64 → IsDistinct is_same_name (map (numbered front back) (range_with_len from count))
+tries_differ : (front back : List ℕ) (from count : ℕ) → from + count ≤ 2 ^ 64 → IsDistinct is_same_name (map (numbered_name front back) (range_with_len from count))
 unfolding IsDistinct
 tries_differ front back from zero within = tt
 tries_differ front back from (suc count) within =
-    let tried = numbered front back in
+    let tried = numbered_name front back in
     let others = range_with_len (from + 1) count in
     let Differs : List ℕ → Type 0 = λ other. is_same_name (tried from) other ≡ false in
     let differ : All (λ n. Differs (tried n)) others =
@@ -104,9 +104,9 @@ tries_differ front back from (suc count) within =
 
 -- so not one more than are taken are all taken
 not_all_taken : (taken : List (List ℕ)) (front back : List ℕ) → length taken + 1 < 2 ^ 64
-    → ((number : ℕ) → 1 ≤ number → number ≤ length taken + 1 → is_taken taken (numbered front back number) ≡ true) → ⊥
+    → ((number : ℕ) → 1 ≤ number → number ≤ length taken + 1 → is_taken taken (numbered_name front back number) ≡ true) → ⊥
 not_all_taken taken front back small all =
-    let tried = numbered front back in
+    let tried = numbered_name front back in
     let count = length taken + 1 in
     let tries = map tried (range_with_len 1 count) in
     let are_taken : (name : List ℕ) → is_member is_same_name tries name ≡ true → is_member is_same_name taken name ≡ true =
@@ -128,30 +128,30 @@ first_free_within taken front back = by_result (find (is_free taken front back) 
     by_result (Some n) found = (found.0, omega (arith, found.1))
 
 -- it is free
-pub first_is_free : (taken : List (List ℕ)) (front back : List ℕ) → length taken + 1 < 2 ^ 64 → is_taken taken (numbered front back (first_free taken front back)) ≡ false
+pub first_is_free : (taken : List (List ℕ)) (front back : List ℕ) → length taken + 1 < 2 ^ 64 → is_taken taken (numbered_name front back (first_free taken front back)) ≡ false
 unfolding first_free
 first_is_free taken front back small = by_result (find (is_free taken front back) (range_with_len 1 (length taken))) (found_in (is_free taken front back) 1 (length taken))
   where
-    last : (found : FoundIn (is_free taken front back) 1 (length taken) None) → (t : Bool) → is_taken taken (numbered front back (length taken + 1)) ≡ t → t ≡ false
+    last : (found : FoundIn (is_free taken front back) 1 (length taken) None) → (t : Bool) → is_taken taken (numbered_name front back (length taken + 1)) ≡ t → t ≡ false
     last found false is = refl
     last found true is =
         absurd (not_all_taken taken front back small
         (λ number low high.
         elim (cases_eq number (length taken + 1)) [
-          | inl end ↦ ap (λ (n : ℕ). is_taken taken (numbered front back n)) end ∙ is
-          | inr other ↦ is_taken_from (is_taken taken (numbered front back number)) (found number low (omega arith))
+          | inl end ↦ ap (λ (n : ℕ). is_taken taken (numbered_name front back n)) end ∙ is
+          | inr other ↦ is_taken_from (is_taken taken (numbered_name front back number)) (found number low (omega arith))
         ]))
       where
         is_taken_from : (t : Bool) → not t ≡ false → t ≡ true
         is_taken_from true e = refl
         is_taken_from false e = absurd (cc)
 
-    by_result : (o : Option ℕ) → FoundIn (is_free taken front back) 1 (length taken) o → is_taken taken (numbered front back (unwrap_or o (length taken + 1))) ≡ false
-    by_result None found = last found (is_taken taken (numbered front back (length taken + 1))) refl
-    by_result (Some n) found = not-true (is_taken taken (numbered front back n)) found.2
+    by_result : (o : Option ℕ) → FoundIn (is_free taken front back) 1 (length taken) o → is_taken taken (numbered_name front back (unwrap_or o (length taken + 1))) ≡ false
+    by_result None found = last found (is_taken taken (numbered_name front back (length taken + 1))) refl
+    by_result (Some n) found = not-true (is_taken taken (numbered_name front back n)) found.2
 
 -- the names before it are taken
-pub before_first_free : (taken : List (List ℕ)) (front back : List ℕ) (k : ℕ) → 1 ≤ k → k < first_free taken front back → is_taken taken (numbered front back k) ≡ true
+pub before_first_free : (taken : List (List ℕ)) (front back : List ℕ) (k : ℕ) → 1 ≤ k → k < first_free taken front back → is_taken taken (numbered_name front back k) ≡ true
 unfolding first_free
 before_first_free taken front back k low below = by_result (find (is_free taken front back) (range_with_len 1 (length taken))) (found_in (is_free taken front back) 1 (length taken)) below
   where
@@ -159,6 +159,6 @@ before_first_free taken front back k low below = by_result (find (is_free taken 
     taken_from true e = refl
     taken_from false e = absurd (cc)
 
-    by_result : (o : Option ℕ) → FoundIn (is_free taken front back) 1 (length taken) o → k < unwrap_or o (length taken + 1) → is_taken taken (numbered front back k) ≡ true
-    by_result None found under = taken_from (is_taken taken (numbered front back k)) (found k low (omega arith))
-    by_result (Some n) found under = taken_from (is_taken taken (numbered front back k)) (found.3 k low under)
+    by_result : (o : Option ℕ) → FoundIn (is_free taken front back) 1 (length taken) o → k < unwrap_or o (length taken + 1) → is_taken taken (numbered_name front back k) ≡ true
+    by_result None found under = taken_from (is_taken taken (numbered_name front back k)) (found k low (omega arith))
+    by_result (Some n) found under = taken_from (is_taken taken (numbered_name front back k)) (found.3 k low under)

@@ -3,9 +3,9 @@ use Rattle.std.specs.Prelude.{ℕ, ◌+◌, ◌*◌, ◌%◌, ◌^◌, List, fol
 use Rattle.std.specs.Str.{str_to_ascii_lowercase}
 
 -- the number of a name and one byte more
-abbrev pub digested : ℕ → ℕ → ℕ
-digested digest byte = (digest * 31 % 2 ^ 32 + byte) % 2 ^ 32
+abbrev pub next_digest : ℕ → ℕ → ℕ
+next_digest digest byte = (digest * 31 % 2 ^ 32 + byte) % 2 ^ 32
 
 -- the number of a name
 unfoldable pub digest_of : List ℕ → ℕ
-digest_of name = fold digested 0 (str_to_ascii_lowercase name)
+digest_of name = fold next_digest 0 (str_to_ascii_lowercase name)

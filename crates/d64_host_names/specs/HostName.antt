@@ -20,32 +20,32 @@ abbrev pub underscore : ℕ
 underscore = 95
 
 -- the characters that some host takes in no name: / \ < > : " | ? *
-unfoldable pub forbidden : List ℕ
-forbidden = codes "/\\<>:\"|?*"
+unfoldable pub forbidden_characters : List ℕ
+forbidden_characters = codes "/\\<>:\"|?*"
 
 -- a byte is one of them
 unfoldable pub is_forbidden : ℕ → Bool
-is_forbidden byte = list_any (nat_eq byte) forbidden
+is_forbidden byte = list_any (nat_eq byte) forbidden_characters
 
 -- a name in which each of them became `_`
-unfoldable pub allowed : List ℕ → List ℕ
-allowed name = map (λ byte. if is_forbidden byte then underscore else byte) name
+unfoldable pub allowed_name : List ℕ → List ℕ
+allowed_name name = map (λ byte. if is_forbidden byte then underscore else byte) name
 
 -- a name whose first byte, where it was a `.`, became `_`
-abbrev pub shown : List ℕ → List ℕ
-shown name = if slice_index name 0 == full_stop then slice_set name 0 underscore else name
+abbrev pub shown_name : List ℕ → List ℕ
+shown_name name = if slice_index name 0 == full_stop then slice_set name 0 underscore else name
 
 -- a byte with which no name ends on some host: `.` or a space
 abbrev pub is_loose : ℕ → Bool
 is_loose byte = byte == full_stop || byte == space
 
 -- a name whose last byte, where it was a `.` or a space, became `_`
-abbrev pub closed : List ℕ → List ℕ
-closed name = if is_loose (slice_index name (length name - 1)) then slice_set name (length name - 1) underscore else name
+abbrev pub closed_name : List ℕ → List ℕ
+closed_name name = if is_loose (slice_index name (length name - 1)) then slice_set name (length name - 1) underscore else name
 
 -- a name that was empty became `_`
-abbrev pub filled : List ℕ → List ℕ
-filled name = if length name == 0 then underscore ∷ [] else name
+abbrev pub filled_name : List ℕ → List ℕ
+filled_name name = if length name == 0 then underscore ∷ [] else name
 
 -- two names are the same where small and capital letters are taken as one
 abbrev pub is_same_name : List ℕ → List ℕ → Bool
@@ -75,13 +75,13 @@ unfoldable pub is_reserved : List ℕ → Bool
 is_reserved name = list_any (is_same_name name) devices || is_port name
 
 -- a name with a `_` in front, where what stands before its first `.` is reserved
-abbrev pub unreserved : List ℕ → List ℕ
-unreserved name = if is_reserved (before_dot name) then underscore ∷ name else name
+abbrev pub unreserved_name : List ℕ → List ℕ
+unreserved_name name = if is_reserved (before_dot name) then underscore ∷ name else name
 
 -- what the host name of a file begins with whose name is this text: the rules are applied one after
 -- another
 unfoldable pub stem : List ℕ → List ℕ
-stem text = unreserved (filled (closed (shown (allowed text))))
+stem text = unreserved_name (filled_name (closed_name (shown_name (allowed_name text))))
 
 -- the ending by the kind of a file
 unfoldable pub ending_text : Ending → List ℕ
@@ -105,9 +105,9 @@ unfoldable pub mark : ℕ → List ℕ
 mark number = if number == 1 then [] else codes " (" ++ (decimal number ++ codes ")")
 
 -- the name that is tried in this place
-unfoldable pub numbered : List ℕ → List ℕ → ℕ → List ℕ
-numbered front back number = front ++ (mark number ++ back)
+unfoldable pub numbered_name : List ℕ → List ℕ → ℕ → List ℕ
+numbered_name front back number = front ++ (mark number ++ back)
 
 -- the first one: the name that a file gets where no other file has it
 abbrev pub host_name : List ℕ → Ending → Bool → List ℕ
-host_name text ending is_part = numbered (stem text) (tail ending is_part) 1
+host_name text ending is_part = numbered_name (stem text) (tail ending is_part) 1

@@ -26,16 +26,16 @@ unfoldable pub last_part : List ℕ → List ℕ
 last_part path = slice_index_or (parts path) (length (parts path) - 1) []
 
 -- the name of the folder for an image whose path has this last part
-unfoldable pub finished : List ℕ → List ℕ
-finished last = last ++ codes ".files"
+unfoldable pub finished_name : List ℕ → List ℕ
+finished_name last = last ++ codes ".files"
 
 -- the name that this folder has until all is in it
-unfoldable pub unfinished : List ℕ → List ℕ
-unfinished last = finished last ++ codes ".partial"
+unfoldable pub unfinished_name : List ℕ → List ℕ
+unfinished_name last = finished_name last ++ codes ".partial"
 
 -- both by the path of the image
 abbrev pub image_name : List ℕ → List ℕ
-image_name path = finished (last_part path)
+image_name path = finished_name (last_part path)
 
 abbrev pub partial_name : List ℕ → List ℕ
-partial_name path = unfinished (last_part path)
+partial_name path = unfinished_name (last_part path)

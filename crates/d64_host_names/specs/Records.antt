@@ -3,7 +3,7 @@ use Rattle.std.specs.Prelude.{◌≡◌, ℕ, ◌<◌, ◌≤◌, Bool, true, Li
 use Rattle.d64_host_names.specs.declared.ending.Ending.{Ending}
 use Rattle.d64_host_names.specs.declared.taken_names.Taken.{Taken}
 use Rattle.d64_host_names.specs.Digest.{digest_of}
-use Rattle.d64_host_names.specs.HostName.{tail, numbered}
+use Rattle.d64_host_names.specs.HostName.{tail, numbered_name}
 use Rattle.d64_host_names.specs.TakenNames.{is_taken}
 
 -- the names
@@ -17,7 +17,7 @@ EndsAt name stem_len = (ending : Ending) × (is_part : Bool) × (drop stem_len n
 -- the names with numbers below this one that are made of the name of a record are taken
 abbrev pub AreTried : List (List ℕ) → Taken → ℕ → Type 0
 AreTried names taken next = (number : ℕ) → 1 ≤ number → number < next
-    → is_taken names (numbered (take taken.stem_len taken.name.items) (drop taken.stem_len taken.name.items) number) ≡ true
+    → is_taken names (numbered_name (take taken.stem_len taken.name.items) (drop taken.stem_len taken.name.items) number) ≡ true
 
 -- what a record says of a name: its digest, where its ending begins, and up to which number the
 -- names that are made of it are taken

@@ -1,6 +1,6 @@
 //! Where the files of an image go.
 ghost use Rattle.std.specs.Prelude.{◌≡◌, ◌++◌, map, string_bytes, IfOk, OnOk};
-ghost use Rattle.d64_host_names.specs.ImagePlace.{is_folder, folders_of, last_part, finished, unfinished};
+ghost use Rattle.d64_host_names.specs.ImagePlace.{is_folder, folders_of, last_part, finished_name, unfinished_name};
 
 use std::alloc::{AllocError, Global};
 
@@ -34,18 +34,18 @@ impl<'a> ImagePlace<'a> {
     }
 
     /// Adds the name of the folder for the image.
-    #[tactic(auto, unfolding(crate::specs::ImagePlace::finished))]
+    #[tactic(auto, unfolding(crate::specs::ImagePlace::finished_name))]
     pub fn push_name(&self, out: &mut String) -> Result<(), AllocError>
-        ensures { OnOk result (string_bytes out.new ≡ string_bytes out.old ++ finished self.now.last.now) }
+        ensures { OnOk result (string_bytes out.new ≡ string_bytes out.old ++ finished_name self.now.last.now) }
     {
         out.push_str(self.last)?;
         out.push_str(".files")
     }
 
     /// Adds the name that this folder has until all is in it.
-    #[tactic(auto, unfolding(crate::specs::ImagePlace::unfinished))]
+    #[tactic(auto, unfolding(crate::specs::ImagePlace::unfinished_name))]
     pub fn push_partial_name(&self, out: &mut String) -> Result<(), AllocError>
-        ensures { OnOk result (string_bytes out.new ≡ string_bytes out.old ++ unfinished self.now.last.now) }
+        ensures { OnOk result (string_bytes out.new ≡ string_bytes out.old ++ unfinished_name self.now.last.now) }
     {
         self.push_name(out)?;
         out.push_str(".partial")

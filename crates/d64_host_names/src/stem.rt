@@ -1,12 +1,12 @@
 //! What a host name begins with.
 ghost use Rattle.std.specs.Prelude.{◌≡◌, OnOk, OnErr, if◌then◌else◌, slice_index, slice_set, ◌-◌, ◌==◌, length, position};
 ghost use Rattle.std.specs.List.{list_any};
-ghost use Rattle.d64_host_names.specs.HostName.{is_forbidden, allowed, shown, closed, filled, is_loose, is_same_name, before_dot, full_stop, ports, is_port, is_reserved, unreserved, stem};
+ghost use Rattle.d64_host_names.specs.HostName.{is_forbidden, allowed_name, shown_name, closed_name, filled_name, is_loose, is_same_name, before_dot, full_stop, ports, is_port, is_reserved, unreserved_name, stem};
 
 use std::alloc::AllocError;
 
 /// Whether some host takes this byte in no name.
-#[tactic(auto, unfolding(crate::specs::HostName::is_forbidden, crate::specs::HostName::forbidden))]
+#[tactic(auto, unfolding(crate::specs::HostName::is_forbidden, crate::specs::HostName::forbidden_characters))]
 fn is_forbidden(byte: u8) -> bool
     ensures { result ≡ is_forbidden byte }
 {
@@ -17,9 +17,9 @@ fn is_forbidden(byte: u8) -> bool
 }
 
 /// Puts a text in the place of the name, in which each forbidden byte is a `_`.
-#[tactic(auto, unfolding(crate::specs::HostName::allowed))]
+#[tactic(auto, unfolding(crate::specs::HostName::allowed_name))]
 fn put_allowed(name: &mut Vec<u8>, text: &[u8]) -> Result<(), AllocError>
-    ensures { OnOk result (name.new.items ≡ allowed text.now) }
+    ensures { OnOk result (name.new.items ≡ allowed_name text.now) }
 {
     name.clear();
     for byte in text {
@@ -30,7 +30,7 @@ fn put_allowed(name: &mut Vec<u8>, text: &[u8]) -> Result<(), AllocError>
 
 /// Makes a first `.` a `_`.
 fn show(name: &mut [u8])
-    ensures { name.new ≡ shown name.old }
+    ensures { name.new ≡ shown_name name.old }
 {
     if let Some(first) = name.first_mut() {
         if *first == b'.' {
@@ -41,7 +41,7 @@ fn show(name: &mut [u8])
 
 /// Makes a last `.` or space a `_`.
 fn close(name: &mut [u8])
-    ensures { name.new ≡ closed name.old }
+    ensures { name.new ≡ closed_name name.old }
 {
     if let Some(last) = name.last_mut() {
         if matches!(*last, b'.' | b' ') {

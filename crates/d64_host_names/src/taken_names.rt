@@ -1,7 +1,7 @@
 //! The names that the files of an image got.
 ghost use Rattle.std.specs.Prelude.{◌≡◌, ◌<◌, ◌≤◌, ℕ, [], ◌∷◌, ◌++◌, length, take, true, false, MatchOption, OnOk, OnErr, IfOk, IfSome};
 ghost use Rattle.std.specs.List.{HoldsAt};
-ghost use Rattle.d64_host_names.specs.HostName.{is_same_name, numbered, tail};
+ghost use Rattle.d64_host_names.specs.HostName.{is_same_name, numbered_name, tail};
 ghost use Rattle.d64_host_names.specs.TakenNames.{is_taken, first_free, next_name};
 ghost use Rattle.d64_host_names.specs.Records.{names_of, EndsAt, AreTried, AreRecords};
 ghost use Rattle.d64_host_names.specs.Digest.{digest_of};
@@ -204,9 +204,9 @@ fn put_free(
     requires within { stem_len ≤ length name.old.items }
     requires from { 1 ≤ first }
     requires tried { (number : ℕ) → 1 ≤ number → number < first
-        → is_taken (names_of names.now) (numbered (take stem_len name.old.items) (tail ending is_part) number) ≡ true }
+        → is_taken (names_of names.now) (numbered_name (take stem_len name.old.items) (tail ending is_part) number) ≡ true }
     ensures number { IfOk result (λ number. number ≡ first_free (names_of names.now) (take stem_len name.old.items) (tail ending is_part)) }
-    ensures named { IfOk result (λ number. name.new.items ≡ numbered (take stem_len name.old.items) (tail ending is_part) number) }
+    ensures named { IfOk result (λ number. name.new.items ≡ numbered_name (take stem_len name.old.items) (tail ending is_part) number) }
 {
     let last = names.len() + 1;
     for number in first..last {
@@ -220,7 +220,7 @@ fn put_free(
 }
 
 /// Puts the name with this number in the place of one that begins with the same bytes.
-#[tactic(auto, unfolding(crate::specs::HostName::numbered, crate::specs::HostName::mark))]
+#[tactic(auto, unfolding(crate::specs::HostName::numbered_name, crate::specs::HostName::mark))]
 fn put_numbered(
     name: &mut Vec<u8>,
     stem_len: usize,
@@ -228,7 +228,7 @@ fn put_numbered(
     ending: Ending,
     is_part: bool,
 ) -> Result<(), AllocError>
-    ensures { OnOk result (name.new.items ≡ numbered (take stem_len name.old.items) (tail ending is_part) number) }
+    ensures { OnOk result (name.new.items ≡ numbered_name (take stem_len name.old.items) (tail ending is_part) number) }
 {
     name.truncate(stem_len);
     if number != 1 {

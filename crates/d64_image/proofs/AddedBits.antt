@@ -8,7 +8,7 @@ use Rattle.std.proofs.lemmas.List.{get_or-set_same, get_or-set_other, length-set
 use Rattle.std.proofs.lemmas.Nat.{pow_pos, or_lt}
 use Rattle.std.proofs.lemmas.Nat.Bits.{bit_at-lt, bit_at-zero, bit_at_or, bit_at_above, bit_at_cat_low, bit_at_cat_high}
 use Rattle.d64_image.specs.declared.block.TheConstants.{BLOCKS}
-use Rattle.d64_image.specs.BlockSet.{is_marked, marked, AreWords, with_bits, is_given}
+use Rattle.d64_image.specs.BlockSet.{is_marked, marked_blocks, AreWords, with_bits, is_given}
 use Rattle.d64_image.specs.Marks.{contains-marked_below}
 use Rattle.d64_image.proofs.Sets.{AreWords-set}
 use Rattle.d64_image.proofs.Windows.{bit_at-mod, bit_at-div, contains-held, word_fits}
@@ -125,7 +125,7 @@ with_both words first bits =
 
 -- a block is a member then where it was one, or its bit is 1
 pub contains-with_both : (words : List ℕ) (first bits block : ℕ) → AreWords words → AreWords (with_both words first bits) → bits < 2 ^ 32
-    → set.contains (marked (with_both words first bits)) block ≡ (set.contains (marked words) block || (ltb block BLOCKS && is_given first bits block))
+    → set.contains (marked_blocks (with_both words first bits)) block ≡ (set.contains (marked_blocks words) block || (ltb block BLOCKS && is_given first bits block))
 contains-with_both words first bits block are still fit =
     elim (cases_lt block BLOCKS) [
       | inl held ↦
@@ -141,7 +141,7 @@ contains-with_both words first bits block are still fit =
           ∙ ap₂ (λ (b within : Bool). b || (within && is_given first bits block)) (sym (contains-held words block are)) within
       | inr past ↦
           let beyond : ltb block BLOCKS ≡ false = grind (arith, nat_tests) in
-          let none : (xs : List ℕ) → set.contains (marked xs) block ≡ false = λ xs. contains-marked_below BLOCKS xs block ∙ ap (λ (b : Bool). b && is_marked xs block) beyond in
+          let none : (xs : List ℕ) → set.contains (marked_blocks xs) block ≡ false = λ xs. contains-marked_below BLOCKS xs block ∙ ap (λ (b : Bool). b && is_marked xs block) beyond in
           none (with_both words first bits)
           ∙ ap₂ (λ (b within : Bool). b || (within && is_given first bits block)) (sym (none words)) (sym beyond)
     ]

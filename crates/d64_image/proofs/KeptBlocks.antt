@@ -5,7 +5,7 @@ use Rattle.std.specs.List.{insert}
 use Rattle.std.proofs.lemmas.List.Elements.{All-nil, All-cons, All-append, All-take, All-drop, All-filter, All-from_get_or}
 use Rattle.d64_image.specs.declared.image.TheConstants.{BLOCK_BYTES}
 use Rattle.d64_image.specs.Image.{IsBlock, IsImage, sector_at}
-use Rattle.d64_image.specs.Patch.{Kept, HaveBlocks, RisesBetween, taken, trimmed}
+use Rattle.d64_image.specs.Patch.{Kept, HaveBlocks, RisesBetween, taken_blocks, trimmed_blocks}
 
 -- an entry has the bytes of a block
 abbrev HasBlock : ℕ × List ℕ → Type 0
@@ -29,13 +29,13 @@ blocks-insert patch place entry blocks is =
     (All-cons HasBlock entry (drop place patch) is (All-drop HasBlock place patch blocks))
 
 -- the bytes that an image of a disk has there
-pub blocks-taken : (patch : Kept) (image : List (List ℕ)) (low : ℕ) → IsImage image → RisesBetween low (length image) patch → HaveBlocks (taken image patch)
-unfolding taken RisesBetween
-blocks-taken [] image low is r = no_blocks
-blocks-taken (entry ∷ patch) image low is r =
-    All-cons HasBlock (entry.0, sector_at image entry.0) (taken image patch) (is.1 entry.0 [] r.1) (blocks-taken patch image (entry.0 + 1) is r.2)
+pub blocks-taken_blocks : (patch : Kept) (image : List (List ℕ)) (low : ℕ) → IsImage image → RisesBetween low (length image) patch → HaveBlocks (taken_blocks image patch)
+unfolding taken_blocks RisesBetween
+blocks-taken_blocks [] image low is r = no_blocks
+blocks-taken_blocks (entry ∷ patch) image low is r =
+    All-cons HasBlock (entry.0, sector_at image entry.0) (taken_blocks image patch) (is.1 entry.0 [] r.1) (blocks-taken_blocks patch image (entry.0 + 1) is r.2)
 
 -- what a trim leaves
-pub blocks-trimmed : (patch : Kept) (image : List (List ℕ)) → HaveBlocks patch → HaveBlocks (trimmed image patch)
-unfolding trimmed
-blocks-trimmed patch image blocks = All-filter (λ (entry : ℕ × List ℕ). not (pointwise nat_eq entry.1 (sector_at image entry.0))) HasBlock patch blocks
+pub blocks-trimmed_blocks : (patch : Kept) (image : List (List ℕ)) → HaveBlocks patch → HaveBlocks (trimmed_blocks image patch)
+unfolding trimmed_blocks
+blocks-trimmed_blocks patch image blocks = All-filter (λ (entry : ℕ × List ℕ). not (pointwise nat_eq entry.1 (sector_at image entry.0))) HasBlock patch blocks

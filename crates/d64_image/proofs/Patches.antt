@@ -9,7 +9,7 @@ use Rattle.std.proofs.lemmas.List.{length-set, get_or-set_same, get_or-set_other
 use Rattle.std.proofs.lemmas.Simd.{map-map}
 use Rattle.std.proofs.lemmas.List.Sums.{sum_by-cons, fold-append}
 use Rattle.d64_image.specs.Image.{sector_at, with_sector, differences}
-use Rattle.d64_image.specs.Patch.{Kept, RisesBetween, back, is_kept, with_kept, taken, trimmed, changed}
+use Rattle.d64_image.specs.Patch.{Kept, RisesBetween, restored_image, is_kept, with_kept, taken_blocks, trimmed_blocks, changed_blocks}
 
 -- a block is none of those that are kept
 pub Absent : ℕ → Kept → Type 0
@@ -80,60 +80,60 @@ absent-take (entry ∷ patch) block zero a = tt
 absent-take (entry ∷ patch) block (suc n) a = (a.0, absent-take patch block n a.1)
 
 -- two patches put back one after the other
-back-append : (image : List (List ℕ)) (first second : Kept) → back image (first ++ second) ≡ back (back image first) second
-unfolding back
-back-append image first second = fold-append (λ (held : List (List ℕ)) (entry : ℕ × List ℕ). with_sector held entry.0 entry.1) image first second
+restored_image-append : (image : List (List ℕ)) (first second : Kept) → restored_image image (first ++ second) ≡ restored_image (restored_image image first) second
+unfolding restored_image
+restored_image-append image first second = fold-append (λ (held : List (List ℕ)) (entry : ℕ × List ℕ). with_sector held entry.0 entry.1) image first second
 
-pub length-back : (patch : Kept) (image : List (List ℕ)) → length (back image patch) ≡ length image
-unfolding back
-length-back [] image = refl
-length-back (entry ∷ patch) image = length-back patch (set image entry.0 entry.1) ∙ length-set image entry.0 entry.1
+pub length-restored_image : (patch : Kept) (image : List (List ℕ)) → length (restored_image image patch) ≡ length image
+unfolding restored_image
+length-restored_image [] image = refl
+length-restored_image (entry ∷ patch) image = length-restored_image patch (set image entry.0 entry.1) ∙ length-set image entry.0 entry.1
 
 -- an absent block stays
-back-absent : (patch : Kept) (image : List (List ℕ)) (block : ℕ) → Absent block patch → sector_at (back image patch) block ≡ sector_at image block
-unfolding back Absent
-back-absent [] image block a = refl
-back-absent (entry ∷ patch) image block a =
-    back-absent patch (set image entry.0 entry.1) block a.1 ∙ get_or-set_other image entry.0 block entry.1 [] a.0
+restored_image-absent : (patch : Kept) (image : List (List ℕ)) (block : ℕ) → Absent block patch → sector_at (restored_image image patch) block ≡ sector_at image block
+unfolding restored_image Absent
+restored_image-absent [] image block a = refl
+restored_image-absent (entry ∷ patch) image block a =
+    restored_image-absent patch (set image entry.0 entry.1) block a.1 ∙ get_or-set_other image entry.0 block entry.1 [] a.0
 
 -- an absent block may be written before or after
-back-set_absent : (patch : Kept) (image : List (List ℕ)) (block : ℕ) (bytes : List ℕ) → Absent block patch
-    → back (set image block bytes) patch ≡ set (back image patch) block bytes
-unfolding back Absent
-back-set_absent [] image block bytes a = refl
-back-set_absent (entry ∷ patch) image block bytes a =
-    ap (λ (held : List (List ℕ)). back held patch) (set_comm image block entry.0 bytes entry.1 a.0)
-    ∙ back-set_absent patch (set image entry.0 entry.1) block bytes a.1
+restored_image-set_absent : (patch : Kept) (image : List (List ℕ)) (block : ℕ) (bytes : List ℕ) → Absent block patch
+    → restored_image (set image block bytes) patch ≡ set (restored_image image patch) block bytes
+unfolding restored_image Absent
+restored_image-set_absent [] image block bytes a = refl
+restored_image-set_absent (entry ∷ patch) image block bytes a =
+    ap (λ (held : List (List ℕ)). restored_image held patch) (set_comm image block entry.0 bytes entry.1 a.0)
+    ∙ restored_image-set_absent patch (set image entry.0 entry.1) block bytes a.1
 
 -- what is written to a kept block doesn't show once it is put back
-pub back-set_kept : (patch : Kept) (image : List (List ℕ)) (block : ℕ) (bytes : List ℕ) → is_kept patch block ≡ true
-    → back (set image block bytes) patch ≡ back image patch
-unfolding back
-back-set_kept [] image block bytes h = absurd (cc)
-back-set_kept (entry ∷ patch) image block bytes h = elim (cases_eq block entry.0) [
-  | inl e ↦ ap (λ (held : List (List ℕ)). back held patch)
+pub restored_image-set_kept : (patch : Kept) (image : List (List ℕ)) (block : ℕ) (bytes : List ℕ) → is_kept patch block ≡ true
+    → restored_image (set image block bytes) patch ≡ restored_image image patch
+unfolding restored_image
+restored_image-set_kept [] image block bytes h = absurd (cc)
+restored_image-set_kept (entry ∷ patch) image block bytes h = elim (cases_eq block entry.0) [
+  | inl e ↦ ap (λ (held : List (List ℕ)). restored_image held patch)
       (ap (λ (n : ℕ). set (set image n bytes) entry.0 entry.1) e ∙ set-set image entry.0 bytes entry.1)
   | inr n ↦
       let rest : is_kept patch block ≡ true = ap (λ (t : Bool). t || is_kept patch block) (sym (same entry.0 block (λ e. n (sym e)))) ∙ h in
-      ap (λ (held : List (List ℕ)). back held patch) (set_comm image block entry.0 bytes entry.1 n)
-      ∙ back-set_kept patch (set image entry.0 entry.1) block bytes rest
+      ap (λ (held : List (List ℕ)). restored_image held patch) (set_comm image block entry.0 bytes entry.1 n)
+      ∙ restored_image-set_kept patch (set image entry.0 entry.1) block bytes rest
 ]
 
 -- an absent block is written, and its bytes from before are kept anywhere
-pub back-set_insert : (patch : Kept) (image : List (List ℕ)) (block place : ℕ) (bytes : List ℕ) → Absent block patch
-    → back (set image block bytes) (insert patch place (block, sector_at image block)) ≡ back image patch
-unfolding back
-back-set_insert patch image block place bytes a =
+pub restored_image-set_insert : (patch : Kept) (image : List (List ℕ)) (block place : ℕ) (bytes : List ℕ) → Absent block patch
+    → restored_image (set image block bytes) (insert patch place (block, sector_at image block)) ≡ restored_image image patch
+unfolding restored_image
+restored_image-set_insert patch image block place bytes a =
     let first = take place patch in
-    let held = back image first in
+    let held = restored_image image first in
     let before = absent-take patch block place a in
-    let stays : sector_at held block ≡ sector_at image block = back-absent first image block before in
-    back-append (set image block bytes) first ((block, sector_at image block) ∷ drop place patch)
-    ∙ ap (λ (image' : List (List ℕ)). back (set image' block (sector_at image block)) (drop place patch)) (back-set_absent first image block bytes before)
-    ∙ ap (λ (image' : List (List ℕ)). back image' (drop place patch))
+    let stays : sector_at held block ≡ sector_at image block = restored_image-absent first image block before in
+    restored_image-append (set image block bytes) first ((block, sector_at image block) ∷ drop place patch)
+    ∙ ap (λ (image' : List (List ℕ)). restored_image (set image' block (sector_at image block)) (drop place patch)) (restored_image-set_absent first image block bytes before)
+    ∙ ap (λ (image' : List (List ℕ)). restored_image image' (drop place patch))
     (set-set held block bytes (sector_at image block) ∙ ap (λ (b : List ℕ). set held block b) (sym stays) ∙ set-get_or held block [])
-    ∙ sym (back-append image first (drop place patch))
-    ∙ ap (back image) (take-append-drop place patch)
+    ∙ sym (restored_image-append image first (drop place patch))
+    ∙ ap (restored_image image) (take-append-drop place patch)
 
 -- the kept blocks below one, counted from the first
 counted : (entry : ℕ × List ℕ) (patch : Kept) (block : ℕ)
@@ -177,23 +177,23 @@ rises-insert (entry ∷ patch) low high block (suc place) bytes r a h i e =
     ]
 
 -- the image after one block more is put back
-pub back-more : (patch : Kept) (image : List (List ℕ)) (place : ℕ) (d : ℕ × List ℕ) → place < length patch
-    → back image (take (place + 1) patch) ≡ set (back image (take place patch)) (get_or patch place d).0 (get_or patch place d).1
-unfolding back
-back-more patch image place d h = ap (back image) (take_more patch place d h) ∙ back-append image (take place patch) (get_or patch place d ∷ [])
+pub restored_image-more : (patch : Kept) (image : List (List ℕ)) (place : ℕ) (d : ℕ × List ℕ) → place < length patch
+    → restored_image image (take (place + 1) patch) ≡ set (restored_image image (take place patch)) (get_or patch place d).0 (get_or patch place d).1
+unfolding restored_image
+restored_image-more patch image place d h = ap (restored_image image) (take_more patch place d h) ∙ restored_image-append image (take place patch) (get_or patch place d ∷ [])
 
 -- the block to be put back next is as it was
 pub back-next : (patch : Kept) (image : List (List ℕ)) (low high place : ℕ) (d : ℕ × List ℕ) → RisesBetween low high patch → place < length patch
-    → sector_at (back image (take place patch)) (get_or patch place d).0 ≡ sector_at image (get_or patch place d).0
+    → sector_at (restored_image image (take place patch)) (get_or patch place d).0 ≡ sector_at image (get_or patch place d).0
 back-next patch image low high place d r h =
-    back-absent (take place patch) image (get_or patch place d).0 (absent-earlier patch low high place d r h)
+    restored_image-absent (take place patch) image (get_or patch place d).0 (absent-earlier patch low high place d r h)
 
 -- the patch after one block more is exchanged
-pub taken-more : (patch : Kept) (image : List (List ℕ)) (place : ℕ) (d : ℕ × List ℕ) → place < length patch
-    → set (taken image (take place patch) ++ drop place patch) place ((get_or patch place d).0, sector_at image (get_or patch place d).0)
-    ≡ taken image (take (place + 1) patch) ++ drop (place + 1) patch
-unfolding taken
-taken-more patch image place d h =
+pub taken_blocks-more : (patch : Kept) (image : List (List ℕ)) (place : ℕ) (d : ℕ × List ℕ) → place < length patch
+    → set (taken_blocks image (take place patch) ++ drop place patch) place ((get_or patch place d).0, sector_at image (get_or patch place d).0)
+    ≡ taken_blocks image (take (place + 1) patch) ++ drop (place + 1) patch
+unfolding taken_blocks
+taken_blocks-more patch image place d h =
     let entry : ℕ × List ℕ = get_or patch place d in
     let take_one : (ℕ × List ℕ) → (ℕ × List ℕ) = λ (e : ℕ × List ℕ). (e.0, sector_at image e.0) in
     let first : Kept = map take_one (take place patch) in
@@ -205,16 +205,16 @@ taken-more patch image place d h =
     ∙ append_assoc first (take_one entry ∷ []) (drop (place + 1) patch))
 
 -- the bytes that were taken put the image back
-pub back-taken : (patch : Kept) (image : List (List ℕ)) (low high : ℕ) → RisesBetween low high patch → back (back image patch) (taken image patch) ≡ image
-unfolding back taken RisesBetween
-back-taken [] image low high r = refl
-back-taken (entry ∷ patch) image low high r =
+pub restored_image-taken_blocks : (patch : Kept) (image : List (List ℕ)) (low high : ℕ) → RisesBetween low high patch → restored_image (restored_image image patch) (taken_blocks image patch) ≡ image
+unfolding restored_image taken_blocks RisesBetween
+restored_image-taken_blocks [] image low high r = refl
+restored_image-taken_blocks (entry ∷ patch) image low high r =
     let away = absent-below patch (entry.0 + 1) high entry.0 r.2 (omega arith) in
-    let held = back image patch in
-    ap (λ (i : List (List ℕ)). back (set i entry.0 (sector_at image entry.0)) (taken image patch)) (back-set_absent patch image entry.0 entry.1 away)
-    ∙ ap (λ (i : List (List ℕ)). back i (taken image patch))
-    (set-set held entry.0 entry.1 (sector_at image entry.0) ∙ ap (λ (b : List ℕ). set held entry.0 b) (sym (back-absent patch image entry.0 away)) ∙ set-get_or held entry.0 [])
-    ∙ back-taken patch image (entry.0 + 1) high r.2
+    let held = restored_image image patch in
+    ap (λ (i : List (List ℕ)). restored_image (set i entry.0 (sector_at image entry.0)) (taken_blocks image patch)) (restored_image-set_absent patch image entry.0 entry.1 away)
+    ∙ ap (λ (i : List (List ℕ)). restored_image i (taken_blocks image patch))
+    (set-set held entry.0 entry.1 (sector_at image entry.0) ∙ ap (λ (b : List ℕ). set held entry.0 b) (sym (restored_image-absent patch image entry.0 away)) ∙ set-get_or held entry.0 [])
+    ∙ restored_image-taken_blocks patch image (entry.0 + 1) high r.2
 
 -- whether two blocks are the same doesn't depend on their order
 pointwise_comm : (xs ys : List ℕ) → pointwise nat_eq xs ys ≡ pointwise nat_eq ys xs
@@ -239,9 +239,9 @@ differences_comm image other long =
     ∙ ap (λ (n : ℕ). filter (λ (b : ℕ). not (pointwise nat_eq (sector_at other b) (sector_at image b))) (range_with_len 0 n)) long
 
 -- the bytes from after, taken where an image changed, are those of the change back
-pub taken-changed : (before after : List (List ℕ)) → length before ≡ length after → taken after (changed before after) ≡ changed after before
-unfolding taken changed
-taken-changed before after long =
+pub taken_blocks-changed_blocks : (before after : List (List ℕ)) → length before ≡ length after → taken_blocks after (changed_blocks before after) ≡ changed_blocks after before
+unfolding taken_blocks changed_blocks
+taken_blocks-changed_blocks before after long =
     map-map (λ (e : ℕ × List ℕ). (e.0, sector_at after e.0)) (λ (b : ℕ). (b, sector_at before b)) (differences before after)
     ∙ ap (map (λ (b : ℕ). (b, sector_at after b))) (differences_comm before after long)
 
@@ -263,39 +263,39 @@ alike-set (entry ∷ patch) image other block bytes a k =
     (get_or-set_other image block entry.0 bytes [] (λ e. a.0 (sym e)) ∙ k.0, alike-set patch image other block bytes a.1 k.1)
 
 -- what a trim forgets isn't missed
-trimmed-alike : (patch : Kept) (image other : List (List ℕ)) (low high : ℕ) → RisesBetween low high patch → Alike image other patch
-    → back image (trimmed other patch) ≡ back image patch
-unfolding back trimmed RisesBetween Alike
-trimmed-alike [] image other low high r k = refl
-trimmed-alike (entry ∷ patch) image other low high r k = elim (cases_Bool (pointwise nat_eq entry.1 (sector_at other entry.0))) [
+trimmed_blocks-alike : (patch : Kept) (image other : List (List ℕ)) (low high : ℕ) → RisesBetween low high patch → Alike image other patch
+    → restored_image image (trimmed_blocks other patch) ≡ restored_image image patch
+unfolding restored_image trimmed_blocks RisesBetween Alike
+trimmed_blocks-alike [] image other low high r k = refl
+trimmed_blocks-alike (entry ∷ patch) image other low high r k = elim (cases_Bool (pointwise nat_eq entry.1 (sector_at other entry.0))) [
   | inl t ↦
       let same : entry.1 ≡ sector_at image entry.0 = (bytes_decides entry.1 (sector_at other entry.0)).0 t ∙ sym k.0 in
-      ap (λ (u : Bool). back image (cond (not u) (entry ∷ trimmed other patch) (trimmed other patch))) t
-      ∙ trimmed-alike patch image other (entry.0 + 1) high r.2 k.1
-      ∙ ap (λ (i : List (List ℕ)). back i patch) (sym (ap (λ (b : List ℕ). set image entry.0 b) same ∙ set-get_or image entry.0 []))
+      ap (λ (u : Bool). restored_image image (cond (not u) (entry ∷ trimmed_blocks other patch) (trimmed_blocks other patch))) t
+      ∙ trimmed_blocks-alike patch image other (entry.0 + 1) high r.2 k.1
+      ∙ ap (λ (i : List (List ℕ)). restored_image i patch) (sym (ap (λ (b : List ℕ). set image entry.0 b) same ∙ set-get_or image entry.0 []))
   | inr f ↦
-      ap (λ (u : Bool). back image (cond (not u) (entry ∷ trimmed other patch) (trimmed other patch))) f
-      ∙ trimmed-alike patch (set image entry.0 entry.1) other (entry.0 + 1) high r.2
+      ap (λ (u : Bool). restored_image image (cond (not u) (entry ∷ trimmed_blocks other patch) (trimmed_blocks other patch))) f
+      ∙ trimmed_blocks-alike patch (set image entry.0 entry.1) other (entry.0 + 1) high r.2
       (alike-set patch image other entry.0 entry.1 (absent-below patch (entry.0 + 1) high entry.0 r.2 (omega arith)) k.1)
 ]
 
-pub back-trimmed : (patch : Kept) (image : List (List ℕ)) (low high : ℕ) → RisesBetween low high patch → back image (trimmed image patch) ≡ back image patch
-back-trimmed patch image low high r = trimmed-alike patch image image low high r (alike-self patch image)
+pub restored_image-trimmed_blocks : (patch : Kept) (image : List (List ℕ)) (low high : ℕ) → RisesBetween low high patch → restored_image image (trimmed_blocks image patch) ≡ restored_image image patch
+restored_image-trimmed_blocks patch image low high r = trimmed_blocks-alike patch image image low high r (alike-self patch image)
 
 -- an image has the kept bytes in the kept blocks
 Held : List (List ℕ) → Kept → Type 0
 Held image [] = Unit {0}
 Held image (entry ∷ patch) = (sector_at image entry.0 ≡ entry.1) × Held image patch
 
-held-back : (patch : Kept) (image : List (List ℕ)) (low high : ℕ) → RisesBetween low high patch → high ≤ length image → Held (back image patch) patch
-unfolding Held back RisesBetween
-held-back [] image low high r h = tt
-held-back (entry ∷ patch) image low high r h =
+held-restored_image : (patch : Kept) (image : List (List ℕ)) (low high : ℕ) → RisesBetween low high patch → high ≤ length image → Held (restored_image image patch) patch
+unfolding Held restored_image RisesBetween
+held-restored_image [] image low high r h = tt
+held-restored_image (entry ∷ patch) image low high r h =
     let within : entry.0 < length image = let f = r.1 in omega arith in
     let long = length-set image entry.0 entry.1 in (
-      back-absent patch (set image entry.0 entry.1) entry.0 (absent-below patch (entry.0 + 1) high entry.0 r.2 (omega arith))
+      restored_image-absent patch (set image entry.0 entry.1) entry.0 (absent-below patch (entry.0 + 1) high entry.0 r.2 (omega arith))
           ∙ get_or-set_same image entry.0 entry.1 [] within,
-      held-back patch (set image entry.0 entry.1) (entry.0 + 1) high r.2 (omega arith),
+      held-restored_image patch (set image entry.0 entry.1) (entry.0 + 1) high r.2 (omega arith),
     )
 
 -- a block with its bytes
@@ -333,47 +333,47 @@ unfolding differ
 differ-not image other block e = ap not ((bytes_decides (sector_at image block) (sector_at other block)).1 e)
 
 -- from one block on, what a trim leaves are the blocks that differ
-trimmed-from : (n low high : ℕ) (patch : Kept) (before after : List (List ℕ)) → high ≡ low + n → RisesBetween low high patch → Held before patch
+trimmed_blocks-from : (n low high : ℕ) (patch : Kept) (before after : List (List ℕ)) → high ≡ low + n → RisesBetween low high patch → Held before patch
     → ((b : ℕ) → low ≤ b → Absent b patch → sector_at before b ≡ sector_at after b)
-    → trimmed after patch ≡ map (with_bytes before) (filter (differ before after) (range_with_len low n))
-unfolding trimmed RisesBetween Held Absent
-trimmed-from zero low high [] before after e r held others = refl
-trimmed-from zero low high (entry ∷ patch) before after e r held others = let f = r.0 in let g = r.1 in absurd (omega arith)
-trimmed-from (suc n) low high [] before after e r held others =
+    → trimmed_blocks after patch ≡ map (with_bytes before) (filter (differ before after) (range_with_len low n))
+unfolding trimmed_blocks RisesBetween Held Absent
+trimmed_blocks-from zero low high [] before after e r held others = refl
+trimmed_blocks-from zero low high (entry ∷ patch) before after e r held others = let f = r.0 in let g = r.1 in absurd (omega arith)
+trimmed_blocks-from (suc n) low high [] before after e r held others =
     skipped before (differ before after low) low [] (filter (differ before after) (range_with_len (low + 1) n))
     (differ-not before after low (others low (omega arith) tt))
-    (trimmed-from n (low + 1) high [] before after (omega arith) tt tt (λ b h a. others b (omega arith) tt))
-trimmed-from (suc n) low high (entry ∷ patch) before after e r held others = elim (cases_lt low entry.0) [
+    (trimmed_blocks-from n (low + 1) high [] before after (omega arith) tt tt (λ b h a. others b (omega arith) tt))
+trimmed_blocks-from (suc n) low high (entry ∷ patch) before after e r held others = elim (cases_lt low entry.0) [
   | inl above ↦
       let away : Absent low (entry ∷ patch) = absent-below (entry ∷ patch) entry.0 high low (omega arith, r.1, r.2) above in
-      skipped before (differ before after low) low (trimmed after (entry ∷ patch)) (filter (differ before after) (range_with_len (low + 1) n))
+      skipped before (differ before after low) low (trimmed_blocks after (entry ∷ patch)) (filter (differ before after) (range_with_len (low + 1) n))
       (differ-not before after low (others low (omega arith) away))
-      (trimmed-from n (low + 1) high (entry ∷ patch) before after (omega arith) (omega arith, r.1, r.2) held (λ b h a. others b (omega arith) a))
+      (trimmed_blocks-from n (low + 1) high (entry ∷ patch) before after (omega arith) (omega arith, r.1, r.2) held (λ b h a. others b (omega arith) a))
   | inr most ↦
       let here : entry.0 ≡ low = let f = r.0 in omega arith in
       let bytes : entry.1 ≡ sector_at before low = sym held.0 ∙ ap (sector_at before) here in
       let test : not (pointwise nat_eq entry.1 (sector_at after entry.0)) ≡ differ before after low =
       let opened = differ-opens before after low in ap₂ (λ (xs ys : List ℕ). not (pointwise nat_eq xs ys)) bytes (ap (sector_at after) here) ∙ sym opened in
-      both before (not (pointwise nat_eq entry.1 (sector_at after entry.0))) (differ before after low) entry low (trimmed after patch)
+      both before (not (pointwise nat_eq entry.1 (sector_at after entry.0))) (differ before after low) entry low (trimmed_blocks after patch)
       (filter (differ before after) (range_with_len (low + 1) n)) test (pair_opens before entry low here bytes)
-      (trimmed-from n (low + 1) high patch before after (omega arith) (subst (λ (k : ℕ). RisesBetween (k + 1) high patch) here r.2) held.1
+      (trimmed_blocks-from n (low + 1) high patch before after (omega arith) (subst (λ (k : ℕ). RisesBetween (k + 1) high patch) here r.2) held.1
       (λ b h a. others b (omega arith) ((λ same. absurd (omega arith)), a)))
 ]
 
 -- the patch after a trim has the blocks in which the image differs from the one with the patch put
 -- back
-pub trimmed-changed : (patch : Kept) (image : List (List ℕ)) → RisesBetween 0 (length image) patch → trimmed image patch ≡ changed (back image patch) image
-unfolding changed with_bytes differ
-trimmed-changed patch image r =
-    trimmed-from (length image) 0 (length image) patch (back image patch) image (omega arith) r (held-back patch image 0 (length image) r (omega arith))
-    (λ b h a. back-absent patch image b a)
-    ∙ ap (λ (n : ℕ). map (with_bytes (back image patch)) (filter (differ (back image patch) image) (range_with_len 0 n))) (sym (length-back patch image))
+pub trimmed_blocks-changed_blocks : (patch : Kept) (image : List (List ℕ)) → RisesBetween 0 (length image) patch → trimmed_blocks image patch ≡ changed_blocks (restored_image image patch) image
+unfolding changed_blocks with_bytes differ
+trimmed_blocks-changed_blocks patch image r =
+    trimmed_blocks-from (length image) 0 (length image) patch (restored_image image patch) image (omega arith) r (held-restored_image patch image 0 (length image) r (omega arith))
+    (λ b h a. restored_image-absent patch image b a)
+    ∙ ap (λ (n : ℕ). map (with_bytes (restored_image image patch)) (filter (differ (restored_image image patch) image) (range_with_len 0 n))) (sym (length-restored_image patch image))
 
 -- the same blocks with other bytes are ascending too
-pub rises-taken : (patch : Kept) (image : List (List ℕ)) (low high : ℕ) → RisesBetween low high patch → RisesBetween low high (taken image patch)
-unfolding RisesBetween taken
-rises-taken [] image low high r = tt
-rises-taken (entry ∷ patch) image low high r = (r.0, r.1, rises-taken patch image (entry.0 + 1) high r.2)
+pub rises-taken_blocks : (patch : Kept) (image : List (List ℕ)) (low high : ℕ) → RisesBetween low high patch → RisesBetween low high (taken_blocks image patch)
+unfolding RisesBetween taken_blocks
+rises-taken_blocks [] image low high r = tt
+rises-taken_blocks (entry ∷ patch) image low high r = (r.0, r.1, rises-taken_blocks patch image (entry.0 + 1) high r.2)
 
 -- blocks that lie from one on lie from each before it on
 rises-lower : (patch : Kept) (low lower high : ℕ) → RisesBetween low high patch → lower ≤ low → RisesBetween lower high patch
@@ -396,11 +396,11 @@ rises-cond true entry rest low high h i r = (h, i, r)
 rises-cond false entry rest low high h i r = rises-lower rest (entry.0 + 1) low high r (omega arith)
 
 -- what a trim leaves is ascending
-pub rises-trimmed : (patch : Kept) (image : List (List ℕ)) (low high : ℕ) → RisesBetween low high patch → RisesBetween low high (trimmed image patch)
-unfolding RisesBetween trimmed
-rises-trimmed [] image low high r = tt
-rises-trimmed (entry ∷ patch) image low high r =
-    rises-cond (not (pointwise nat_eq entry.1 (sector_at image entry.0))) entry (trimmed image patch) low high r.0 r.1 (rises-trimmed patch image (entry.0 + 1) high r.2)
+pub rises-trimmed_blocks : (patch : Kept) (image : List (List ℕ)) (low high : ℕ) → RisesBetween low high patch → RisesBetween low high (trimmed_blocks image patch)
+unfolding RisesBetween trimmed_blocks
+rises-trimmed_blocks [] image low high r = tt
+rises-trimmed_blocks (entry ∷ patch) image low high r =
+    rises-cond (not (pointwise nat_eq entry.1 (sector_at image entry.0))) entry (trimmed_blocks image patch) low high r.0 r.1 (rises-trimmed_blocks patch image (entry.0 + 1) high r.2)
 
 -- a block that is kept stays as it was kept first
 pub with_kept-again : (patch : Kept) (block : ℕ) (bytes : List ℕ) → is_kept patch block ≡ true → with_kept patch block bytes ≡ patch
@@ -426,19 +426,19 @@ rises-with_kept patch low high block bytes r h i = elim (cases_Bool (is_kept pat
 ]
 
 -- an image that is written through a patch can be put back as before
-pub back-written : (patch : Kept) (image : List (List ℕ)) (block : ℕ) (bytes : List ℕ)
-    → back (with_sector image block bytes) (with_kept patch block (sector_at image block)) ≡ back image patch
-back-written patch image block bytes = elim (cases_Bool (is_kept patch block)) [
-  | inl t ↦ ap (back (set image block bytes)) (with_kept-again patch block (sector_at image block) t) ∙ back-set_kept patch image block bytes t
+pub restored_image-written : (patch : Kept) (image : List (List ℕ)) (block : ℕ) (bytes : List ℕ)
+    → restored_image (with_sector image block bytes) (with_kept patch block (sector_at image block)) ≡ restored_image image patch
+restored_image-written patch image block bytes = elim (cases_Bool (is_kept patch block)) [
+  | inl t ↦ ap (restored_image (set image block bytes)) (with_kept-again patch block (sector_at image block) t) ∙ restored_image-set_kept patch image block bytes t
   | inr f ↦
-      ap (back (set image block bytes)) (with_kept-new patch block (sector_at image block) f)
-      ∙ back-set_insert patch image block (count_by (λ (x : ℕ × List ℕ). nat_lt x.0 block) patch) bytes (absent patch block f)
+      ap (restored_image (set image block bytes)) (with_kept-new patch block (sector_at image block) f)
+      ∙ restored_image-set_insert patch image block (count_by (λ (x : ℕ × List ℕ). nat_lt x.0 block) patch) bytes (absent patch block f)
 ]
 
 -- the entry to be exchanged next
 pub next_entry : (patch kept : Kept) (image : List (List ℕ)) (place : ℕ) (entry : ℕ × List ℕ)
-    → kept ≡ taken image (take place patch) ++ drop place patch → place < length patch → entry ≡ get_or kept place entry → entry ≡ get_or patch place entry
-unfolding taken
+    → kept ≡ taken_blocks image (take place patch) ++ drop place patch → place < length patch → entry ≡ get_or kept place entry → entry ≡ get_or patch place entry
+unfolding taken_blocks
 next_entry patch kept image place entry e h read =
     let first : Kept = map (λ (x : ℕ × List ℕ). (x.0, sector_at image x.0)) (take place patch) in
     let long : length first ≡ place = length-map (take place patch) (λ (x : ℕ × List ℕ). (x.0, sector_at image x.0)) ∙ length-take-le place patch (omega arith) in
@@ -448,35 +448,35 @@ next_entry patch kept image place entry e h read =
 
 -- the image after that entry is exchanged
 pub exchanged-image : (patch : Kept) (image held : List (List ℕ)) (place : ℕ) (entry : ℕ × List ℕ) (written : List ℕ)
-    → place < length patch → held ≡ back image (take place patch) → entry ≡ get_or patch place entry → written ≡ entry.1
-    → with_sector held entry.0 written ≡ back image (take (place + 1) patch)
+    → place < length patch → held ≡ restored_image image (take place patch) → entry ≡ get_or patch place entry → written ≡ entry.1
+    → with_sector held entry.0 written ≡ restored_image image (take (place + 1) patch)
 exchanged-image patch image held place entry written h is_held is_entry is_written =
     ap (λ (bytes : List ℕ). set held entry.0 bytes) is_written
     ∙ ap (λ (i : List (List ℕ)). set i entry.0 entry.1) is_held
-    ∙ ap (λ (x : ℕ × List ℕ). set (back image (take place patch)) x.0 x.1) is_entry
-    ∙ sym (back-more patch image place entry h)
+    ∙ ap (λ (x : ℕ × List ℕ). set (restored_image image (take place patch)) x.0 x.1) is_entry
+    ∙ sym (restored_image-more patch image place entry h)
 
 -- the patch after that entry is exchanged
 pub exchanged-kept : (patch kept : Kept) (image held : List (List ℕ)) (low high place : ℕ) (entry : ℕ × List ℕ) (bytes : List ℕ)
-    → RisesBetween low high patch → place < length patch → held ≡ back image (take place patch)
-    → kept ≡ taken image (take place patch) ++ drop place patch → entry ≡ get_or patch place entry → bytes ≡ sector_at held entry.0
-    → set kept place (entry.0, bytes) ≡ taken image (take (place + 1) patch) ++ drop (place + 1) patch
+    → RisesBetween low high patch → place < length patch → held ≡ restored_image image (take place patch)
+    → kept ≡ taken_blocks image (take place patch) ++ drop place patch → entry ≡ get_or patch place entry → bytes ≡ sector_at held entry.0
+    → set kept place (entry.0, bytes) ≡ taken_blocks image (take (place + 1) patch) ++ drop (place + 1) patch
 exchanged-kept patch kept image held low high place entry bytes r h is_held is_kept is_entry is_bytes =
     let read : bytes ≡ sector_at image entry.0 =
     is_bytes ∙ ap (λ (i : List (List ℕ)). sector_at i entry.0) is_held
-    ∙ ap (λ (x : ℕ × List ℕ). sector_at (back image (take place patch)) x.0) is_entry
+    ∙ ap (λ (x : ℕ × List ℕ). sector_at (restored_image image (take place patch)) x.0) is_entry
     ∙ back-next patch image low high place entry r h
     ∙ ap (λ (x : ℕ × List ℕ). sector_at image x.0) (sym is_entry) in
     ap (λ (b : List ℕ). let one : ℕ × List ℕ = (entry.0, b) in set kept place one) read
     ∙ ap (λ (k : Kept). let one : ℕ × List ℕ = (entry.0, sector_at image entry.0) in set k place one) is_kept
-    ∙ ap (λ (x : ℕ × List ℕ). let one : ℕ × List ℕ = (x.0, sector_at image x.0) in set (taken image (take place patch) ++ drop place patch) place one) is_entry
-    ∙ taken-more patch image place entry h
+    ∙ ap (λ (x : ℕ × List ℕ). let one : ℕ × List ℕ = (x.0, sector_at image x.0) in set (taken_blocks image (take place patch) ++ drop place patch) place one) is_entry
+    ∙ taken_blocks-more patch image place entry h
 
 -- all blocks are exchanged
-pub taken-all : (patch kept : Kept) (image : List (List ℕ)) (place : ℕ) → length patch ≤ place
-    → kept ≡ taken image (take place patch) ++ drop place patch → kept ≡ taken image patch
-taken-all patch kept image place h e =
-    e ∙ ap₂ (λ (first rest : Kept). taken image first ++ rest) (take_all place patch h) (drop_all place patch h) ∙ append-nil (taken image patch)
+pub taken_blocks-all : (patch kept : Kept) (image : List (List ℕ)) (place : ℕ) → length patch ≤ place
+    → kept ≡ taken_blocks image (take place patch) ++ drop place patch → kept ≡ taken_blocks image patch
+taken_blocks-all patch kept image place h e =
+    e ∙ ap₂ (λ (first rest : Kept). taken_blocks image first ++ rest) (take_all place patch h) (drop_all place patch h) ∙ append-nil (taken_blocks image patch)
 
 -- where the test tells no difference, the blocks are the same
 differ-same : (image other : List (List ℕ)) (block : ℕ) → differ image other block ≡ false → sector_at image block ≡ sector_at other block
@@ -490,8 +490,8 @@ differ-same image other block e = elim (cases_Bool (pointwise nat_eq (sector_at 
 restored : (n low : ℕ) (before after image : List (List ℕ)) → length image ≡ low + n → length before ≡ low + n
     → ((k : ℕ) → k < low → sector_at image k ≡ sector_at before k)
     → ((k : ℕ) → low ≤ k → sector_at image k ≡ sector_at after k)
-    → back image (map (with_bytes before) (filter (differ before after) (range_with_len low n))) ≡ before
-unfolding back with_bytes
+    → restored_image image (map (with_bytes before) (filter (differ before after) (range_with_len low n))) ≡ before
+unfolding restored_image with_bytes
 restored zero low before after image l m below above = ext_get_or [] image before (omega arith) (λ k h. below k (omega arith))
 restored (suc n) low before after image l m below above =
     let rest : List ℕ = filter (differ before after) (range_with_len (low + 1) n) in
@@ -499,7 +499,7 @@ restored (suc n) low before after image l m below above =
       | inl t ↦
           let bytes : List ℕ = sector_at before low in
           let long = length-set image low bytes in
-          ap (λ (u : Bool). back image (map (with_bytes before) (cond u (low ∷ rest) rest))) t
+          ap (λ (u : Bool). restored_image image (map (with_bytes before) (cond u (low ∷ rest) rest))) t
           ∙ restored n (low + 1) before after (set image low bytes) (omega arith) (omega arith)
           (λ k h. elim (cases_eq k low) [
             | inl e ↦ ap (sector_at (set image low bytes)) e ∙ get_or-set_same image low bytes [] (omega arith) ∙ ap (sector_at before) (sym e)
@@ -507,7 +507,7 @@ restored (suc n) low before after image l m below above =
           ])
           (λ k h. get_or-set_other image low k bytes [] (λ e. absurd (omega arith)) ∙ above k (omega arith))
       | inr f ↦
-          ap (λ (u : Bool). back image (map (with_bytes before) (cond u (low ∷ rest) rest))) f
+          ap (λ (u : Bool). restored_image image (map (with_bytes before) (cond u (low ∷ rest) rest))) f
           ∙ restored n (low + 1) before after image (omega arith) (omega arith)
           (λ k h. elim (cases_eq k low) [
             | inl e ↦ above k (omega arith) ∙ ap (sector_at after) e ∙ sym (differ-same before after low f) ∙ ap (sector_at before) (sym e)
@@ -517,9 +517,9 @@ restored (suc n) low before after image l m below above =
     ]
 
 -- the patch of all that changed puts back the image from before
-pub back-changed : (before after : List (List ℕ)) → length before ≡ length after → back after (changed before after) ≡ before
-unfolding changed with_bytes differ
-back-changed before after long =
+pub restored_image-changed_blocks : (before after : List (List ℕ)) → length before ≡ length after → restored_image after (changed_blocks before after) ≡ before
+unfolding changed_blocks with_bytes differ
+restored_image-changed_blocks before after long =
     restored (length before) 0 before after after (omega arith) (omega arith) (λ k h. absurd (omega arith)) (λ k h. refl)
 
 -- what changed are blocks of the images
@@ -534,13 +534,13 @@ changed-from p before low (suc count) high e = either (p low) (changed-from p be
     either true rest = (omega arith, omega arith, rest)
     either false rest = rises-lower (map (λ block. (block, sector_at before block)) (filter p (range_with_len (low + 1) count))) (low + 1) low high rest (omega arith)
 
-pub rises-changed : (before after : List (List ℕ)) → RisesBetween 0 (length before) (changed before after)
-unfolding changed
-rises-changed before after =
+pub rises-changed_blocks : (before after : List (List ℕ)) → RisesBetween 0 (length before) (changed_blocks before after)
+unfolding changed_blocks
+rises-changed_blocks before after =
     changed-from (λ block. not (pointwise nat_eq (sector_at before block) (sector_at after block))) before 0 (length before) (length before) (omega arith)
 
 -- so a patch that is a difference has blocks of the image alone
-pub rises-difference : (image : List (List ℕ)) (patch : Kept) → patch ≡ changed (back image patch) image → RisesBetween 0 (length image) patch
+pub rises-difference : (image : List (List ℕ)) (patch : Kept) → patch ≡ changed_blocks (restored_image image patch) image → RisesBetween 0 (length image) patch
 rises-difference image patch e =
-    subst (λ (n : ℕ). RisesBetween 0 n patch) (length-back patch image)
-    (subst (RisesBetween 0 (length (back image patch))) (sym e) (rises-changed (back image patch) image))
+    subst (λ (n : ℕ). RisesBetween 0 n patch) (length-restored_image patch image)
+    (subst (RisesBetween 0 (length (restored_image image patch))) (sym e) (rises-changed_blocks (restored_image image patch) image))

@@ -19,8 +19,8 @@ use Rattle.std.proofs.lemmas.List.Elements.{All-get_or, All-set}
 use Rattle.std.proofs.lemmas.Nat.{pow_pos, mod-pow-add, ones_cat, or_lt}
 use Rattle.std.proofs.lemmas.Nat.Bits.{bit_at-lt, bit_at-zero, bit_at_set_same, bit_at_set_other, bit_at_clear_same, bit_at_clear_other}
 use Rattle.d64_image.specs.declared.block.TheConstants.{BLOCKS}
-use Rattle.d64_image.specs.BlockSet.{is_marked, marked_below, marked, AreWords, words_of, same_members, MembersAreBlocks}
-use Rattle.d64_image.specs.Marks.{both_true, contains-marked_below, words_of-marked, Decides-same_members}
+use Rattle.d64_image.specs.BlockSet.{is_marked, marked_below, marked_blocks, AreWords, words_of, same_members, MembersAreBlocks}
+use Rattle.d64_image.specs.Marks.{both_true, contains-marked_below, words_of-marked_blocks, Decides-same_members}
 
 -- words that are all alike
 get_or-alike : (n k word : ℕ) → get_or (replicate n word) k word ≡ word
@@ -29,8 +29,8 @@ get_or-alike (suc n) zero word = refl
 get_or-alike (suc n) (suc k) word = get_or-alike n k word
 
 -- no bit, no member
-pub marked-zeros : (n : ℕ) → marked (replicate n 0) ≡ blocks.empty
-marked-zeros n =
+pub marked_blocks-zeros : (n : ℕ) → marked_blocks (replicate n 0) ≡ blocks.empty
+marked_blocks-zeros n =
     same_set nat_cmp_total nat_cmp-IsAntisymmetric _ _ (λ q.
     let none : is_marked (replicate n 0) q ≡ false = ap (λ (word : ℕ). nat_eq (bit_at word (q % 32)) 1) (get_or-alike n (q / 32) 0) ∙ ap (λ (b : ℕ). nat_eq b 1) (bit_at-zero (q % 32)) in
     contains-marked_below BLOCKS (replicate n 0) q
@@ -63,9 +63,9 @@ other_mark words block new q held differs apart =
     ]
 
 -- a bit that is set makes its block a member
-pub marked-add : (words : List ℕ) (block new : ℕ) → block < BLOCKS → block / 32 < length words → bit_at new (block % 32) ≡ 1
-    → DiffersAt (get_or words (block / 32) 0) new (block % 32) → marked (set words (block / 32) new) ≡ blocks.insert (marked words) block
-marked-add words block new within held one differs =
+pub marked_blocks-add : (words : List ℕ) (block new : ℕ) → block < BLOCKS → block / 32 < length words → bit_at new (block % 32) ≡ 1
+    → DiffersAt (get_or words (block / 32) 0) new (block % 32) → marked_blocks (set words (block / 32) new) ≡ blocks.insert (marked_blocks words) block
+marked_blocks-add words block new within held one differs =
     same_set nat_cmp_total nat_cmp-IsAntisymmetric _ _ (λ q.
     contains-marked_below BLOCKS (set words (block / 32) new) q
     ∙ elim (eqb_tells q block) [
@@ -73,15 +73,15 @@ marked-add words block new within held one differs =
           let z : is_marked (set words (block / 32) new) q ≡ true = ap (is_marked (set words (block / 32) new)) e.1 ∙ this_mark words block new held ∙ ap (λ (b : ℕ). nat_eq b 1) one in
           let l : ltb q BLOCKS ≡ true = ap (λ (k : ℕ). ltb k BLOCKS) e.1 ∙ (let x : ltb block BLOCKS ≡ true = grind (arith, nat_tests) in x) in
           ap₂ ◌&&◌ l z
-          ∙ sym (contains-insert nat_cmp_total (marked words) block q ∙ ap (λ (b : Bool). b || blocks.contains (marked words) q) (unsigned_tied q block ∙ e.0))
+          ∙ sym (contains-insert nat_cmp_total (marked_blocks words) block q ∙ ap (λ (b : Bool). b || blocks.contains (marked_blocks words) q) (unsigned_tied q block ∙ e.0))
       | inr e ↦ ap (λ (b : Bool). ltb q BLOCKS && b) (other_mark words block new q held differs e.1)
-          ∙ sym (contains-insert nat_cmp_total (marked words) block q ∙ ap (λ (b : Bool). b || blocks.contains (marked words) q) (unsigned_tied q block ∙ e.0) ∙ contains-marked_below BLOCKS words q)
+          ∙ sym (contains-insert nat_cmp_total (marked_blocks words) block q ∙ ap (λ (b : Bool). b || blocks.contains (marked_blocks words) q) (unsigned_tied q block ∙ e.0) ∙ contains-marked_below BLOCKS words q)
     ])
 
 -- a bit that is cleared removes its block
-pub marked-remove : (words : List ℕ) (block new : ℕ) → block < BLOCKS → block / 32 < length words → bit_at new (block % 32) ≡ 0
-    → DiffersAt (get_or words (block / 32) 0) new (block % 32) → marked (set words (block / 32) new) ≡ blocks.remove (marked words) block
-marked-remove words block new within held none differs =
+pub marked_blocks-remove : (words : List ℕ) (block new : ℕ) → block < BLOCKS → block / 32 < length words → bit_at new (block % 32) ≡ 0
+    → DiffersAt (get_or words (block / 32) 0) new (block % 32) → marked_blocks (set words (block / 32) new) ≡ blocks.remove (marked_blocks words) block
+marked_blocks-remove words block new within held none differs =
     same_set nat_cmp_total nat_cmp-IsAntisymmetric _ _ (λ q.
     contains-marked_below BLOCKS (set words (block / 32) new) q
     ∙ elim (eqb_tells q block) [
@@ -89,13 +89,13 @@ marked-remove words block new within held none differs =
           let z : is_marked (set words (block / 32) new) q ≡ false = ap (is_marked (set words (block / 32) new)) e.1 ∙ this_mark words block new held ∙ ap (λ (b : ℕ). nat_eq b 1) none in
           let l : ltb q BLOCKS ≡ true = ap (λ (k : ℕ). ltb k BLOCKS) e.1 ∙ (let x : ltb block BLOCKS ≡ true = grind (arith, nat_tests) in x) in
           ap₂ ◌&&◌ l z
-          ∙ sym (contains-remove nat_cmp_total (marked words) block q ∙ ap (λ (b : Bool). not b && blocks.contains (marked words) q) (unsigned_tied q block ∙ e.0))
+          ∙ sym (contains-remove nat_cmp_total (marked_blocks words) block q ∙ ap (λ (b : Bool). not b && blocks.contains (marked_blocks words) q) (unsigned_tied q block ∙ e.0))
       | inr e ↦ ap (λ (b : Bool). ltb q BLOCKS && b) (other_mark words block new q held differs e.1)
-          ∙ sym (contains-remove nat_cmp_total (marked words) block q ∙ ap (λ (b : Bool). not b && blocks.contains (marked words) q) (unsigned_tied q block ∙ e.0) ∙ contains-marked_below BLOCKS words q)
+          ∙ sym (contains-remove nat_cmp_total (marked_blocks words) block q ∙ ap (λ (b : Bool). not b && blocks.contains (marked_blocks words) q) (unsigned_tied q block ∙ e.0) ∙ contains-marked_below BLOCKS words q)
     ])
 
 -- the members are blocks
-pub members_are_blocks : (words : List ℕ) (members : blocks.FinSet nat_cmp) → marked words ≡ members → MembersAreBlocks members
+pub members_are_blocks : (words : List ℕ) (members : blocks.FinSet nat_cmp) → marked_blocks words ≡ members → MembersAreBlocks members
 members_are_blocks words members e block h =
     let passed : ltb block BLOCKS ≡ true = (both_true (ltb block BLOCKS) (is_marked words block) (sym (contains-marked_below BLOCKS words block) ∙ ap (λ (s : blocks.FinSet nat_cmp). blocks.contains s block) e ∙ h)).0 in
     grind (arith, nat_tests)
@@ -168,20 +168,20 @@ bits_counted words place (suc bit) few =
     ∙ ap (λ (k : ℕ). blocks.len (marked_below (32 * place) words) + count_ones (get_or words place 0 % 2 ^ k)) next
 
 -- equal words are those of equal sets
-same_marked : (xs ys : List ℕ) → AreWords xs → AreWords ys → marked xs ≡ marked ys → xs ≡ ys
-same_marked xs ys long far e = sym (words_of-marked xs long) ∙ ap words_of e ∙ words_of-marked ys far
+same_marked : (xs ys : List ℕ) → AreWords xs → AreWords ys → marked_blocks xs ≡ marked_blocks ys → xs ≡ ys
+same_marked xs ys long far e = sym (words_of-marked_blocks xs long) ∙ ap words_of e ∙ words_of-marked_blocks ys far
 
 -- a test of the words tells whether the sets are equal
-pub Decides-same_words : (xs ys : List ℕ) (s t : blocks.FinSet nat_cmp) → AreWords xs → AreWords ys → marked xs ≡ s → marked ys ≡ t
+pub Decides-same_words : (xs ys : List ℕ) (s t : blocks.FinSet nat_cmp) → AreWords xs → AreWords ys → marked_blocks xs ≡ s → marked_blocks ys ≡ t
     → (r : Bool) → r ≡ pointwise nat_eq xs ys → Decides r (s ≡ t)
 Decides-same_words xs ys s t long far e f r is =
     let told = pointwise_decides unsigned_Decides xs ys in (
-      λ h. sym e ∙ ap marked (told.0 (sym is ∙ h)) ∙ f,
+      λ h. sym e ∙ ap marked_blocks (told.0 (sym is ∙ h)) ∙ f,
       λ h. is ∙ told.1 (same_marked xs ys long far (e ∙ h ∙ sym f)),
     )
 
 -- the same test answers whether they have the same members
-pub same_words-same_members : (xs ys : List ℕ) (s t : blocks.FinSet nat_cmp) → AreWords xs → AreWords ys → marked xs ≡ s → marked ys ≡ t
+pub same_words-same_members : (xs ys : List ℕ) (s t : blocks.FinSet nat_cmp) → AreWords xs → AreWords ys → marked_blocks xs ≡ s → marked_blocks ys ≡ t
     → (r : Bool) → r ≡ pointwise nat_eq xs ys → r ≡ same_members s t
 same_words-same_members xs ys s t long far e f r is =
     same_from_decides r (same_members s t) (Decides-same_words xs ys s t long far e f r is) (Decides-same_members s t)
@@ -218,19 +218,19 @@ without_bit-fits words block are within =
 
 -- what the word with the bit of a block makes of the set
 pub inserted : (words : List ℕ) (block : ℕ) → AreWords words → block < BLOCKS
-    → marked (set words (block / 32) (with_bit (get_or words (block / 32) 0) (block % 32))) ≡ blocks.insert (marked words) block
+    → marked_blocks (set words (block / 32) (with_bit (get_or words (block / 32) 0) (block % 32))) ≡ blocks.insert (marked_blocks words) block
 inserted words block are within =
     let few : block % 32 < 32 = omega arith in
     let old : ℕ = get_or words (block / 32) 0 in
-    marked-add words block (with_bit old (block % 32)) within (word_held words block are within) (bit_at_set_same w32 old (block % 32) few) (record { others = λ i _ apart. bit_at_set_other w32 old (block % 32) few i apart })
+    marked_blocks-add words block (with_bit old (block % 32)) within (word_held words block are within) (bit_at_set_same w32 old (block % 32) few) (record { others = λ i _ apart. bit_at_set_other w32 old (block % 32) few i apart })
 
 -- and the word without it
 pub removed : (words : List ℕ) (block : ℕ) → AreWords words → block < BLOCKS
-    → marked (set words (block / 32) (without_bit (get_or words (block / 32) 0) (block % 32))) ≡ blocks.remove (marked words) block
+    → marked_blocks (set words (block / 32) (without_bit (get_or words (block / 32) 0) (block % 32))) ≡ blocks.remove (marked_blocks words) block
 removed words block are within =
     let few : block % 32 < 32 = omega arith in
     let old : ℕ = get_or words (block / 32) 0 in
-    marked-remove words block (without_bit old (block % 32)) within (word_held words block are within) (bit_at_clear_same w32 old (block % 32) few) (record { others = λ i h apart. bit_at_clear_other w32 old (block % 32) few i h apart })
+    marked_blocks-remove words block (without_bit old (block % 32)) within (word_held words block are within) (bit_at_clear_same w32 old (block % 32) few) (record { others = λ i h apart. bit_at_clear_other w32 old (block % 32) few i h apart })
 
 -- one more word and its members
 pub word_counted : (words : List ℕ) (place : ℕ) → AreWords words → place < length words

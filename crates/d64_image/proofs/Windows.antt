@@ -10,7 +10,7 @@ use Rattle.std.proofs.lemmas.List.Elements.{All-get_or}
 use Rattle.std.proofs.lemmas.Nat.{pow_pos, div-add-mod'}
 use Rattle.std.proofs.lemmas.Nat.Bits.{bit_at-lt, bit_at-zero, bit_at_cat_low, bit_at_cat_high}
 use Rattle.d64_image.specs.declared.block.TheConstants.{BLOCKS}
-use Rattle.d64_image.specs.BlockSet.{is_marked, marked, AreWords}
+use Rattle.d64_image.specs.BlockSet.{is_marked, marked_blocks, AreWords}
 use Rattle.d64_image.specs.Marks.{contains-marked_below, as_bit, bit_tested}
 
 -- a bit among the lowest ones
@@ -27,7 +27,7 @@ bit_at-div n count bit =
     ∙ ap (λ (m : ℕ). bit_at m (count + bit)) (div-add-mod' n (2 ^ count))
 
 -- a number is a member where it is marked
-pub contains-held : (words : List ℕ) (block : ℕ) → AreWords words → set.contains (marked words) block ≡ is_marked words block
+pub contains-held : (words : List ℕ) (block : ℕ) → AreWords words → set.contains (marked_blocks words) block ≡ is_marked words block
 contains-held words block are =
     contains-marked_below BLOCKS words block
     ∙ elim (cases_lt block BLOCKS) [
@@ -72,7 +72,7 @@ bit_of_two words place bit are few =
 
 -- the 32 bits from that of a block on tell which blocks are members
 pub bits_tell : (words : List ℕ) (first bit : ℕ) → AreWords words → bit < 32
-    → bit_at (two_words words (first / 32) / 2 ^ (first % 32) % 2 ^ 32) bit ≡ cond (set.contains (marked words) (first + bit)) 1 0
+    → bit_at (two_words words (first / 32) / 2 ^ (first % 32) % 2 ^ 32) bit ≡ cond (set.contains (marked_blocks words) (first + bit)) 1 0
 bits_tell words first bit are few =
     let same : 32 * (first / 32) + (first % 32 + bit) ≡ first + bit = omega arith in
     let word : ℕ = get_or words ((first + bit) / 32) 0 in

@@ -22,8 +22,8 @@ marked_below (suc block) words =
     if is_marked words block then set.insert (marked_below block words) block else marked_below block words
 
 -- the set of the blocks of a disk that are marked
-abbrev pub marked : List ℕ → BlockSet
-marked words = marked_below BLOCKS words
+abbrev pub marked_blocks : List ℕ → BlockSet
+marked_blocks words = marked_below BLOCKS words
 
 -- words that have a bit for each block of a disk
 pub record AreWords (words : List ℕ) : Type 0 where

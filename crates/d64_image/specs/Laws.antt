@@ -6,7 +6,7 @@ use Rattle.d64_image.specs.BlockSet.{BlockSet, same_members}
 use Rattle.d64_image.specs.declared.block.TheConstants.{BLOCKS}
 use Rattle.d64_image.specs.Block.{IsLegal, first_block, pair_at, block_of}
 use Rattle.d64_image.specs.Image.{IsSize, tracks_of, sector_at, differences}
-use Rattle.d64_image.specs.Patch.{back, changed}
+use Rattle.d64_image.specs.Patch.{restored_image, changed_blocks}
 
 -- each block stands for a legal pair, and is the block of that pair
 abbrev pub EachBlockHasItsPair : Type 0
@@ -47,12 +47,12 @@ SameMembersTells = (blocks others : BlockSet) → IsTrue (same_members blocks ot
 
 -- a patch that keeps nothing puts nothing back
 abbrev pub EmptyPatchPutsNothingBack : Type 0
-EmptyPatchPutsNothingBack = (image : Disk) → back image [] ≡ image
+EmptyPatchPutsNothingBack = (image : Disk) → restored_image image [] ≡ image
 
 -- the patch of all that changed puts back the image from before
 abbrev pub ChangesPutBack : Type 0
-ChangesPutBack = (before after : Disk) → length before ≡ length after → back after (changed before after) ≡ before
+ChangesPutBack = (before after : Disk) → length before ≡ length after → restored_image after (changed_blocks before after) ≡ before
 
 -- it keeps as many blocks as differ
 abbrev pub ChangesCount : Type 0
-ChangesCount = (before after : Disk) → length (changed before after) ≡ length (differences before after)
+ChangesCount = (before after : Disk) → length (changed_blocks before after) ≡ length (differences before after)

@@ -12,7 +12,7 @@ use Rattle.std.proofs.lemmas.Bool.Decides.{nat_tests, eqb_tells}
 use Rattle.std.proofs.lemmas.List.FromFn.{fill_by_all}
 use Rattle.std.proofs.lemmas.List.Elements.{All-get_or}
 use Rattle.std.proofs.lemmas.Nat.Bits.{bit_at-lt, bit_at_cat_low, bit_at_cat_high, same_from_bits_below}
-use Rattle.d64_image.specs.BlockSet.{BlockSet, is_marked, marked_below, marked, AreWords, bits_where, words_of, same_members}
+use Rattle.d64_image.specs.BlockSet.{BlockSet, is_marked, marked_below, marked_blocks, AreWords, bits_where, words_of, same_members}
 use Rattle.d64_image.specs.declared.block.TheConstants.{BLOCKS}
 
 -- where both of two tests pass, each does
@@ -51,8 +51,8 @@ contains-marked_below (suc n) words q =
         ]
 
 -- a block is a member where it is marked
-pub contains-marked : (words : List ℕ) (block : ℕ) → block < BLOCKS → set.contains (marked words) block ≡ is_marked words block
-contains-marked words block h =
+pub contains-marked_blocks : (words : List ℕ) (block : ℕ) → block < BLOCKS → set.contains (marked_blocks words) block ≡ is_marked words block
+contains-marked_blocks words block h =
     contains-marked_below BLOCKS words block
     ∙ ap (λ (b : Bool). b && is_marked words block) (let e : ltb block BLOCKS ≡ true = grind (arith, nat_tests) in e)
 
@@ -103,24 +103,24 @@ bit_tested (suc (suc b)) h = absurd (omega arith)
 
 -- the word at a place has the bits of its blocks
 word-is : (words : List ℕ) (place : ℕ) → AreWords words → place < length words
-    → bits_where (λ bit. set.contains (marked words) (32 * place + bit)) 32 ≡ get_or words place 0
+    → bits_where (λ bit. set.contains (marked_blocks words) (32 * place + bit)) 32 ≡ get_or words place 0
 word-is words place are held =
-    same_from_bits_below 32 _ _ (bits_where-below (λ bit. set.contains (marked words) (32 * place + bit)) 32) (All-get_or (λ word. word < 2 ^ 32) words place 0 held are.fit) (λ bit h.
+    same_from_bits_below 32 _ _ (bits_where-below (λ bit. set.contains (marked_blocks words) (32 * place + bit)) 32) (All-get_or (λ word. word < 2 ^ 32) words place 0 held are.fit) (λ bit h.
     let all = are.all in
     let at : (32 * place + bit) / 32 ≡ place = omega arith in
     let on : (32 * place + bit) % 32 ≡ bit = omega arith in
-    bit_at-where (λ bit. set.contains (marked words) (32 * place + bit)) 32 bit h
-    ∙ ap as_bit (contains-marked words (32 * place + bit) (omega arith))
+    bit_at-where (λ bit. set.contains (marked_blocks words) (32 * place + bit)) 32 bit h
+    ∙ ap as_bit (contains-marked_blocks words (32 * place + bit) (omega arith))
     ∙ ap (λ (k : ℕ). as_bit (nat_eq (bit_at (get_or words k 0) ((32 * place + bit) % 32)) 1)) at
     ∙ ap (λ (k : ℕ). as_bit (nat_eq (bit_at (get_or words place 0) k) 1)) on
     ∙ bit_tested (bit_at (get_or words place 0) bit) (bit_at-lt (get_or words place 0) bit))
 
 -- the words of a set are those that made it
-pub words_of-marked : (words : List ℕ) → AreWords words → words_of (marked words) ≡ words
+pub words_of-marked_blocks : (words : List ℕ) → AreWords words → words_of (marked_blocks words) ≡ words
 unfolding words_of
-words_of-marked words are =
+words_of-marked_blocks words are =
     let long : length words ≡ BLOCKS / 32 = let all = are.all in omega arith in
-    sym (fill_by_all (λ place. bits_where (λ bit. set.contains (marked words) (32 * place + bit)) 32) words (BLOCKS / 32) 0 long (λ place h.
+    sym (fill_by_all (λ place. bits_where (λ bit. set.contains (marked_blocks words) (32 * place + bit)) 32) words (BLOCKS / 32) 0 long (λ place h.
     sym (word-is words place are (omega arith))))
 
 -- two answers that imply one another are one

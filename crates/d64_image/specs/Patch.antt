@@ -28,8 +28,8 @@ abbrev pub HaveBlocks : Kept → Type 0
 HaveBlocks patch = All (λ entry. IsBlock entry.1) patch
 
 -- the image with the kept blocks put back
-unfoldable pub back : Disk → Kept → Disk
-back image patch = fold (λ held entry. with_sector held entry.0 entry.1) image patch
+unfoldable pub restored_image : Disk → Kept → Disk
+restored_image image patch = fold (λ held entry. with_sector held entry.0 entry.1) image patch
 
 -- a patch keeps the block
 abbrev pub is_kept : Kept → ℕ → Bool
@@ -41,13 +41,13 @@ with_kept patch block bytes =
     if is_kept patch block then patch else insert patch (count_by (λ entry. nat_lt entry.0 block) patch) (block, bytes)
 
 -- the same blocks, each with the bytes that an image has there
-unfoldable pub taken : Disk → Kept → Kept
-taken image patch = map (λ entry. (entry.0, sector_at image entry.0)) patch
+unfoldable pub taken_blocks : Disk → Kept → Kept
+taken_blocks image patch = map (λ entry. (entry.0, sector_at image entry.0)) patch
 
 -- the kept blocks whose bytes an image doesn't have
-unfoldable pub trimmed : Disk → Kept → Kept
-trimmed image patch = filter (λ entry. not (pointwise nat_eq entry.1 (sector_at image entry.0))) patch
+unfoldable pub trimmed_blocks : Disk → Kept → Kept
+trimmed_blocks image patch = filter (λ entry. not (pointwise nat_eq entry.1 (sector_at image entry.0))) patch
 
 -- the blocks in which an image differs from the one before it, with their bytes from before
-unfoldable pub changed : Disk → Disk → Kept
-changed before after = map (λ block. (block, sector_at before block)) (differences before after)
+unfoldable pub changed_blocks : Disk → Disk → Kept
+changed_blocks before after = map (λ block. (block, sector_at before block)) (differences before after)

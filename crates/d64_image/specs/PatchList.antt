@@ -3,9 +3,9 @@ use Rattle.std.specs.Prelude.{ℕ, ◌+◌, List, [], ◌∷◌, length, map, ta
 use Rattle.d64_image.specs.Patch.{Kept}
 
 -- a list cut into lists of so many elements each
-unfoldable pub cut : List ℕ → Kept → List Kept
-cut [] blocks = []
-cut (len ∷ lens) blocks = take len blocks ∷ cut lens (drop len blocks)
+unfoldable pub cut_blocks : List ℕ → Kept → List Kept
+cut_blocks [] blocks = []
+cut_blocks (len ∷ lens) blocks = take len blocks ∷ cut_blocks lens (drop len blocks)
 
 -- the sum of numbers
 unfoldable pub total : List ℕ → ℕ

@@ -28,21 +28,21 @@ impl Model for BlockSet {
     ghost use Rattle.std.specs.Ordering.{nat_cmp};
     ghost use Rattle.std.specs.FinSet as set;
     ghost use Rattle.std.specs.Coded.{coded_ℕ};
-    ghost use Rattle.d64_image.specs.BlockSet.{marked, AreWords, words_of};
-    ghost use Rattle.d64_image.specs.Marks.{words_of-marked};
+    ghost use Rattle.d64_image.specs.BlockSet.{marked_blocks, AreWords, words_of};
+    ghost use Rattle.d64_image.specs.Marks.{words_of-marked_blocks};
     ghost use Rattle.std.proofs.Common.{ap};
 
     ghost Value = { set.FinSet nat_cmp };
 
     ghost coded = { set.code coded_ℕ };
 
-    ghost view = { λ blocks. marked blocks.words };
+    ghost view = { λ blocks. marked_blocks blocks.words };
 
     ghost invariant = { λ blocks. AreWords blocks.words };
 
     ghost inverse = { λ blocks. record { words = words_of blocks } };
 
-    ghost inverse_ok = { λ blocks are. ap (λ words. record { words = words }) (words_of-marked blocks.words are) };
+    ghost inverse_ok = { λ blocks are. ap (λ words. record { words = words }) (words_of-marked_blocks blocks.words are) };
 }
 
 /// The word at a place, and 0 past the last one.

@@ -2,7 +2,7 @@
 ghost use Rattle.std.specs.Prelude.{◌≡◌, ◌<◌, ◌≤◌, ◌++◌, ◌∷◌, false, [], length, nat_lt, count_by, vec_len, vec_capacity, OnOk, OnErr};
 ghost use Rattle.d64_image.specs.declared.block.TheConstants.{BLOCKS};
 ghost use Rattle.d64_image.specs.Image.{sector_at, with_sector};
-ghost use Rattle.d64_image.specs.Patch.{HaveBlocks, IsPatch, IsPatchOf, RisesBetween, back, changed, is_kept, with_kept, taken, trimmed};
+ghost use Rattle.d64_image.specs.Patch.{HaveBlocks, IsPatch, IsPatchOf, RisesBetween, restored_image, changed_blocks, is_kept, with_kept, taken_blocks, trimmed_blocks};
 
 use crate::block::BlockNo;
 use crate::image::{BLOCK_BYTES, Image};
@@ -46,8 +46,8 @@ fn make_room(kept: &mut Vec<(BlockNo, [u8; BLOCK_BYTES])>) -> Result<(), AllocEr
 /// Exchanges the bytes of each kept block with those that the image has there: it has each of them.
 pub(crate) fn swap_blocks(kept: &mut [(BlockNo, [u8; BLOCK_BYTES])], image: &mut Image)
     requires { IsPatchOf image.old kept.old }
-    ensures image { image.new ≡ back image.old kept.old }
-    ensures kept { kept.new ≡ taken image.old kept.old }
+    ensures image { image.new ≡ restored_image image.old kept.old }
+    ensures kept { kept.new ≡ taken_blocks image.old kept.old }
 {
     for place in 0..kept.len() {
         let entry = &mut kept[place];
@@ -148,7 +148,7 @@ impl Patch {
         ensures refused { OnErr result (is_kept self.old block ≡ false) }
         ensures unchanged_patch { OnErr result (self.new ≡ self.old) }
         ensures unchanged_image { OnErr result (image.new ≡ image.old) }
-        ensures back { back image.new self.new ≡ back image.old self.old }
+        ensures back { restored_image image.new self.new ≡ restored_image image.old self.old }
         ensures held { IsPatchOf image.old self.old → IsPatchOf image.new self.new }
     {
         if !self.keeps(block) {
@@ -162,10 +162,10 @@ impl Patch {
     /// them. Takes no memory.
     pub fn swap(&mut self, image: &mut Image)
         requires { IsPatchOf image.old self.old }
-        ensures image { image.new ≡ back image.old self.old }
-        ensures patch { self.new ≡ taken image.old self.old }
-        ensures back { back image.new self.new ≡ image.old }
-        ensures changed { self.old ≡ changed image.new image.old → self.new ≡ changed image.old image.new }
+        ensures image { image.new ≡ restored_image image.old self.old }
+        ensures patch { self.new ≡ taken_blocks image.old self.old }
+        ensures back { restored_image image.new self.new ≡ image.old }
+        ensures changed { self.old ≡ changed_blocks image.new image.old → self.new ≡ changed_blocks image.old image.new }
         ensures held { IsPatchOf image.new self.new }
     {
         image.known_image();
@@ -176,9 +176,9 @@ impl Patch {
     /// image with the patch put back. The image has each kept block. Takes no memory.
     pub fn trim(&mut self, image: &Image)
         requires { IsPatchOf image.now self.old }
-        ensures kept { self.new ≡ trimmed image.now self.old }
-        ensures back { back image.now self.new ≡ back image.now self.old }
-        ensures changed { self.new ≡ changed (back image.now self.old) image.now }
+        ensures kept { self.new ≡ trimmed_blocks image.now self.old }
+        ensures back { restored_image image.now self.new ≡ restored_image image.now self.old }
+        ensures changed { self.new ≡ changed_blocks (restored_image image.now self.old) image.now }
         ensures held { IsPatchOf image.now self.new }
     {
         self.kept

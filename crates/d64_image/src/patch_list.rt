@@ -1,6 +1,6 @@
 //! Patches, one after another.
 ghost use Rattle.std.specs.Prelude.{◌≡◌, ◌+◌, ◌<◌, ◌≤◌, ◌++◌, ◌∷◌, [], length, take, slice_index_or, slice_set, nat_lt, if◌then◌else◌, Some, None, vec_capacity, All, OnOk, OnErr};
-ghost use Rattle.d64_image.specs.Patch.{HaveBlocks, IsPatch, IsPatchOf, back, taken};
+ghost use Rattle.d64_image.specs.Patch.{HaveBlocks, IsPatch, IsPatchOf, restored_image, taken_blocks};
 ghost use Rattle.d64_image.specs.PatchList.{blocks_before};
 
 use crate::block::BlockNo;
@@ -34,15 +34,15 @@ pub struct PatchList {
 impl Model for PatchList {
     ghost use Rattle.std.specs.Prelude.{◌≡◌, List, length, All};
     ghost use Rattle.d64_image.specs.Patch.{Kept, IsPatch, HaveBlocks};
-    ghost use Rattle.d64_image.specs.PatchList.{cut, total};
+    ghost use Rattle.d64_image.specs.PatchList.{cut_blocks, total};
 
     ghost Value = { List Kept };
 
-    ghost view = { λ patches. cut patches.lens.items patches.blocks.items };
+    ghost view = { λ patches. cut_blocks patches.lens.items patches.blocks.items };
 
     ghost invariant = { λ patches. (total patches.lens.items ≡ length patches.blocks.items)
-        × All IsPatch (cut patches.lens.items patches.blocks.items)
-        × All HaveBlocks (cut patches.lens.items patches.blocks.items) };
+        × All IsPatch (cut_blocks patches.lens.items patches.blocks.items)
+        × All HaveBlocks (cut_blocks patches.lens.items patches.blocks.items) };
 }
 
 /// Makes room for the first blocks of a list, where it has no room yet.
@@ -180,8 +180,8 @@ impl PatchList {
         requires within { place.number < length self.old }
         requires place { place.blocks ≡ blocks_before self.old place.number }
         requires held { IsPatchOf image.old (slice_index_or self.old place.number []) }
-        ensures patch { self.new ≡ slice_set self.old place.number (taken image.old (slice_index_or self.old place.number [])) }
-        ensures image { image.new ≡ back image.old (slice_index_or self.old place.number []) }
+        ensures patch { self.new ≡ slice_set self.old place.number (taken_blocks image.old (slice_index_or self.old place.number [])) }
+        ensures image { image.new ≡ restored_image image.old (slice_index_or self.old place.number []) }
     {
         image.known_image();
         let len = usize::from(self.lens[place.number]);
@@ -196,7 +196,7 @@ impl PatchList {
         requires within { place.number < length self.now }
         requires place { place.blocks ≡ blocks_before self.now place.number }
         requires held { IsPatchOf image.old (slice_index_or self.now place.number []) }
-        ensures { image.new ≡ back image.old (slice_index_or self.now place.number []) }
+        ensures { image.new ≡ restored_image image.old (slice_index_or self.now place.number []) }
     {
         for entry in self.at(place) {
             *image.sector_mut(entry.0) = entry.1;

@@ -10,7 +10,7 @@ use Rattle.d64_survey.specs.declared.way_end.WayEnd.TheVariants.{Off}
 use Rattle.d64_survey.proofs.Steps.{off}
 use Rattle.d64_survey.proofs.Told.{same_way}
 use Rattle.d64_inventory.specs.Contents.{digested_along}
-use Rattle.d64_inventory.specs.ContentTables.{kept, TellsContents}
+use Rattle.d64_inventory.specs.ContentTables.{kept_content, TellsContents}
 use Rattle.d64_inventory.specs.declared.row.Content.{Content}
 
 -- what is kept is what is told of the content along the way from a pair
@@ -22,7 +22,7 @@ held : (P : Content → Type 0) (found other : Option Content) → found ≡ oth
 held P found other same is = subst (λ (f : Option Content). IfSome f P) (sym same) is
 
 -- in a table of nothing nothing is kept
-kept_none : (n : ℕ) (block : Option ℕ) → kept (replicate n None) block ≡ None
+kept_none : (n : ℕ) (block : Option ℕ) → kept_content (replicate n None) block ≡ None
 kept_none n None = refl
 kept_none n (Some block) = elim (cases_lt block n) [
   | inl within ↦ get_or-replicate n block None None within
@@ -31,7 +31,7 @@ kept_none n (Some block) = elim (cases_lt block n) [
 
 -- so what is kept there is so
 pub none_kept : (n : ℕ) (image : List (List ℕ)) → TellsContents image (replicate n None)
-none_kept n image = λ pair. held (so image pair) (kept (replicate n None) (block_at image pair)) None (kept_none n (block_at image pair)) tt
+none_kept n image = λ pair. held (so image pair) (kept_content (replicate n None) (block_at image pair)) None (kept_none n (block_at image pair)) tt
 
 -- what is told of the content along a way is so
 told_is : (image : List (List ℕ)) (pair : ℕ × ℕ) (content : Option Content) → content ≡ digested_along image (way image pair) → IfSome content (so image pair)
@@ -43,33 +43,33 @@ pub one_kept : (image : List (List ℕ)) (contents : List (Option Content)) (pai
     → block_at image pair ≡ Some block → content ≡ digested_along image (way image pair) → TellsContents image contents → TellsContents image (slice_set contents block content)
 one_kept image contents pair block content found is tells = λ other. by_block other (block_at image other) refl
   where
-    by_block : (other : ℕ × ℕ) (b : Option ℕ) → block_at image other ≡ b → IfSome (kept (slice_set contents block content) (block_at image other)) (so image other)
-    by_block other None e = held (so image other) (kept (slice_set contents block content) (block_at image other)) None (ap (kept (slice_set contents block content)) e) tt
+    by_block : (other : ℕ × ℕ) (b : Option ℕ) → block_at image other ≡ b → IfSome (kept_content (slice_set contents block content) (block_at image other)) (so image other)
+    by_block other None e = held (so image other) (kept_content (slice_set contents block content) (block_at image other)) None (ap (kept_content (slice_set contents block content)) e) tt
     by_block other (Some b) e = elim (cases_Bool (eqb b block)) [
       | inl t ↦
           let same = eqb-true b block t in
           elim (cases_lt block (length contents)) [
             | inl inside ↦
-                let here = ap (kept (slice_set contents block content)) e ∙ get_or-set_at contents block b content None same inside in
-                held (so image other) (kept (slice_set contents block content) (block_at image other)) content here
+                let here = ap (kept_content (slice_set contents block content)) e ∙ get_or-set_at contents block b content None same inside in
+                held (so image other) (kept_content (slice_set contents block content) (block_at image other)) content here
                 (told_is image other content (is ∙ ap (digested_along image) (same_way image pair other block found (e ∙ ap (λ (n : ℕ). Some n) same))))
             | inr past ↦
                 let long : length (slice_set contents block content) ≤ b = omega (arith, length-set contents block content) in
-                let here = ap (kept (slice_set contents block content)) e ∙ get_or_past (slice_set contents block content) b None long in
-                held (so image other) (kept (slice_set contents block content) (block_at image other)) None here tt
+                let here = ap (kept_content (slice_set contents block content)) e ∙ get_or_past (slice_set contents block content) b None long in
+                held (so image other) (kept_content (slice_set contents block content) (block_at image other)) None here tt
           ]
       | inr f ↦
           let other_block : b ≢ block = eqb-false b block f in
-          let here = ap (kept (slice_set contents block content)) e ∙ get_or-set_other contents block b content None other_block ∙ sym (ap (kept contents) e) in
-          held (so image other) (kept (slice_set contents block content) (block_at image other)) (kept contents (block_at image other)) here (tells other)
+          let here = ap (kept_content (slice_set contents block content)) e ∙ get_or-set_other contents block b content None other_block ∙ sym (ap (kept_content contents) e) in
+          held (so image other) (kept_content (slice_set contents block content) (block_at image other)) (kept_content contents (block_at image other)) here (tells other)
     ]
 
 -- what is kept for the block of a pair is told of the content along the way
 pub kept_at : (image : List (List ℕ)) (contents : List (Option Content)) (pair : ℕ × ℕ) (block n : ℕ) (content : Content) → TellsContents image contents
     → block_at image pair ≡ Some block → n ≡ block → slice_index_or contents n None ≡ Some content → Some content ≡ digested_along image (way image pair)
 kept_at image contents pair block n content tells found same is =
-    let there : kept contents (block_at image pair) ≡ Some content = ap (kept contents) found ∙ ap (λ (k : ℕ). slice_index_or contents k None) (sym same) ∙ is in
-    held (so image pair) (Some content) (kept contents (block_at image pair)) (sym there) (tells pair)
+    let there : kept_content contents (block_at image pair) ≡ Some content = ap (kept_content contents) found ∙ ap (λ (k : ℕ). slice_index_or contents k None) (sym same) ∙ is in
+    held (so image pair) (Some content) (kept_content contents (block_at image pair)) (sym there) (tells pair)
 
 -- a way from a pair of which the image has no block
 no_block : (image : List (List ℕ)) (pair : ℕ × ℕ) → block_at image pair ≡ None → way image pair ≡ ([], Off pair.0 pair.1)

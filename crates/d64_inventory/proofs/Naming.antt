@@ -9,7 +9,7 @@ use Rattle.std.proofs.lemmas.List.Folds.{list_any-append}
 use Rattle.d64_image.specs.Image.{tracks_of}
 use Rattle.d64_map.specs.Map.{map_block, blocks, count_of, free_blocks}
 use Rattle.d64_map.specs.Track.{members_on}
-use Rattle.d64_files.specs.Directory.{numbered}
+use Rattle.d64_files.specs.Directory.{numbered_slots}
 use Rattle.d64_files.specs.Slot.{type_byte, has_kind}
 use Rattle.d64_survey.specs.Way.{way, is_whole}
 use Rattle.d64_survey.specs.Owners.{pair_of, blocks_from, directory_way, way_slots, owned_as, part_owners, slot_owners, owners, owners_of, is_owned, is_shared}
@@ -39,7 +39,7 @@ and_all false = refl
 
 -- what along slots only the slot of one number passes is what that slot passes
 at_slot : (image : List (List ℕ)) (f : ℕ × List ℕ → Bool) (slot : ℕ) (cell : List ℕ) → ((m : ℕ) (x : List ℕ) → eqb slot m ≡ false → f (m, x) ≡ false)
-    → slot_cell image slot ≡ Some cell → list_any f (numbered (way_slots image)) ≡ f (slot, cell)
+    → slot_cell image slot ≡ Some cell → list_any f (numbered_slots (way_slots image)) ≡ f (slot, cell)
 at_slot image f slot cell others there =
     any_numbered f slot others 0 slot (way_slots image) (let e : 0 + slot ≡ slot = omega arith in e)
     ∙ ap (λ (c : Option (List ℕ)). option_map_or (λ x. f (slot, x)) c false) there
@@ -77,10 +77,10 @@ unfolding owners
 owns-is image slot block cell there =
     any_map (is_part_of slot) (λ (o : ℕ × Owner). o.1) (filter (λ (o : ℕ × Owner). eqb block o.0) (owners image))
     ∙ any_filter (λ (o : ℕ × Owner). is_part_of slot o.1) (λ (o : ℕ × Owner). eqb block o.0) (owners image)
-    ∙ ap (λ (t : Bool). t || list_any is_ours (owned_as Directory way_blocks ++ flat_map (slot_owners image) (numbered (way_slots image)))) (and_none (eqb block map_block))
-    ∙ list_any-append is_ours (owned_as Directory way_blocks) (flat_map (slot_owners image) (numbered (way_slots image)))
-    ∙ ap (λ (t : Bool). t || list_any is_ours (flat_map (slot_owners image) (numbered (way_slots image)))) (any_owned slot block Directory way_blocks ∙ and_none (list_any (eqb block) way_blocks))
-    ∙ any_flat is_ours (slot_owners image) (numbered (way_slots image))
+    ∙ ap (λ (t : Bool). t || list_any is_ours (owned_as Directory way_blocks ++ flat_map (slot_owners image) (numbered_slots (way_slots image)))) (and_none (eqb block map_block))
+    ∙ list_any-append is_ours (owned_as Directory way_blocks) (flat_map (slot_owners image) (numbered_slots (way_slots image)))
+    ∙ ap (λ (t : Bool). t || list_any is_ours (flat_map (slot_owners image) (numbered_slots (way_slots image)))) (any_owned slot block Directory way_blocks ∙ and_none (list_any (eqb block) way_blocks))
+    ∙ any_flat is_ours (slot_owners image) (numbered_slots (way_slots image))
     ∙ at_slot image (owned_at image slot block) slot cell others there
     ∙ owned_at-is image slot block (slot, cell)
     ∙ ap (λ (t : Bool). (list_any (eqb block) (blocks_from image (pair_of Data cell)) && t) || (list_any (eqb block) (blocks_from image (pair_of Side cell)) && t)) (eq-eqb slot slot refl)
@@ -133,10 +133,10 @@ file_is image slot n other =
 
 -- what is met by the faults of each list
 abbrev kinds_met : List (List ℕ) → ℕ → ℕ → Bool
-kinds_met image slot n = list_any (λ (s : ℕ × List ℕ). not (has_kind s.1) && (eqb 3 n && eqb slot s.0)) (numbered (way_slots image))
+kinds_met image slot n = list_any (λ (s : ℕ × List ℕ). not (has_kind s.1) && (eqb 3 n && eqb slot s.0)) (numbered_slots (way_slots image))
 
 abbrev files_met : List (List ℕ) → ℕ → ℕ → Bool
-files_met image slot n = list_any (λ (s : ℕ × List ℕ). part_met image slot n s Data || part_met image slot n s Side) (numbered (way_slots image))
+files_met image slot n = list_any (λ (s : ℕ × List ℕ). part_met image slot n s Data || part_met image slot n s Side) (numbered_slots (way_slots image))
 
 abbrev shared_met : List (List ℕ) → ℕ → ℕ → Bool
 shared_met image slot n = list_any (λ block. is_shared image block && (eqb 5 n && owns image slot block)) blocks
@@ -159,13 +159,13 @@ directory_is image slot n =
 
 kinds_is : (image : List (List ℕ)) (slot n : ℕ) → list_any (meets image slot n) (kind_faults image) ≡ kinds_met image slot n
 kinds_is image slot n =
-    any_so (meets image slot n) (λ (s : ℕ × List ℕ). not (has_kind s.1)) (λ (s : ℕ × List ℕ). UnknownKind s.0 (type_byte s.1)) (numbered (way_slots image))
+    any_so (meets image slot n) (λ (s : ℕ × List ℕ). not (has_kind s.1)) (λ (s : ℕ × List ℕ). UnknownKind s.0 (type_byte s.1)) (numbered_slots (way_slots image))
 
 files_is : (image : List (List ℕ)) (slot n : ℕ) → list_any (meets image slot n) (file_faults image) ≡ files_met image slot n
 files_is image slot n =
-    any_flat (meets image slot n) (λ (s : ℕ × List ℕ). part_fault image s Data ++ part_fault image s Side) (numbered (way_slots image))
+    any_flat (meets image slot n) (λ (s : ℕ × List ℕ). part_fault image s Data ++ part_fault image s Side) (numbered_slots (way_slots image))
     ∙ any_same (λ (s : ℕ × List ℕ). list_any (meets image slot n) (part_fault image s Data ++ part_fault image s Side)) (λ (s : ℕ × List ℕ). part_met image slot n s Data || part_met image slot n s Side)
-    (file_is image slot n) (numbered (way_slots image))
+    (file_is image slot n) (numbered_slots (way_slots image))
 
 shared_is : (image : List (List ℕ)) (slot n : ℕ) → list_any (meets image slot n) (shared_faults image) ≡ shared_met image slot n
 shared_is image slot n = any_so (meets image slot n) (is_shared image) (λ block. Shared block) blocks
@@ -188,12 +188,12 @@ all_met image slot n =
 no_kinds : (image : List (List ℕ)) (slot n : ℕ) → eqb 3 n ≡ false → kinds_met image slot n ≡ false
 no_kinds image slot n other =
     any_never (λ (s : ℕ × List ℕ). not (has_kind s.1) && (eqb 3 n && eqb slot s.0))
-    (λ s. and_right (not (has_kind s.1)) (eqb 3 n && eqb slot s.0) (ap (λ (t : Bool). t && eqb slot s.0) other)) (numbered (way_slots image))
+    (λ s. and_right (not (has_kind s.1)) (eqb 3 n && eqb slot s.0) (ap (λ (t : Bool). t && eqb slot s.0) other)) (numbered_slots (way_slots image))
 
 no_files : (image : List (List ℕ)) (slot n : ℕ) → eqb 4 n ≡ false → files_met image slot n ≡ false
 no_files image slot n other =
     any_never (λ (s : ℕ × List ℕ). part_met image slot n s Data || part_met image slot n s Side)
-    (λ s. or_from (part_met image slot n s Data) (part_met image slot n s Side) (none s Data) (none s Side)) (numbered (way_slots image))
+    (λ s. or_from (part_met image slot n s Data) (part_met image slot n s Side) (none s Data) (none s Side)) (numbered_slots (way_slots image))
   where
     none : (s : ℕ × List ℕ) (part : Part) → part_met image slot n s part ≡ false
     none s part = and_right (is_broken_from image (pair_of part s.1)) (eqb 4 n && eqb slot s.0) (ap (λ (t : Bool). t && eqb slot s.0) other)

@@ -5,7 +5,7 @@ use Rattle.d64_files.specs.Slot.{type_byte, kind_of, is_closed, is_locked, size_
 use Rattle.d64_survey.specs.Dump.{DumpView}
 use Rattle.d64_survey.specs.Flaws.{why, wholeness}
 use Rattle.d64_survey.specs.declared.owner.Part.TheVariants.{Data, Side}
-use Rattle.d64_inventory.specs.Contents.{content_of, digested}
+use Rattle.d64_inventory.specs.Contents.{content_of, digested_content}
 use Rattle.d64_inventory.specs.Conditions.{conditions}
 use Rattle.d64_inventory.specs.Rows.{RowView, known_kind, record_length_by, way_length, error_count, row_of}
 
@@ -22,7 +22,7 @@ pub record AreTold (dump : DumpView) (numbered : ℕ × List ℕ) (row : RowView
   pub record_length : row.record_length ≡ record_length_by (kind_of numbered.1) numbered.1
   pub blocks : row.blocks ≡ way_length dump.image numbered.1 Data
   pub side : row.side ≡ way_length dump.image numbered.1 Side
-  pub content : row.content ≡ option_map digested (content_of dump.image numbered.1)
+  pub content : row.content ≡ option_map digested_content (content_of dump.image numbered.1)
   pub whole : row.whole ≡ wholeness dump.image dump.codes numbered.1
   pub why : row.why ≡ why dump.image dump.codes numbered.1
   pub conditions : row.conditions ≡ conditions dump.image numbered.0

@@ -6,7 +6,7 @@ use Rattle.std.proofs.Math.ListN.{drop_of_length-le}
 use Rattle.std.proofs.lemmas.List.{drop_more}
 use Rattle.std.proofs.lemmas.List.FromFn.{length-enumerate_from, get_or-enumerate_from}
 use Rattle.std.proofs.lemmas.Option.{slice_get-get_or}
-use Rattle.d64_files.specs.Directory.{numbered}
+use Rattle.d64_files.specs.Directory.{numbered_slots}
 use Rattle.d64_files.specs.Slot.{is_used}
 use Rattle.d64_survey.specs.Dump.{DumpView}
 use Rattle.d64_survey.specs.Owners.{way_slots}
@@ -15,7 +15,7 @@ use Rattle.d64_inventory.specs.Rows.{RowView, row_of, row_at, rows_among, rows_f
 -- past the last slot no row is left
 pub none_left : (dump : DumpView) (slot : ℕ) → length (way_slots dump.image) ≤ slot → rows_from dump slot ≡ []
 none_left dump slot past =
-    ap (rows_among dump) (drop_of_length-le (numbered (way_slots dump.image)) (let long : length (numbered (way_slots dump.image)) ≤ slot = omega (arith, length-enumerate_from 0 (way_slots dump.image)) in long))
+    ap (rows_among dump) (drop_of_length-le (numbered_slots (way_slots dump.image)) (let long : length (numbered_slots (way_slots dump.image)) ≤ slot = omega (arith, length-enumerate_from 0 (way_slots dump.image)) in long))
 
 -- the bytes of a slot that is there
 abbrev bytes_of : DumpView → ℕ → List ℕ
@@ -30,12 +30,12 @@ first_and_later : (dump : DumpView) (slot : ℕ) → slot < length (way_slots du
     → rows_from dump slot ≡ cond (is_used (bytes_of dump slot)) (row_of dump (slot, bytes_of dump slot) ∷ later dump slot) (later dump slot)
 first_and_later dump slot within =
     let cells = way_slots dump.image in
-    let long : slot < length (numbered cells) = omega (arith, length-enumerate_from 0 cells) in
+    let long : slot < length (numbered_slots cells) = omega (arith, length-enumerate_from 0 cells) in
     ap (rows_among dump)
-    (drop_more (numbered cells) slot (0, []) long
-    ∙ ap (λ (s : ℕ × List ℕ). s ∷ drop (slot + 1) (numbered cells))
+    (drop_more (numbered_slots cells) slot (0, []) long
+    ∙ ap (λ (s : ℕ × List ℕ). s ∷ drop (slot + 1) (numbered_slots cells))
     (get_or-enumerate_from 0 cells slot (0, []) within ∙ ap₂ (λ (n : ℕ) (b : List ℕ). (n, b)) (let e : 0 + slot ≡ slot = omega arith in e) refl))
-    ∙ mapped (is_used (bytes_of dump slot)) (slot, bytes_of dump slot) (filter (λ (s : ℕ × List ℕ). is_used s.1) (drop (slot + 1) (numbered cells)))
+    ∙ mapped (is_used (bytes_of dump slot)) (slot, bytes_of dump slot) (filter (λ (s : ℕ × List ℕ). is_used s.1) (drop (slot + 1) (numbered_slots cells)))
   where
     mapped : (used : Bool) (s : ℕ × List ℕ) (rest : List (ℕ × List ℕ)) → map (row_of dump) (cond used (s ∷ rest) rest) ≡ cond used (row_of dump s ∷ map (row_of dump) rest) (map (row_of dump) rest)
     mapped true s rest = refl

@@ -7,10 +7,10 @@ use Rattle.d64_inventory.specs.Contents.{digested_along}
 use Rattle.d64_inventory.specs.declared.row.Content.{Content}
 
 -- what is kept for a block, where there is one
-abbrev pub kept : List (Option Content) → Option ℕ → Option Content
-kept contents block = option_map_or (λ block. slice_index_or contents block None) block None
+abbrev pub kept_content : List (Option Content) → Option ℕ → Option Content
+kept_content contents block = option_map_or (λ block. slice_index_or contents block None) block None
 
 -- what is kept for the first block of a way is told of the content along it
 abbrev pub TellsContents : Disk → List (Option Content) → Type 0
 TellsContents image contents =
-    (pair : ℕ × ℕ) → IfSome (kept contents (block_at image pair)) (λ content. Some content ≡ digested_along image (way image pair))
+    (pair : ℕ × ℕ) → IfSome (kept_content contents (block_at image pair)) (λ content. Some content ≡ digested_along image (way image pair))

@@ -19,9 +19,9 @@ abbrev pub content_of : Disk → Bytes → Option Bytes
 content_of image cell = option_and_then (λ pair. content_along image (way image pair)) (pair_of Data cell)
 
 -- what is told of a content: how many bytes it has, and their SHA-256 digest
-unfoldable pub digested : Bytes → Content
-digested bytes = record { bytes = length bytes; digest = sha256 bytes }
+unfoldable pub digested_content : Bytes → Content
+digested_content bytes = record { bytes = length bytes; digest = sha256 bytes }
 
 -- what is told of the content along a way
 abbrev pub digested_along : Disk → Blocks × WayEnd → Option Content
-digested_along image way = option_map digested (content_along image way)
+digested_along image way = option_map digested_content (content_along image way)

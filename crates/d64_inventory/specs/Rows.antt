@@ -3,7 +3,7 @@ use Rattle.std.specs.Prelude.{ℕ, Bool, if◌then◌else◌, List, map, filter,
 use Rattle.std.specs.List.{list_any}
 use Rattle.std.specs.Option.{option_and_then}
 use Rattle.d64_image.specs.Disk.{Disk, Bytes}
-use Rattle.d64_files.specs.Directory.{numbered}
+use Rattle.d64_files.specs.Directory.{numbered_slots}
 use Rattle.d64_files.specs.Slot.{type_byte, has_kind, kind_of, is_used, is_closed, is_locked, size_of, first_pair, field_of}
 use Rattle.d64_files.specs.declared.kind.Kind.{Kind}
 use Rattle.d64_files.specs.declared.kind.Kind.TheVariants.{Rel}
@@ -18,7 +18,7 @@ use Rattle.d64_survey.specs.declared.flaw.Flaw.{Flaw}
 use Rattle.d64_survey.specs.declared.owner.Part.{Part}
 use Rattle.d64_survey.specs.declared.owner.Part.TheVariants.{Data, Side}
 use Rattle.d64_survey.specs.declared.read_error.ReadError.{ReadError}
-use Rattle.d64_inventory.specs.Contents.{content_of, digested}
+use Rattle.d64_inventory.specs.Contents.{content_of, digested_content}
 use Rattle.d64_inventory.specs.Conditions.{conditions}
 use Rattle.d64_inventory.specs.declared.row.Content.{Content}
 
@@ -76,7 +76,7 @@ row_of dump slot = record {
   record_length = record_length_by (kind_of slot.1) slot.1;
   blocks = way_length dump.image slot.1 Data;
   side = way_length dump.image slot.1 Side;
-  content = option_map digested (content_of dump.image slot.1);
+  content = option_map digested_content (content_of dump.image slot.1);
   whole = wholeness dump.image dump.codes slot.1;
   why = why dump.image dump.codes slot.1;
   conditions = conditions dump.image slot.0;
@@ -94,8 +94,8 @@ rows_among dump slots = map (row_of dump) (filter (λ (slot : ℕ × Bytes). is_
 
 -- the rows of the slots of the directory's way from a number on
 abbrev pub rows_from : DumpView → ℕ → List RowView
-rows_from dump slot = rows_among dump (drop slot (numbered (way_slots dump.image)))
+rows_from dump slot = rows_among dump (drop slot (numbered_slots (way_slots dump.image)))
 
 -- the rows of a dump: those of all slots of the directory's way
 unfoldable pub rows : DumpView → List RowView
-rows dump = rows_among dump (numbered (way_slots dump.image))
+rows dump = rows_among dump (numbered_slots (way_slots dump.image))

@@ -4,7 +4,7 @@ ghost use Rattle.d64_image.specs.declared.block.TheConstants.{BLOCKS};
 ghost use Rattle.d64_files.specs.Chain.{LieIn};
 ghost use Rattle.d64_files.specs.FileData.{data_along};
 ghost use Rattle.d64_survey.specs.Way.{way};
-ghost use Rattle.d64_inventory.specs.Contents.{content_of, digested, digested_along};
+ghost use Rattle.d64_inventory.specs.Contents.{content_of, digested_content, digested_along};
 ghost use Rattle.d64_inventory.specs.ContentTables.{TellsContents};
 
 use crate::row::Content;
@@ -24,7 +24,7 @@ pub(crate) struct ContentTable {
 fn digest_along(image: &Image, blocks: &[BlockNo]) -> Content
     requires held { LieIn image.now blocks.now }
     requires len { length blocks.now ≤ BLOCKS }
-    ensures { result ≡ digested (data_along image.now blocks.now) }
+    ensures { result ≡ digested_content (data_along image.now blocks.now) }
 {
     let mut hasher = Sha256::new();
     let mut bytes = 0;
@@ -67,7 +67,7 @@ impl ContentTable {
     /// digested only where what is told of it isn't kept for its first block.
     pub(crate) fn content(&mut self, image: &Image, entry: &Entry) -> Option<Content>
         requires { TellsContents image.now self.old.contents }
-        ensures content { result ≡ option_map digested (content_of image.now entry.now.bytes) }
+        ensures content { result ≡ option_map digested_content (content_of image.now entry.now.bytes) }
         ensures kept { TellsContents image.now self.new.contents }
     {
         match data_pair(entry) {

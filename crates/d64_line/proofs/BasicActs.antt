@@ -7,7 +7,7 @@ use Rattle.cbm_text.specs.BasicText.{IsFirstFault, IsOfMemory, TellsLine, fault_
 use Rattle.cbm_text.specs.declared.fault.BasicFault.{BasicFault}
 use Rattle.cbm_text.specs.declared.fault.BasicFault.TheVariants.{NoNumber, NumberTooLarge, Text, TokenByte, ZeroByte, TooLong, Memory}
 use Rattle.d64_undo.specs.History.{History}
-use Rattle.d64_line.specs.Act.{Act, Then, Crunch, Does, Ending, plain}
+use Rattle.d64_line.specs.Act.{Act, Then, Crunch, Does, Ending, plain_answer}
 use Rattle.d64_host.specs.Files.{HostState}
 use Rattle.d64_line.specs.BasicFiles.{program_start, status_of_basic}
 use Rattle.d64_line.specs.Line.{host_file_limit}
@@ -32,13 +32,13 @@ fault_line-fits text fault short tells = small (fault_line fault) _ _ (length te
 -- a text was refused for its first fault
 refused : (text : List ℕ) (next : List ℕ → Act Ending) (fault : BasicFault) (host : HostState) (history : History)
     → IsFirstFault program_start text fault
-    → Does (Then (Crunch text) next) (record { host = host; history = history }) (plain (status_of_basic fault)) (record { host = host; history = history })
+    → Does (Then (Crunch text) next) (record { host = host; history = history }) (plain_answer (status_of_basic fault)) (record { host = host; history = history })
 refused text next fault host history first = Does-refused (Crunch text) next (status_of_basic fault) host host history ((fault, first, refl), refl)
 
 -- a text was refused for its first fault, or for want of memory
 pub Does-uncrunched : (text : List ℕ) (next : List ℕ → Act Ending) (fault : BasicFault) (host : HostState) (history : History)
     → IsOfMemory fault ⊎ IsFirstFault program_start text fault
-    → Does (Then (Crunch text) next) (record { host = host; history = history }) (plain (status_of_basic fault)) (record { host = host; history = history })
+    → Does (Then (Crunch text) next) (record { host = host; history = history }) (plain_answer (status_of_basic fault)) (record { host = host; history = history })
 Does-uncrunched text next fault host history (inr first) = refused text next fault host history first
 Does-uncrunched text next (NoNumber line) host history (inl memory) = absurd memory
 Does-uncrunched text next (NumberTooLarge line) host history (inl memory) = absurd memory

@@ -9,7 +9,7 @@ use Rattle.petscii.specs.declared.fault.TextFault.{TextFault}
 use Rattle.petscii.specs.declared.fault.TextFault.TheVariants.{UnknownName, OpenBrace, BadByte, Memory}
 use Rattle.d64_script.specs.declared.status.Status.{Status}
 use Rattle.d64_script.specs.declared.status.Status.TheVariants.{OutOfMemory}
-use Rattle.d64_line.specs.Act.{Act, Give, Then, ◌>>=◌, Text, each_text, Does, Ending, IsSpelled, LineAnswer, World, plain}
+use Rattle.d64_line.specs.Act.{Act, Give, Then, ◌>>=◌, Text, each_text, Does, Ending, IsSpelled, LineAnswer, World, plain_answer}
 use Rattle.d64_host.specs.Files.{HostState}
 use Rattle.d64_undo.specs.History.{History}
 use Rattle.d64_line.proofs.Acts.{Does-given, Does-grouped}
@@ -50,10 +50,10 @@ Does-read test word next bytes host history answer after read done = Does-given 
 -- a word was not read
 pub Does-unread : (test : List ℕ → Bool) (word : List ℕ) (next : List ℕ → Act Ending) (status : Status) (host : HostState) (history : History)
     → Reads test word (Err status)
-    → Does (Then (Text test word) next) (record { host = host; history = history }) (plain status) (record { host = host; history = history })
+    → Does (Then (Text test word) next) (record { host = host; history = history }) (plain_answer status) (record { host = host; history = history })
 unfolding Does
 Does-unread test word next status host history (inl bad) = inl (Err status, host, (bad.0, bad.1, refl), (refl, refl))
-Does-unread test word next status host history (inr memory) = inr (ap plain memory, refl)
+Does-unread test word next status host history (inr memory) = inr (ap plain_answer memory, refl)
 
 -- one word more was read
 pub ReadsEach-more : (test : List ℕ → Bool) (words : List (Bor (List ℕ))) (place : ℕ) (word : Bor (List ℕ)) (texts : List (List ℕ)) (bytes : List ℕ)
@@ -99,7 +99,7 @@ Does-read_each test (word ∷ words) (bytes ∷ texts) next host history answer 
 pub Does-unread_after : (test : List ℕ → Bool) (before texts : List (List ℕ)) (word : List ℕ) (more : List (List ℕ)) (next : List (List ℕ) → Act Ending)
     (status : Status) (host : HostState) (history : History)
     → AllZip (IsSpelled test) before texts → Reads test word (Err status)
-    → Does (each_text test (before ++ word ∷ more) >>= next) (record { host = host; history = history }) (plain status) (record { host = host; history = history })
+    → Does (each_text test (before ++ word ∷ more) >>= next) (record { host = host; history = history }) (plain_answer status) (record { host = host; history = history })
 Does-unread_after test [] [] word more next status host history read bad = Does-unread test word _ status host history bad
 Does-unread_after test [] (bytes ∷ texts) word more next status host history read bad = absurd read
 Does-unread_after test (first ∷ before) [] word more next status host history read bad = absurd read
@@ -111,6 +111,6 @@ Does-unread_after test (first ∷ before) (bytes ∷ texts) word more next statu
 -- one of the words was not read
 pub Does-unread_each : (test : List ℕ → Bool) (words : List (List ℕ)) (next : List (List ℕ) → Act Ending) (status : Status) (host : HostState) (history : History)
     → ReadsEach test words (Err status)
-    → Does (each_text test words >>= next) (record { host = host; history = history }) (plain status) (record { host = host; history = history })
+    → Does (each_text test words >>= next) (record { host = host; history = history }) (plain_answer status) (record { host = host; history = history })
 Does-unread_each test words next status host history (before, texts, word, more, is, read, bad) =
     rw is (Does-unread_after test before texts word more next status host history read bad)

@@ -20,12 +20,12 @@ pub record LineAnswer : Type 0 where
   pub closes : Bool
 
 -- a status with no output
-abbrev pub plain : Status → LineAnswer
-plain status = record { output = []; status = status; closes = false }
+abbrev pub plain_answer : Status → LineAnswer
+plain_answer status = record { output = []; status = status; closes = false }
 
 -- what an answer prints: its output, and then its status line
-abbrev pub printed : LineAnswer → Bytes
-printed answer = answer.output ++ status_line answer.status
+abbrev pub printed_bytes : LineAnswer → Bytes
+printed_bytes answer = answer.output ++ status_line answer.status
 
 -- what the script works on: the host and the history
 pub record World : Type 0 where
@@ -70,9 +70,9 @@ abbrev pub ◌>>◌ : {A B : Type 0} → Act A → Act B → Act B
 act >> next = act >>= (λ _. next)
 
 -- what was read, or the first fault in it
-abbrev pub valid : {A : Type 0} → Result A Status → Act A
-valid (Ok value) = Give value
-valid (Err status) = Refuse status
+abbrev pub value_or_refusal : {A : Type 0} → Result A Status → Act A
+value_or_refusal (Ok value) = Give value
+value_or_refusal (Err status) = Refuse status
 
 -- refused with a status unless a test passes
 abbrev pub need : Bool → Status → Act (Unit {0})
@@ -138,10 +138,10 @@ Gives Room old given new = (given ≡ Ok []) × (new ≡ old)
 -- be wanting
 unfoldable pub Does : Act Ending → World → LineAnswer → World → Type 0
 Does (Give ending) world answer after = (answer ≡ ending.answer) × (after ≡ record world { history = ending.history })
-Does (Refuse status) world answer after = (answer ≡ plain status) × (after ≡ world)
+Does (Refuse status) world answer after = (answer ≡ plain_answer status) × (after ≡ world)
 Does (Then call next) world answer after =
     ((given : Result Bytes Status) × (host : HostState) × Gives call world.host given host
     × MatchResult given
     (λ bytes. Does (next bytes) (record world { host = host }) answer after)
-    (λ status. (answer ≡ plain status) × (after ≡ record world { host = host })))
-    ⊎ ((answer ≡ plain OutOfMemory) × (after ≡ world))
+    (λ status. (answer ≡ plain_answer status) × (after ≡ record world { host = host })))
+    ⊎ ((answer ≡ plain_answer OutOfMemory) × (after ≡ world))

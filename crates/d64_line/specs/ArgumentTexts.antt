@@ -14,9 +14,9 @@ texts (Ok text) = Ok text.now
 texts (Err fault) = Err fault
 
 -- a text and a kind that were answered, the text as its bytes
-abbrev pub named : {E : Type 0} → Result (Bor Bytes × Kind) E → Result (Bytes × Kind) E
-named (Ok file) = Ok (file.0.now, file.1)
-named (Err fault) = Err fault
+abbrev pub name_and_kind : {E : Type 0} → Result (Bor Bytes × Kind) E → Result (Bytes × Kind) E
+name_and_kind (Ok file) = Ok (file.0.now, file.1)
+name_and_kind (Err fault) = Err fault
 
 -- a vector that was answered, as its list
 abbrev pub items : {T A E : Type 0} → Result (Vec T A) E → Result (List T) E

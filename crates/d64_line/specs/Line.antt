@@ -5,9 +5,9 @@ use Rattle.std.specs.Option.{option_map_or}
 use Rattle.std.specs.Str.{bytes_eq}
 use Rattle.d64_files.specs.Name.{is_name}
 use Rattle.d64_image.specs.Image.{sector_at, bytes_of}
-use Rattle.d64_undo.specs.History.{History, present, added, undone, redone}
+use Rattle.d64_undo.specs.History.{History, present_image, extended_history, undone_history, redone_history}
 use Rattle.d64_undo.specs.SessionFile.{file_of}
-use Rattle.d64_dos.specs.Command.{after, reply_to, refusal_of}
+use Rattle.d64_dos.specs.Command.{image_after, reply_to, refusal_of}
 use Rattle.d64_dos.specs.Listing.{listing_of}
 use Rattle.d64_dos.specs.Reading.{directory_refusal, read_refusal}
 use Rattle.d64_files.specs.Directory.{number_of}
@@ -22,7 +22,7 @@ use Rattle.d64_line.specs.ListingText.{listing_text}
 use Rattle.d64_script.specs.RawLines.{text_of, is_too_long, is_skipped}
 use Rattle.d64_script.specs.Dump.{dump}
 use Rattle.d64_line.specs.WordCounts.{no_word, one_word, at_most_one, word_and, some_words}
-use Rattle.d64_line.specs.Act.{Act, Give, Refuse, ◌>>=◌, ◌>>◌, valid, need, Call, Text, Fetch, Store, Crunch, Expand, Room, ask, each_text, Ending, plain, World, LineAnswer, Does}
+use Rattle.d64_line.specs.Act.{Act, Give, Refuse, ◌>>=◌, ◌>>◌, value_or_refusal, need, Call, Text, Fetch, Store, Crunch, Expand, Room, ask, each_text, Ending, plain_answer, World, LineAnswer, Does}
 use Rattle.d64_dos.specs.Change.{Change}
 use Rattle.d64_dos.specs.Change as changes
 use Rattle.d64_dos.specs.declared.command.Reply.{Reply}
@@ -48,17 +48,17 @@ status_of_reply replies.Done = Done
 status_of_reply (replies.Scratched count) = FilesScratched count
 
 -- refused by a refusal, where there is one
-abbrev pub allowed : Option Refusal → Act (Unit {0})
-allowed None = Give tt
-allowed (Some refusal) = Refuse (status_of_refusal refusal)
+abbrev pub refuse_by : Option Refusal → Act (Unit {0})
+refuse_by None = Give tt
+refuse_by (Some refusal) = Refuse (status_of_refusal refusal)
 
 -- the line is accepted: it shows an output, and the history stays
 abbrev pub show : Bytes → History → Act Ending
-show output history = Give (record { answer = record (plain Done) { output = output }; history = history })
+show output history = Give (record { answer = record (plain_answer Done) { output = output }; history = history })
 
 -- the line is accepted: it shows nothing, and leaves a history
 abbrev pub leave : History → Act Ending
-leave history = Give (record { answer = plain Done; history = history })
+leave history = Give (record { answer = plain_answer Done; history = history })
 
 -- the line is accepted once bytes are stored under a name of the host, and the history stays
 abbrev pub put : History → Bytes → Bytes → Act Ending
@@ -69,22 +69,22 @@ put history name bytes = do
 -- a command given to the session: its first refusal, or its reply and one image more
 abbrev pub run : History → Change → Act Ending
 run history change = do
-  allowed (refusal_of (present history) change)
+  refuse_by (refusal_of (present_image history) change)
   ask Room
-  Give (record { answer = plain (status_of_reply (reply_to (present history) change)); history = added history (after (present history) change) })
+  Give (record { answer = plain_answer (status_of_reply (reply_to (present_image history) change)); history = extended_history history (image_after (present_image history) change) })
 
 -- `block`: a block is shown
 abbrev pub block_act : History → Bytes × Bytes → Act Ending
 block_act history (track, sector) = do
-  block ← valid (block_in (present history) track sector)
-  show (dump (sector_at (present history) block)) history
+  block ← value_or_refusal (block_in (present_image history) track sector)
+  show (dump (sector_at (present_image history) block)) history
 
 -- `bread`: a block is stored in a host file
 abbrev pub block_read_act : History → Bytes × (Bytes × Bytes) → Act Ending
 block_read_act history (host, (track, sector)) = do
-  name ← valid (host_in host)
-  block ← valid (block_in (present history) track sector)
-  put history name (sector_at (present history) block)
+  name ← value_or_refusal (host_in host)
+  block ← value_or_refusal (block_in (present_image history) track sector)
+  put history name (sector_at (present_image history) block)
 
 -- the most bytes that a command takes of a host file
 abbrev pub host_file_limit : ℕ
@@ -99,8 +99,8 @@ write_one_block history block bytes = do
 -- `bwrite`: a block is replaced by a host file
 abbrev pub block_write_act : History → Bytes × (Bytes × Bytes) → Act Ending
 block_write_act history (host, (track, sector)) = do
-  name ← valid (host_in host)
-  block ← valid (block_in (present history) track sector)
+  name ← value_or_refusal (host_in host)
+  block ← value_or_refusal (block_in (present_image history) track sector)
   bytes ← ask (Fetch name host_file_limit)
   write_one_block history block bytes
 
@@ -114,7 +114,7 @@ write_program history name text = do
 -- or by default under its own
 abbrev pub crunch_act : History → Bytes × Option Bytes → Act Ending
 crunch_act history (host, word) = do
-  source ← valid (host_in host)
+  source ← value_or_refusal (host_in host)
   name ← ask (Text is_name (name_word host word))
   basic ← ask (Fetch source host_file_limit)
   write_program history name basic
@@ -128,7 +128,7 @@ delete_act history words = do
 -- `format`: the disk is made an empty one, with the name and the id in one word
 abbrev pub format_act : History → Bytes → Act Ending
 format_act history word = do
-  parts ← valid (ok_or (at_comma word) SyntaxError)
+  parts ← value_or_refusal (ok_or (at_comma word) SyntaxError)
   name ← ask (Text is_name parts.0)
   id ← ask (Text can_be_id parts.1)
   run history (changes.Format name id)
@@ -142,22 +142,22 @@ history_act history = do
 -- `keep`: the session, the history with its cursor, is stored in a host file
 abbrev pub keep_act : History → Bytes → Act Ending
 keep_act history host = do
-  name ← valid (host_in host)
+  name ← value_or_refusal (host_in host)
   ask Room
   put history name (file_of history)
 
 -- `list`: the directory is shown
 abbrev pub list_act : History → Act Ending
 list_act history = do
-  allowed (directory_refusal (present history))
+  refuse_by (directory_refusal (present_image history))
   ask Room
-  show (listing_text (listing_of (present history))) history
+  show (listing_text (listing_of (present_image history))) history
 
 -- the file that a pattern finds is shown as a BASIC program
 abbrev pub show_program : History → Bytes → Act Ending
 show_program history pattern = do
-  allowed (read_refusal (present history) pattern)
-  listing ← ask (Expand (found_content (present history) pattern))
+  refuse_by (read_refusal (present_image history) pattern)
+  listing ← ask (Expand (found_content (present_image history) pattern))
   show listing history
 
 -- `petcat`: a BASIC program of the disk is shown as text
@@ -168,20 +168,20 @@ petcat_act history name = do
 
 -- `quit`: the run ends
 abbrev pub quit_act : History → Act Ending
-quit_act history = Give (record { answer = record (plain Done) { closes = true }; history = history })
+quit_act history = Give (record { answer = record (plain_answer Done) { closes = true }; history = history })
 
 -- the file that a pattern finds is stored in the host file of a word, or by default, in text form,
 -- in that of its own name
 abbrev pub read_to : History → Bytes → Option Bytes → Act Ending
 read_to history pattern None = do
-  allowed (read_refusal (present history) pattern)
+  refuse_by (read_refusal (present_image history) pattern)
   ask Room
-  need (is_file_name (spelling (found_name (present history) pattern))) BadName
-  put history (spelling (found_name (present history) pattern)) (found_content (present history) pattern)
+  need (is_file_name (spelling (found_name (present_image history) pattern))) BadName
+  put history (spelling (found_name (present_image history) pattern)) (found_content (present_image history) pattern)
 read_to history pattern (Some host) = do
-  name ← valid (host_in host)
-  allowed (read_refusal (present history) pattern)
-  put history name (found_content (present history) pattern)
+  name ← value_or_refusal (host_in host)
+  refuse_by (read_refusal (present_image history) pattern)
+  put history name (found_content (present_image history) pattern)
 
 -- `read`: a file of the disk is stored in a host file
 abbrev pub read_act : History → Bytes × Option Bytes → Act Ending
@@ -193,7 +193,7 @@ read_act history (name, host) = do
 abbrev pub redo_act : History → Act Ending
 redo_act history = do
   need (nat_lt (history.cursor + 1) (length history.images)) NothingToRedo
-  leave (redone history)
+  leave (redone_history history)
 
 -- `rename`: a file of one name is given another
 abbrev pub rename_act : History → Bytes × Bytes → Act Ending
@@ -205,16 +205,16 @@ rename_act history (old_word, new_word) = do
 -- `save`: the image is stored in a host file, by default in its own, where it has one
 abbrev pub save_act : Bytes → History → Option Bytes → Act Ending
 save_act [] history None = Refuse MissingWord
-save_act home history None = put history home (bytes_of (present history))
+save_act home history None = put history home (bytes_of (present_image history))
 save_act home history (Some host) = do
-  name ← valid (host_in host)
-  put history name (bytes_of (present history))
+  name ← value_or_refusal (host_in host)
+  put history name (bytes_of (present_image history))
 
 -- `undo`
 abbrev pub undo_act : History → Act Ending
 undo_act history = do
   need (nat_lt 0 history.cursor) NothingToUndo
-  leave (undone history)
+  leave (undone_history history)
 
 -- `validate`: unclosed files are dropped, and the map is written anew
 abbrev pub validate_act : History → Act Ending
@@ -224,8 +224,8 @@ validate_act history = run history changes.Validate
 -- default under its own name and as PRG
 abbrev pub write_act : History → Bytes × Option Bytes → Act Ending
 write_act history (host, word) = do
-  source ← valid (host_in host)
-  file ← valid (name_and_kind_of host word)
+  source ← value_or_refusal (host_in host)
+  file ← value_or_refusal (name_and_kind_of host word)
   name ← ask (Text is_name file.0)
   bytes ← ask (Fetch source host_file_limit)
   run history (changes.Write name file.1 bytes)
@@ -262,7 +262,7 @@ act_of_words home history (first ∷ words) =
 -- what the text of a line asks for
 abbrev pub act_of_text : Bytes → History → Bytes → Act Ending
 act_of_text home history line = do
-  words ← valid (ok_or (words_of line) SyntaxError)
+  words ← value_or_refusal (ok_or (words_of line) SyntaxError)
   act_of_words home history words
 
 -- what a line of the script asks for; None where it is skipped

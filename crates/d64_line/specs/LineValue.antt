@@ -30,11 +30,11 @@ act_of home history Validate = validate_act history
 act_of home history (Write host name) = write_act history (host.now, option_map (λ word. word.now) name)
 
 -- what a line asks for that was made, or the status that refuses its words
-abbrev pub asked : Bytes → History → Result Line Status → Act Ending
-asked home history (Ok line) = act_of home history line
-asked home history (Err status) = Refuse status
+abbrev pub act_of_result : Bytes → History → Result Line Status → Act Ending
+act_of_result home history (Ok line) = act_of home history line
+act_of_result home history (Err status) = Refuse status
 
 -- what words were taken as, each as its bytes, or the status that refuses them
-abbrev pub taken : {A B : Type 0} → (A → B) → Result A Status → Act B
-taken bytes (Ok words) = Give (bytes words)
-taken bytes (Err status) = Refuse status
+abbrev pub words_or_refusal : {A B : Type 0} → (A → B) → Result A Status → Act B
+words_or_refusal bytes (Ok words) = Give (bytes words)
+words_or_refusal bytes (Err status) = Refuse status

@@ -9,8 +9,8 @@ use Rattle.d64_files.specs.declared.kind.Kind.{Kind}
 use Rattle.d64_files.specs.declared.kind.Kind.TheVariants.{Del, Seq, Prg, Usr, Rel}
 
 -- a text filled with spaces up to a number of places; a longer one stays as it is
-abbrev pub padded : ℕ → Bytes → Bytes
-padded places text = text ++ replicate (places - length text) 32
+abbrev pub padded_text : ℕ → Bytes → Bytes
+padded_text places text = text ++ replicate (places - length text) 32
 
 -- the three letters of a kind
 abbrev pub kind_text : Kind → Bytes
@@ -23,13 +23,13 @@ kind_text Rel = codes "rel"
 -- the first line: the disk's name, its id and its DOS version
 unfoldable pub header_line : ListingView → Bytes
 header_line listing =
-    codes "0 \"" ++ padded 16 (spelling listing.name) ++ codes "\" " ++ spelling listing.id ++ codes " " ++ spelling listing.dos ++ codes "\n"
+    codes "0 \"" ++ padded_text 16 (spelling listing.name) ++ codes "\" " ++ spelling listing.id ++ codes " " ++ spelling listing.dos ++ codes "\n"
 
 -- the line of a file: its size in blocks, its name between quotes, whether it is closed, its kind,
 -- and whether it is locked
 unfoldable pub row_line : RowView → Bytes
 row_line row =
-    padded 5 (decimal row.blocks) ++ codes " " ++ padded 18 (codes "\"" ++ spelling row.name ++ codes "\"")
+    padded_text 5 (decimal row.blocks) ++ codes " " ++ padded_text 18 (codes "\"" ++ spelling row.name ++ codes "\"")
     ++ (if row.closed then codes " " else codes "*") ++ kind_text row.kind ++ (if row.locked then codes "<" else []) ++ codes "\n"
 
 -- the last line: the number of free blocks

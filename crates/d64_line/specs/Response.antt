@@ -3,9 +3,9 @@ use Rattle.std.specs.Prelude.{ℕ, nat_lt, if◌then◌else◌, List, [], length
 use Rattle.d64_image.specs.Disk.{Bytes, Disk}
 use Rattle.d64_image.specs.Image.{sector_at}
 use Rattle.d64_script.specs.Dump.{dump}
-use Rattle.d64_line.specs.Act.{Act, Ending, World, world_of, Does, LineAnswer, plain}
+use Rattle.d64_line.specs.Act.{Act, Ending, World, world_of, Does, LineAnswer, plain_answer}
 use Rattle.d64_host.specs.Files.{HostState}
-use Rattle.d64_undo.specs.History.{History, present}
+use Rattle.d64_undo.specs.History.{History, present_image}
 use Rattle.d64_line.specs.declared.response.Response.{Response}
 use Rattle.d64_line.specs.declared.response.Output.{Output}
 use Rattle.d64_line.specs.declared.response.Output.TheVariants.{Nothing, Block, Text}
@@ -18,17 +18,17 @@ output_bytes image (Block at) = if nat_lt at (length image) then dump (sector_at
 output_bytes image (Text text) = text.items
 
 -- a response as the answer that it prints, where this is the image
-abbrev pub shown : Disk → Response → LineAnswer
-shown image response = record { output = output_bytes image response.output; status = response.status; closes = response.closes }
+abbrev pub shown_answer : Disk → Response → LineAnswer
+shown_answer image response = record { output = output_bytes image response.output; status = response.status; closes = response.closes }
 
 -- the answer to a line: of an accepted one, or the status that refuses it, with no output
 abbrev pub answer_of : Disk → Result Response Status → LineAnswer
-answer_of image (Ok response) = shown image response
-answer_of image (Err status) = plain status
+answer_of image (Ok response) = shown_answer image response
+answer_of image (Err status) = plain_answer status
 
 -- an act is done, and responded to
 abbrev pub Responds : Act Ending → World → Result Response Status → World → Type 0
-Responds act old result new = Does act old (answer_of (present new.history) result) new
+Responds act old result new = Does act old (answer_of (present_image new.history) result) new
 
 -- an act is done by the session alone, whatever the host is
 abbrev pub RespondsAlone : Act Ending → History → Result Response Status → History → Type 0

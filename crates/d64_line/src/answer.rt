@@ -4,9 +4,9 @@
 ghost use Rattle.std.specs.Prelude.{◌≡◌, ◌≤◌, ℕ, List, All, map, length, MatchOption};
 ghost use Rattle.d64_script.specs.HeldLine.{Says};
 ghost use Rattle.d64_script.specs.Words.{IsPrintable};
-ghost use Rattle.d64_undo.specs.History.{present};
+ghost use Rattle.d64_undo.specs.History.{present_image};
 ghost use Rattle.d64_line.specs.Act.{world_of};
-ghost use Rattle.d64_line.specs.Response.{shown, Responds};
+ghost use Rattle.d64_line.specs.Response.{shown_answer, Responds};
 ghost use Rattle.d64_line.specs.Line.{act_of_words, act_of_text, act_of_line, IsSkipped, IsAnswered};
 ghost use Rattle.d64_line.specs.LineValue.{act_of};
 
@@ -44,7 +44,7 @@ pub fn answer_line<H: Host>(
         (world_of (H.state host.new) session.new))
         (λ response. IsAnswered home.now session.old raw
         (world_of (H.state host.old) session.old)
-        (shown (present session.new) response)
+        (shown_answer (present_image session.new) response)
         (world_of (H.state host.new) session.new)) }
 {
     let Some(text) = line.text() else {

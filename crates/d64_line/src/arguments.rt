@@ -3,7 +3,7 @@
 
 ghost use Rattle.std.specs.Prelude.{◌≡◌, ◌<◌, IfOk, Result, ◌==◌, true, length, map, option_map, position};
 ghost use Rattle.d64_line.specs.Arguments.{host_in, number_in, block_in, can_be_id, at_comma, kind_of_letter, name_and_kind_in, after_slash, name_word, name_and_kind_of};
-ghost use Rattle.d64_line.specs.ArgumentTexts.{texts, named, items, Reads, ReadsEach};
+ghost use Rattle.d64_line.specs.ArgumentTexts.{texts, name_and_kind, items, Reads, ReadsEach};
 ghost use Rattle.petscii.specs.TextForm.{HasOneReading};
 ghost use Rattle.d64_files.specs.Name.{is_name};
 ghost use Rattle.d64_files.specs.Pattern.{is_pattern};
@@ -144,7 +144,7 @@ fn kind_of_letter(word: &[u8]) -> Option<Kind>
 /// The name and the kind of a file in a word that may be cut at its first comma. The kind is PRG
 /// where it isn't.
 fn name_and_kind_in(word: &[u8]) -> Result<(&[u8], Kind), Status>
-    ensures { named result ≡ name_and_kind_in word.now }
+    ensures { name_and_kind result ≡ name_and_kind_in word.now }
 {
     let Some((name, letter)) = at_comma(word) else {
         return Ok((word, Kind::Prg));
@@ -181,7 +181,7 @@ pub(crate) fn name_and_kind_of<'a>(
     host: &'a str,
     word: Option<&'a str>,
 ) -> Result<(&'a [u8], Kind), Status>
-    ensures { named result ≡ name_and_kind_of host.now (option_map (λ word. word.now) word.entry) }
+    ensures { name_and_kind result ≡ name_and_kind_of host.now (option_map (λ word. word.now) word.entry) }
 {
     match word {
         Some(word) => name_and_kind_in(word.as_bytes()),

@@ -2,13 +2,13 @@
 #![tactic(auto, unfolding(crate::specs::Act::Does))]
 
 ghost use Rattle.std.specs.Prelude.{◌≡◌, ◌<◌, ◌≤◌, All, Some, None, map, option_map, length};
-ghost use Rattle.d64_dos.specs.Change.{said};
+ghost use Rattle.d64_dos.specs.Change.{change_of};
 ghost use Rattle.d64_dos.specs.Command.{IsWithin};
 ghost use Rattle.d64_line.specs.Act.{world_of};
 ghost use Rattle.d64_line.specs.Response.{Responds, RespondsAlone};
 ghost use Rattle.petscii.specs.Spelling.{spelling};
 ghost use Rattle.d64_line.specs.FoundFile.{is_file_name};
-ghost use Rattle.d64_undo.specs.History.{History, present};
+ghost use Rattle.d64_undo.specs.History.{History, present_image};
 ghost use Rattle.d64_line.specs.Line.{put, host_file_limit, block_act, block_read_act, block_write_act, crunch_act, write_program, delete_act, format_act, history_act, keep_act, list_act, petcat_act, show_program, quit_act, read_act, read_to, redo_act, rename_act, save_act, undo_act, validate_act, write_act, run, write_one_block};
 
 use crate::arguments::{
@@ -95,7 +95,7 @@ pub(crate) fn block_write<H: Host>(
 
 /// A block of the image replaced by the bytes of a host file.
 fn write_one_block(session: &mut Session, at: BlockNo, bytes: &[u8]) -> Result<Response, Status>
-    requires { at < length (present session.old) }
+    requires { at < length (present_image session.old) }
     ensures { RespondsAlone (write_one_block session.old at bytes.now) session.old result session.new }
 {
     match bytes.as_array() {
@@ -106,8 +106,8 @@ fn write_one_block(session: &mut Session, at: BlockNo, bytes: &[u8]) -> Result<R
 
 /// A command given to the session. The image has the block that a block write names.
 fn run_command(session: &mut Session, command: &Command) -> Result<Response, Status>
-    requires { IsWithin (present session.old) (said command.now) }
-    ensures { RespondsAlone (run session.old (said command.now)) session.old result session.new }
+    requires { IsWithin (present_image session.old) (change_of command.now) }
+    ensures { RespondsAlone (run session.old (change_of command.now)) session.old result session.new }
 {
     match session.run(command) {
         Ok(reply) => Ok(Response::plain(of_reply(reply))),

@@ -1,6 +1,6 @@
 //! Files of the host, as they are fetched.
 ghost use Rattle.d64_effects.specs.Laws.{AreBytes};
-ghost use Rattle.d64_host.specs.Host.{fetched};
+ghost use Rattle.d64_host.specs.Host.{fetched_bytes};
 ghost use Rattle.d64_line.specs.Act.{FetchesFile};
 
 use d64_host::{Host, HostFault};
@@ -15,7 +15,7 @@ pub fn fetch<H: Host>(
 ) -> Result<Vec<u8>, HostFault>
     ensures { FetchesFile
         (H.state host.old)
-        name.now limit (fetched result)
+        name.now limit (fetched_bytes result)
         (H.state host.new) }
 {
     let bytes = host.fetch(alloc, name, limit)?;

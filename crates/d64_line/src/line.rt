@@ -2,7 +2,7 @@
 ghost use Rattle.std.specs.Prelude.{◌≡◌, map, option_map};
 ghost use Rattle.d64_image.specs.Disk.{Bytes};
 ghost use Rattle.d64_undo.specs.History.{History};
-ghost use Rattle.d64_line.specs.LineValue.{taken};
+ghost use Rattle.d64_line.specs.LineValue.{words_or_refusal};
 ghost use Rattle.d64_line.specs.WordCounts.{no_word, one_word, at_most_one, word_and, some_words};
 
 use d64_script::status::Status;
@@ -84,12 +84,12 @@ pub(crate) enum Line<'a> {
 
 impl<'a> Line<'a> {
     ghost use Rattle.d64_line.specs.Line.{act_of_words};
-    ghost use Rattle.d64_line.specs.LineValue.{asked};
+    ghost use Rattle.d64_line.specs.LineValue.{act_of_result};
 
     /// What the words of a line ask for. The first stands for a command, in small letters, and then
     /// so many follow as that takes.
     pub(crate) fn of(words: &'a [&'a str]) -> Result<Line<'a>, Status>
-        ensures { (home : Bytes) (history : History) → asked home history result ≡ act_of_words home history (map (λ word. word.now) words.now) }
+        ensures { (home : Bytes) (history : History) → act_of_result home history result ≡ act_of_words home history (map (λ word. word.now) words.now) }
     {
         let Some((command, words)) = words.split_first() else {
             return Err(Status::UnknownCommand);
@@ -128,7 +128,7 @@ impl<'a> Line<'a> {
 
 /// No word.
 fn no_word(words: &[&str]) -> Result<(), Status>
-    ensures { taken (λ _. tt) result ≡ no_word (map (λ word. word.now) words.now) }
+    ensures { words_or_refusal (λ _. tt) result ≡ no_word (map (λ word. word.now) words.now) }
 {
     match words {
         [] => Ok(()),
@@ -138,7 +138,7 @@ fn no_word(words: &[&str]) -> Result<(), Status>
 
 /// Exactly one word.
 fn one_word<'a>(words: &[&'a str]) -> Result<&'a str, Status>
-    ensures { taken (λ word. word.now) result ≡ one_word (map (λ word. word.now) words.now) }
+    ensures { words_or_refusal (λ word. word.now) result ≡ one_word (map (λ word. word.now) words.now) }
 {
     match words {
         [] => Err(Status::MissingWord),
@@ -149,7 +149,7 @@ fn one_word<'a>(words: &[&'a str]) -> Result<&'a str, Status>
 
 /// Exactly two words.
 fn two_words<'a>(words: &[&'a str]) -> Result<(&'a str, &'a str), Status>
-    ensures { taken (λ pair. (pair.0.now, pair.1.now)) result ≡ word_and one_word (map (λ word. word.now) words.now) }
+    ensures { words_or_refusal (λ pair. (pair.0.now, pair.1.now)) result ≡ word_and one_word (map (λ word. word.now) words.now) }
 {
     match words {
         [] | [_] => Err(Status::MissingWord),
@@ -160,7 +160,7 @@ fn two_words<'a>(words: &[&'a str]) -> Result<(&'a str, &'a str), Status>
 
 /// Exactly three words.
 fn three_words<'a>(words: &[&'a str]) -> Result<(&'a str, &'a str, &'a str), Status>
-    ensures { taken (λ three. (three.0.now, (three.1.now, three.2.now))) result ≡ word_and (word_and one_word) (map (λ word. word.now) words.now) }
+    ensures { words_or_refusal (λ three. (three.0.now, (three.1.now, three.2.now))) result ≡ word_and (word_and one_word) (map (λ word. word.now) words.now) }
 {
     match words {
         [] | [_] | [_, _] => Err(Status::MissingWord),
@@ -171,7 +171,7 @@ fn three_words<'a>(words: &[&'a str]) -> Result<(&'a str, &'a str, &'a str), Sta
 
 /// One word or none.
 fn at_most_one<'a>(words: &[&'a str]) -> Result<Option<&'a str>, Status>
-    ensures { taken (option_map (λ word. word.now)) result ≡ at_most_one (map (λ word. word.now) words.now) }
+    ensures { words_or_refusal (option_map (λ word. word.now)) result ≡ at_most_one (map (λ word. word.now) words.now) }
 {
     match words {
         [] => Ok(None),
@@ -182,7 +182,7 @@ fn at_most_one<'a>(words: &[&'a str]) -> Result<Option<&'a str>, Status>
 
 /// One word, and perhaps another.
 fn one_or_two<'a>(words: &[&'a str]) -> Result<(&'a str, Option<&'a str>), Status>
-    ensures { taken (λ pair. (pair.0.now, option_map (λ word. word.now) pair.1)) result ≡ word_and at_most_one (map (λ word. word.now) words.now) }
+    ensures { words_or_refusal (λ pair. (pair.0.now, option_map (λ word. word.now) pair.1)) result ≡ word_and at_most_one (map (λ word. word.now) words.now) }
 {
     match words {
         [] => Err(Status::MissingWord),
@@ -194,7 +194,7 @@ fn one_or_two<'a>(words: &[&'a str]) -> Result<(&'a str, Option<&'a str>), Statu
 
 /// One word or more, up to as many as a line holds.
 fn some_words<'a>(words: &'a [&'a str]) -> Result<&'a [&'a str], Status>
-    ensures { taken (λ some. map (λ word. word.now) some.now) result ≡ some_words (map (λ word. word.now) words.now) }
+    ensures { words_or_refusal (λ some. map (λ word. word.now) some.now) result ≡ some_words (map (λ word. word.now) words.now) }
 {
     match words.len() {
         0 => Err(Status::MissingWord),

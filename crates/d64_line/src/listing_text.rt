@@ -3,7 +3,7 @@ ghost use Rattle.std.specs.Prelude.{◌≡◌, ◌++◌, ◌-◌, codes, if◌th
 ghost use Rattle.std.specs.Fmt.{decimal};
 ghost use Rattle.petscii.specs.Spelling.{spelling};
 ghost use Rattle.d64_dos.specs.Listing.{shown_row, shown_listing};
-ghost use Rattle.d64_line.specs.ListingText.{padded, kind_text, header_line, row_line, listing_text};
+ghost use Rattle.d64_line.specs.ListingText.{padded_text, kind_text, header_line, row_line, listing_text};
 
 use cbm_text::to_text;
 use d64_dos::{Listing, Row};
@@ -114,7 +114,7 @@ fn lock_mark(locked: bool) -> &'static [u8]
 
 /// Adds a file's size, from the left of its places on.
 fn push_size(text: &mut Vec<u8>, blocks: u16) -> Result<(), AllocError>
-    ensures { OnOk result (text.new.items ≡ text.old.items ++ padded 5 (decimal blocks)) }
+    ensures { OnOk result (text.new.items ≡ text.old.items ++ padded_text 5 (decimal blocks)) }
 {
     let mut buffer = Buffer::new();
     push_padded(text, buffer.format(blocks).as_bytes(), SIZE_PLACES)
@@ -130,7 +130,7 @@ fn push_number(text: &mut Vec<u8>, number: u32) -> Result<(), AllocError>
 
 /// Adds bytes, and spaces up to a number of places.
 fn push_padded(text: &mut Vec<u8>, bytes: &[u8], places: u8) -> Result<(), AllocError>
-    ensures { OnOk result (text.new.items ≡ text.old.items ++ padded places bytes.now) }
+    ensures { OnOk result (text.new.items ≡ text.old.items ++ padded_text places bytes.now) }
 {
     text.extend_from_slice(bytes)?;
     let spaces = usize::from(places).saturating_sub(bytes.len());

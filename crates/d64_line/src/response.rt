@@ -56,12 +56,12 @@ pub struct Response {
 impl Response {
     ghost use Rattle.std.specs.Prelude.{List, ℕ, false};
     ghost use Rattle.d64_script.specs.declared.status.Status.TheVariants.{Done};
-    ghost use Rattle.d64_line.specs.Act.{plain, printed};
-    ghost use Rattle.d64_line.specs.Response.{answer_of, shown};
+    ghost use Rattle.d64_line.specs.Act.{plain_answer, printed_bytes};
+    ghost use Rattle.d64_line.specs.Response.{answer_of, shown_answer};
 
     /// A status with no output.
     pub fn plain(status: Status) -> Response
-        ensures { (image : List (List ℕ)) → shown image result ≡ plain status }
+        ensures { (image : List (List ℕ)) → shown_answer image result ≡ plain_answer status }
     {
         Response {
             output: Output::Nothing,
@@ -73,7 +73,7 @@ impl Response {
     /// What a line answers: the response of an accepted one, or the status of a refusal with no
     /// output.
     pub(crate) fn of(answer: Result<Response, Status>) -> Response
-        ensures { (image : List (List ℕ)) → shown image result ≡ answer_of image answer }
+        ensures { (image : List (List ℕ)) → shown_answer image result ≡ answer_of image answer }
     {
         match answer {
             Ok(response) => response,
@@ -83,7 +83,7 @@ impl Response {
 
     /// Lines of text, for a line that was accepted.
     pub fn text(text: Vec<u8>) -> Response
-        ensures { (image : List (List ℕ)) → shown image result ≡ record { output = text.items; status = Done; closes = false } }
+        ensures { (image : List (List ℕ)) → shown_answer image result ≡ record { output = text.items; status = Done; closes = false } }
     {
         Response {
             output: Output::Text(text),
@@ -100,8 +100,8 @@ impl Response {
         image: &Image,
     ) -> Result<(), WriteFault>
         ensures same { output.new.writer.ghost_name ≡ output.old.writer.ghost_name }
-        ensures ok { OnOk result (Appends (W.contents output.old.writer.now) (W.contents output.new.writer.now) (printed (shown image.now self.now))) }
-        ensures err { OnErr result (AppendsPart (W.contents output.old.writer.now) (W.contents output.new.writer.now) (printed (shown image.now self.now))) }
+        ensures ok { OnOk result (Appends (W.contents output.old.writer.now) (W.contents output.new.writer.now) (printed_bytes (shown_answer image.now self.now))) }
+        ensures err { OnErr result (AppendsPart (W.contents output.old.writer.now) (W.contents output.new.writer.now) (printed_bytes (shown_answer image.now self.now))) }
         ensures failed { FailsWith result output.old.has_failed output.new.has_failed }
     {
         self.output.write(output, image)?;

@@ -6,7 +6,7 @@ use Rattle.d64_image.specs.Disk.{Bytes}
 use Rattle.d64_inventory.specs.Rows.{RowView}
 use Rattle.d64_report.specs.Values.{Field, object_of}
 use Rattle.d64_report.specs.Unanswered.{host_value}
-use Rattle.d64_wording.specs.Shown.{shown}
+use Rattle.d64_wording.specs.Shown.{shown_name}
 use Rattle.d64_listing.specs.FileObject.{file_members, place_members}
 use Rattle.d64_listing.specs.FileRow.{columns, name_alone, row_fields, row_with}
 use Rattle.d64_listing.specs.FileTable.{file_text}
@@ -26,7 +26,7 @@ extracted_row name row path = row_with (row_fields name row ++ unwrap_or path []
 -- where it was written, at the end of a line for people
 abbrev pub path_text : Option Bytes → List ℕ
 path_text None = codes ", not written"
-path_text (Some path) = codes " -> " ++ shown path
+path_text (Some path) = codes " -> " ++ shown_name path
 
 -- the line of it
 unfoldable pub extracted_line : RowView → Option Bytes → List ℕ

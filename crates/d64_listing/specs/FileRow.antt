@@ -33,9 +33,9 @@ abbrev pub after_space : List ℕ → List ℕ
 after_space text = codes " " ++ text
 
 -- the texts of things with a space between them
-unfoldable pub spaced : {X : Type 0} → (X → List ℕ) → List X → List ℕ
-spaced text [] = []
-spaced text (x ∷ xs) = text x ++ flat_map (λ y. after_space (text y)) xs
+unfoldable pub spaced_texts : {X : Type 0} → (X → List ℕ) → List X → List ℕ
+spaced_texts text [] = []
+spaced_texts text (x ∷ xs) = text x ++ flat_map (λ y. after_space (text y)) xs
 
 -- the name, and the field that it stands in
 abbrev pub name_fields : RowView → List (List ℕ)
@@ -61,7 +61,7 @@ content_fields row =
 -- whether the file is whole, why not, the conditions that it breaks, and how many of its blocks
 -- have a read error
 abbrev pub state_fields : RowView → List (List ℕ)
-state_fields row = truth_or_empty row.whole ∷ spaced flaw_word row.why ∷ spaced decimal row.conditions ∷ decimal row.read_errors ∷ []
+state_fields row = truth_or_empty row.whole ∷ spaced_texts flaw_word row.why ∷ spaced_texts decimal row.conditions ∷ decimal row.read_errors ∷ []
 
 -- what is told of a file, but for the image and the slot
 unfoldable pub file_fields : RowView → List (List ℕ)

@@ -16,8 +16,8 @@ use Rattle.d64_inventory.specs.Rows.{RowView}
 use Rattle.d64_wording.specs.CheckText.{label_text}
 use Rattle.d64_wording.specs.FaultText.{fault_text, read_error_text}
 use Rattle.d64_wording.specs.FileText.{kind_letters, flaws_text}
-use Rattle.d64_wording.specs.Names.{quoted}
-use Rattle.d64_wording.specs.Shown.{shown}
+use Rattle.d64_wording.specs.Names.{quoted_name}
+use Rattle.d64_wording.specs.Shown.{shown_name}
 use Rattle.d64_wording.specs.Words.{line_below}
 
 -- so many spaces
@@ -34,7 +34,7 @@ left_in width text = text ++ spaces (width - length text)
 
 -- the image's line: its host name, the disk's name and its id
 unfoldable pub head_line : Bytes → Disk → List ℕ
-head_line name image = shown name ++ (codes " " ++ (label_text image ++ codes "\n"))
+head_line name image = shown_name name ++ (codes " " ++ (label_text image ++ codes "\n"))
 
 -- how many blocks of a file are there: those of its data way and of its side way, as far as 64 bits
 -- count
@@ -69,7 +69,7 @@ state_text row = kind_text row.kind ++ (codes "   " ++ (state_by row.whole row +
 
 -- what is told of a used slot on a line: the size, the name, the kind, and whether it is whole
 unfoldable pub file_text : RowView → List ℕ
-file_text row = right_in 5 (decimal row.size) ++ (codes " " ++ (left_in 18 (quoted (name_in row.field)) ++ (codes " " ++ state_text row)))
+file_text row = right_in 5 (decimal row.size) ++ (codes " " ++ (left_in 18 (quoted_name (name_in row.field)) ++ (codes " " ++ state_text row)))
 
 -- the line of a used slot
 unfoldable pub file_line : RowView → List ℕ

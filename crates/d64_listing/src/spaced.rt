@@ -2,7 +2,7 @@
 ghost use Rattle.std.specs.Prelude.{◌≡◌, ◌++◌, decimal, OnOk};
 ghost use Rattle.std.specs.List.{flat_map};
 ghost use Rattle.d64_listing.specs.FlawWords.{flaw_word as flaw_word_of};
-ghost use Rattle.d64_listing.specs.FileRow.{after_space, spaced};
+ghost use Rattle.d64_listing.specs.FileRow.{after_space, spaced_texts};
 
 use crate::flaw_word::flaw_word;
 use d64_survey::Flaw;
@@ -28,9 +28,9 @@ fn push_flaws(text: &mut Vec<u8>, flaws: &[Flaw]) -> Result<(), AllocError>
 }
 
 /// Spells the words for reasons, with a space between them, in the place of what the text had.
-#[tactic(auto, unfolding(crate::specs::FileRow::spaced))]
+#[tactic(auto, unfolding(crate::specs::FileRow::spaced_texts))]
 pub(crate) fn spell_flaws(text: &mut Vec<u8>, flaws: &[Flaw]) -> Result<(), AllocError>
-    ensures { OnOk result (text.new.items ≡ spaced flaw_word_of flaws.now) }
+    ensures { OnOk result (text.new.items ≡ spaced_texts flaw_word_of flaws.now) }
 {
     text.clear();
     match flaws {
@@ -54,9 +54,9 @@ fn push_numbers(text: &mut Vec<u8>, numbers: &[u8]) -> Result<(), AllocError>
 }
 
 /// Spells numbers in decimal, with a space between them, in the place of what the text had.
-#[tactic(auto, unfolding(crate::specs::FileRow::spaced))]
+#[tactic(auto, unfolding(crate::specs::FileRow::spaced_texts))]
 pub(crate) fn spell_numbers(text: &mut Vec<u8>, numbers: &[u8]) -> Result<(), AllocError>
-    ensures { OnOk result (text.new.items ≡ spaced decimal numbers.now) }
+    ensures { OnOk result (text.new.items ≡ spaced_texts decimal numbers.now) }
 {
     text.clear();
     match numbers {

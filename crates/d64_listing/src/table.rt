@@ -1,6 +1,6 @@
 //! The files of an image as a table for people.
 ghost use Rattle.std.specs.Prelude.{◌≡◌, ◌≤◌, ◌++◌, decimal, OnOk};
-ghost use Rattle.d64_wording.specs.Names.{quoted};
+ghost use Rattle.d64_wording.specs.Names.{quoted_name};
 ghost use Rattle.d64_listing.specs.FileTable.{spaces, right_in, left_in, head_line, blocks_there, reasons, unknown_text, state_by, locked_text, kind_text, state_text, file_text, file_line};
 
 use d64_files::{Kind, name_in};
@@ -137,7 +137,7 @@ fn push_size(out: &mut Vec<u8>, size: u16) -> Result<(), AllocError>
 
 /// Adds a name in quotes, in its columns.
 fn push_name(scratch: &mut Vec<u8>, out: &mut Vec<u8>, name: &[u8]) -> Result<(), AllocError>
-    ensures { OnOk result (out.new.items ≡ out.old.items ++ left_in 18 (quoted name.now)) }
+    ensures { OnOk result (out.new.items ≡ out.old.items ++ left_in 18 (quoted_name name.now)) }
 {
     scratch.clear();
     push_quoted(scratch, name)?;

@@ -19,7 +19,7 @@ use Rattle.d64_image.specs.Block.{sectors_on, first_block, pair_at}
 use Rattle.d64_image.proofs.Zones.{counted_below}
 use Rattle.d64_image.proofs.Pairs.{pair_at-counted}
 use Rattle.d64_map.specs.Track.{blocks_on}
-use Rattle.d64_map.specs.Search.{lower_tracks, upper_tracks, first_order, rotated, sector_after, tracks_after, next_order, dir_order}
+use Rattle.d64_map.specs.Search.{lower_tracks, upper_tracks, first_order, rotated_list, sector_after, tracks_after, next_order, dir_order}
 use Rattle.d64_map.specs.Plan.{plan_after, plan, is_outside, room}
 use Rattle.d64_map.specs.Laws.{IsFreeForFiles, IsFreeForDirectory}
 use Rattle.d64_map.proofs.Ranges.{any-range}
@@ -169,8 +169,8 @@ or_comm true false = refl
 or_comm false true = refl
 or_comm false false = refl
 
-among-rotated : (a x : ℕ) (xs : List ℕ) → is_among (rotated a xs) x ≡ is_among xs x
-among-rotated a x xs =
+among-rotated_list : (a x : ℕ) (xs : List ℕ) → is_among (rotated_list a xs) x ≡ is_among xs x
+among-rotated_list a x xs =
     list_any-append (λ y. nat_eq y x) (drop a xs) (take a xs) ∙ or_comm (is_among (drop a xs) x) (is_among (take a xs) x)
     ∙ sym (list_any-append (λ y. nat_eq y x) (take a xs) (drop a xs)) ∙ ap (λ (ys : List ℕ). is_among ys x) (take-append-drop a xs)
 
@@ -199,8 +199,8 @@ next_order-whole last h =
           let legal_after = from_or (is_file_track t) (list_all is_file_track (tracks_after t)) own (after_legal t p.within) in
           let all_after = from_or (is_file_track t) (agree_below (λ x. nat_eq t x || is_among (tracks_after t) x) is_file_track 41) own (after_all t p.within) in
           let split = λ (block : ℕ). ap (λ (xs : List ℕ). is_among xs block) (next_order-other last e)
-          ∙ list_any-append (λ y. nat_eq y block) (rotated a (blocks_on t)) (flat_map blocks_on (tracks_after t))
-          ∙ ap (λ (b : Bool). b || is_among (flat_map blocks_on (tracks_after t)) block) (among-rotated a block (blocks_on t)) in
+          ∙ list_any-append (λ y. nat_eq y block) (rotated_list a (blocks_on t)) (flat_map blocks_on (tracks_after t))
+          ∙ ap (λ (b : Bool). b || is_among (flat_map blocks_on (tracks_after t)) block) (among-rotated_list a block (blocks_on t)) in
           record {
             legal = λ block among.
                 elim (or_cases (is_among (blocks_on t) block) (is_among (flat_map blocks_on (tracks_after t)) block) (sym (split block) ∙ among)) [
@@ -410,7 +410,7 @@ plan-there (suc count) free =
 among-dir_order : (last block : ℕ) → is_among (dir_order last) block ≡ is_among (blocks_on 18) block
 among-dir_order last block =
     elim (cases_eq (pair_at last).0 18) [
-      | inl e ↦ ap (λ (xs : List ℕ). is_among xs block) (dir_order-directory last e) ∙ among-rotated (sector_after 3 (sectors_on 18) (pair_at last).1) block (blocks_on 18)
+      | inl e ↦ ap (λ (xs : List ℕ). is_among xs block) (dir_order-directory last e) ∙ among-rotated_list (sector_after 3 (sectors_on 18) (pair_at last).1) block (blocks_on 18)
       | inr e ↦ ap (λ (xs : List ℕ). is_among xs block) (dir_order-other last e)
     ]
 

@@ -8,7 +8,7 @@ use Rattle.std.proofs.lemmas.List.Concat.{flat_map-append}
 use Rattle.std.proofs.lemmas.List.Folds.{find-append, flat_map-map}
 use Rattle.d64_image.specs.Block.{sectors_on, first_block, pair_at}
 use Rattle.d64_map.specs.Track.{blocks_on}
-use Rattle.d64_map.specs.Search.{lower_tracks, upper_tracks, first_order, sector_after, rotated, tracks_after, next_order, dir_order}
+use Rattle.d64_map.specs.Search.{lower_tracks, upper_tracks, first_order, sector_after, rotated_list, tracks_after, next_order, dir_order}
 use Rattle.d64_map.specs.Side.{track_at, other_side, reach, tracks_along, tracks_beyond}
 use Rattle.d64_map.specs.declared.search.Side.{Side}
 use Rattle.d64_map.specs.declared.search.Side.TheVariants.{Lower, Upper}
@@ -170,11 +170,11 @@ next_order-directory last e = cond-true _ _ _ (eq-eqb (pair_at last).0 18 e)
 
 pub next_order-other : (last : ℕ) → ((pair_at last).0 ≡ 18 → ⊥)
     → next_order last
-    ≡ rotated (sector_after 10 (sectors_on (pair_at last).0) (pair_at last).1) (blocks_on (pair_at last).0) ++ flat_map blocks_on (tracks_after (pair_at last).0)
+    ≡ rotated_list (sector_after 10 (sectors_on (pair_at last).0) (pair_at last).1) (blocks_on (pair_at last).0) ++ flat_map blocks_on (tracks_after (pair_at last).0)
 unfolding next_order
 next_order-other last e = cond-false _ _ _ (ne_eqb (pair_at last).0 18 e)
 
-pub dir_order-directory : (last : ℕ) → (pair_at last).0 ≡ 18 → dir_order last ≡ rotated (sector_after 3 (sectors_on 18) (pair_at last).1) (blocks_on 18)
+pub dir_order-directory : (last : ℕ) → (pair_at last).0 ≡ 18 → dir_order last ≡ rotated_list (sector_after 3 (sectors_on 18) (pair_at last).1) (blocks_on 18)
 unfolding dir_order
 dir_order-directory last e = cond-true _ _ _ (eq-eqb (pair_at last).0 18 e)
 
@@ -184,7 +184,7 @@ dir_order-other last e = cond-false _ _ _ (ne_eqb (pair_at last).0 18 e)
 
 -- the sectors of the last block's track, from the one at which the search goes on
 pub around_is : (last start count sector track : ℕ) → start ≡ sector_after 10 count sector → count ≡ sectors_on track → sector ≡ (pair_at last).1 → track ≡ (pair_at last).0
-    → rotated start (blocks_on track) ≡ rotated (sector_after 10 (sectors_on (pair_at last).0) (pair_at last).1) (blocks_on (pair_at last).0)
+    → rotated_list start (blocks_on track) ≡ rotated_list (sector_after 10 (sectors_on (pair_at last).0) (pair_at last).1) (blocks_on (pair_at last).0)
 around_is last start count sector track e f g h =
-    ap (λ (n : ℕ). rotated n (blocks_on track)) (e ∙ ap (λ (n : ℕ). sector_after 10 n sector) f ∙ ap (sector_after 10 (sectors_on track)) g)
-    ∙ ap (λ (t : ℕ). rotated (sector_after 10 (sectors_on t) (pair_at last).1) (blocks_on t)) h
+    ap (λ (n : ℕ). rotated_list n (blocks_on track)) (e ∙ ap (λ (n : ℕ). sector_after 10 n sector) f ∙ ap (sector_after 10 (sectors_on track)) g)
+    ∙ ap (λ (t : ℕ). rotated_list (sector_after 10 (sectors_on t) (pair_at last).1) (blocks_on t)) h

@@ -29,8 +29,8 @@ sector_after interleave sectors sector =
     one_less rest = if rest == 0 then 0 else rest - 1
 
 -- a list from a place to its end, and then from its beginning to that place
-abbrev pub rotated : ℕ → List ℕ → List ℕ
-rotated place list = drop place list ++ take place list
+abbrev pub rotated_list : ℕ → List ℕ → List ℕ
+rotated_list place list = drop place list ++ take place list
 
 -- the tracks after a track other than 18: away from 18 to the end of its side, then the other side
 -- outward from 18, then the rest of the first side outward from 18 up to the track's neighbour
@@ -45,7 +45,7 @@ unfoldable pub next_order : ℕ → Blocks
 next_order last =
     if track == 18
     then first_order
-    else rotated (sector_after 10 (sectors_on track) (pair_at last).1) (blocks_on track) ++ flat_map blocks_on (tracks_after track)
+    else rotated_list (sector_after 10 (sectors_on track) (pair_at last).1) (blocks_on track) ++ flat_map blocks_on (tracks_after track)
   where
     track : ℕ
     track = (pair_at last).0
@@ -53,4 +53,4 @@ next_order last =
 -- the order for a new block of the directory, after the directory's last block
 unfoldable pub dir_order : ℕ → Blocks
 dir_order last =
-    if (pair_at last).0 == 18 then rotated (sector_after 3 (sectors_on 18) (pair_at last).1) (blocks_on 18) else blocks_on 18
+    if (pair_at last).0 == 18 then rotated_list (sector_after 3 (sectors_on 18) (pair_at last).1) (blocks_on 18) else blocks_on 18

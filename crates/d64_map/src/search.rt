@@ -4,7 +4,7 @@ ghost use Rattle.std.specs.List.{range_with_len, flat_map};
 ghost use Rattle.std.specs.FinSet as set;
 ghost use Rattle.d64_image.specs.Block.{sectors_on, first_block};
 ghost use Rattle.d64_map.specs.Track.{blocks_on};
-ghost use Rattle.d64_map.specs.Search.{first_order, sector_after, rotated, next_order, dir_order};
+ghost use Rattle.d64_map.specs.Search.{first_order, sector_after, rotated_list, next_order, dir_order};
 ghost use Rattle.d64_map.specs.Side.{track_at, other_side, reach, tracks_along, tracks_beyond};
 
 use crate::tracks::{DIRECTORY_TRACK, first_block, member_bits, sector_count};
@@ -115,7 +115,7 @@ fn pick_on(free: &BlockSet, track: u8) -> Option<BlockNo>
 fn pick_around(free: &BlockSet, track: u8, start: u8) -> Option<BlockNo>
     requires track { (1 ≤ track) × (track < 41) }
     requires start { start ≤ sectors_on track }
-    ensures { result ≡ find (set.contains free.now) (rotated start (blocks_on track)) }
+    ensures { result ≡ find (set.contains free.now) (rotated_list start (blocks_on track)) }
 {
     match pick_between(free, track, start, sector_count(track)) {
         Some(block) => Some(block),

@@ -3,7 +3,7 @@ use Rattle.std.proofs.Common.{◌≡◌, ◌≢◌, ℕ, ◌-◌, Bool, true, fa
 use Rattle.std.specs.Prelude.{nat_le, ◌==◌, ◌&&◌, not, if◌then◌else◌, codes}
 use Rattle.std.proofs.lemmas.Bool.{cases_eq}
 use Rattle.std.proofs.lemmas.Bool.Decides.{nat_tests}
-use Rattle.d64_markup.specs.Markup.{entities, escaped_byte, escaped, escaped_within, IsPlain, begins_entity, IsHarmless, NoNameMakesMarkup, NoPartMakesMarkup}
+use Rattle.d64_markup.specs.Markup.{entities, escaped_byte, escaped_text, escaped_within, IsPlain, begins_entity, IsHarmless, NoNameMakesMarkup, NoPartMakesMarkup}
 
 -- a byte that neither begins an entity nor makes markup
 abbrev is_plain : ℕ → Bool
@@ -67,9 +67,9 @@ harmless_byte byte text rest =
     ]
 
 pub no_name : NoNameMakesMarkup
-unfolding escaped
+unfolding escaped_text
 no_name [] = tt
-no_name (byte ∷ text) = harmless_byte byte (escaped text) (no_name text)
+no_name (byte ∷ text) = harmless_byte byte (escaped_text text) (no_name text)
 
 -- whichever of two texts it is
 either : (first : Bool) (one other : List ℕ) → IsHarmless one → IsHarmless other → IsHarmless (if first then one else other)

@@ -23,8 +23,8 @@ unfoldable pub escaped_byte : ℕ → List ℕ
 escaped_byte byte = option_map_or (λ entity. entity) (entity_in entities byte) (byte ∷ [])
 
 -- a text as it stands in an element or an attribute
-unfoldable pub escaped : List ℕ → List ℕ
-escaped text = flat_map escaped_byte text
+unfoldable pub escaped_text : List ℕ → List ℕ
+escaped_text text = flat_map escaped_byte text
 
 -- the same as far as it has room in so many bytes; where it has not, `..` follows
 unfoldable pub escaped_within : ℕ → List ℕ → List ℕ
@@ -35,8 +35,8 @@ escaped_within room (byte ∷ text) =
     else codes ".."
 
 -- a text of which at most so many bytes are shown; where it has more, `..` follows
-abbrev pub shortened : ℕ → List ℕ → List ℕ
-shortened count text = if nat_le (length text) count then text else take count text ++ codes ".."
+abbrev pub shortened_text : ℕ → List ℕ → List ℕ
+shortened_text count text = if nat_le (length text) count then text else take count text ++ codes ".."
 
 -- the byte at a place is the last of U+FFFE or U+FFFF, which no XML holds: EF BF BE or EF BF BF
 abbrev pub ends_no_character : List ℕ → ℕ → Bool
@@ -49,8 +49,8 @@ abbrev pub held_byte : List ℕ → ℕ → ℕ
 held_byte text place = if ends_no_character text place then 0xBD else slice_index text place
 
 -- such a text
-unfoldable pub held : List ℕ → List ℕ
-held text = map (held_byte text) (range_with_len 0 (length text))
+unfoldable pub held_text : List ℕ → List ℕ
+held_text text = map (held_byte text) (range_with_len 0 (length text))
 
 -- an attribute
 unfoldable pub attribute : List ℕ → List ℕ → List ℕ
@@ -87,7 +87,7 @@ IsHarmless (byte ∷ text) = IsPlain byte × (byte ≡ 38 → begins_entity (byt
 
 -- no name makes markup
 abbrev pub NoNameMakesMarkup : Type 0
-NoNameMakesMarkup = (text : List ℕ) → IsHarmless (escaped text)
+NoNameMakesMarkup = (text : List ℕ) → IsHarmless (escaped_text text)
 
 -- nor does one of which there is only a part
 abbrev pub NoPartMakesMarkup : Type 0

@@ -1,6 +1,6 @@
 //! Elements of XML, and texts as they stand in them.
 ghost use Rattle.std.specs.Prelude.{◌≡◌, ◌<◌, ◌++◌, length, option_map, codes, OnOk};
-ghost use Rattle.d64_markup.specs.Markup.{entity_in, entities, escaped_byte, escaped as escaped_of, escaped_within, shortened, held_byte, held, attribute, number_attribute, tag};
+ghost use Rattle.d64_markup.specs.Markup.{entity_in, entities, escaped_byte, escaped_text, escaped_within, shortened_text, held_byte, held_text, attribute, number_attribute, tag};
 
 use d64_wording::push_number;
 use std::alloc::AllocError;
@@ -43,9 +43,9 @@ fn escaped_len(byte: u8) -> usize
 }
 
 /// Adds a text, in which no byte makes markup.
-#[tactic(auto, unfolding(crate::specs::Markup::escaped))]
+#[tactic(auto, unfolding(crate::specs::Markup::escaped_text))]
 pub fn push_escaped(out: &mut Vec<u8>, text: &[u8]) -> Result<(), AllocError>
-    ensures { OnOk result (out.new.items ≡ out.old.items ++ escaped_of text.now) }
+    ensures { OnOk result (out.new.items ≡ out.old.items ++ escaped_text text.now) }
 {
     for byte in text {
         push_escaped_byte(out, *byte)?;
@@ -71,7 +71,7 @@ pub fn push_escaped_within(out: &mut Vec<u8>, room: usize, text: &[u8]) -> Resul
 
 /// Adds at most so many bytes of a text, and `..` where it has more.
 pub fn push_shortened(out: &mut Vec<u8>, count: usize, text: &[u8]) -> Result<(), AllocError>
-    ensures { OnOk result (out.new.items ≡ out.old.items ++ shortened count text.now) }
+    ensures { OnOk result (out.new.items ≡ out.old.items ++ shortened_text count text.now) }
 {
     if text.len() <= count {
         return out.extend_from_slice(text);
@@ -92,9 +92,9 @@ fn held_byte(text: &[u8], place: usize) -> u8
 }
 
 /// Adds a text of UTF-8 in which U+FFFD stands for U+FFFE and U+FFFF.
-#[tactic(auto, unfolding(crate::specs::Markup::held))]
+#[tactic(auto, unfolding(crate::specs::Markup::held_text))]
 pub fn push_held(out: &mut Vec<u8>, text: &[u8]) -> Result<(), AllocError>
-    ensures { OnOk result (out.new.items ≡ out.old.items ++ held text.now) }
+    ensures { OnOk result (out.new.items ≡ out.old.items ++ held_text text.now) }
 {
     for place in 0..text.len() {
         out.push(held_byte(text, place))?;

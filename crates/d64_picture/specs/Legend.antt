@@ -15,7 +15,7 @@ use Rattle.d64_picture.specs.declared.colour.Colour.{Colour}
 use Rattle.d64_picture.specs.declared.colour.Colour.TheVariants.{Free, Unowned, System, File}
 use Rattle.d64_picture.specs.Cells.{square_of, mark_at}
 use Rattle.d64_picture.specs.Colours.{class_of, colour_of_slot}
-use Rattle.d64_markup.specs.Markup.{empty_element, escaped, shortened}
+use Rattle.d64_markup.specs.Markup.{empty_element, escaped_text, shortened_text}
 use Rattle.d64_picture.specs.Shapes.{text_at, text_of, path_of}
 
 -- the colour by which a state is explained
@@ -42,7 +42,7 @@ state_sample y state = empty_element (codes "path") (square_of (sample state) 53
 
 -- the row of a state
 unfoldable pub state_row : ℕ → BlockState → List ℕ
-state_row y state = state_sample y state ++ (text_at 560 (y + 14) (escaped (state_words state)) ++ codes "\n")
+state_row y state = state_sample y state ++ (text_at 560 (y + 14) (escaped_text (state_words state)) ++ codes "\n")
 
 -- a row for each state
 unfoldable pub state_rows : List ℕ
@@ -69,7 +69,7 @@ row_y tracks place = if nat_lt place rows_beside then 240 + 20 * place else 98 +
 
 -- a file's name in text form, as far as there is room
 unfoldable pub name_at : ℕ → ℕ → List ℕ → List ℕ
-name_at x y name = text_at x y (escaped (shortened 24 (spelling name)))
+name_at x y name = text_at x y (escaped_text (shortened_text 24 (spelling name)))
 
 -- the row of a slot's file that has so many blocks: its colour, its name, and how many these are
 unfoldable pub file_row : ℕ → ℕ → ℕ → List ℕ → ℕ → List ℕ
@@ -94,12 +94,12 @@ file_rows image = flat_map (placed_row image) (take shown_files (enumerate_from 
 unfoldable pub more_row : ℕ → ℕ → List ℕ
 more_row tracks count =
     if nat_lt shown_files count
-    then text_at (row_x shown_files + 22) (row_y tracks shown_files + 11) (escaped (codes "and " ++ (decimal (count - shown_files) ++ codes " more"))) ++ codes "\n"
+    then text_at (row_x shown_files + 22) (row_y tracks shown_files + 11) (escaped_text (codes "and " ++ (decimal (count - shown_files) ++ codes " more"))) ++ codes "\n"
     else []
 
 -- what stands above the files
 unfoldable pub files_head : List ℕ
-files_head = text_of (codes "start") 532 230 (escaped (codes "file")) ++ (text_of (codes "end") 758 230 (escaped (codes "blocks")) ++ codes "\n")
+files_head = text_of (codes "start") 532 230 (escaped_text (codes "file")) ++ (text_of (codes "end") 758 230 (escaped_text (codes "blocks")) ++ codes "\n")
 
 -- the legend
 unfoldable pub legend : Disk → List ℕ

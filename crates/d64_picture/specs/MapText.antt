@@ -4,21 +4,21 @@ use Rattle.std.specs.List.{flat_map, range_with_len}
 use Rattle.d64_image.specs.Image.{tracks_of}
 use Rattle.d64_map.specs.Track.{blocks_on}
 use Rattle.d64_survey.specs.Dump.{DumpView}
-use Rattle.d64_wording.specs.Shown.{shown}
+use Rattle.d64_wording.specs.Shown.{shown_name}
 use Rattle.d64_wording.specs.CheckText.{label_text, state_text}
 use Rattle.d64_picture.specs.States.{state_of, mark}
 
 -- the file's name, the disk's name and id, and its state
 unfoldable pub head_line : List ℕ → DumpView → List ℕ
-head_line name dump = shown name ++ (codes " " ++ (label_text dump.image ++ (codes ": " ++ (state_text dump ++ codes "\n"))))
+head_line name dump = shown_name name ++ (codes " " ++ (label_text dump.image ++ (codes ": " ++ (state_text dump ++ codes "\n"))))
 
 -- the numbers of the sectors, above the rows: tens, and then ones
 abbrev pub column_lines : List ℕ
 column_lines = codes "      0         1         2\n      012345678901234567890\n"
 
 -- a track's number, right-aligned
-unfoldable pub padded : ℕ → List ℕ
-padded track = (if nat_lt track 10 then codes "   " else codes "  ") ++ decimal track
+unfoldable pub padded_number : ℕ → List ℕ
+padded_number track = (if nat_lt track 10 then codes "   " else codes "  ") ++ decimal track
 
 -- a character for each block of a track
 unfoldable pub row : DumpView → ℕ → List ℕ
@@ -26,7 +26,7 @@ row dump track = flat_map (λ block. mark (state_of dump block)) (blocks_on trac
 
 -- the line of a track
 unfoldable pub track_line : DumpView → ℕ → List ℕ
-track_line dump track = padded track ++ (codes "  " ++ (row dump track ++ codes "\n"))
+track_line dump track = padded_number track ++ (codes "  " ++ (row dump track ++ codes "\n"))
 
 -- one for each track
 unfoldable pub track_lines : DumpView → List ℕ

@@ -5,17 +5,17 @@ use Rattle.d64_image.specs.Disk.{Disk}
 use Rattle.d64_image.specs.Image.{tracks_of}
 use Rattle.d64_survey.specs.Dump.{DumpView}
 use Rattle.d64_survey.specs.Inspection.{entry_count}
-use Rattle.d64_wording.specs.Shown.{shown}
+use Rattle.d64_wording.specs.Shown.{shown_name}
 use Rattle.d64_wording.specs.CheckText.{label_text, contents_text, state_text}
 use Rattle.d64_picture.specs.Cells.{column_x, row_y, cells}
 use Rattle.d64_picture.specs.Legend.{shown_files, rows_below, legend}
-use Rattle.d64_markup.specs.Markup.{attribute, number_attribute, element, empty_element, escaped, held, shortened}
+use Rattle.d64_markup.specs.Markup.{attribute, number_attribute, element, empty_element, escaped_text, held_text, shortened_text}
 use Rattle.d64_picture.specs.Shapes.{text_at, text_of}
 use Rattle.d64_picture.specs.Style.{style}
 
 -- a name of the host as it is shown, in characters that XML holds
 unfoldable pub name_text : List ℕ → List ℕ
-name_text name = held (shown name)
+name_text name = held_text (shown_name name)
 
 -- the file's name, what is on the disk, and its state
 unfoldable pub summary : List ℕ → DumpView → List ℕ
@@ -27,7 +27,7 @@ description name dump = label_text dump.image ++ (codes ", " ++ summary name dum
 
 -- the title
 unfoldable pub title : List ℕ → DumpView → List ℕ
-title name dump = element (codes "title") [] (escaped (description name dump)) ++ codes "\n"
+title name dump = element (codes "title") [] (escaped_text (description name dump)) ++ codes "\n"
 
 -- how wide the picture is
 abbrev pub width : ℕ
@@ -47,11 +47,11 @@ page high = empty_element (codes "rect") (page_attributes high) ++ codes "\n"
 
 -- the disk's name and id, as far as there is room
 unfoldable pub label_line : Disk → List ℕ
-label_line image = text_of (codes "head") 46 30 (escaped (shortened 60 (label_text image)))
+label_line image = text_of (codes "head") 46 30 (escaped_text (shortened_text 60 (label_text image)))
 
 -- the summary below them
 unfoldable pub summary_line : List ℕ → DumpView → List ℕ
-summary_line name dump = text_at 46 50 (escaped (summary name dump))
+summary_line name dump = text_at 46 50 (escaped_text (summary name dump))
 
 -- the two lines above the grid
 unfoldable pub heads : List ℕ → DumpView → List ℕ

@@ -1,6 +1,6 @@
 //! Squares, marks and lines of text at places of a picture.
 ghost use Rattle.std.specs.Prelude.{◌≡◌, ◌+◌, ◌<◌, ◌++◌, [], codes, decimal, OnOk};
-ghost use Rattle.d64_markup.specs.Markup.{attribute, element, empty_element, tag, escaped};
+ghost use Rattle.d64_markup.specs.Markup.{attribute, element, empty_element, tag, escaped_text};
 ghost use Rattle.d64_picture.specs.Colours.{class_of};
 ghost use Rattle.d64_picture.specs.Shapes.{path_from, place_at, text_at, text_of, path_of};
 ghost use Rattle.d64_picture.specs.Cells.{square_of, mark_at};
@@ -65,7 +65,7 @@ pub(crate) fn push_text_at(
     y: usize,
     text: &[u8],
 ) -> Result<(), AllocError>
-    ensures { OnOk result (out.new.items ≡ out.old.items ++ text_at x y (escaped text.now)) }
+    ensures { OnOk result (out.new.items ≡ out.old.items ++ text_at x y (escaped_text text.now)) }
 {
     push_text_tag(out, x, y)?;
     out.extend_from_slice(b">")?;
@@ -82,7 +82,7 @@ pub(crate) fn push_text_of(
     y: usize,
     text: &[u8],
 ) -> Result<(), AllocError>
-    ensures { OnOk result (out.new.items ≡ out.old.items ++ text_of class.now x y (escaped text.now)) }
+    ensures { OnOk result (out.new.items ≡ out.old.items ++ text_of class.now x y (escaped_text text.now)) }
 {
     push_class_text_tag(out, class, x, y)?;
     out.extend_from_slice(b">")?;

@@ -1,6 +1,6 @@
 //! The map of a disk as text.
 ghost use Rattle.std.specs.Prelude.{◌≡◌, ◌<◌, ◌≤◌, ◌++◌, OnOk};
-ghost use Rattle.d64_picture.specs.MapText.{head_line, column_lines, padded, row, track_line, track_lines, legend_line, map_text as map_text_of};
+ghost use Rattle.d64_picture.specs.MapText.{head_line, column_lines, padded_number, row, track_line, track_lines, legend_line, map_text as map_text_of};
 
 use crate::block_state::state_of;
 use d64_image::BlockNo;
@@ -32,9 +32,9 @@ fn push_head(out: &mut Vec<u8>, name: &[u8], inspection: &Inspection) -> Result<
 }
 
 /// Adds a track's number, right-aligned to four characters.
-#[tactic(auto, unfolding(crate::specs::MapText::padded))]
+#[tactic(auto, unfolding(crate::specs::MapText::padded_number))]
 fn push_padded(out: &mut Vec<u8>, track: u8) -> Result<(), AllocError>
-    ensures { OnOk result (out.new.items ≡ out.old.items ++ padded track) }
+    ensures { OnOk result (out.new.items ≡ out.old.items ++ padded_number track) }
 {
     out.extend_from_slice(if track < 10 { b"   " } else { b"  " })?;
     push_number(out, usize::from(track))

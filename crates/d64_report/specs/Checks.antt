@@ -9,7 +9,7 @@ use Rattle.d64_image.specs.Image.{tracks_of}
 use Rattle.d64_map.specs.Map.{blocks_free}
 use Rattle.d64_effects.specs.View.{disk_id}
 use Rattle.d64_survey.specs.Dump.{DumpView}
-use Rattle.d64_survey.specs.Owners.{unowned}
+use Rattle.d64_survey.specs.Owners.{unowned_count}
 use Rattle.d64_survey.specs.Faults.{faults}
 use Rattle.d64_survey.specs.ReadErrors.{read_errors}
 use Rattle.d64_survey.specs.Inspection.{entry_count, whole_count, is_sound, is_amiss}
@@ -33,7 +33,7 @@ label_members image = (codes "name", name_value (disk_name image)) ∷ (codes "i
 abbrev pub count_members : DumpView → List Field
 count_members dump =
     (codes "entries", numeral (entry_count dump.image)) ∷ (codes "whole", numeral (whole_count dump)) ∷ (codes "free", numeral (blocks_free dump.image))
-    ∷ (codes "unowned", numeral (unowned dump.image)) ∷ []
+    ∷ (codes "unowned", numeral (unowned_count dump.image)) ∷ []
 
 -- whether the image is sound, and whether something is amiss
 abbrev pub state_members : DumpView → List Field
@@ -73,7 +73,7 @@ label_fields image = spelling (disk_name image) ∷ spelling (disk_id image) ∷
 -- neither free nor owned
 abbrev pub count_fields : DumpView → List (List ℕ)
 count_fields dump =
-    decimal (entry_count dump.image) ∷ decimal (whole_count dump) ∷ decimal (blocks_free dump.image) ∷ decimal (unowned dump.image) ∷ []
+    decimal (entry_count dump.image) ∷ decimal (whole_count dump) ∷ decimal (blocks_free dump.image) ∷ decimal (unowned_count dump.image) ∷ []
 
 -- whether the image is sound, whether something is amiss, and how many faults and read errors there
 -- are

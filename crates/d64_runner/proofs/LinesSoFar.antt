@@ -12,10 +12,10 @@ use Rattle.d64_script.specs.RawLines.{is_ended, lines_of}
 use Rattle.d64_script.specs.declared.held_line.HeldLine.{HeldLine}
 use Rattle.d64_script.proofs.LineCuts.{lines_of-nil}
 use Rattle.d64_script.proofs.OpenLines.{IsOpen-append, lines_of-ended, lines_of-begun, is_ended-push}
-use Rattle.d64_line.specs.Act.{printed, LineAnswer, World}
+use Rattle.d64_line.specs.Act.{printed_bytes, LineAnswer, World}
 use Rattle.d64_script.specs.Status.{is_accepted}
-use Rattle.d64_runner.specs.Transcript.{ends_script, Manner, Transcript, counted}
-use Rattle.d64_runner.specs.Runner.{Stand, begin, RanLines, StoppedAt}
+use Rattle.d64_runner.specs.Transcript.{ends_script, Manner, Transcript, counted_progress}
+use Rattle.d64_runner.specs.Runner.{Stand, first_progress, RanLines, StoppedAt}
 use Rattle.d64_runner.specs.LineByLine.{progress_of, AreCutInto, HasCome, HasClosed, RunsLine, StopsInLine}
 use Rattle.d64_runner.specs.declared.runner.Tally.{Tally}
 use Rattle.d64_runner.proofs.ScriptRuns.{RanLines-closed}
@@ -57,7 +57,7 @@ RanLines-line : (manner : Manner) (first old new : Stand) (lines : List (List �
     → RanLines manner first new (lines ++ line ∷ []) (progress_of after new.world)
 RanLines-line manner first old new lines line before after ran open_run runs = record {
   out = ran.out ++ runs.said;
-  told = Transcript-line manner lines line (begin first.world) ran.out runs.said (progress_of before old.world) (progress_of after new.world) ran.told open_run runs.told;
+  told = Transcript-line manner lines line (first_progress first.world) ran.out runs.said (progress_of before old.world) (progress_of after new.world) ran.told open_run runs.told;
   written = Appends-trans first.writer old.writer new.writer ran.out runs.said ran.written runs.written;
   world = refl;
 }
@@ -207,10 +207,10 @@ pub RunsLine-answered : {E : Type 0} (manner : Manner) (raw : List ℕ) (old new
     → IsAnswered manner.home world.history raw world answer left → after.closed ≡ (answer.closes || ends_script manner.refusals answer.status)
     → after.outcome.accepted ≡ before.outcome.accepted + (if is_accepted answer.status then 1 else 0)
     → after.outcome.refused ≡ before.outcome.refused + (if is_accepted answer.status then 0 else 1)
-    → OnOk wrote (Appends old new (printed answer))
+    → OnOk wrote (Appends old new (printed_bytes answer))
     → OnOk wrote (RunsLine manner raw (record { writer = old; world = world }) (record { writer = new; world = left }) before after)
 RunsLine-answered manner raw old new world left before after answer (Ok done) answered closes accepted refused written = record {
-  said = printed answer;
+  said = printed_bytes answer;
   told = rw (closes, accepted, refused) (Line-answered manner raw (progress_of before world) answer left answered);
   written = written;
 }
@@ -218,12 +218,12 @@ RunsLine-answered manner raw old new world left before after answer (Err error) 
 
 -- a write of its answer failed
 pub StopsInLine-answered : {E : Type 0} (manner : Manner) (raw : List ℕ) (old new : Option (List ℕ)) (world left : World) (before : Tally) (answer : LineAnswer) (wrote : Result (Unit {0}) E)
-    → IsAnswered manner.home world.history raw world answer left → OnErr wrote (AppendsPart old new (printed answer))
+    → IsAnswered manner.home world.history raw world answer left → OnErr wrote (AppendsPart old new (printed_bytes answer))
     → OnErr wrote (StopsInLine manner raw (record { writer = old; world = world }) (record { writer = new; world = left }) before)
 StopsInLine-answered manner raw old new world left before answer (Ok done) answered part = tt
 StopsInLine-answered manner raw old new world left before answer (Err error) answered part = record {
-  said = printed answer;
-  after = counted manner.refusals (progress_of before world) answer left;
+  said = printed_bytes answer;
+  after = counted_progress manner.refusals (progress_of before world) answer left;
   told = Line-answered manner raw (progress_of before world) answer left answered;
   part = part;
   world = refl;

@@ -14,7 +14,7 @@ use Rattle.d64_script.specs.Script.{script_limit}
 use Rattle.d64_script.specs.declared.held_line.HeldLine.{HeldLine}
 use Rattle.d64_script.proofs.LineCuts.{ended_lines-none}
 use Rattle.d64_runner.specs.Transcript.{Manner, Progress, Line, Transcript, IsSilent}
-use Rattle.d64_runner.specs.Runner.{EndsWith, Stand, begin, Ran, RanLines, RanRead, RanUpTo, RanWhole, StoppedAt}
+use Rattle.d64_runner.specs.Runner.{EndsWith, Stand, first_progress, Ran, RanLines, RanRead, RanUpTo, RanWhole, StoppedAt}
 use Rattle.d64_runner.specs.LineByLine.{progress_of, EndsRun, HasClosed, HasCome}
 use Rattle.d64_runner.specs.declared.runner.Outcome.{Outcome}
 use Rattle.d64_runner.specs.declared.runner.ShellFault.{ShellFault}
@@ -187,7 +187,7 @@ StoppedAt-flush : (manner : Manner) (first stand : Stand) (lines : List (List �
     → RanLines manner first stand lines after → after.closed ≡ false → 0 < after.accepted + after.refused → Keeps stand.writer flushed
     → StoppedAt manner first (flushed_stand stand flushed) lines
 StoppedAt-flush manner first stand lines after flushed ran is_open some kept =
-    let last = last_line manner lines (begin first.world) ran.out after (some_lines manner first stand lines after ran some) ran.told is_open in
+    let last = last_line manner lines (first_progress first.world) ran.out after (some_lines manner first stand lines after ran some) ran.told is_open in
     let P : List ℕ → Type 0 = λ out. Appends first.writer flushed out in
     record {
       before = last.before;

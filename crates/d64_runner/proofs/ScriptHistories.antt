@@ -12,10 +12,10 @@ use Rattle.d64_files.specs.Pattern.{is_pattern}
 use Rattle.d64_files.specs.declared.kind.Kind.TheVariants.{Prg}
 use Rattle.d64_dos.specs.Change.{Change}
 use Rattle.d64_dos.specs.Change as changes
-use Rattle.d64_dos.specs.Command.{after, reply_to, refusal_of}
+use Rattle.d64_dos.specs.Command.{image_after, reply_to, refusal_of}
 use Rattle.d64_dos.specs.Reading.{directory_refusal, read_refusal}
 use Rattle.d64_dos.specs.declared.refusal.Refusal.{Refusal}
-use Rattle.d64_undo.specs.History.{History, present, undone, redone}
+use Rattle.d64_undo.specs.History.{History, present_image, undone_history, redone_history}
 use Rattle.d64_undo.specs.Request.{Asked, Apply, Undo, Redo, Step, Run}
 use Rattle.d64_undo.specs.SoundHistory.{HoldsSoundDisks, KeepsDisksSound}
 use Rattle.d64_undo.proofs.SoundHistories.{step-sound}
@@ -31,15 +31,15 @@ use Rattle.d64_undo.specs.declared.request.Answer.TheVariants.{Accepted, Undone,
 use Rattle.d64_script.specs.RawLines.{text_of, is_too_long, is_skipped}
 use Rattle.d64_script.specs.Words.{words_of}
 use Rattle.petscii.specs.Spelling.{spelling}
-use Rattle.d64_line.specs.Act.{printed, Act, Give, Refuse, Then, Call, Text, Fetch, Store, Crunch, Expand, Room, Gives, given_by, Ending, Does, LineAnswer, World, ◌>>=◌, valid, need, each_text, plain}
+use Rattle.d64_line.specs.Act.{printed_bytes, Act, Give, Refuse, Then, Call, Text, Fetch, Store, Crunch, Expand, Room, Gives, given_by, Ending, Does, LineAnswer, World, ◌>>=◌, value_or_refusal, need, each_text, plain_answer}
 use Rattle.d64_host.specs.Files.{HostState}
 use Rattle.d64_line.specs.Arguments.{host_in, block_in, at_comma, can_be_id, name_and_kind_of}
 use Rattle.d64_line.specs.WordCounts.{no_word, one_word, at_most_one, word_and, some_words}
 use Rattle.d64_line.specs.FoundFile.{found_name, is_file_name}
-use Rattle.d64_line.specs.Line.{allowed, leave, run, commands, act_of_words, act_of_line, read_to, save_act, undo_act, redo_act}
+use Rattle.d64_line.specs.Line.{refuse_by, leave, run, commands, act_of_words, act_of_line, read_to, save_act, undo_act, redo_act}
 use Rattle.d64_runner.specs.ScriptLaws.{IsReachedIn, ScriptsAreRuns, IsBlockWrite, ScriptsKeepDisksSound}
 use Rattle.d64_runner.specs.declared.manners.Refusals.{Refusals}
-use Rattle.d64_runner.specs.Transcript.{Manner, Progress, Line, Transcript, IsSilent, counted}
+use Rattle.d64_runner.specs.Transcript.{Manner, Progress, Line, Transcript, IsSilent, counted_progress}
 use Rattle.d64_script.specs.declared.status.Status.{Status}
 use Rattle.d64_script.specs.declared.status.Status.TheVariants.{LongLine, UnknownCommand}
 
@@ -119,7 +119,7 @@ after_any IsOne history (Then call more) next each = λ bytes known. after_any I
 
 -- after what was found
 after_found : {A : Type 0} (IsOne : Asked → Type 0) (history : History) (found : Option A) (status : Status) (next : A → Act Ending)
-    → ((value : A) → found ≡ Some value → Leads IsOne history (next value)) → Leads IsOne history (valid (ok_or found status) >>= next)
+    → ((value : A) → found ≡ Some value → Leads IsOne history (next value)) → Leads IsOne history (value_or_refusal (ok_or found status) >>= next)
 after_found IsOne history (Some value) status next each = each value refl
 after_found IsOne history None status next each = tt
 
@@ -131,42 +131,42 @@ after_need IsOne history false status next passed = tt
 
 -- where no refusal applies
 after_allowed : (IsOne : Asked → Type 0) (history : History) (refusal : Option Refusal) (next : Unit {0} → Act Ending)
-    → (refusal ≡ None → Leads IsOne history (next tt)) → Leads IsOne history (allowed refusal >>= next)
+    → (refusal ≡ None → Leads IsOne history (next tt)) → Leads IsOne history (refuse_by refusal >>= next)
 after_allowed IsOne history None next none = none refl
 after_allowed IsOne history (Some refusal) next none = tt
 
 -- a command is one request
 run-leads : (IsOne : Asked → Type 0) (history : History) (change : Change) → IsOne (Apply change) → Leads IsOne history (run history change)
 run-leads IsOne history change one =
-    after_allowed IsOne history (refusal_of (present history) change) _
-    (λ none bytes known. inr (Apply change, Accepted (reply_to (present history) change), one, (none, refl, refl)))
+    after_allowed IsOne history (refusal_of (present_image history) change) _
+    (λ none bytes known. inr (Apply change, Accepted (reply_to (present_image history) change), one, (none, refl, refl)))
 
 -- undo is one
 undo-leads : (IsOne : Asked → Type 0) (history : History) → IsOne Undo → Leads IsOne history (undo_act history)
 undo-leads IsOne history one =
-    after_need IsOne history (nat_lt 0 history.cursor) _ (λ _. leave (undone history))
+    after_need IsOne history (nat_lt 0 history.cursor) _ (λ _. leave (undone_history history))
     (λ passed. let some : 0 < history.cursor = grind (arith, nat_tests) in inr (Undo, Undone, one, (some, refl)))
 
 -- and so is redo
 redo-leads : (IsOne : Asked → Type 0) (history : History) → IsOne Redo → Leads IsOne history (redo_act history)
 redo-leads IsOne history one =
-    after_need IsOne history (nat_lt (history.cursor + 1) (length history.images)) _ (λ _. leave (redone history))
+    after_need IsOne history (nat_lt (history.cursor + 1) (length history.images)) _ (λ _. leave (redone_history history))
     (λ passed. let some : history.cursor + 1 < length history.images = grind (arith, nat_tests) in inr (Redo, Redone, one, (some, refl)))
 
 -- a file that is read leaves the history
 read-leads : (IsOne : Asked → Type 0) (history : History) (pattern : List ℕ) (host : Option (List ℕ)) → Leads IsOne history (read_to history pattern host)
 read-leads IsOne history pattern None =
-    after_any IsOne history (allowed (read_refusal (present history) pattern)) _
-    (λ _ bytes known. after_any IsOne history (need (is_file_name (spelling (found_name (present history) pattern))) _) _ (λ _ stored known. inl refl))
+    after_any IsOne history (refuse_by (read_refusal (present_image history) pattern)) _
+    (λ _ bytes known. after_any IsOne history (need (is_file_name (spelling (found_name (present_image history) pattern))) _) _ (λ _ stored known. inl refl))
 read-leads IsOne history pattern (Some host) =
-    after_any IsOne history (valid (host_in host)) _
-    (λ name. after_any IsOne history (allowed (read_refusal (present history) pattern)) _ (λ _ stored known. inl refl))
+    after_any IsOne history (value_or_refusal (host_in host)) _
+    (λ name. after_any IsOne history (refuse_by (read_refusal (present_image history) pattern)) _ (λ _ stored known. inl refl))
 
 -- an image that is saved leaves it too
 save-leads : (IsOne : Asked → Type 0) (home : List ℕ) (history : History) (host : Option (List ℕ)) → Leads IsOne history (save_act home history host)
 save-leads IsOne [] history None = tt
 save-leads IsOne (byte ∷ home) history None = λ stored known. inl refl
-save-leads IsOne home history (Some host) = after_any IsOne history (valid (host_in host)) _ (λ name stored known. inl refl)
+save-leads IsOne home history (Some host) = after_any IsOne history (value_or_refusal (host_in host)) _ (λ name stored known. inl refl)
 
 -- each row of a table that has this word leads
 abbrev EachLeads : (Asked → Type 0) → History → List ℕ → List (List ℕ × Act Ending) → Type 0
@@ -184,32 +184,32 @@ commands-lead : (IsOne : Asked → Type 0) (home : List ℕ) (history : History)
     → EachLeads IsOne history first (commands home history words)
 commands-lead IsOne home history first words keeps writes =
     (λ block. after_any IsOne history (word_and one_word words) _
-    (λ place. after_any IsOne history (valid (block_in (present history) place.0 place.1)) _ (λ at. inl refl)))
+    (λ place. after_any IsOne history (value_or_refusal (block_in (present_image history) place.0 place.1)) _ (λ at. inl refl)))
     ⨾ (λ bread. after_any IsOne history (word_and (word_and one_word) words) _
-    (λ w. after_any IsOne history (valid (host_in w.0)) _
-    (λ name. after_any IsOne history (valid (block_in (present history) w.1.0 w.1.1)) _ (λ at stored known. inl refl))))
+    (λ w. after_any IsOne history (value_or_refusal (host_in w.0)) _
+    (λ name. after_any IsOne history (value_or_refusal (block_in (present_image history) w.1.0 w.1.1)) _ (λ at stored known. inl refl))))
     ⨾ (λ bwrite. after_any IsOne history (word_and (word_and one_word) words) _
-    (λ w. after_any IsOne history (valid (host_in w.0)) _
-    (λ name. after_any IsOne history (valid (block_in (present history) w.1.0 w.1.1)) _
+    (λ w. after_any IsOne history (value_or_refusal (host_in w.0)) _
+    (λ name. after_any IsOne history (value_or_refusal (block_in (present_image history) w.1.0 w.1.1)) _
     (λ at bytes known. after_any IsOne history (need (length bytes == 256) _) _
     (λ _. run-leads IsOne history (changes.BlockWrite at bytes) (writes bwrite _))))))
     ⨾ (λ crunch. after_any IsOne history (word_and at_most_one words) _
-    (λ w. after_any IsOne history (valid (host_in w.0)) _
+    (λ w. after_any IsOne history (value_or_refusal (host_in w.0)) _
     (λ source name named text fetched file crunched.
     run-leads IsOne history (changes.Write name Prg file) (keeps _ (refl, (name-made name named, crunched))))))
     ⨾ (λ delete. after_any IsOne history (some_words words) _
     (λ w. after_any IsOne history (each_text is_pattern w) _
     (λ patterns. run-leads IsOne history (changes.Delete patterns) (keeps _ (refl, tt)))))
     ⨾ (λ format. after_any IsOne history (one_word words) _
-    (λ w. after_any IsOne history (valid (ok_or (at_comma w) _)) _
+    (λ w. after_any IsOne history (value_or_refusal (ok_or (at_comma w) _)) _
     (λ parts name named id known. run-leads IsOne history (changes.Format name id) (keeps _ (refl, (name-made name named, id-made id known))))))
     ⨾ (λ list_history. after_any IsOne history (no_word words) _ (λ _ bytes known. inl refl))
     ⨾ (λ keep. after_any IsOne history (one_word words) _
-    (λ w. after_any IsOne history (valid (host_in w)) _ (λ name made known stored kept. inl refl)))
+    (λ w. after_any IsOne history (value_or_refusal (host_in w)) _ (λ name made known stored kept. inl refl)))
     ⨾ (λ list. after_any IsOne history (no_word words) _
-    (λ _. after_any IsOne history (allowed (directory_refusal (present history))) _ (λ _ bytes known. inl refl)))
+    (λ _. after_any IsOne history (refuse_by (directory_refusal (present_image history))) _ (λ _ bytes known. inl refl)))
     ⨾ (λ petcat. after_any IsOne history (one_word words) _
-    (λ w pattern known. after_any IsOne history (allowed (read_refusal (present history) pattern)) _ (λ _ listing given. inl refl)))
+    (λ w pattern known. after_any IsOne history (refuse_by (read_refusal (present_image history) pattern)) _ (λ _ listing given. inl refl)))
     ⨾ (λ quit. after_any IsOne history (no_word words) _ (λ _. inl refl))
     ⨾ (λ read. after_any IsOne history (word_and at_most_one words) _ (λ w pattern known. read-leads IsOne history pattern w.1))
     ⨾ (λ redo. after_any IsOne history (no_word words) _ (λ _. redo-leads IsOne history (keeps _ tt)))
@@ -219,8 +219,8 @@ commands-lead IsOne home history first words keeps writes =
     ⨾ (λ undo. after_any IsOne history (no_word words) _ (λ _. undo-leads IsOne history (keeps _ tt)))
     ⨾ (λ validate. after_any IsOne history (no_word words) _ (λ _. run-leads IsOne history changes.Validate (keeps _ (refl, tt))))
     ⨾ (λ write. after_any IsOne history (word_and at_most_one words) _
-    (λ w. after_any IsOne history (valid (host_in w.0)) _
-    (λ source. after_any IsOne history (valid (name_and_kind_of w.0 w.1)) _
+    (λ w. after_any IsOne history (value_or_refusal (host_in w.0)) _
+    (λ source. after_any IsOne history (value_or_refusal (name_and_kind_of w.0 w.1)) _
     (λ file name named bytes fetched.
     run-leads IsOne history (changes.Write name file.1 bytes) (keeps _ (refl, (name-made name named, fetched)))))))
     ⨾ tt
@@ -275,7 +275,7 @@ given-leads : (IsOne : Asked → Type 0) (history : History) (call : Call) (next
     → ((bytes : List ℕ) → Known call bytes → Does (next bytes) (record { host = host; history = world.history }) answer left → IsStepFrom IsOne history left.history)
     → MatchResult given
     (λ bytes. Does (next bytes) (record { host = host; history = world.history }) answer left)
-    (λ status. (answer ≡ plain status) × (left ≡ record { host = host; history = world.history }))
+    (λ status. (answer ≡ plain_answer status) × (left ≡ record { host = host; history = world.history }))
     → IsStepFrom IsOne history left.history
 given-leads IsOne history call next (Ok bytes) host world answer left here gives each does = each bytes (given-known call world.host bytes host gives) does
 given-leads IsOne history call next (Err status) host world answer left here gives each does = inl (ap (λ (w : World). w.history) does.1 ∙ here)
@@ -299,7 +299,7 @@ asked-leads : (refusals : Refusals) (IsOne : Asked → Type 0) (history : Histor
     → MatchOption asked
     (IsSilent progress out left)
     (λ act. (answer : LineAnswer) × (world : World)
-    × Does act progress.world answer world × (out ≡ printed answer) × (left ≡ counted refusals progress answer world))
+    × Does act progress.world answer world × (out ≡ printed_bytes answer) × (left ≡ counted_progress refusals progress answer world))
     → IsStepFrom IsOne history left.world.history
 asked-leads refusals IsOne history None progress out left here leads silent = inl (ap (λ (p : Progress). p.world.history) silent.1 ∙ here)
 asked-leads refusals IsOne history (Some act) progress out left here leads done =

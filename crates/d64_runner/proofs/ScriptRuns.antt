@@ -4,7 +4,7 @@ use Rattle.std.specs.Prelude.{IfSome}
 use Rattle.d64_script.specs.RawLines.{lines_of, ended_lines}
 use Rattle.d64_script.proofs.LineCuts.{ended_lines-first, lines_of-split, open_line}
 use Rattle.d64_runner.specs.Transcript.{Manner, Progress}
-use Rattle.d64_runner.specs.Runner.{Stand, begin, RanLines, StoppedAt, RanWhole, RanUpTo}
+use Rattle.d64_runner.specs.Runner.{Stand, first_progress, RanLines, StoppedAt, RanWhole, RanUpTo}
 use Rattle.d64_runner.specs.declared.runner.Outcome.{Outcome}
 use Rattle.d64_runner.proofs.Transcripts.{Transcript-closed}
 
@@ -13,7 +13,7 @@ pub RanLines-closed : (manner : Manner) (old new : Stand) (lines more : List (Li
     → RanLines manner old new lines after → after.closed ≡ true → RanLines manner old new (lines ++ more) after
 RanLines-closed manner old new lines more after ran ended = record {
   out = ran.out;
-  told = Transcript-closed manner lines more (begin old.world) ran.out after ran.told ended;
+  told = Transcript-closed manner lines more (first_progress old.world) ran.out after ran.told ended;
   written = ran.written;
   world = ran.world;
 }

@@ -1,23 +1,23 @@
 -- Transcripts that go on line by line.
 use Rattle.std.proofs.Common.{◌≡◌, ℕ, ◌+◌, List, [], ◌∷◌, ◌++◌, Bool, true, false, Option, None, Some, refl, sym, ap, ◌∙◌, subst, append_assoc, append-nil, if◌then◌else◌, ◌||◌}
 use Rattle.std.specs.Prelude.{MatchBool, MatchOption}
-use Rattle.d64_line.specs.Act.{printed, Act, Ending, Does, LineAnswer, World}
+use Rattle.d64_line.specs.Act.{printed_bytes, Act, Ending, Does, LineAnswer, World}
 use Rattle.d64_line.specs.Line.{act_of_line, IsSkipped, IsAnswered}
 use Rattle.d64_script.specs.Status.{is_accepted}
-use Rattle.d64_runner.specs.Transcript.{ends_script, Manner, Progress, Line, Transcript, IsSilent, counted}
+use Rattle.d64_runner.specs.Transcript.{ends_script, Manner, Progress, Line, Transcript, IsSilent, counted_progress}
 
 -- a line that is answered is one of the open run
 answered_by : (manner : Manner) (asked : Option (Act Ending)) (progress : Progress) (answer : LineAnswer) (world : World)
     → MatchOption asked ⊥ (λ act. Does act progress.world answer world)
-    → MatchOption asked (IsSilent progress (printed answer) (counted manner.refusals progress answer world))
+    → MatchOption asked (IsSilent progress (printed_bytes answer) (counted_progress manner.refusals progress answer world))
     (λ act. (said : LineAnswer) × (left : World)
-    × Does act progress.world said left × (printed answer ≡ printed said) × (counted manner.refusals progress answer world ≡ counted manner.refusals progress said left))
+    × Does act progress.world said left × (printed_bytes answer ≡ printed_bytes said) × (counted_progress manner.refusals progress answer world ≡ counted_progress manner.refusals progress said left))
 answered_by manner None progress answer world done = absurd done
 answered_by manner (Some act) progress answer world done = (answer, world, done, refl, refl)
 
 pub Line-answered : (manner : Manner) (line : List ℕ) (progress : Progress) (answer : LineAnswer) (world : World)
     → IsAnswered manner.home progress.world.history line progress.world answer world
-    → Line manner line progress (printed answer) (counted manner.refusals progress answer world)
+    → Line manner line progress (printed_bytes answer) (counted_progress manner.refusals progress answer world)
 unfolding Line
 Line-answered manner line progress answer world done = answered_by manner (act_of_line manner.home progress.world.history line) progress answer world done
 
@@ -25,7 +25,7 @@ Line-answered manner line progress answer world done = answered_by manner (act_o
 skipped_by : (manner : Manner) (asked : Option (Act Ending)) (progress : Progress) → asked ≡ None
     → MatchOption asked (IsSilent progress [] progress)
     (λ act. (said : LineAnswer) × (left : World)
-    × Does act progress.world said left × ([] ≡ printed said) × (progress ≡ counted manner.refusals progress said left))
+    × Does act progress.world said left × ([] ≡ printed_bytes said) × (progress ≡ counted_progress manner.refusals progress said left))
 skipped_by manner None progress none = (refl, refl)
 skipped_by manner (Some act) progress none = cc
 
@@ -102,12 +102,12 @@ pub Transcript-answered : (manner : Manner) (lines : List (List ℕ)) (line : Li
     → closed' ≡ (answer.closes || ends_script manner.refusals answer.status)
     → accepted' ≡ accepted + (if is_accepted answer.status then 1 else 0)
     → refused' ≡ refused + (if is_accepted answer.status then 0 else 1)
-    → Transcript manner (lines ++ line ∷ []) start (out ++ printed answer)
+    → Transcript manner (lines ++ line ∷ []) start (out ++ printed_bytes answer)
     (record { world = after; closed = closed'; accepted = accepted'; refused = refused' })
 Transcript-answered manner lines line start out world after accepted refused accepted' refused' closed' answer told done closes more_accepted more_refused =
     let middle : Progress = record { world = world; closed = false; accepted = accepted; refused = refused } in
     rw (closes, more_accepted, more_refused)
-    (Transcript-line manner lines line start out (printed answer) middle (counted manner.refusals middle answer after) told refl (Line-answered manner line middle answer after done))
+    (Transcript-line manner lines line start out (printed_bytes answer) middle (counted_progress manner.refusals middle answer after) told refl (Line-answered manner line middle answer after done))
 
 -- the run after a line that was skipped: nothing is printed
 pub Transcript-skipped : (manner : Manner) (lines : List (List ℕ)) (line : List ℕ) (start : Progress) (out : List ℕ) (world after : World) (accepted refused : ℕ)

@@ -26,13 +26,13 @@ abbrev pub stand_of : Option (List ℕ) → World → Stand
 stand_of writer world = record { writer = writer; world = world }
 
 -- a run that begins
-abbrev pub begin : World → Progress
-begin world = record { world = world; closed = false; accepted = 0; refused = 0 }
+abbrev pub first_progress : World → Progress
+first_progress world = record { world = world; closed = false; accepted = 0; refused = 0 }
 
 -- lines have run: what they print was written, and the world is that after them
 pub record RanLines (manner : Manner) (old new : Stand) (lines : List (List ℕ)) (after : Progress) : Type 0 where
   pub out : List ℕ
-  pub told : Transcript manner lines (begin old.world) out after
+  pub told : Transcript manner lines (first_progress old.world) out after
   pub written : Appends old.writer new.writer out
   pub world : new.world ≡ after.world
 
@@ -50,7 +50,7 @@ pub record StoppedAt (manner : Manner) (old new : Stand) (lines : List (List ℕ
   pub split : before ++ line ∷ rest ≡ lines
   pub out : List ℕ
   pub middle : Progress
-  pub told : Transcript manner before (begin old.world) out middle
+  pub told : Transcript manner before (first_progress old.world) out middle
   pub open_run : middle.closed ≡ false
   pub answer : List ℕ
   pub after : Progress

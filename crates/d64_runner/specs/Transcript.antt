@@ -1,6 +1,6 @@
 -- What a script prints and leaves: its lines, one after another.
 use Rattle.std.specs.Prelude.{◌≡◌, ℕ, ◌+◌, List, [], ◌∷◌, ◌++◌, Bool, MatchBool, MatchOption, if◌then◌else◌, ◌||◌, false, not}
-use Rattle.d64_line.specs.Act.{Does, LineAnswer, World, printed}
+use Rattle.d64_line.specs.Act.{Does, LineAnswer, World, printed_bytes}
 use Rattle.d64_line.specs.Line.{act_of_line}
 use Rattle.d64_script.specs.Status.{is_accepted}
 use Rattle.d64_script.specs.declared.status.Status.{Status}
@@ -31,8 +31,8 @@ pub record Progress : Type 0 where
   pub refused : ℕ
 
 -- the run after an answer
-abbrev pub counted : Refusals → Progress → LineAnswer → World → Progress
-counted refusals progress answer world = record {
+abbrev pub counted_progress : Refusals → Progress → LineAnswer → World → Progress
+counted_progress refusals progress answer world = record {
   world = world;
   closed = answer.closes || ends_script refusals answer.status;
   accepted = progress.accepted + (if is_accepted answer.status then 1 else 0);
@@ -49,7 +49,7 @@ Line manner line progress out after =
     MatchOption (act_of_line manner.home progress.world.history line)
     (IsSilent progress out after)
     (λ act. (answer : LineAnswer) × (world : World)
-    × Does act progress.world answer world × (out ≡ printed answer) × (after ≡ counted manner.refusals progress answer world))
+    × Does act progress.world answer world × (out ≡ printed_bytes answer) × (after ≡ counted_progress manner.refusals progress answer world))
 
 -- lines in turn, each with what it prints; after the run's end they are silent
 unfoldable pub Transcript : Manner → List (List ℕ) → Progress → List ℕ → Progress → Type 0

@@ -5,10 +5,10 @@ ghost use Rattle.d64_script.specs.HeldLine.{Holds, Says};
 ghost use Rattle.d64_script.specs.Input.{IsUnread, reading_of};
 ghost use Rattle.d64_script.specs.Output.{FailsWith};
 ghost use Rattle.d64_script.specs.RawLines.{lines_of};
-ghost use Rattle.d64_undo.specs.History.{present};
+ghost use Rattle.d64_undo.specs.History.{present_image};
 ghost use Rattle.d64_line.specs.Act.{world_of};
 ghost use Rattle.d64_line.specs.Line.{IsSkipped, IsAnswered};
-ghost use Rattle.d64_line.specs.Response.{shown};
+ghost use Rattle.d64_line.specs.Response.{shown_answer};
 ghost use Rattle.d64_runner.specs.Runner.{Stand, manner_of, stand_of, Ran, StoppedAt, EndsWith};
 ghost use Rattle.d64_runner.specs.Transcript.{going_on};
 ghost use Rattle.d64_runner.specs.LineByLine.{HasCome, ComesTo, EndsRun, RunsLine, StopsInLine};
@@ -107,7 +107,7 @@ impl<'l, L: Listener> RunState<'l, L> {
     ghost use Rattle.std.specs.Prelude.{[]};
     ghost use Rattle.d64_script.specs.HeldLine.{Holds};
     ghost use Rattle.d64_script.specs.Output.{AppendsPart};
-    ghost use Rattle.d64_line.specs.Act.{printed};
+    ghost use Rattle.d64_line.specs.Act.{printed_bytes};
     ghost use Rattle.std.specs.Io.KnownBytes.{Appends};
 
     /// Nothing has come.
@@ -136,8 +136,8 @@ impl<'l, L: Listener> RunState<'l, L> {
         ensures line { self.new.line ≡ self.old.line }
         ensures tally { self.new.tally ≡ self.old.tally }
         ensures same { output.new.writer.ghost_name ≡ output.old.writer.ghost_name }
-        ensures ok { OnOk result (Appends (W.contents output.old.writer.now) (W.contents output.new.writer.now) (printed (shown image.now response.now))) }
-        ensures err { OnErr result (AppendsPart (W.contents output.old.writer.now) (W.contents output.new.writer.now) (printed (shown image.now response.now))) }
+        ensures ok { OnOk result (Appends (W.contents output.old.writer.now) (W.contents output.new.writer.now) (printed_bytes (shown_answer image.now response.now))) }
+        ensures err { OnErr result (AppendsPart (W.contents output.old.writer.now) (W.contents output.new.writer.now) (printed_bytes (shown_answer image.now response.now))) }
         ensures failed { FailsWith result output.old.has_failed output.new.has_failed }
     {
         response.write(output, image)?;

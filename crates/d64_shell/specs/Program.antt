@@ -36,7 +36,7 @@ use Rattle.d64_shell.specs.Surveys.{Surveys}
 use Rattle.d64_shell.specs.Comparisons.{PairRule, Compares}
 use Rattle.d64_shell.specs.declared.difference_job.DifferenceFault.{DifferenceFault}
 use Rattle.d64_shell.specs.declared.difference_job.DifferenceFault.TheVariants as comparisons
-use Rattle.d64_undo.specs.History.{History, begun}
+use Rattle.d64_undo.specs.History.{History, new_history}
 use Rattle.d64_undo.specs.ResumeFault.{fault_number, first_fault}
 use Rattle.d64_undo.specs.SessionFile.{IsSession, file_of}
 use Rattle.d64_undo.specs.declared.resume_fault.ResumeFault.{ResumeFault}
@@ -84,9 +84,9 @@ blank tracks = replicate (count_of_tracks tracks) (replicate BLOCK_BYTES 0)
 
 -- the history that a script begins with, and what the host shows then
 abbrev pub IsFirstHistory : HostState → Beginning → History → HostState → Type 0
-IsFirstHistory old (Blank tracks) history new = (history ≡ begun (blank tracks)) × (new ≡ old)
+IsFirstHistory old (Blank tracks) history new = (history ≡ new_history (blank tracks)) × (new ≡ old)
 IsFirstHistory old (ImageFile name) history new =
-    (image : List (List ℕ)) × IsImage image × FetchesFile old name file_limit (Ok (bytes_of image)) new × (history ≡ begun image)
+    (image : List (List ℕ)) × IsImage image × FetchesFile old name file_limit (Ok (bytes_of image)) new × (history ≡ new_history image)
 IsFirstHistory old (SessionFile name) history new = IsSession history × FetchesFile old name session_limit (Ok (file_of history)) new
 
 -- a script has run that comes from the input, or from the words: then nothing of the input was
@@ -387,20 +387,20 @@ AnswersWords fault old new faults told status =
     MatchOption (text_of fault) (ShowsOrTells fault old new faults told status) (λ text. (new ≡ old) × ReportsText text faults told status)
 
 -- the words with the program's name before them
-abbrev pub named : List (List ℕ) → List (List ℕ)
-named after = codes "d64sh" ∷ after
+abbrev pub named_words : List (List ℕ) → List (List ℕ)
+named_words after = codes "d64sh" ∷ after
 
 -- the words ask for the shell
 abbrev pub AsksForShell : List (List ℕ) → Type 0
-AsksForShell after = (job : Job) × IsJob (named after) job × IsScript (work_of job)
+AsksForShell after = (job : Job) × IsJob (named_words after) job × IsScript (work_of job)
 
 -- the words ask to pass over folders that are there, which is complained of though all is well
 abbrev pub AsksToPassOver : List (List ℕ) → Type 0
-AsksToPassOver after = (job : Job) × IsJob (named after) job × PassesOver (work_of job)
+AsksToPassOver after = (job : Job) × IsJob (named_words after) job × PassesOver (work_of job)
 
 -- what the program has done, and its status: the job that the words ask for has ended; or they ask
 -- for none, and were answered so, with nothing read and no file touched
 abbrev pub Ended : List (List ℕ) → Outside → Outside → Account → Account → ℕ → Type 0
 Ended after old new faults told status =
-    ((job : Job) × IsJob (named after) job × EndedWork (work_of job) old new faults told status)
-    ⊎ ((fault : JobFault) × IsFault (named after) fault × (new.reader ≡ old.reader) × (new.host ≡ old.host) × AnswersWords fault old.output new.output faults told status)
+    ((job : Job) × IsJob (named_words after) job × EndedWork (work_of job) old new faults told status)
+    ⊎ ((fault : JobFault) × IsFault (named_words after) fault × (new.reader ≡ old.reader) × (new.host ≡ old.host) × AnswersWords fault old.output new.output faults told status)

@@ -3,7 +3,7 @@ use Rattle.std.specs.Prelude.{ℕ, ◌-◌, List, [], ◌++◌, length, take, co
 use Rattle.std.specs.Option.{option_map_or}
 use Rattle.d64_script.specs.Status.{status_line}
 use Rattle.d64_script.specs.declared.status.Status.{Status}
-use Rattle.d64_wording.specs.Shown.{shown}
+use Rattle.d64_wording.specs.Shown.{shown_name}
 
 -- the name of the input: that of its file, or `-` for the standard input
 abbrev pub input_name : Option (List ℕ) → List ℕ
@@ -17,5 +17,5 @@ status_text status = take (length (status_line status) - 1) (status_line status)
 -- and words for people
 unfoldable pub refusal_line : Option (List ℕ) → Option ℕ → Status → List ℕ → List ℕ
 refusal_line name line status words =
-    shown (input_name name) ++ (option_map_or (λ number. codes ":" ++ decimal number) line []
+    shown_name (input_name name) ++ (option_map_or (λ number. codes ":" ++ decimal number) line []
     ++ (codes ": " ++ (status_text status ++ (codes ": " ++ (words ++ codes "\n")))))

@@ -4,7 +4,7 @@ ghost use Rattle.std.specs.Io.KnownBytes.{Appends};
 ghost use Rattle.d64_script.specs.Output.{AppendsPart, FailsWith};
 ghost use Rattle.d64_collection.specs.Runs.{account_at};
 ghost use Rattle.d64_words.specs.Asked.{IsJob, IsFault};
-ghost use Rattle.d64_shell.specs.Program.{AnswersWords, HasShown, HasTold, named};
+ghost use Rattle.d64_shell.specs.Program.{AnswersWords, HasShown, HasTold, named_words};
 
 use crate::entry::{ALL_ACCEPTED, NOT_RUN};
 use crate::program_fault::{ProgramFault, report_text};
@@ -15,8 +15,8 @@ use std::io::Write;
 
 /// The job that the words after the program's name ask for.
 pub(crate) fn asked(alloc: Global, words: &[&str]) -> Result<Job, JobFault>
-    ensures job { IfOk result (IsJob (named (map (λ word. word.now) words.now))) }
-    ensures fault { IfErr result (IsFault (named (map (λ word. word.now) words.now))) }
+    ensures job { IfOk result (IsJob (named_words (map (λ word. word.now) words.now))) }
+    ensures fault { IfErr result (IsFault (named_words (map (λ word. word.now) words.now))) }
 {
     let mut all = Vec::new(alloc);
     match all.push("d64sh") {

@@ -5,7 +5,7 @@ use Rattle.std.proofs.lemmas.List.{flat_map_more}
 use Rattle.std.proofs.lemmas.List.Folds.{flat_map-map}
 use Rattle.d64_map.proofs.Ranges.{range_push}
 use Rattle.d64_files.specs.Slot.{EntryView}
-use Rattle.d64_files.specs.Directory.{entries, entry_of, numbered}
+use Rattle.d64_files.specs.Directory.{entries, entry_of, numbered_slots}
 use Rattle.d64_survey.specs.Faults.{count_faults, directory_faults, kind_faults, file_faults, shared_faults, free_faults, faults}
 use Rattle.d64_survey.specs.declared.fault.Fault.{Fault}
 
@@ -22,8 +22,8 @@ listed_more f before k one =
 
 -- what the entries of slots list is what the slots list
 pub entries_list : {A : Type 0} (f : ℕ × List ℕ → List A) (image cells : List (List ℕ))
-    → flat_map (λ (entry : EntryView). f (entry.slot, entry.bytes)) (entries image cells) ≡ flat_map f (numbered cells)
-entries_list f image cells = flat_map-map (λ (entry : EntryView). f (entry.slot, entry.bytes)) (entry_of image) (numbered cells)
+    → flat_map (λ (entry : EntryView). f (entry.slot, entry.bytes)) (entries image cells) ≡ flat_map f (numbered_slots cells)
+entries_list f image cells = flat_map-map (λ (entry : EntryView). f (entry.slot, entry.bytes)) (entry_of image) (numbered_slots cells)
 
 -- a list and what comes after it, before the rest
 then_rest : (list longer more rest : List Fault) → longer ≡ list ++ more → longer ++ rest ≡ list ++ (more ++ rest)

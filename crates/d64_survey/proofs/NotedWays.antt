@@ -6,7 +6,7 @@ use Rattle.std.proofs.lemmas.Bool.{cases_Bool, cases_lt, eqb-true, eqb-false}
 use Rattle.std.proofs.lemmas.List.{get_or-set_other, get_or-replicate, get_or_past, length-replicate, length-set}
 use Rattle.std.proofs.lemmas.Grind.{get_or-set_at}
 use Rattle.d64_survey.specs.Way.{block_at}
-use Rattle.d64_survey.specs.WayFacts.{facts_of, way_facts, noted, TellsWays}
+use Rattle.d64_survey.specs.WayFacts.{facts_of, way_facts, noted_way, TellsWays}
 use Rattle.d64_survey.specs.declared.way_table.WayFacts.{WayFacts}
 use Rattle.d64_survey.proofs.Told.{same_way}
 
@@ -15,7 +15,7 @@ held : (P : WayFacts → Type 0) (found other : Option WayFacts) → found ≡ o
 held P found other same is = subst (λ (f : Option WayFacts). IfSome f P) (sym same) is
 
 -- in a table of nothing nothing is noted
-pub noted_none : (n : ℕ) (block : Option ℕ) → noted (replicate n None) block ≡ None
+pub noted_none : (n : ℕ) (block : Option ℕ) → noted_way (replicate n None) block ≡ None
 noted_none n None = refl
 noted_none n (Some block) = elim (cases_lt block n) [
   | inl within ↦ get_or-replicate n block None None within
@@ -23,8 +23,8 @@ noted_none n (Some block) = elim (cases_lt block n) [
 ]
 
 -- where nothing is noted, what is noted is so
-pub none_noted : (image : List (List ℕ)) (codes : Option (List ℕ)) (ways : List (Option WayFacts)) → ((block : Option ℕ) → noted ways block ≡ None) → TellsWays image codes ways
-none_noted image codes ways none = λ pair. held (λ facts. facts ≡ way_facts image codes pair) (noted ways (block_at image pair)) None (none (block_at image pair)) tt
+pub none_noted : (image : List (List ℕ)) (codes : Option (List ℕ)) (ways : List (Option WayFacts)) → ((block : Option ℕ) → noted_way ways block ≡ None) → TellsWays image codes ways
+none_noted image codes ways none = λ pair. held (λ facts. facts ≡ way_facts image codes pair) (noted_way ways (block_at image pair)) None (none (block_at image pair)) tt
 
 -- one more way is noted
 pub one_noted : (image : List (List ℕ)) (codes : Option (List ℕ)) (ways : List (Option WayFacts)) (pair : ℕ × ℕ) (block : ℕ) (facts : WayFacts)
@@ -35,28 +35,28 @@ one_noted image codes ways pair block facts found is tells = λ other. by_block 
     so : ℕ × ℕ → WayFacts → Type 0
     so other facts = facts ≡ way_facts image codes other
 
-    by_block : (other : ℕ × ℕ) (b : Option ℕ) → block_at image other ≡ b → IfSome (noted (slice_set ways block (Some facts)) (block_at image other)) (λ facts. facts ≡ way_facts image codes other)
-    by_block other None e = held (so other) (noted (slice_set ways block (Some facts)) (block_at image other)) None (ap (noted (slice_set ways block (Some facts))) e) tt
+    by_block : (other : ℕ × ℕ) (b : Option ℕ) → block_at image other ≡ b → IfSome (noted_way (slice_set ways block (Some facts)) (block_at image other)) (λ facts. facts ≡ way_facts image codes other)
+    by_block other None e = held (so other) (noted_way (slice_set ways block (Some facts)) (block_at image other)) None (ap (noted_way (slice_set ways block (Some facts))) e) tt
     by_block other (Some b) e = elim (cases_Bool (eqb b block)) [
       | inl t ↦
           let same = eqb-true b block t in
           elim (cases_lt block (length ways)) [
             | inl inside ↦
-                let here = ap (noted (slice_set ways block (Some facts))) e ∙ get_or-set_at ways block b (Some facts) None same inside in
-                held (so other) (noted (slice_set ways block (Some facts)) (block_at image other)) (Some facts) here
+                let here = ap (noted_way (slice_set ways block (Some facts))) e ∙ get_or-set_at ways block b (Some facts) None same inside in
+                held (so other) (noted_way (slice_set ways block (Some facts)) (block_at image other)) (Some facts) here
                 (is ∙ ap (facts_of image codes) (same_way image pair other block found (e ∙ ap (λ (n : ℕ). Some n) same)))
             | inr past ↦
                 let long : length (slice_set ways block (Some facts)) ≤ b = omega (arith, length-set ways block (Some facts)) in
-                let here = ap (noted (slice_set ways block (Some facts))) e ∙ get_or_past (slice_set ways block (Some facts)) b None long in
-                held (so other) (noted (slice_set ways block (Some facts)) (block_at image other)) None here tt
+                let here = ap (noted_way (slice_set ways block (Some facts))) e ∙ get_or_past (slice_set ways block (Some facts)) b None long in
+                held (so other) (noted_way (slice_set ways block (Some facts)) (block_at image other)) None here tt
           ]
       | inr f ↦
           let other_block : b ≢ block = eqb-false b block f in
-          let here = ap (noted (slice_set ways block (Some facts))) e ∙ get_or-set_other ways block b (Some facts) None other_block ∙ sym (ap (noted ways) e) in
-          held (so other) (noted (slice_set ways block (Some facts)) (block_at image other)) (noted ways (block_at image other)) here (tells other)
+          let here = ap (noted_way (slice_set ways block (Some facts))) e ∙ get_or-set_other ways block b (Some facts) None other_block ∙ sym (ap (noted_way ways) e) in
+          held (so other) (noted_way (slice_set ways block (Some facts)) (block_at image other)) (noted_way ways (block_at image other)) here (tells other)
     ]
 
 -- what is noted is so
 pub noted_is : (image : List (List ℕ)) (codes : Option (List ℕ)) (ways : List (Option WayFacts)) (pair : ℕ × ℕ) (facts : WayFacts) → TellsWays image codes ways
-    → Some facts ≡ noted ways (block_at image pair) → facts ≡ way_facts image codes pair
-noted_is image codes ways pair facts tells same = held (λ facts. facts ≡ way_facts image codes pair) (Some facts) (noted ways (block_at image pair)) same (tells pair)
+    → Some facts ≡ noted_way ways (block_at image pair) → facts ≡ way_facts image codes pair
+noted_is image codes ways pair facts tells same = held (λ facts. facts ≡ way_facts image codes pair) (Some facts) (noted_way ways (block_at image pair)) same (tells pair)

@@ -7,7 +7,7 @@ use Rattle.d64_image.specs.Disk.{Disk, Bytes, Blocks}
 use Rattle.d64_image.specs.Image.{tracks_of}
 use Rattle.d64_map.specs.Map.{blocks, count_of, free_blocks}
 use Rattle.d64_map.specs.Track.{members_on}
-use Rattle.d64_files.specs.Directory.{numbered}
+use Rattle.d64_files.specs.Directory.{numbered_slots}
 use Rattle.d64_files.specs.Slot.{type_byte, has_kind}
 use Rattle.d64_survey.specs.Way.{way, is_whole}
 use Rattle.d64_survey.specs.Owners.{directory_way, way_slots, pair_of, is_owned, is_shared}
@@ -59,7 +59,7 @@ kind_fault slot = where_so (not (has_kind slot.1)) (UnknownKind slot.0 (type_byt
 
 -- 3: one for each such slot
 abbrev pub kind_faults : Disk → List Fault
-kind_faults image = flat_map kind_fault (numbered (way_slots image))
+kind_faults image = flat_map kind_fault (numbered_slots (way_slots image))
 
 -- the way from a pair, of a part of a slot's file, doesn't end after a last block
 abbrev pub way_fault : Disk → ℕ → Part → ℕ × ℕ → List Fault
@@ -71,7 +71,7 @@ part_fault image slot part = option_map_or (way_fault image slot.0 part) (pair_o
 
 -- 4: one for each such part, a slot's data before its side blocks
 abbrev pub file_faults : Disk → List Fault
-file_faults image = flat_map (λ slot. part_fault image slot Data ++ part_fault image slot Side) (numbered (way_slots image))
+file_faults image = flat_map (λ slot. part_fault image slot Data ++ part_fault image slot Side) (numbered_slots (way_slots image))
 
 -- 5: one for each block with more than one owner
 abbrev pub shared_faults : Disk → List Fault

@@ -5,7 +5,7 @@ use Rattle.std.specs.Option.{option_map_or}
 use Rattle.std.specs.FinSet as set
 use Rattle.d64_image.specs.Disk.{Disk, Bytes, Blocks}
 use Rattle.d64_map.specs.Map.{map_block, free_blocks}
-use Rattle.d64_files.specs.Directory.{slots_in, numbered}
+use Rattle.d64_files.specs.Directory.{slots_in, numbered_slots}
 use Rattle.d64_files.specs.Ownership.{roots}
 use Rattle.d64_survey.specs.Way.{way}
 use Rattle.d64_survey.specs.declared.owner.Part.{Part}
@@ -46,7 +46,7 @@ slot_owners image slot = part_owners image slot Data ++ part_owners image slot S
 -- each block that has an owner, with its owner: the map's block, the directory's way, and then the
 -- files by their slots
 unfoldable pub owners : Disk → List (ℕ × Owner)
-owners image = (map_block, Map) ∷ (owned_as Directory (directory_way image).0 ++ flat_map (slot_owners image) (numbered (way_slots image)))
+owners image = (map_block, Map) ∷ (owned_as Directory (directory_way image).0 ++ flat_map (slot_owners image) (numbered_slots (way_slots image)))
 
 -- the blocks that have an owner, as often as they have one
 abbrev pub blocks_owned : Disk → Blocks
@@ -69,5 +69,5 @@ abbrev pub is_unowned : Disk → ℕ → Bool
 is_unowned image block = not (is_owned image block) && not (set.contains (free_blocks image) block)
 
 -- how many such blocks the image has
-unfoldable pub unowned : Disk → ℕ
-unowned image = count_by (is_unowned image) (range_with_len 0 (length image))
+unfoldable pub unowned_count : Disk → ℕ
+unowned_count image = count_by (is_unowned image) (range_with_len 0 (length image))

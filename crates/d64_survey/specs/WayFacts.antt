@@ -23,9 +23,9 @@ abbrev pub way_facts : Disk → Option Bytes → ℕ × ℕ → WayFacts
 way_facts image codes pair = facts_of image codes (way image pair)
 
 -- what is noted of the ways from a block, where there is one
-abbrev pub noted : List (Option WayFacts) → Option ℕ → Option WayFacts
-noted ways block = option_map_or (λ block. slice_index_or ways block None) block None
+abbrev pub noted_way : List (Option WayFacts) → Option ℕ → Option WayFacts
+noted_way ways block = option_map_or (λ block. slice_index_or ways block None) block None
 
 -- what is noted of a way is so
 abbrev pub TellsWays : Disk → Option Bytes → List (Option WayFacts) → Type 0
-TellsWays image codes ways = (pair : ℕ × ℕ) → IfSome (noted ways (block_at image pair)) (λ facts. facts ≡ way_facts image codes pair)
+TellsWays image codes ways = (pair : ℕ × ℕ) → IfSome (noted_way ways (block_at image pair)) (λ facts. facts ≡ way_facts image codes pair)

@@ -1,7 +1,7 @@
 //! All that is told of a dump.
 ghost use Rattle.std.specs.Prelude.{◌≡◌, nat_lt, not, length, option_map, IfOk};
 ghost use Rattle.d64_survey.specs.Way.{way};
-ghost use Rattle.d64_survey.specs.Owners.{pair_of, unowned};
+ghost use Rattle.d64_survey.specs.Owners.{pair_of, unowned_count};
 ghost use Rattle.d64_survey.specs.Flaws.{why};
 ghost use Rattle.d64_survey.specs.ReadErrors.{read_errors};
 ghost use Rattle.d64_survey.specs.Faults.{faults as faults_of};
@@ -41,7 +41,7 @@ impl<'a> Model for Inspection<'a> {
     ghost use Rattle.std.specs.Prelude.{◌≡◌, option_map};
     ghost use Rattle.d64_survey.specs.Dump.{DumpView};
     ghost use Rattle.d64_survey.specs.Faults.{faults};
-    ghost use Rattle.d64_survey.specs.Owners.{unowned as unowned_in};
+    ghost use Rattle.d64_survey.specs.Owners.{unowned_count};
     ghost use Rattle.d64_survey.specs.ReadErrors.{read_errors};
     ghost use Rattle.d64_survey.specs.Inspection.{AreCounts};
     ghost use Rattle.d64_survey.specs.WayFacts.{TellsWays};
@@ -53,7 +53,7 @@ impl<'a> Model for Inspection<'a> {
     ghost invariant = { λ all. (all.listed_faults.now ≡ faults all.survey)
         × (all.listed_errors.now ≡ read_errors (record { image = all.survey; codes = option_map (λ codes. codes.now) all.codes }))
         × AreCounts (record { image = all.survey; codes = option_map (λ codes. codes.now) all.codes }) all.files
-        × (all.unowned ≡ unowned_in all.survey) × TellsWays all.survey (option_map (λ codes. codes.now) all.codes) all.ways.ways };
+        × (all.unowned ≡ unowned_count all.survey) × TellsWays all.survey (option_map (λ codes. codes.now) all.codes) all.ways.ways };
 }
 
 impl<'a> Inspection<'a> {
@@ -164,7 +164,7 @@ impl<'a> Inspection<'a> {
 
     /// How many blocks have no owner though the map doesn't mark them free.
     pub fn unowned(&self) -> usize
-        ensures { result ≡ unowned self.now.image }
+        ensures { result ≡ unowned_count self.now.image }
     {
         self.unowned
     }

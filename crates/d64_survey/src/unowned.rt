@@ -1,6 +1,6 @@
 //! Blocks that are marked used, and that nothing owns.
 ghost use Rattle.std.specs.Prelude.{◌≡◌};
-ghost use Rattle.d64_survey.specs.Owners.{unowned};
+ghost use Rattle.d64_survey.specs.Owners.{unowned_count};
 
 use crate::survey::Survey;
 use d64_map::free_set;
@@ -8,7 +8,7 @@ use d64_map::free_set;
 impl Survey<'_> {
     /// How many blocks of the image have no owner though the map doesn't mark them free.
     pub fn unowned(&self) -> usize
-        ensures { result ≡ unowned self.now }
+        ensures { result ≡ unowned_count self.now }
     {
         let image = self.image();
         let free = free_set(image);

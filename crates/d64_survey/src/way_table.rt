@@ -3,7 +3,7 @@ ghost use Rattle.std.specs.Prelude.{◌≡◌, ℕ, Option, None, option_map};
 ghost use Rattle.d64_survey.specs.Way.{block_at};
 ghost use Rattle.d64_survey.specs.Faults.{last_of};
 ghost use Rattle.d64_survey.specs.Flaws.{any_shared, any_unreadable};
-ghost use Rattle.d64_survey.specs.WayFacts.{way_facts, noted, TellsWays};
+ghost use Rattle.d64_survey.specs.WayFacts.{way_facts, noted_way, TellsWays};
 
 use crate::dump::is_read_error;
 use crate::fault::LastBlock;
@@ -86,7 +86,7 @@ fn look_along(survey: &Survey, codes: Option<&[u8]>, track: u8, sector: u8) -> W
 impl WayTable {
     /// The table in which no way is noted.
     pub(crate) fn empty() -> WayTable
-        ensures { (block : Option ℕ) → noted result.ways block ≡ None }
+        ensures { (block : Option ℕ) → noted_way result.ways block ≡ None }
     {
         WayTable {
             ways: [None; BLOCKS],
@@ -108,7 +108,7 @@ impl WayTable {
 
     /// What is noted of the way from a track and a sector.
     fn noted(&self, image: &Image, track: u8, sector: u8) -> Option<WayFacts>
-        ensures { result ≡ noted self.now.ways (block_at image.now (track, sector)) }
+        ensures { result ≡ noted_way self.now.ways (block_at image.now (track, sector)) }
     {
         match block_in(image, track, sector) {
             Some(block) => self.ways[block.index()],

@@ -13,8 +13,8 @@ use Rattle.std.proofs.lemmas.Nat.{from_le_bytes-to_le_bytes_2, from_le_bytes-to_
 use Rattle.d64_image.specs.declared.image.TheConstants.{BLOCK_BYTES}
 use Rattle.d64_image.specs.Image.{IsBlock, IsSize, IsImage, tracks_of, bytes_of, sector_at, differences}
 use Rattle.d64_image.proofs.Sizes.{size_most}
-use Rattle.d64_image.specs.Patch.{Kept, RisesBetween, back, changed, HaveBlocks}
-use Rattle.d64_undo.specs.History.{History, present}
+use Rattle.d64_image.specs.Patch.{Kept, RisesBetween, restored_image, changed_blocks, HaveBlocks}
+use Rattle.d64_undo.specs.History.{History, present_image}
 use Rattle.d64_undo.specs.Records.{LeadAlong, AreRecords}
 use Rattle.d64_undo.specs.SessionFile.{magic, block_file, record_file, file_with, file_of, IsSession}
 use Rattle.d64_undo.specs.ResumeFault.{◌>>=◌, Reading, bytes_at, number_at, after_magic, block_count_at, image_at, counts_at, index_at, block_at, blocks_at, record_file_at, records_at, Parts, parts_at, all_differ, differ_along, session_at, fault_in}
@@ -163,9 +163,9 @@ all-pass p [] = refl
 all-pass p (x ∷ xs) = passes p x (p x) (filter p xs) refl (all-pass p xs)
 
 -- what changed differs
-changed-differ : (before after : List (List ℕ)) → all_differ after (changed before after) ≡ true
-unfolding all_differ changed
-changed-differ before after =
+changed_blocks-differ : (before after : List (List ℕ)) → all_differ after (changed_blocks before after) ≡ true
+unfolding all_differ changed_blocks
+changed_blocks-differ before after =
     list_all-map (λ (e : ℕ × List ℕ). not (pointwise nat_eq e.1 (sector_at after e.0))) (λ (b : ℕ). (b, sector_at before b)) (differences before after)
     ∙ all-pass (λ (b : ℕ). not (pointwise nat_eq (sector_at before b) (sector_at after b))) (range_with_len 0 (length before))
 
@@ -174,14 +174,14 @@ lead-differ : (records : List Kept) (image : List (List ℕ)) → LeadAlong imag
 unfolding LeadAlong differ_along
 lead-differ [] image leads = refl
 lead-differ (patch ∷ patches) image leads =
-    ap₂ (λ (a b : Bool). a && b) (ap (all_differ image) leads.0 ∙ changed-differ (back image patch) image) (lead-differ patches (back image patch) leads.1)
+    ap₂ (λ (a b : Bool). a && b) (ap (all_differ image) leads.0 ∙ changed_blocks-differ (restored_image image patch) image) (lead-differ patches (restored_image image patch) leads.1)
 
 -- the parts of the file of a history
 session_again : (history : History) (records : List Kept) → IsSession history → Held history records
-    → session_at (file_of history) ≡ Ok (parts_of (present history) history.cursor records)
+    → session_at (file_of history) ≡ Ok (parts_of (present_image history) history.cursor records)
 unfolding session_at AreRecords
 session_again history records is h =
-    let image = present history in
+    let image = present_image history in
     let spelled : file_of history ≡ file_with image history.cursor records = sym (file-held h.holds) in
     let most = is.count in
     let count = h.count in

@@ -9,7 +9,7 @@ use Rattle.d64_image.specs.Image.{IsImage, tracks_of, bytes_of}
 use Rattle.d64_image.specs.Patch.{Kept, IsPatchOf, HaveBlocks}
 use Rattle.d64_undo.specs.SessionFile.{magic, record_file, file_with}
 use Rattle.d64_undo.specs.ResumeFault.{◌>>=◌, Reading, image_at, counts_at, record_file_at, records_at, Parts, parts_at}
-use Rattle.d64_undo.specs.Resuming.{Fails, start_file, start_at, start_seen, IsStarted, IsEndOf, given}
+use Rattle.d64_undo.specs.Resuming.{Fails, start_file, start_at, start_seen, IsStarted, IsEndOf, given_bytes}
 use Rattle.d64_undo.specs.declared.file_parts.FileParts.{FileParts}
 use Rattle.d64_undo.specs.declared.resume_fault.ResumeFault.{ResumeFault}
 use Rattle.d64_undo.specs.declared.resume_fault.ResumeFault.TheVariants.{Trailing}
@@ -216,7 +216,7 @@ each_record parts s = λ k d h. (s.patches k d h, s.blocks k d h)
 
 -- the start was read
 pub started_from : (bytes after : List ℕ) (parts : FileParts) → AreBytes bytes → start_at bytes ≡ Ok (start_seen parts, after) → parts.records ≡ []
-    → IsStarted parts × (given (Some parts) after ≡ bytes)
+    → IsStarted parts × (given_bytes (Some parts) after ≡ bytes)
 started_from bytes after parts are e none =
     let s = start_takes bytes (start_seen parts, after) are e in
     let few = ap (λ (ps : List Kept). length ps) none in (
@@ -252,42 +252,42 @@ ends-drop bytes rest taken p e =
 
 -- records were read of what was given
 pub given_on : (old new : FileParts) (bytes rest : List ℕ) → start_seen new ≡ start_seen old
-    → flat_map record_file old.records ++ bytes ≡ flat_map record_file new.records ++ rest → given (Some new) rest ≡ given (Some old) bytes
+    → flat_map record_file old.records ++ bytes ≡ flat_map record_file new.records ++ rest → given_bytes (Some new) rest ≡ given_bytes (Some old) bytes
 given_on old new bytes rest same text =
     ap₂ (λ (start : Disk × (ℕ × ℕ)) (xs : List ℕ). start_file start.0 start.1.0 start.1.1 ++ xs) same (sym text)
 
 -- more was given
-pub given_more : (parts : Option FileParts) (rest more : List ℕ) → given parts (rest ++ more) ≡ given parts rest ++ more
+pub given_more : (parts : Option FileParts) (rest more : List ℕ) → given_bytes parts (rest ++ more) ≡ given_bytes parts rest ++ more
 given_more None rest more = refl
 given_more (Some parts) rest more =
     sym (append_assoc (start_file parts.image parts.done parts.count) (flat_map record_file parts.records ++ rest) more
     ∙ ap (λ (xs : List ℕ). start_file parts.image parts.done parts.count ++ xs) (append_assoc (flat_map record_file parts.records) rest more))
 
 pub fails_last : (fault : ResumeFault) (parts : FileParts) (rest : List ℕ) → IsStarted parts → length parts.records < parts.count
-    → Fails fault (record_file_at (length parts.image) rest) → Fails fault (parts_at (given (Some parts) rest))
+    → Fails fault (record_file_at (length parts.image) rest) → Fails fault (parts_at (given_bytes (Some parts) rest))
 fails_last fault parts rest s some e = record_fails_last fault parts.image parts.done parts.count parts.records rest s.image s.done s.count (each_record parts s) some e
 
 pub fails_early : (fault : ResumeFault) (parts : FileParts) (rest more : List ℕ) → IsStarted parts → length parts.records < parts.count
-    → 198148 ≤ length rest → Fails fault (record_file_at (length parts.image) rest) → Fails fault (parts_at (given (Some parts) rest ++ more))
+    → 198148 ≤ length rest → Fails fault (record_file_at (length parts.image) rest) → Fails fault (parts_at (given_bytes (Some parts) rest ++ more))
 fails_early fault parts rest more s some enough e =
     subst (λ (bytes : List ℕ). Fails fault (parts_at bytes)) (given_more (Some parts) rest more)
     (record_fails fault parts.image parts.done parts.count parts.records rest more s.image s.done s.count (each_record parts s) some enough e)
 
 -- all records were read
 counted_all : (parts : FileParts) (rest : List ℕ) → length parts.records ≡ parts.count
-    → given (Some parts) rest ≡ start_file parts.image parts.done (length parts.records) ++ (flat_map record_file parts.records ++ rest)
+    → given_bytes (Some parts) rest ≡ start_file parts.image parts.done (length parts.records) ++ (flat_map record_file parts.records ++ rest)
 counted_all parts rest all =
     ap (λ (n : ℕ). start_file parts.image parts.done n ++ (flat_map record_file parts.records ++ rest)) (sym all)
 
 pub trails : (parts : FileParts) (rest : List ℕ) → IsStarted parts → length parts.records ≡ parts.count → (length rest == 0) ≡ false
-    → parts_at (given (Some parts) rest) ≡ Err Trailing
+    → parts_at (given_bytes (Some parts) rest) ≡ Err Trailing
 trails parts rest s all more =
     let done = s.done in
     let count = s.count in
     ap parts_at (counted_all parts rest all) ∙ trailing parts.image parts.done parts.records rest s.image (omega arith) (omega arith) (each_record parts s) more
 
 pub all_parts : (parts : FileParts) (rest : List ℕ) → IsStarted parts → length parts.records ≡ parts.count → (length rest == 0) ≡ true
-    → parts_at (given (Some parts) rest) ≡ Ok (record { image = parts.image; done = parts.done; records = parts.records })
+    → parts_at (given_bytes (Some parts) rest) ≡ Ok (record { image = parts.image; done = parts.done; records = parts.records })
 all_parts parts rest s all none =
     let done = s.done in
     let count = s.count in
@@ -314,15 +314,15 @@ every parts after all = elim all [
   | inr less ↦ absurd (omega arith)
 ]
 
-pub whole_file : (parts : Option FileParts) (old new : FileParts) (bytes rest after : List ℕ) → given (Some old) rest ≡ given parts bytes
+pub whole_file : (parts : Option FileParts) (old new : FileParts) (bytes rest after : List ℕ) → given_bytes (Some old) rest ≡ given_bytes parts bytes
     → start_seen new ≡ start_seen old → flat_map record_file old.records ++ rest ≡ flat_map record_file new.records ++ after
-    → IsStarted new → (length new.records ≡ new.count) ⊎ (length after < 0) → (length after == 0) ≡ true → WholeFile (given parts bytes) new
+    → IsStarted new → (length new.records ≡ new.count) ⊎ (length after < 0) → (length after == 0) ≡ true → WholeFile (given_bytes parts bytes) new
 whole_file parts old new bytes rest after is same text s all none =
     let count : length new.records ≡ new.count = every new after all in
     let within = s.done in
     let limit = s.count in
     let nothing : after ≡ [] = nil_from_length after (eqb-true (length after) 0 none) in
-    let bytes_are : given (Some new) after ≡ given parts bytes = given_on old new rest after same text ∙ is in
+    let bytes_are : given_bytes (Some new) after ≡ given_bytes parts bytes = given_on old new rest after same text ∙ is in
     record {
       read = ap parts_at (sym bytes_are) ∙ all_parts new after s count none;
       are = record {
@@ -337,8 +337,8 @@ whole_file parts old new bytes rest after is same text s all none =
       };
     }
 
-pub file_trails : (parts : Option FileParts) (old new : FileParts) (bytes rest after : List ℕ) → given (Some old) rest ≡ given parts bytes
+pub file_trails : (parts : Option FileParts) (old new : FileParts) (bytes rest after : List ℕ) → given_bytes (Some old) rest ≡ given_bytes parts bytes
     → start_seen new ≡ start_seen old → flat_map record_file old.records ++ rest ≡ flat_map record_file new.records ++ after
-    → IsStarted new → (length new.records ≡ new.count) ⊎ (length after < 0) → (length after == 0) ≡ false → parts_at (given parts bytes) ≡ Err Trailing
+    → IsStarted new → (length new.records ≡ new.count) ⊎ (length after < 0) → (length after == 0) ≡ false → parts_at (given_bytes parts bytes) ≡ Err Trailing
 file_trails parts old new bytes rest after is same text s all more =
     ap parts_at (sym (given_on old new rest after same text ∙ is)) ∙ trails new after s (every new after all) more

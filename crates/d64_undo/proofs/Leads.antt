@@ -8,10 +8,10 @@ use Rattle.std.proofs.lemmas.List.{length-reverse, length-take-le, reverse-rever
 use Rattle.std.proofs.lemmas.List.Elements.{All-nil, All-cons, All-head, All-tail, All-append, All-take, All-drop, All-map, All-filter, All-from_get_or}
 use Rattle.std.proofs.lemmas.List.FromFn.{length-range_with_len, get_or-range_with_len}
 use Rattle.d64_image.specs.Image.{IsBlock, IsImage, sector_at, differences}
-use Rattle.d64_image.specs.Patch.{Kept, RisesBetween, back, changed, HaveBlocks}
-use Rattle.d64_image.proofs.Patches.{back-changed, rises-changed}
-use Rattle.d64_undo.specs.History.{History, present}
-use Rattle.d64_undo.specs.Records.{along, LeadAlong, images_of, AreRecords}
+use Rattle.d64_image.specs.Patch.{Kept, RisesBetween, restored_image, changed_blocks, HaveBlocks}
+use Rattle.d64_image.proofs.Patches.{restored_image-changed_blocks, rises-changed_blocks}
+use Rattle.d64_undo.specs.History.{History, present_image}
+use Rattle.d64_undo.specs.Records.{images_along, LeadAlong, images_of, AreRecords}
 use Rattle.d64_undo.specs.SessionFile.{IsSession}
 use Rattle.d64_undo.proofs.Sessions.{Holds}
 
@@ -22,7 +22,7 @@ IsImageOf count image = (length image ≡ count) × All IsBlock image
 -- the patches that lead from an image through those that come one after another
 pub leads : List (List ℕ) → List (List (List ℕ)) → List Kept
 leads image [] = []
-leads image (next ∷ images) = changed next image ∷ leads next images
+leads image (next ∷ images) = changed_blocks next image ∷ leads next images
 
 length-leads : (images : List (List (List ℕ))) (image : List (List ℕ)) → length (leads image images) ≡ length images
 unfolding leads
@@ -30,18 +30,18 @@ length-leads [] image = refl
 length-leads (next ∷ images) image = ap suc (length-leads images next)
 
 -- a patch leads to the next image
-leads-next : (count : ℕ) (next image : List (List ℕ)) → IsImageOf count next → IsImageOf count image → back image (changed next image) ≡ next
-leads-next count next image is_next is_image = back-changed next image (is_next.0 ∙ sym is_image.0)
+leads-next : (count : ℕ) (next image : List (List ℕ)) → IsImageOf count next → IsImageOf count image → restored_image image (changed_blocks next image) ≡ next
+leads-next count next image is_next is_image = restored_image-changed_blocks next image (is_next.0 ∙ sym is_image.0)
 
 -- they lead through the images
-along-leads : (count : ℕ) (images : List (List (List ℕ))) (image : List (List ℕ)) → IsImageOf count image → All (IsImageOf count) images
-    → along image (leads image images) ≡ images
-unfolding along leads
-along-leads count [] image is each = refl
-along-leads count (next ∷ images) image is each =
+images_along-leads : (count : ℕ) (images : List (List (List ℕ))) (image : List (List ℕ)) → IsImageOf count image → All (IsImageOf count) images
+    → images_along image (leads image images) ≡ images
+unfolding images_along leads
+images_along-leads count [] image is each = refl
+images_along-leads count (next ∷ images) image is each =
     let is_next = All-head (IsImageOf count) next images each in
-    ap (λ (x : List (List ℕ)). x ∷ along x (leads next images)) (leads-next count next image is_next is)
-    ∙ ap (λ (xs : List (List (List ℕ))). next ∷ xs) (along-leads count images next is_next (All-tail (IsImageOf count) next images each))
+    ap (λ (x : List (List ℕ)). x ∷ images_along x (leads next images)) (leads-next count next image is_next is)
+    ∙ ap (λ (xs : List (List (List ℕ))). next ∷ xs) (images_along-leads count images next is_next (All-tail (IsImageOf count) next images each))
 
 -- and each is the difference to the next one
 lead-leads : (count : ℕ) (images : List (List (List ℕ))) (image : List (List ℕ)) → IsImageOf count image → All (IsImageOf count) images
@@ -51,7 +51,7 @@ lead-leads count [] image is each = tt
 lead-leads count (next ∷ images) image is each =
     let is_next = All-head (IsImageOf count) next images each in
     let there = leads-next count next image is_next is in (
-      ap (λ (x : List (List ℕ)). changed x image) (sym there),
+      ap (λ (x : List (List ℕ)). changed_blocks x image) (sym there),
       subst (λ (x : List (List ℕ)). LeadAlong x (leads next images)) (sym there) (lead-leads count images next is_next (All-tail (IsImageOf count) next images each)),
     )
 
@@ -75,9 +75,9 @@ range-blocks count image is =
     subst (λ (b : ℕ). IsBlock (sector_at image b)) (sym at) (is.1 k [] within))
 
 -- what changed has the bytes of blocks
-changed-blocks : (count : ℕ) (before after : List (List ℕ)) → IsImageOf count before → HaveBlocks (changed before after)
-unfolding changed
-changed-blocks count before after is =
+changed_blocks-blocks : (count : ℕ) (before after : List (List ℕ)) → IsImageOf count before → HaveBlocks (changed_blocks before after)
+unfolding changed_blocks
+changed_blocks-blocks count before after is =
     All-map (λ (e : ℕ × List ℕ). IsBlock e.1) (λ (b : ℕ). (b, sector_at before b)) (differences before after)
     (All-filter (λ (b : ℕ). not (pointwise nat_eq (sector_at before b) (sector_at after b))) (λ (b : ℕ). IsBlock (sector_at before b)) (range_with_len 0 (length before))
     (range-blocks count before is))
@@ -91,8 +91,8 @@ unfolding leads
 leads-records count [] image each = All-nil (IsRecord count)
 leads-records count (next ∷ images) image each =
     let is_next = All-head (IsImageOf count) next images each in
-    let rises = subst (λ (n : ℕ). RisesBetween 0 n (changed next image)) is_next.0 (rises-changed next image) in
-    All-cons (IsRecord count) (changed next image) (leads next images) (rises, changed-blocks count next image is_next)
+    let rises = subst (λ (n : ℕ). RisesBetween 0 n (changed_blocks next image)) is_next.0 (rises-changed_blocks next image) in
+    All-cons (IsRecord count) (changed_blocks next image) (leads next images) (rises, changed_blocks-blocks count next image is_next)
     (leads-records count images next (All-tail (IsImageOf count) next images each))
 
 -- what holds of each element holds of each in another order
@@ -104,10 +104,10 @@ All-turned P (x ∷ xs) each =
 
 -- what a session holds of a history: it is that of these records and this image
 pub record Held (history : History) (records : List Kept) : Type 0 where
-  pub holds : Holds records (present history) history.cursor history
+  pub holds : Holds records (present_image history) history.cursor history
   pub count : length records + 1 ≡ length history.images
-  pub each : All (IsRecord (length (present history))) records
-  pub image : IsImage (present history)
+  pub each : All (IsRecord (length (present_image history))) records
+  pub image : IsImage (present_image history)
 
 -- each history that a session can hold is that of some records
 pub held : (history : History) → IsSession history → (records : List Kept) × Held history records
@@ -115,7 +115,7 @@ unfolding AreRecords images_of
 held history is =
     let images = history.images in
     let done = history.cursor in
-    let image = present history in
+    let image = present_image history in
     let lt : done < length images = is.cursor in
     let past = reverse (take done images) in
     let rest = drop (suc done) images in
@@ -137,9 +137,9 @@ held history is =
     let all = length-append first on_leads in
     let on_long = length-leads rest image in
     let rest_long = length-drop (suc done) images in
-    let before : reverse (along image (reverse (take done records))) ≡ take done images =
-    ap (λ (ps : List Kept). reverse (along image ps)) turned ∙ ap reverse (along-leads count past image is_image are_past) ∙ reverse-reverse (take done images) in
-    let after : along image (drop done records) ≡ rest = ap (along image) end ∙ along-leads count rest image is_image are_rest in (
+    let before : reverse (images_along image (reverse (take done records))) ≡ take done images =
+    ap (λ (ps : List Kept). reverse (images_along image ps)) turned ∙ ap reverse (images_along-leads count past image is_image are_past) ∙ reverse-reverse (take done images) in
+    let after : images_along image (drop done records) ≡ rest = ap (images_along image) end ∙ images_along-leads count rest image is_image are_rest in (
       records,
       record {
         holds = record {

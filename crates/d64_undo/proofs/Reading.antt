@@ -4,7 +4,7 @@ use Rattle.std.proofs.lemmas.Bool.{ltb-false, ltb-true, ne_eqb}
 use Rattle.std.proofs.lemmas.List.{append-nil, drop_more, take_more, nil_from_length, length-reverse, length-take-le, length-drop, reverse-append}
 use Rattle.std.specs.Int.{w16}
 use Rattle.d64_image.specs.declared.image.TheConstants.{BLOCK_BYTES}
-use Rattle.d64_image.specs.Patch.{Kept, RisesBetween, back}
+use Rattle.d64_image.specs.Patch.{Kept, RisesBetween, restored_image}
 use Rattle.d64_undo.specs.ResumeFault.{◌>>=◌, Reading, bytes_at, number_at, after_magic, index_at, block_at, blocks_at, record_file_at, records_at, all_differ, differ_along}
 use Rattle.d64_undo.specs.Resuming.{Fails, on_side}
 use Rattle.d64_undo.specs.declared.resume_fault.ResumeFault.{ResumeFault}
@@ -54,14 +54,14 @@ pub differ_ends : (list records : List Kept) (image : List (List ℕ)) (patch : 
     → false ≡ all_differ image patch → false ≡ differ_along image list
 unfolding differ_along
 differ_ends list records image patch is e =
-    ap (λ (t : Bool). t && differ_along (back image patch) records) e ∙ sym (ap (differ_along image) is)
+    ap (λ (t : Bool). t && differ_along (restored_image image patch) records) e ∙ sym (ap (differ_along image) is)
 
 -- a record whose blocks differ
 pub differ_on : (list records : List Kept) (image : List (List ℕ)) (patch : Kept) → list ≡ patch ∷ records
-    → true ≡ all_differ image patch → differ_along (back image patch) records ≡ differ_along image list
+    → true ≡ all_differ image patch → differ_along (restored_image image patch) records ≡ differ_along image list
 unfolding differ_along
 differ_on list records image patch is e =
-    ap (λ (t : Bool). t && differ_along (back image patch) records) e ∙ sym (ap (differ_along image) is)
+    ap (λ (t : Bool). t && differ_along (restored_image image patch) records) e ∙ sym (ap (differ_along image) is)
 
 pub differ_all : (list : List Kept) (image : List (List ℕ)) → length list ≡ 0 → true ≡ differ_along image list
 unfolding differ_along

@@ -3,9 +3,9 @@ use Rattle.std.proofs.Common.{◌≡◌, ℕ, ◌+◌, ◌-◌, ◌<◌, ◌≤�
 use Rattle.std.proofs.lemmas.Grind.{reverse_onto}
 use Rattle.std.proofs.lemmas.List.{length-append, length-reverse, length-map, length-take-le, length-drop, length_push, reverse-append, get_or_at, get_or-reverse, get_or-drop, get_or-take, get_or-append-add, get_or_append_left, take_all, take_at, drop_all, take_more, take_more_set, drop_more, take-set, drop-set, drop-set-lt}
 use Rattle.d64_image.specs.Image.{sector_at, differences}
-use Rattle.d64_image.specs.Patch.{Kept, back, changed, taken}
-use Rattle.d64_image.proofs.Patches.{length-back, taken-changed}
-use Rattle.d64_undo.specs.Records.{along, LeadAlong, images_of, AreRecords}
+use Rattle.d64_image.specs.Patch.{Kept, restored_image, changed_blocks, taken_blocks}
+use Rattle.d64_image.proofs.Patches.{length-restored_image, taken_blocks-changed_blocks}
+use Rattle.d64_undo.specs.Records.{images_along, LeadAlong, images_of, AreRecords}
 
 -- the first elements of a list, and one more
 pub take_on : {X : Type 0} (xs : List X) (i : ℕ) (x : X) → i < length xs → x ≡ get_or xs i x → take (i + 1) xs ≡ take i xs ++ x ∷ []
@@ -19,10 +19,10 @@ reverse-cons x xs = reverse_onto xs x []
 reverse-push : {X : Type 0} (xs : List X) (x : X) → reverse (xs ++ x ∷ []) ≡ x ∷ reverse xs
 reverse-push xs x = reverse-append xs (x ∷ [])
 
-length-along : (patches : List Kept) (image : List (List ℕ)) → length (along image patches) ≡ length patches
-unfolding along
-length-along [] image = refl
-length-along (patch ∷ patches) image = ap suc (length-along patches (back image patch))
+length-images_along : (patches : List Kept) (image : List (List ℕ)) → length (images_along image patches) ≡ length patches
+unfolding images_along
+length-images_along [] image = refl
+length-images_along (patch ∷ patches) image = ap suc (length-images_along patches (restored_image image patch))
 
 -- the records that are done, the last one first
 past : List Kept → ℕ → List Kept
@@ -30,13 +30,13 @@ past records done = reverse (take done records)
 
 -- the images before the present one
 before : List Kept → List (List ℕ) → ℕ → List (List (List ℕ))
-before records image done = reverse (along image (past records done))
+before records image done = reverse (images_along image (past records done))
 
 length-before : (records : List Kept) (image : List (List ℕ)) (done : ℕ) → done ≤ length records → length (before records image done) ≡ done
 unfolding before past
 length-before records image done within =
-    length-reverse (along image (reverse (take done records)))
-    ∙ length-along (reverse (take done records)) image
+    length-reverse (images_along image (reverse (take done records)))
+    ∙ length-images_along (reverse (take done records)) image
     ∙ length-reverse (take done records)
     ∙ length-take-le done records within
 
@@ -45,9 +45,9 @@ pub length-images : (records : List Kept) (image : List (List ℕ)) (done : ℕ)
     → length (images_of records image done) ≡ length records + 1
 unfolding images_of before past
 length-images records image done within =
-    let joined = length-append (before records image done) (image ∷ along image (drop done records)) in
+    let joined = length-append (before records image done) (image ∷ images_along image (drop done records)) in
     let front = length-before records image done within in
-    let rest = length-along (drop done records) image in
+    let rest = length-images_along (drop done records) image in
     let back = length-drop done records in
     omega arith
 
@@ -56,11 +56,11 @@ pub image-at_cursor : (records : List Kept) (image : List (List ℕ)) (done : �
     → get_or (images_of records image done) done [] ≡ image
 unfolding images_of before past
 image-at_cursor records image done within =
-    get_or_at (before records image done) image (along image (drop done records)) [] done (length-before records image done within)
+    get_or_at (before records image done) image (images_along image (drop done records)) [] done (length-before records image done within)
 
 -- no record at the beginning
 pub images-begun : (image : List (List ℕ)) → images_of [] image 0 ≡ image ∷ []
-unfolding images_of along
+unfolding images_of images_along
 images-begun image = refl
 
 pub begun-records : (image : List (List ℕ)) → AreRecords [] image 0
@@ -75,20 +75,20 @@ past-more records n patch h e =
     ap reverse (take_on records n patch h e) ∙ reverse-push (take n records) patch
 
 -- one image more before the present one
-before-more : (past' : List Kept) (image next : List (List ℕ)) (patch : Kept) → back next patch ≡ image
-    → reverse (along next (patch ∷ past')) ≡ reverse (along image past') ++ image ∷ []
-unfolding along
+before-more : (past' : List Kept) (image next : List (List ℕ)) (patch : Kept) → restored_image next patch ≡ image
+    → reverse (images_along next (patch ∷ past')) ≡ reverse (images_along image past') ++ image ∷ []
+unfolding images_along
 before-more past' image next patch e =
-    ap (λ (x : List (List ℕ)). reverse (x ∷ along x past')) e ∙ reverse-cons image (along image past')
+    ap (λ (x : List (List ℕ)). reverse (x ∷ images_along x past')) e ∙ reverse-cons image (images_along image past')
 
-along-none : (image : List (List ℕ)) → along image [] ≡ []
-unfolding along
-along-none image = refl
+images_along-none : (image : List (List ℕ)) → images_along image [] ≡ []
+unfolding images_along
+images_along-none image = refl
 
 -- the next image and those after it
-along-one : (patches : List Kept) (image next : List (List ℕ)) (patch : Kept) → back image patch ≡ next → along image (patch ∷ patches) ≡ next ∷ along next patches
-unfolding along
-along-one patches image next patch e = ap (λ (x : List (List ℕ)). x ∷ along x patches) e
+images_along-one : (patches : List Kept) (image next : List (List ℕ)) (patch : Kept) → restored_image image patch ≡ next → images_along image (patch ∷ patches) ≡ next ∷ images_along next patches
+unfolding images_along
+images_along-one patches image next patch e = ap (λ (x : List (List ℕ)). x ∷ images_along x patches) e
 
 -- the record after the cursor is the first of those that are undone
 rest-more : (records : List Kept) (n : ℕ) (patch : Kept) → n < length records → patch ≡ get_or records n patch
@@ -100,17 +100,17 @@ unfolding LeadAlong
 lead-none image = tt
 
 -- records that lead away from the image after one more, if they led away from the one before
-lead-more : (patches : List Kept) (image next : List (List ℕ)) (patch : Kept) → back next patch ≡ image → patch ≡ changed image next
+lead-more : (patches : List Kept) (image next : List (List ℕ)) (patch : Kept) → restored_image next patch ≡ image → patch ≡ changed_blocks image next
     → LeadAlong image patches → LeadAlong next (patch ∷ patches)
 unfolding LeadAlong
 lead-more patches image next patch e d leads =
-    (d ∙ ap (λ (x : List (List ℕ)). changed x next) (sym e), subst (λ (x : List (List ℕ)). LeadAlong x patches) (sym e) leads)
+    (d ∙ ap (λ (x : List (List ℕ)). changed_blocks x next) (sym e), subst (λ (x : List (List ℕ)). LeadAlong x patches) (sym e) leads)
 
-lead-head : (patches : List Kept) (image : List (List ℕ)) (patch : Kept) → LeadAlong image (patch ∷ patches) → patch ≡ changed (back image patch) image
+lead-head : (patches : List Kept) (image : List (List ℕ)) (patch : Kept) → LeadAlong image (patch ∷ patches) → patch ≡ changed_blocks (restored_image image patch) image
 unfolding LeadAlong
 lead-head patches image patch leads = leads.0
 
-lead-tail : (patches : List Kept) (image : List (List ℕ)) (patch : Kept) → LeadAlong image (patch ∷ patches) → LeadAlong (back image patch) patches
+lead-tail : (patches : List Kept) (image : List (List ℕ)) (patch : Kept) → LeadAlong image (patch ∷ patches) → LeadAlong (restored_image image patch) patches
 unfolding LeadAlong
 lead-tail patches image patch leads = leads.1
 
@@ -131,22 +131,22 @@ rest-added : (records kept : List Kept) (patch : Kept) (done : ℕ) → done ≤
 rest-added records kept patch done within e = drop_all (done + 1) kept (omega (arith, length-added records kept patch done within e))
 
 pub kept_added : (records kept : List Kept) (patch : Kept) (image next : List (List ℕ)) (done : ℕ) → done ≤ length records
-    → kept ≡ take done records ++ patch ∷ [] → back next patch ≡ image
+    → kept ≡ take done records ++ patch ∷ [] → restored_image next patch ≡ image
     → images_of kept next (done + 1) ≡ take (done + 1) (images_of records image done) ++ next ∷ []
 unfolding images_of before past
 kept_added records kept patch image next done within e put_back =
     let front = before records image done in
-    let rest = along image (drop done records) in
+    let rest = images_along image (drop done records) in
     let long : length (front ++ image ∷ []) ≡ done + 1 = omega (arith, length_push front image, length-before records image done within) in
     let cut : take (done + 1) (front ++ image ∷ rest) ≡ front ++ image ∷ [] =
     ap (take (done + 1)) (sym (append_assoc front (image ∷ []) rest)) ∙ take_at (front ++ image ∷ []) rest (done + 1) long in
-    let earlier : reverse (along next (past kept (done + 1))) ≡ front ++ image ∷ [] =
-    ap (λ (ps : List Kept). reverse (along next ps)) (past-added records kept patch done within e) ∙ before-more (past records done) image next patch put_back in
-    let none : along next (drop (done + 1) kept) ≡ [] = ap (along next) (rest-added records kept patch done within e) ∙ along-none next in
+    let earlier : reverse (images_along next (past kept (done + 1))) ≡ front ++ image ∷ [] =
+    ap (λ (ps : List Kept). reverse (images_along next ps)) (past-added records kept patch done within e) ∙ before-more (past records done) image next patch put_back in
+    let none : images_along next (drop (done + 1) kept) ≡ [] = ap (images_along next) (rest-added records kept patch done within e) ∙ images_along-none next in
     ap₂ (λ (xs ys : List (List (List ℕ))). xs ++ next ∷ ys) (earlier ∙ sym cut) none
 
 pub records_added : (records kept : List Kept) (patch : Kept) (image next : List (List ℕ)) (done : ℕ) → done ≤ length records
-    → kept ≡ take done records ++ patch ∷ [] → back next patch ≡ image → patch ≡ changed image next
+    → kept ≡ take done records ++ patch ∷ [] → restored_image next patch ≡ image → patch ≡ changed_blocks image next
     → AreRecords records image done → AreRecords kept next (done + 1)
 unfolding AreRecords past
 records_added records kept patch image next done within e put_back differs leads = (
@@ -156,10 +156,10 @@ records_added records kept patch image next done within e put_back differs leads
 
 -- two images, and the patches that lead from each to the other, which are exactly their differences
 pub record AreBetween (image other : List (List ℕ)) (patch exchanged : Kept) : Type 0 where
-  pub there : back image patch ≡ other
-  pub here : back other exchanged ≡ image
-  pub is_patch : patch ≡ changed other image
-  pub is_exchanged : exchanged ≡ changed image other
+  pub there : restored_image image patch ≡ other
+  pub here : restored_image other exchanged ≡ image
+  pub is_patch : patch ≡ changed_blocks other image
+  pub is_exchanged : exchanged ≡ changed_blocks image other
 
 -- the other way they are exchanged
 turned : {image other : List (List ℕ)} {patch exchanged : Kept} → AreBetween image other patch exchanged → AreBetween other image exchanged patch
@@ -196,22 +196,22 @@ passed image other patch exchanged from towards b leads on =
 
 -- the same images stand before it and after it
 same-images : (image other : List (List ℕ)) (patch exchanged : Kept) (earlier later : List Kept) → AreBetween image other patch exchanged
-    → reverse (along other earlier) ++ other ∷ along other (exchanged ∷ later) ≡ reverse (along image (patch ∷ earlier)) ++ image ∷ along image later
+    → reverse (images_along other earlier) ++ other ∷ images_along other (exchanged ∷ later) ≡ reverse (images_along image (patch ∷ earlier)) ++ image ∷ images_along image later
 same-images image other patch exchanged earlier later b =
-    ap (λ (list : List (List (List ℕ))). reverse (along other earlier) ++ other ∷ list) (along-one later other image exchanged b.here)
-    ∙ sym (append_assoc (reverse (along other earlier)) (other ∷ []) (image ∷ along image later))
-    ∙ ap (λ (list : List (List (List ℕ))). list ++ image ∷ along image later) (sym (before-more earlier other image patch b.there))
+    ap (λ (list : List (List (List ℕ))). reverse (images_along other earlier) ++ other ∷ list) (images_along-one later other image exchanged b.here)
+    ∙ sym (append_assoc (reverse (images_along other earlier)) (other ∷ []) (image ∷ images_along image later))
+    ∙ ap (λ (list : List (List (List ℕ))). list ++ image ∷ images_along image later) (sym (before-more earlier other image patch b.there))
 
 -- records with one in its place, which stands on one side of the image or on the other
 images-after : {records : List Kept} {n : ℕ} {patch : Kept} {earlier later : List Kept} (image : List (List ℕ)) → StandsBetween records n patch earlier later
-    → images_of records image n ≡ reverse (along image earlier) ++ image ∷ along image (patch ∷ later)
+    → images_of records image n ≡ reverse (images_along image earlier) ++ image ∷ images_along image (patch ∷ later)
 unfolding images_of past
-images-after image s = ap₂ (λ (ps qs : List Kept). reverse (along image ps) ++ image ∷ along image qs) s.before s.from_it
+images-after image s = ap₂ (λ (ps qs : List Kept). reverse (images_along image ps) ++ image ∷ images_along image qs) s.before s.from_it
 
 images-before : {records : List Kept} {n : ℕ} {patch : Kept} {earlier later : List Kept} (image : List (List ℕ)) → StandsBetween records n patch earlier later
-    → images_of records image (n + 1) ≡ reverse (along image (patch ∷ earlier)) ++ image ∷ along image later
+    → images_of records image (n + 1) ≡ reverse (images_along image (patch ∷ earlier)) ++ image ∷ images_along image later
 unfolding images_of past
-images-before image s = ap₂ (λ (ps qs : List Kept). reverse (along image ps) ++ image ∷ along image qs) s.with_it s.after
+images-before image s = ap₂ (λ (ps qs : List Kept). reverse (images_along image ps) ++ image ∷ images_along image qs) s.with_it s.after
 
 -- and where they lead away from the image
 lead-after : {records : List Kept} {n : ℕ} {patch : Kept} {earlier later : List Kept} (image : List (List ℕ)) → StandsBetween records n patch earlier later
@@ -236,7 +236,7 @@ IsBeside n done cursor = ((done ≡ n + 1) × (cursor ≡ n)) ⊎ ((done ≡ n) 
 
 -- a record beside the cursor is the difference to the image on its other side
 pub beside-differs : (records : List Kept) (image : List (List ℕ)) (n done cursor : ℕ) (patch : Kept) → n < length records → patch ≡ get_or records n patch
-    → IsBeside n done cursor → AreRecords records image done → patch ≡ changed (back image patch) image
+    → IsBeside n done cursor → AreRecords records image done → patch ≡ changed_blocks (restored_image image patch) image
 beside-differs records image n done cursor patch h is beside leads =
     let s = stands-between records n patch h is in
     elim beside [
@@ -284,19 +284,19 @@ records-stepped records image other n done cursor patch exchanged h is between b
 
 -- an image that was put back is as long as the one before it
 same_length : (patches : List Kept) (image : List (List ℕ)) (k : ℕ) → k < length patches
-    → length (get_or (along image patches) k []) ≡ length (get_or (image ∷ along image patches) k [])
-unfolding along
+    → length (get_or (images_along image patches) k []) ≡ length (get_or (image ∷ images_along image patches) k [])
+unfolding images_along
 same_length [] image k h = absurd (omega arith)
-same_length (patch ∷ patches) image zero h = length-back patch image
-same_length (patch ∷ patches) image (suc k) h = same_length patches (back image patch) k (omega arith)
+same_length (patch ∷ patches) image zero h = length-restored_image patch image
+same_length (patch ∷ patches) image (suc k) h = same_length patches (restored_image image patch) k (omega arith)
 
 -- each record is the difference to the next image
 difference_at : (patches : List Kept) (image : List (List ℕ)) (k : ℕ) → k < length patches → LeadAlong image patches
-    → get_or patches k [] ≡ changed (get_or (along image patches) k []) (get_or (image ∷ along image patches) k [])
-unfolding along LeadAlong
+    → get_or patches k [] ≡ changed_blocks (get_or (images_along image patches) k []) (get_or (image ∷ images_along image patches) k [])
+unfolding images_along LeadAlong
 difference_at [] image k h leads = absurd (omega arith)
 difference_at (patch ∷ patches) image zero h leads = leads.0
-difference_at (patch ∷ patches) image (suc k) h leads = difference_at patches (back image patch) k (omega arith) leads.1
+difference_at (patch ∷ patches) image (suc k) h leads = difference_at patches (restored_image image patch) k (omega arith) leads.1
 
 -- the elements after the first
 get_or-after : {X : Type 0} (x d : X) (xs : List X) (k : ℕ) → get_or (x ∷ xs) (k + 1) d ≡ get_or xs k d
@@ -304,28 +304,28 @@ get_or-after x d xs k = let e : k + 1 ≡ suc k = omega arith in ap (λ (i : ℕ
 
 -- images from the present one on
 image-on : (records : List Kept) (image : List (List ℕ)) (done k n : ℕ) → done ≤ length records → done + k ≡ n
-    → get_or (images_of records image done) n [] ≡ get_or (image ∷ along image (drop done records)) k []
+    → get_or (images_of records image done) n [] ≡ get_or (image ∷ images_along image (drop done records)) k []
 unfolding images_of before past
 image-on records image done k n within e =
     let front = before records image done in
     let long = length-before records image done within in
     let at : n ≡ length front + k = omega arith in
-    ap (λ (i : ℕ). get_or (front ++ image ∷ along image (drop done records)) i []) at
-    ∙ get_or-append-add front (image ∷ along image (drop done records)) k []
+    ap (λ (i : ℕ). get_or (front ++ image ∷ images_along image (drop done records)) i []) at
+    ∙ get_or-append-add front (image ∷ images_along image (drop done records)) k []
 
 -- images from the present one back
 image-back : (records : List Kept) (image : List (List ℕ)) (done k n : ℕ) → done ≤ length records → n + k ≡ done
-    → get_or (images_of records image done) n [] ≡ get_or (image ∷ along image (past records done)) k []
+    → get_or (images_of records image done) n [] ≡ get_or (image ∷ images_along image (past records done)) k []
 unfolding images_of before past
 image-back records image done k n within e =
-    let rest = along image (drop done records) in
-    let ending = image ∷ along image (past records done) in
+    let rest = images_along image (drop done records) in
+    let ending = image ∷ images_along image (past records done) in
     let long : length ending ≡ done + 1 =
-    let l = length-along (past records done) image in
+    let l = length-images_along (past records done) image in
     let m = length-reverse (take done records) in
     let t = length-take-le done records within in omega arith in
     let turned : reverse ending ++ rest ≡ before records image done ++ image ∷ rest =
-    ap (λ (xs : List (List (List ℕ))). xs ++ rest) (reverse-cons image (along image (past records done)))
+    ap (λ (xs : List (List (List ℕ))). xs ++ rest) (reverse-cons image (images_along image (past records done)))
     ∙ append_assoc (before records image done) (image ∷ []) rest in
     let far : n < length (reverse ending) = let l = length-reverse ending in omega arith in
     ap (λ (xs : List (List (List ℕ))). get_or xs n []) (sym turned)
@@ -335,7 +335,7 @@ image-back records image done k n within e =
 
 -- a record that is done holds what its command changed, with the bytes from before
 pub record-done : (records : List Kept) (image : List (List ℕ)) (done n : ℕ) → done ≤ length records → n < done → AreRecords records image done
-    → get_or records n [] ≡ changed (get_or (images_of records image done) n []) (get_or (images_of records image done) (n + 1) [])
+    → get_or records n [] ≡ changed_blocks (get_or (images_of records image done) n []) (get_or (images_of records image done) (n + 1) [])
 unfolding AreRecords past
 record-done records image done n within h leads =
     let k : ℕ = done - (n + 1) in
@@ -346,11 +346,11 @@ record-done records image done n within h leads =
     ∙ (let same : length (take done records) - 1 - k ≡ n = omega arith in ap (λ (i : ℕ). get_or (take done records) i []) same)
     ∙ get_or-take done records n [] (omega arith) in
     sym read ∙ difference_at (past records done) image k (omega arith) leads.0
-    ∙ ap₂ changed (sym (image-back records image done (k + 1) n within (omega arith) ∙ get_or-after image [] (along image (past records done)) k)) (sym (image-back records image done k (n + 1) within (omega arith)))
+    ∙ ap₂ changed_blocks (sym (image-back records image done (k + 1) n within (omega arith) ∙ get_or-after image [] (images_along image (past records done)) k)) (sym (image-back records image done k (n + 1) within (omega arith)))
 
 -- a record that is undone holds what its command changed, with the bytes from after
 pub record-undone : (records : List Kept) (image : List (List ℕ)) (done n : ℕ) → done ≤ n → n < length records → AreRecords records image done
-    → get_or records n [] ≡ changed (get_or (images_of records image done) (n + 1) []) (get_or (images_of records image done) n [])
+    → get_or records n [] ≡ changed_blocks (get_or (images_of records image done) (n + 1) []) (get_or (images_of records image done) n [])
 unfolding AreRecords
 record-undone records image done n h within leads =
     let k : ℕ = n - done in
@@ -359,7 +359,7 @@ record-undone records image done n h within leads =
     let read : get_or (drop done records) k [] ≡ get_or records n [] =
     get_or-drop done records k [] ∙ ap (λ (i : ℕ). get_or records i []) same in
     sym read ∙ difference_at (drop done records) image k (omega arith) leads.1
-    ∙ ap₂ changed (sym (image-on records image done (k + 1) (n + 1) (omega arith) (omega arith) ∙ get_or-after image [] (along image (drop done records)) k)) (sym (image-on records image done k n (omega arith) same))
+    ∙ ap₂ changed_blocks (sym (image-on records image done (k + 1) (n + 1) (omega arith) (omega arith) ∙ get_or-after image [] (images_along image (drop done records)) k)) (sym (image-on records image done k n (omega arith) same))
 
 -- the image after a record is as long as the one before
 pub lengths-undone : (records : List Kept) (image : List (List ℕ)) (done n : ℕ) → done ≤ n → n < length records
@@ -368,19 +368,19 @@ lengths-undone records image done n h within =
     let k : ℕ = n - done in
     let long = length-drop done records in
     let same : done + k ≡ n = omega arith in
-    ap length (image-on records image done (k + 1) (n + 1) (omega arith) (omega arith) ∙ get_or-after image [] (along image (drop done records)) k)
+    ap length (image-on records image done (k + 1) (n + 1) (omega arith) (omega arith) ∙ get_or-after image [] (images_along image (drop done records)) k)
     ∙ same_length (drop done records) image k (omega arith)
     ∙ sym (ap length (image-on records image done k n (omega arith) same))
 
 -- as many blocks differ as are in the patch between two images
-pub length-changed : (image other : List (List ℕ)) → length (changed image other) ≡ length (differences image other)
-unfolding changed
-length-changed image other = length-map (differences image other) (λ (block : ℕ). (block, sector_at image block))
+pub length-changed_blocks : (image other : List (List ℕ)) → length (changed_blocks image other) ≡ length (differences image other)
+unfolding changed_blocks
+length-changed_blocks image other = length-map (differences image other) (λ (block : ℕ). (block, sector_at image block))
 
 -- and as many the other way
-pub length-changed_back : (image other : List (List ℕ)) → length image ≡ length other → length (changed other image) ≡ length (differences image other)
-unfolding taken
+pub length-changed_back : (image other : List (List ℕ)) → length image ≡ length other → length (changed_blocks other image) ≡ length (differences image other)
+unfolding taken_blocks
 length-changed_back image other long =
-    ap length (sym (taken-changed image other long))
-    ∙ length-map (changed image other) (λ (entry : ℕ × List ℕ). (entry.0, sector_at other entry.0))
-    ∙ length-changed image other
+    ap length (sym (taken_blocks-changed_blocks image other long))
+    ∙ length-map (changed_blocks image other) (λ (entry : ℕ × List ℕ). (entry.0, sector_at other entry.0))
+    ∙ length-changed_blocks image other

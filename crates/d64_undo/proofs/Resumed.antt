@@ -4,8 +4,8 @@ use Rattle.std.specs.List.{All, filter, list_all}
 use Rattle.std.specs.Cmp.Lexicographic.{pointwise}
 use Rattle.std.proofs.lemmas.List.Elements.{All-head, All-tail, All-take, All-drop, All-weaker, All-from_get_or}
 use Rattle.d64_image.specs.Image.{sector_at}
-use Rattle.d64_image.specs.Patch.{Kept, RisesBetween, back, changed, trimmed, HaveBlocks}
-use Rattle.d64_image.proofs.Patches.{length-back, trimmed-changed}
+use Rattle.d64_image.specs.Patch.{Kept, RisesBetween, restored_image, changed_blocks, trimmed_blocks, HaveBlocks}
+use Rattle.d64_image.proofs.Patches.{length-restored_image, trimmed_blocks-changed_blocks}
 use Rattle.d64_undo.specs.History.{History}
 use Rattle.d64_undo.specs.Records.{LeadAlong, images_of, AreRecords}
 use Rattle.d64_undo.specs.SessionFile.{file_of, IsSession}
@@ -33,10 +33,10 @@ filter-all p (x ∷ xs) e =
     ap (λ (t : Bool). cond t (x ∷ filter p xs) (filter p xs)) b.0 ∙ ap (λ (rest : Kept). x ∷ rest) (filter-all p xs b.1)
 
 -- blocks that all differ are all that changed
-differ-changed : (patch : Kept) (image : List (List ℕ)) → RisesBetween 0 (length image) patch → all_differ image patch ≡ true → patch ≡ changed (back image patch) image
-unfolding all_differ trimmed
-differ-changed patch image rises e =
-    sym (filter-all (λ (x : ℕ × List ℕ). not (pointwise nat_eq x.1 (sector_at image x.0))) patch e) ∙ trimmed-changed patch image rises
+differ-changed_blocks : (patch : Kept) (image : List (List ℕ)) → RisesBetween 0 (length image) patch → all_differ image patch ≡ true → patch ≡ changed_blocks (restored_image image patch) image
+unfolding all_differ trimmed_blocks
+differ-changed_blocks patch image rises e =
+    sym (filter-all (λ (x : ℕ × List ℕ). not (pointwise nat_eq x.1 (sector_at image x.0))) patch e) ∙ trimmed_blocks-changed_blocks patch image rises
 
 -- and so records whose blocks all differ lead away from an image
 differ-lead : (records : List Kept) (image : List (List ℕ)) (blocks : ℕ) → length image ≡ blocks → All (IsRecordOf blocks 0) records
@@ -44,10 +44,10 @@ differ-lead : (records : List Kept) (image : List (List ℕ)) (blocks : ℕ) →
 unfolding LeadAlong differ_along
 differ-lead [] image blocks long each e = tt
 differ-lead (patch ∷ patches) image blocks long each e =
-    let b = both-true (all_differ image patch) (differ_along (back image patch) patches) e in
+    let b = both-true (all_differ image patch) (differ_along (restored_image image patch) patches) e in
     let is = All-head (IsRecordOf blocks 0) patch patches each in (
-      differ-changed patch image (subst (λ (n : ℕ). RisesBetween 0 n patch) (sym long) is.0) b.0,
-      differ-lead patches (back image patch) blocks (length-back patch image ∙ long) (All-tail (IsRecordOf blocks 0) patch patches each) b.1,
+      differ-changed_blocks patch image (subst (λ (n : ℕ). RisesBetween 0 n patch) (sym long) is.0) b.0,
+      differ-lead patches (restored_image image patch) blocks (length-restored_image patch image ∙ long) (All-tail (IsRecordOf blocks 0) patch patches each) b.1,
     )
 
 pub are-records : (records : List Kept) (image : List (List ℕ)) (done : ℕ) → All (IsRecordOf (length image) 0) records

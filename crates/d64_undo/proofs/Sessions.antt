@@ -4,13 +4,13 @@ use Rattle.std.proofs.lemmas.Bool.{cases_lt}
 use Rattle.std.proofs.lemmas.Bool.Decides.{nat_tests}
 use Rattle.std.proofs.lemmas.List.{get_or_default, length-set}
 use Rattle.d64_image.specs.Image.{differences}
-use Rattle.d64_image.specs.Patch.{Kept, IsPatchOf, back, changed, taken}
+use Rattle.d64_image.specs.Patch.{Kept, IsPatchOf, restored_image, changed_blocks, taken_blocks}
 use Rattle.d64_image.specs.PatchList.{blocks_before}
-use Rattle.d64_image.proofs.Patches.{back-taken, taken-changed, length-back, rises-difference}
+use Rattle.d64_image.proofs.Patches.{restored_image-taken_blocks, taken_blocks-changed_blocks, length-restored_image, rises-difference}
 use Rattle.d64_image.proofs.PatchLists.{before-swapped}
-use Rattle.d64_undo.specs.History.{History, IsHistory, present, begun, added, record_len, record_at}
+use Rattle.d64_undo.specs.History.{History, IsHistory, present_image, new_history, extended_history, record_len, record_at}
 use Rattle.d64_undo.specs.Records.{images_of, AreRecords}
-use Rattle.d64_undo.proofs.Records.{length-images, image-at_cursor, images-begun, begun-records, AreBetween, IsBeside, length-added, kept_added, records_added, beside-differs, images-stepped, records-stepped, record-done, record-undone, lengths-undone, length-changed, length-changed_back}
+use Rattle.d64_undo.proofs.Records.{length-images, image-at_cursor, images-begun, begun-records, AreBetween, IsBeside, length-added, kept_added, records_added, beside-differs, images-stepped, records-stepped, record-done, record-undone, lengths-undone, length-changed_blocks, length-changed_back}
 
 -- the history of records, the present image, and how many records are done
 abbrev pub history_of : List Kept → List (List ℕ) → ℕ → History
@@ -21,8 +21,8 @@ same_images : (images others : List (List (List ℕ))) (cursor : ℕ) → images
     → (let h : History = record { images = images; cursor = cursor } in h) ≡ (let h : History = record { images = others; cursor = cursor } in h)
 same_images images others cursor e = ap (λ (xs : List (List (List ℕ))). let h : History = record { images = xs; cursor = cursor } in h) e
 
-pub history-begun : (records : List Kept) (image : List (List ℕ)) → records ≡ [] → history_of records image 0 ≡ begun image
-history-begun records image none =
+pub history-new_history : (records : List Kept) (image : List (List ℕ)) → records ≡ [] → history_of records image 0 ≡ new_history image
+history-new_history records image none =
     same_images (images_of records image 0) (image ∷ []) 0 (ap (λ (ps : List Kept). images_of ps image 0) none ∙ images-begun image)
 
 pub none-are_records : (records : List Kept) (image : List (List ℕ)) → records ≡ [] → AreRecords records image 0
@@ -56,14 +56,14 @@ stands {records} {image} {done} {history} h =
     let within = h.within in
     omega arith
 
-pub present_is : {records : List Kept} {image : List (List ℕ)} {done : ℕ} {history : History} → Holds records image done history → present history ≡ image
-present_is {records} {image} {done} {history} h = ap present (sym h.is) ∙ image-at_cursor records image done h.within
+pub present_is : {records : List Kept} {image : List (List ℕ)} {done : ℕ} {history : History} → Holds records image done history → present_image history ≡ image
+present_is {records} {image} {done} {history} h = ap present_image (sym h.is) ∙ image-at_cursor records image done h.within
 
 -- a record is added, and what lay after the cursor is dropped
-pub holds-added : {records : List Kept} {image : List (List ℕ)} {done : ℕ} {history : History} (kept : List Kept) (patch : Kept) (next : List (List ℕ)) (count : ℕ)
-    → Holds records image done history → kept ≡ take done records ++ patch ∷ [] → count ≡ done + 1 → back next patch ≡ image → patch ≡ changed image next
-    → Holds kept next count (added history next)
-holds-added {records} {image} {done} {history} kept patch next count h e n put_back differs =
+pub holds-extended_history : {records : List Kept} {image : List (List ℕ)} {done : ℕ} {history : History} (kept : List Kept) (patch : Kept) (next : List (List ℕ)) (count : ℕ)
+    → Holds records image done history → kept ≡ take done records ++ patch ∷ [] → count ≡ done + 1 → restored_image next patch ≡ image → patch ≡ changed_blocks image next
+    → Holds kept next count (extended_history history next)
+holds-extended_history {records} {image} {done} {history} kept patch next count h e n put_back differs =
     let long = length-added records kept patch done h.within e in
     record {
       within = omega arith;
@@ -72,7 +72,7 @@ holds-added {records} {image} {done} {history} kept patch next count h e n put_b
           ap (history_of kept next) n
           ∙ same_images (images_of kept next (done + 1)) (take (done + 1) (images_of records image done) ++ next ∷ []) (done + 1)
           (kept_added records kept patch image next done h.within e put_back)
-          ∙ ap (λ (other : History). added other next) h.is;
+          ∙ ap (λ (other : History). extended_history other next) h.is;
     }
 
 -- the cursor steps over a record, which is exchanged with the present image
@@ -95,16 +95,16 @@ holds-stepped {records} {image} {done} {history} other n cursor patch exchanged 
     }
 
 -- two images, and the patch between them that is exchanged with one
-swapped-between : (image : List (List ℕ)) (patch : Kept) → patch ≡ changed (back image patch) image → AreBetween image (back image patch) patch (taken image patch)
+swapped-between : (image : List (List ℕ)) (patch : Kept) → patch ≡ changed_blocks (restored_image image patch) image → AreBetween image (restored_image image patch) patch (taken_blocks image patch)
 swapped-between image patch is = record {
   there = refl;
-  here = back-taken patch image 0 (length image) (rises-difference image patch is);
+  here = restored_image-taken_blocks patch image 0 (length image) (rises-difference image patch is);
   is_patch = is;
-  is_exchanged = ap (taken image) is ∙ taken-changed (back image patch) image (length-back patch image);
+  is_exchanged = ap (taken_blocks image) is ∙ taken_blocks-changed_blocks (restored_image image patch) image (length-restored_image patch image);
 }
 
 differs : {records : List Kept} {image : List (List ℕ)} {done : ℕ} {history : History} (n cursor : ℕ) → Holds records image done history
-    → n < length records → IsBeside n done cursor → get_or records n [] ≡ changed (back image (get_or records n [])) image
+    → n < length records → IsBeside n done cursor → get_or records n [] ≡ changed_blocks (restored_image image (get_or records n [])) image
 differs {records} {image} {done} n cursor h lt beside =
     beside-differs records image n done cursor (get_or records n []) lt (get_or_default records n [] (get_or records n []) lt) beside h.lead
 
@@ -116,30 +116,30 @@ beside-patch {records} {image} {done} {history} n cursor h lt beside = rises-dif
 -- the cursor has stepped over a record, which is exchanged with the image
 pub holds-swapped : {records : List Kept} {image : List (List ℕ)} {done : ℕ} {history : History} (kept : List Kept) (other : List (List ℕ)) (n cursor : ℕ)
     → Holds records image done history → n < length records → IsBeside n done cursor
-    → kept ≡ set records n (taken image (get_or records n [])) → other ≡ back image (get_or records n [])
+    → kept ≡ set records n (taken_blocks image (get_or records n [])) → other ≡ restored_image image (get_or records n [])
     → Holds kept other cursor (record history { cursor = cursor })
 holds-swapped {records} {image} {done} {history} kept other n cursor h lt beside e f =
     let patch : Kept = get_or records n [] in
     let moved : History = record history { cursor = cursor } in
-    let stepped : Holds (set records n (taken image patch)) (back image patch) cursor moved =
-    holds-stepped (back image patch) n cursor patch (taken image patch) h lt (get_or_default records n [] patch lt)
+    let stepped : Holds (set records n (taken_blocks image patch)) (restored_image image patch) cursor moved =
+    holds-stepped (restored_image image patch) n cursor patch (taken_blocks image patch) h lt (get_or_default records n [] patch lt)
     (swapped-between image patch (differs n cursor h lt beside)) beside in
-    subst (λ (ks : List Kept). Holds ks other cursor moved) (sym e) (subst (λ (i : List (List ℕ)). Holds (set records n (taken image patch)) i cursor moved) (sym f) stepped)
+    subst (λ (ks : List Kept). Holds ks other cursor moved) (sym e) (subst (λ (i : List (List ℕ)). Holds (set records n (taken_blocks image patch)) i cursor moved) (sym f) stepped)
 
 -- the image is as long as before
 pub kind-swapped : {records kept : List Kept} {image other : List (List ℕ)} {done cursor : ℕ} {history moved : History} (n : ℕ)
-    → Holds records image done history → Holds kept other cursor moved → other ≡ back image (get_or records n [])
-    → length (present moved) ≡ length (present history)
+    → Holds records image done history → Holds kept other cursor moved → other ≡ restored_image image (get_or records n [])
+    → length (present_image moved) ≡ length (present_image history)
 kind-swapped {records} {image = image} n h k f =
-    ap length (present_is k) ∙ ap (λ (i : List (List ℕ)). length i) f ∙ length-back (get_or records n []) image ∙ sym (ap length (present_is h))
+    ap length (present_is k) ∙ ap (λ (i : List (List ℕ)). length i) f ∙ length-restored_image (get_or records n []) image ∙ sym (ap length (present_is h))
 
 -- as many records, and as many blocks before each
-pub length-swapped : (records kept : List Kept) (image : List (List ℕ)) (n : ℕ) → kept ≡ set records n (taken image (get_or records n []))
+pub length-swapped : (records kept : List Kept) (image : List (List ℕ)) (n : ℕ) → kept ≡ set records n (taken_blocks image (get_or records n []))
     → length kept ≡ length records
-length-swapped records kept image n e = ap (λ (rs : List Kept). length rs) e ∙ length-set records n (taken image (get_or records n []))
+length-swapped records kept image n e = ap (λ (rs : List Kept). length rs) e ∙ length-set records n (taken_blocks image (get_or records n []))
 
 pub places-swapped : (records kept : List Kept) (image : List (List ℕ)) (n m : ℕ) → n < length records
-    → kept ≡ set records n (taken image (get_or records n [])) → blocks_before kept m ≡ blocks_before records m
+    → kept ≡ set records n (taken_blocks image (get_or records n [])) → blocks_before kept m ≡ blocks_before records m
 places-swapped records kept image n m h e = ap (λ (rs : List Kept). blocks_before rs m) e ∙ before-swapped records image n m h
 
 -- a record is left where one can be redone
@@ -169,8 +169,8 @@ pub record_found : {records : List Kept} {image : List (List ℕ)} {done : ℕ} 
     → number < length records → patch ≡ get_or records number patch → Some patch ≡ record_at history number
 record_found {records} {image} {done} {history} number patch holds h read =
     let images = images_of records image done in
-    let first : Kept = changed (get_or images number []) (get_or images (number + 1) []) in
-    let second : Kept = changed (get_or images (number + 1) []) (get_or images number []) in
+    let first : Kept = changed_blocks (get_or images number []) (get_or images (number + 1) []) in
+    let second : Kept = changed_blocks (get_or images (number + 1) []) (get_or images number []) in
     let found = found records image done number holds.within h in
     let same : patch ≡ get_or records number [] = read ∙ get_or_default records number patch [] h in
     elim (cases_lt number done) [
@@ -190,8 +190,8 @@ pub record_missing : {records : List Kept} {image : List (List ℕ)} {done : ℕ
     → length records ≤ number → (None ≡ record_at history number) × (None ≡ record_len history number)
 record_missing {records} {image} {done} {history} number holds h =
     let images = images_of records image done in
-    let first : Kept = changed (get_or images number []) (get_or images (number + 1) []) in
-    let second : Kept = changed (get_or images (number + 1) []) (get_or images number []) in
+    let first : Kept = changed_blocks (get_or images number []) (get_or images (number + 1) []) in
+    let second : Kept = changed_blocks (get_or images (number + 1) []) (get_or images number []) in
     let missing = missing records image done number holds.within h in (
       sym (ap (λ (t : Bool). cond t (Some (cond (nat_lt number done) first second)) None) missing) ∙ ap (λ (h : History). record_at h number) holds.is,
       sym (ap (λ (t : Bool). cond t (Some (length (differences (get_or images number []) (get_or images (number + 1) [])))) None) missing)
@@ -207,7 +207,7 @@ record_counted {records} {image} {done} {history} number patch holds h read =
     let found = found records image done number holds.within h in
     let same : patch ≡ get_or records number [] = read ∙ get_or_default records number patch [] h in
     let count : length patch ≡ length (differences this next) = elim (cases_lt number done) [
-      | inl before ↦ ap length (same ∙ record-done records image done number holds.within before holds.lead) ∙ length-changed this next
+      | inl before ↦ ap length (same ∙ record-done records image done number holds.within before holds.lead) ∙ length-changed_blocks this next
       | inr after ↦
           ap length (same ∙ record-undone records image done number after h holds.lead)
           ∙ length-changed_back this next (sym (lengths-undone records image done number after h))

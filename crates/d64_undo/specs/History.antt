@@ -2,7 +2,7 @@
 use Rattle.std.specs.Prelude.{ℕ, ◌+◌, ◌-◌, ◌<◌, nat_lt, if◌then◌else◌, Option, Some, None, List, [], ◌∷◌, ◌++◌, length, take, slice_index_or}
 use Rattle.d64_image.specs.Disk.{Disk}
 use Rattle.d64_image.specs.Image.{differences}
-use Rattle.d64_image.specs.Patch.{Kept, changed}
+use Rattle.d64_image.specs.Patch.{Kept, changed_blocks}
 
 -- a history is a list of whole images with a cursor
 pub record History : Type 0 where
@@ -18,28 +18,28 @@ abbrev pub image_at : History → ℕ → Disk
 image_at history place = slice_index_or history.images place []
 
 -- the image at the cursor
-abbrev pub present : History → Disk
-present history = image_at history history.cursor
+abbrev pub present_image : History → Disk
+present_image history = image_at history history.cursor
 
 -- the history that begins with an image
-abbrev pub begun : Disk → History
-begun image = record { images = image ∷ []; cursor = 0 }
+abbrev pub new_history : Disk → History
+new_history image = record { images = image ∷ []; cursor = 0 }
 
 -- an image is added after the present one, and what lay after the cursor is dropped, also where
 -- nothing changed
-abbrev pub added : History → Disk → History
-added history image = record {
+abbrev pub extended_history : History → Disk → History
+extended_history history image = record {
   images = take (history.cursor + 1) history.images ++ image ∷ [];
   cursor = history.cursor + 1;
 }
 
 -- the cursor one image back
-abbrev pub undone : History → History
-undone history = record history { cursor = history.cursor - 1 }
+abbrev pub undone_history : History → History
+undone_history history = record history { cursor = history.cursor - 1 }
 
 -- the cursor one image on
-abbrev pub redone : History → History
-redone history = record history { cursor = history.cursor + 1 }
+abbrev pub redone_history : History → History
+redone_history history = record history { cursor = history.cursor + 1 }
 
 -- in how many blocks the images before and after a record differ, where the history has that
 -- record: each is numbered from 0, as the image before it
@@ -54,8 +54,8 @@ record_len history number =
 abbrev pub record_blocks : History → ℕ → Kept
 record_blocks history number =
     if nat_lt number history.cursor
-    then changed (image_at history number) (image_at history (number + 1))
-    else changed (image_at history (number + 1)) (image_at history number)
+    then changed_blocks (image_at history number) (image_at history (number + 1))
+    else changed_blocks (image_at history (number + 1)) (image_at history number)
 
 -- these blocks of a record, where the history has that record
 abbrev pub record_at : History → ℕ → Option Kept

@@ -2,17 +2,17 @@
 use Rattle.std.specs.Prelude.{◌≡◌, ℕ, ◌+◌, ◌-◌, ◌<◌, ◌≤◌, List, ◌∷◌, [], length, fold, slice_index_or}
 use Rattle.std.specs.Fn.{iterate}
 use Rattle.d64_image.specs.Disk.{Disk}
-use Rattle.d64_undo.specs.History.{History, IsHistory, present, added, undone, redone}
+use Rattle.d64_undo.specs.History.{History, IsHistory, present_image, extended_history, undone_history, redone_history}
 
 -- undo after an accepted command gives the image from before it
 abbrev pub UndoAfterCommand : Type 0
 UndoAfterCommand =
-    (history : History) (image : Disk) → IsHistory history → present (undone (added history image)) ≡ present history
+    (history : History) (image : Disk) → IsHistory history → present_image (undone_history (extended_history history image)) ≡ present_image history
 
 -- redo takes back an undo that was possible, and undo takes back a redo
 pub record Inverse (history : History) : Type 0 where
-  pub redo : 0 < history.cursor → redone (undone history) ≡ history
-  pub undo : undone (redone history) ≡ history
+  pub redo : 0 < history.cursor → redone_history (undone_history history) ≡ history
+  pub undo : undone_history (redone_history history) ≡ history
 
 -- redo after undo gives the history back, and so the image
 abbrev pub RedoAfterUndo : Type 0
@@ -20,15 +20,15 @@ RedoAfterUndo = (history : History) → Inverse history
 
 -- the history after commands were accepted, each with its image
 abbrev pub added_all : History → List Disk → History
-added_all history images = fold added history images
+added_all history images = fold extended_history history images
 
 -- the history after undos
 abbrev pub undone_by : ℕ → History → History
-undone_by count history = iterate undone count history
+undone_by count history = iterate undone_history count history
 
 -- the history after redos
 abbrev pub redone_by : ℕ → History → History
-redone_by count history = iterate redone count history
+redone_by count history = iterate redone_history count history
 
 -- after accepted commands, as many undos as there were commands are possible, then as many redos as
 -- there were undos; the undos, and each redo after them, stand on the image that stood there while
@@ -39,8 +39,8 @@ pub record Retraces (history : History) (images : List Disk) (undos : ℕ) : Typ
       → (redone_by redos (undone_by undos (added_all history images))).cursor + 1
       < length (redone_by redos (undone_by undos (added_all history images))).images
   pub image : (redos : ℕ) → redos ≤ undos
-      → present (redone_by redos (undone_by undos (added_all history images)))
-      ≡ slice_index_or (present history ∷ images) (length images - undos + redos) []
+      → present_image (redone_by redos (undone_by undos (added_all history images)))
+      ≡ slice_index_or (present_image history ∷ images) (length images - undos + redos) []
 
 -- undos after accepted commands, and then redos, pass through each image again
 abbrev pub Retraced : Type 0

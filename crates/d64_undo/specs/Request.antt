@@ -1,10 +1,10 @@
 -- Requests to a session, their answers, and runs of them.
 use Rattle.std.specs.Prelude.{◌≡◌, ◌≢◌, ◌+◌, ◌<◌, ◌≤◌, List, [], ◌∷◌, length, None, All}
 use Rattle.d64_image.specs.Disk.{Disk}
-use Rattle.d64_dos.specs.Command.{after, reply_to, refusal_of, IsWithin}
+use Rattle.d64_dos.specs.Command.{image_after, reply_to, refusal_of, IsWithin}
 use Rattle.d64_dos.specs.Refusal.{cause_of}
-use Rattle.d64_undo.specs.History.{History, present, added, undone, redone}
-use Rattle.d64_dos.specs.Change.{Change, said}
+use Rattle.d64_undo.specs.History.{History, present_image, extended_history, undone_history, redone_history}
+use Rattle.d64_dos.specs.Change.{Change, change_of}
 use Rattle.d64_dos.specs.declared.refusal.Refusal.TheVariants.{Memory}
 use Rattle.d64_undo.specs.declared.request.Request.{Request}
 use Rattle.d64_undo.specs.declared.request.Request.TheVariants as requests
@@ -20,7 +20,7 @@ pub data Asked : Type 0 where
 
 -- what a request asks
 abbrev pub asked_by : Request → Asked
-asked_by (requests.Apply command) = Apply (said command)
+asked_by (requests.Apply command) = Apply (change_of command)
 asked_by requests.Undo = Undo
 asked_by requests.Redo = Redo
 
@@ -34,14 +34,14 @@ IsAskedOf image Redo = Unit {0}
 -- in the place of an acceptance
 abbrev pub Step : History → Asked → Answer → History → Type 0
 Step history (Apply change) (Accepted reply) next =
-    (refusal_of (present history) change ≡ None)
-    × (reply ≡ reply_to (present history) change)
-    × (next ≡ added history (after (present history) change))
+    (refusal_of (present_image history) change ≡ None)
+    × (reply ≡ reply_to (present_image history) change)
+    × (next ≡ extended_history history (image_after (present_image history) change))
 Step history (Apply change) (Refused refusal) next =
-    (cause_of refusal ≡ refusal_of (present history) change) × (next ≡ history)
-Step history Undo Undone next = (0 < history.cursor) × (next ≡ undone history)
+    (cause_of refusal ≡ refusal_of (present_image history) change) × (next ≡ history)
+Step history Undo Undone next = (0 < history.cursor) × (next ≡ undone_history history)
 Step history Undo NothingToUndo next = (history.cursor ≡ 0) × (next ≡ history)
-Step history Redo Redone next = (history.cursor + 1 < length history.images) × (next ≡ redone history)
+Step history Redo Redone next = (history.cursor + 1 < length history.images) × (next ≡ redone_history history)
 Step history Redo NothingToRedo next = (length history.images ≤ history.cursor + 1) × (next ≡ history)
 Step history request answer next = ⊥
 
@@ -72,4 +72,4 @@ MemoryForAcceptance =
     (history : History) (request : Asked) (next : History)
     → Step history request (Refused Memory) next
     → (next ≡ history) × ((change : Change) × ((request ≡ Apply change)
-    × Step history request (Accepted (reply_to (present history) change)) (added history (after (present history) change))))
+    × Step history request (Accepted (reply_to (present_image history) change)) (extended_history history (image_after (present_image history) change))))

@@ -8,7 +8,7 @@ use Rattle.std.specs.Simd.{first_chunks}
 use Rattle.d64_image.specs.Disk.{Disk, Bytes}
 use Rattle.d64_image.specs.declared.image.TheConstants.{BLOCK_BYTES}
 use Rattle.d64_image.specs.Image.{blocks_of, sector_at}
-use Rattle.d64_image.specs.Patch.{Kept, back}
+use Rattle.d64_image.specs.Patch.{Kept, restored_image}
 use Rattle.d64_undo.specs.SessionFile.{magic}
 use Rattle.d64_undo.specs.declared.resume_fault.ResumeFault.{ResumeFault}
 use Rattle.d64_undo.specs.declared.resume_fault.ResumeFault.TheVariants.{NotSession, Truncated, Trailing, BadCursor, BadRecord, Memory}
@@ -132,7 +132,7 @@ all_differ image patch = list_all (λ entry. not (pointwise nat_eq entry.1 (sect
 -- right before the record is put back
 unfoldable pub differ_along : Disk → List Kept → Bool
 differ_along image [] = true
-differ_along image (patch ∷ patches) = all_differ image patch && differ_along (back image patch) patches
+differ_along image (patch ∷ patches) = all_differ image patch && differ_along (restored_image image patch) patches
 
 -- each block of the records differs from that of the image at its moment, both ways from the
 -- present image: back along those that are done, and on along the others

@@ -58,9 +58,9 @@ abbrev pub IsEndOf : Bytes → Bytes → Type 0
 IsEndOf rest bytes = (front : Bytes) × (bytes ≡ front ++ rest)
 
 -- the bytes that were given: those of which parts were read, and the rest
-abbrev pub given : Option FileParts → Bytes → Bytes
-given None rest = rest
-given (Some parts) rest = start_file parts.image parts.done parts.count ++ (flat_map record_file parts.records ++ rest)
+abbrev pub given_bytes : Option FileParts → Bytes → Bytes
+given_bytes None rest = rest
+given_bytes (Some parts) rest = start_file parts.image parts.done parts.count ++ (flat_map record_file parts.records ++ rest)
 
 -- the records on one side of a place, as they are gone along: those after it in their order, or those
 -- before it, the last one first

@@ -5,7 +5,7 @@ use Rattle.std.specs.List.{flat_map, range_with_len}
 use Rattle.d64_image.specs.Disk.{Disk, Bytes}
 use Rattle.d64_image.specs.Image.{IsImage, tracks_of, bytes_of}
 use Rattle.d64_image.specs.Patch.{Kept}
-use Rattle.d64_undo.specs.History.{History, IsHistory, present, record_blocks}
+use Rattle.d64_undo.specs.History.{History, IsHistory, present_image, record_blocks}
 
 -- the bytes with which each session file begins: D64S
 abbrev pub magic : Bytes
@@ -30,12 +30,12 @@ records_of history = map (record_blocks history) (range_with_len 0 (length histo
 
 -- the file of a history
 abbrev pub file_of : History → Bytes
-file_of history = file_with (present history) history.cursor (records_of history)
+file_of history = file_with (present_image history) history.cursor (records_of history)
 
 -- the histories that a session can hold: the cursor stands on one of the images, these are images
 -- of disks of as many tracks, and a number of 64 bits counts the records
 pub record IsSession (history : History) : Type 0 where
   pub cursor : IsHistory history
   pub images : All IsImage history.images
-  pub kind : All (λ image. length image ≡ length (present history)) history.images
+  pub kind : All (λ image. length image ≡ length (present_image history)) history.images
   pub count : length history.images ≤ 2 ^ 64

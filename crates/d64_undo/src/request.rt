@@ -1,6 +1,6 @@
 //! Requests to a session, and whole runs of them.
 ghost use Rattle.std.specs.Prelude.{◌≡◌, length, map, All, IfOk, OnErr};
-ghost use Rattle.d64_undo.specs.History.{present};
+ghost use Rattle.d64_undo.specs.History.{present_image};
 ghost use Rattle.d64_undo.specs.Request.{asked_by, IsAskedOf, Step, Run};
 
 use crate::session::{NothingToRedo, NothingToUndo, Session};
@@ -29,9 +29,9 @@ pub enum Answer {
 
 /// The answer to one request.
 fn run_one(session: &mut Session, request: &Request) -> Answer
-    requires { IsAskedOf (present session.old) (asked_by request.now) }
+    requires { IsAskedOf (present_image session.old) (asked_by request.now) }
     ensures step { Step session.old (asked_by request.now) result session.new }
-    ensures kind { length (present session.new) ≡ length (present session.old) }
+    ensures kind { length (present_image session.new) ≡ length (present_image session.old) }
 {
     match request {
         Request::Apply(command) => match session.run(command) {
@@ -56,7 +56,7 @@ pub fn run_all(
     session: &mut Session,
     requests: &[Request],
 ) -> Result<Vec<Answer>, AllocError>
-    requires { All (λ request. IsAskedOf (present session.old) (asked_by request)) requests.now }
+    requires { All (λ request. IsAskedOf (present_image session.old) (asked_by request)) requests.now }
     ensures ran { IfOk result (λ answers. Run session.old (map asked_by requests.now) answers.items session.new) }
     ensures unchanged { OnErr result (session.new ≡ session.old) }
 {

@@ -3,7 +3,7 @@ ghost use Rattle.std.specs.Prelude.{◌≡◌, ◌++◌, ◌≤◌, Some, [], le
 ghost use Rattle.d64_image.specs.Disk.{Bytes};
 ghost use Rattle.d64_undo.specs.ResumeFault.{first_fault, refused_by, told_by, parts_at};
 ghost use Rattle.d64_undo.specs.declared.resuming.TheConstants.{PART_BYTES};
-ghost use Rattle.d64_undo.specs.Resuming.{AreStarted, Fails, IsEndOf, IsStarted, given};
+ghost use Rattle.d64_undo.specs.Resuming.{AreStarted, Fails, IsEndOf, IsStarted, given_bytes};
 ghost use Rattle.d64_undo.specs.SessionFile.{file_of, IsSession};
 
 use crate::file_parts::{FileParts, read_records, read_start};
@@ -33,11 +33,11 @@ pub struct Resuming {
 
 impl Model for Resuming {
     ghost use Rattle.d64_image.specs.Disk.{Bytes};
-    ghost use Rattle.d64_undo.specs.Resuming.{AreStarted, given};
+    ghost use Rattle.d64_undo.specs.Resuming.{AreStarted, given_bytes};
 
     ghost Value = { Bytes };
 
-    ghost view = { λ file. given file.parts file.rest.items };
+    ghost view = { λ file. given_bytes file.parts file.rest.items };
 
     ghost invariant = { λ file. AreStarted file.parts };
 }
@@ -110,10 +110,10 @@ fn started(
 ) -> Result<(FileParts, &[u8]), ResumeFault>
     requires { AreStarted parts }
     ensures started { IfOk result (λ x. IsStarted x.0) }
-    ensures given { IfOk result (λ x. given (Some x.0) x.1.now ≡ given parts rest.now) }
+    ensures given { IfOk result (λ x. given_bytes (Some x.0) x.1.now ≡ given_bytes parts rest.now) }
     ensures end { IfOk result (λ x. IsEndOf x.1.now rest.now) }
-    ensures fault { IfErr result (λ fault. Fails fault (parts_at (given parts rest.now))) }
-    ensures early { PART_BYTES ≤ length rest.now → IfErr result (λ fault. (more : Bytes) → Fails fault (parts_at (given parts rest.now ++ more))) }
+    ensures fault { IfErr result (λ fault. Fails fault (parts_at (given_bytes parts rest.now))) }
+    ensures early { PART_BYTES ≤ length rest.now → IfErr result (λ fault. (more : Bytes) → Fails fault (parts_at (given_bytes parts rest.now ++ more))) }
 {
     match parts {
         Some(parts) => Ok((parts, rest)),
@@ -127,8 +127,8 @@ fn started(
 /// The session of the parts that were read of a file, and of the bytes after them.
 fn session_of(alloc: Global, parts: Option<FileParts>, rest: &[u8]) -> Result<Session, ResumeFault>
     requires { AreStarted parts }
-    ensures refused { refused_by result (first_fault (given parts rest.now)) ≡ first_fault (given parts rest.now) }
-    ensures file { IfOk result (λ session. file_of session ≡ given parts rest.now) }
+    ensures refused { refused_by result (first_fault (given_bytes parts rest.now)) ≡ first_fault (given_bytes parts rest.now) }
+    ensures file { IfOk result (λ session. file_of session ≡ given_bytes parts rest.now) }
     ensures session { IfOk result IsSession }
 {
     let (mut parts, rest) = started(alloc, parts, rest)?;

@@ -1,10 +1,10 @@
 //! Sessions: an image with undo and redo.
 ghost use Rattle.std.specs.Prelude.{◌≡◌, ◌+◌, ◌^◌, ◌<◌, ◌≤◌, ◌↔◌, ◌⊎◌, length, option_copied, IsOk, OnOk, OnErr, IfOk};
-ghost use Rattle.d64_dos.specs.Change.{said};
-ghost use Rattle.d64_dos.specs.Command.{after, reply_to, refusal_of, IsWithin};
+ghost use Rattle.d64_dos.specs.Change.{change_of};
+ghost use Rattle.d64_dos.specs.Command.{image_after, reply_to, refusal_of, IsWithin};
 ghost use Rattle.d64_dos.specs.Refusal.{refused_by};
 ghost use Rattle.d64_effects.specs.View.{IsSound};
-ghost use Rattle.d64_undo.specs.History.{IsHistory, present, begun, added, undone, redone, record_len, record_at};
+ghost use Rattle.d64_undo.specs.History.{IsHistory, present_image, new_history, extended_history, undone_history, redone_history, record_len, record_at};
 ghost use Rattle.d64_undo.specs.Records.{images_of, AreRecords};
 ghost use Rattle.d64_undo.specs.SessionFile.{file_of, IsSession};
 ghost use Rattle.d64_undo.specs.SoundHistory.{IsSoundHistory, KeepsSound};
@@ -67,7 +67,7 @@ impl Model for Session {
 impl Session {
     /// The session that begins with an image, with nothing to undo or redo. Takes no memory.
     pub fn new(alloc: Global, image: Image) -> Session
-        ensures begun { result ≡ begun image }
+        ensures begun { result ≡ new_history image }
         ensures sound { IsSound image → IsSoundHistory result }
     {
         let records = PatchList::new(alloc);
@@ -106,7 +106,7 @@ impl Session {
 
     /// The present image.
     pub fn image(&self) -> &Image
-        ensures present { result.now ≡ present self.now }
+        ensures present { result.now ≡ present_image self.now }
         ensures history { IsHistory self.now }
     {
         &self.image
@@ -167,13 +167,13 @@ impl Session {
     /// Where all images of the history are sound, so are all after an accepted file command, and
     /// after every refusal.
     pub fn run(&mut self, command: &Command) -> Result<Reply, Refusal>
-        requires { IsWithin (present self.old) (said command.now) }
-        ensures refused { refused_by result ≡ refusal_of (present self.old) (said command.now) }
-        ensures reply { IfOk result (λ reply. reply ≡ reply_to (present self.old) (said command.now)) }
-        ensures accepted { OnOk result (self.new ≡ added self.old (after (present self.old) (said command.now))) }
+        requires { IsWithin (present_image self.old) (change_of command.now) }
+        ensures refused { refused_by result ≡ refusal_of (present_image self.old) (change_of command.now) }
+        ensures reply { IfOk result (λ reply. reply ≡ reply_to (present_image self.old) (change_of command.now)) }
+        ensures accepted { OnOk result (self.new ≡ extended_history self.old (image_after (present_image self.old) (change_of command.now))) }
         ensures unchanged { OnErr result (self.new ≡ self.old) }
-        ensures kind { length (present self.new) ≡ length (present self.old) }
-        ensures sound { KeepsSound (said command.now) result → IsSoundHistory self.old → IsSoundHistory self.new }
+        ensures kind { length (present_image self.new) ≡ length (present_image self.old) }
+        ensures sound { KeepsSound (change_of command.now) result → IsSoundHistory self.old → IsSoundHistory self.new }
     {
         let reply = apply_knowing(&mut self.image, &mut self.change, command, self.is_sound)?;
         let kept = self.records.replace_from(self.cursor, &self.change);
@@ -191,9 +191,9 @@ impl Session {
     /// Goes one record back. Refused where none is done. Takes no memory.
     pub fn undo(&mut self) -> Result<(), NothingToUndo>
         ensures possible { IsOk result ↔ (0 < self.old.cursor) }
-        ensures moved { OnOk result (self.new ≡ undone self.old) }
+        ensures moved { OnOk result (self.new ≡ undone_history self.old) }
         ensures unchanged { OnErr result (self.new ≡ self.old) }
-        ensures kind { length (present self.new) ≡ length (present self.old) }
+        ensures kind { length (present_image self.new) ≡ length (present_image self.old) }
         ensures sound { IsSoundHistory self.old → IsSoundHistory self.new }
     {
         if self.cursor.number == 0 {
@@ -209,9 +209,9 @@ impl Session {
     /// Goes one record forward. Refused where none is undone. Takes no memory.
     pub fn redo(&mut self) -> Result<(), NothingToRedo>
         ensures possible { IsOk result ↔ (self.old.cursor + 1 < length self.old.images) }
-        ensures moved { OnOk result (self.new ≡ redone self.old) }
+        ensures moved { OnOk result (self.new ≡ redone_history self.old) }
         ensures unchanged { OnErr result (self.new ≡ self.old) }
-        ensures kind { length (present self.new) ≡ length (present self.old) }
+        ensures kind { length (present_image self.new) ≡ length (present_image self.old) }
         ensures sound { IsSoundHistory self.old → IsSoundHistory self.new }
     {
         if self.undone() == 0 {

@@ -5,7 +5,7 @@ use Rattle.std.specs.Str.{is_utf8}
 use Rattle.d64_host.specs.Files.{HostState}
 use Rattle.d64_inventory.specs.Rows.{RowView}
 use Rattle.d64_extract.specs.Portions.{Portion, portion_at}
-use Rattle.d64_extract.specs.Limits.{left_after, within}
+use Rattle.d64_extract.specs.Limits.{left_after, portion_within}
 use Rattle.d64_extract.specs.declared.extent.Extent.{Extent}
 use Rattle.d64_words.specs.declared.asked.Format.TheVariants.{Json}
 use Rattle.d64_wording.specs.FaultLines.{too_much_line}
@@ -13,9 +13,9 @@ use Rattle.d64_listing.specs.Files.{after_rows}
 use Rattle.d64_listing.specs.Extracts.{printed_file}
 use Rattle.d64_unpack.specs.Setup.{TaskView}
 use Rattle.d64_unpack.specs.Paths.{path_in}
-use Rattle.d64_unpack.specs.Progress.{Progress, portion_of, host_name, told, spent, named, tried}
+use Rattle.d64_unpack.specs.Progress.{Progress, portion_of, host_name, told_progress, spent_progress, named_progress, tried_progress}
 use Rattle.d64_unpack.specs.Work.{Work, NewFile, SaysFile, LeadsTo}
-use Rattle.d64_unpack.specs.Unpacking.{closed, write_work, file_work, files_work, list_work}
+use Rattle.d64_unpack.specs.Unpacking.{closed_progress, write_work, file_work, files_work, list_work}
 use Rattle.d64_unpack.proofs.Steps.{asked}
 
 -- a test of whether none is there
@@ -29,16 +29,16 @@ not_over false over e f = absurd (let g : false ≡ true = sym f ∙ e in cc)
 
 -- all files have come, with too many bytes
 pub closed_over : (task : TaskView) (p : Progress) (printed complaint : List ℕ) (over : Bool) → printed ≡ p.printed ++ after_rows task.setup.form task.dump → over ≡ not (is_some p.left) → over ≡ true
-    → complaint ≡ p.complaint ++ too_much_line task.name → record p { printed = printed; complaint = complaint } ≡ closed task p
-unfolding closed
+    → complaint ≡ p.complaint ++ too_much_line task.name → record p { printed = printed; complaint = complaint } ≡ closed_progress task p
+unfolding closed_progress
 closed_over task p printed complaint over is_printed is_over is_true is_complaint =
     ap₂ (λ (a b : List ℕ). record p { printed = a; complaint = b }) is_printed
     (is_complaint ∙ sym (ap (λ (t : Bool). p.complaint ++ cond t [] (too_much_line task.name)) (is_some_by (is_some p.left) over is_over is_true)))
 
 -- and without
 pub closed_within : (task : TaskView) (p : Progress) (printed : List ℕ) (over : Bool) → printed ≡ p.printed ++ after_rows task.setup.form task.dump → over ≡ not (is_some p.left) → over ≡ false
-    → record p { printed = printed } ≡ closed task p
-unfolding closed
+    → record p { printed = printed } ≡ closed_progress task p
+unfolding closed_progress
 closed_within task p printed over is_printed is_over is_false =
     ap₂ (λ (a b : List ℕ). record p { printed = a; complaint = b }) is_printed
     (sym (append-nil p.complaint) ∙ sym (ap (λ (t : Bool). p.complaint ++ cond t [] (too_much_line task.name)) (not_over (is_some p.left) over is_over is_false)))
@@ -46,9 +46,9 @@ closed_within task p printed over is_printed is_over is_false =
 -- a file was written, or wasn't
 pub wrote : (task : TaskView) (row : RowView) (file bytes path given : List ℕ) (p : Progress) (rest : Progress → Work) (old now : HostState) (said : Bool)
     → path ≡ path_in task.partial file → given ≡ bytes → SaysFile (is_utf8 path) path given old said now
-    → LeadsTo (write_work task row file bytes p rest) old (rest (tried task row file said p)) now
+    → LeadsTo (write_work task row file bytes p rest) old (rest (tried_progress task row file said p)) now
 wrote task row file bytes path given p rest old now said path_is given_is says =
-    asked (NewFile (path_in task.partial file) bytes) (λ is_written. rest (tried task row file is_written p)) old now said
+    asked (NewFile (path_in task.partial file) bytes) (λ is_written. rest (tried_progress task row file is_written p)) old now said
     (subst (λ (b : List ℕ). SaysFile (is_utf8 (path_in task.partial file)) (path_in task.partial file) b old said now) given_is
     (subst (λ (q : List ℕ). SaysFile (is_utf8 q) q given old said now) path_is says))
 
@@ -56,25 +56,25 @@ wrote task row file bytes path given p rest old now said path_is given_is says =
 pub told_none : {A E : Type 0} (result : Result A E) (task : TaskView) (row : RowView) (p : Progress) (left : Option ℕ) (printed lines complaint : List ℕ) (failed : Bool)
     → left ≡ left_after p.left (portion_of task row) → OnOk result (printed ≡ p.printed ++ printed_file task.setup.form task.name row None)
     → OnOk result (lines ≡ p.lines ++ printed_file Json task.name row None) → complaint ≡ p.complaint → failed ≡ p.has_failed
-    → OnOk result (◌≡◌ {A = Progress} (record { left = left; taken = p.taken; printed = printed; lines = lines; complaint = complaint; has_failed = failed }) (told task row None (spent task row p)))
-unfolding told
+    → OnOk result (◌≡◌ {A = Progress} (record { left = left; taken = p.taken; printed = printed; lines = lines; complaint = complaint; has_failed = failed }) (told_progress task row None (spent_progress task row p)))
+unfolding told_progress
 told_none (Ok done) task row p left printed lines complaint failed l pr li co fa =
     λ i. record { left = l i; taken = p.taken; printed = pr i; lines = li i; complaint = co i; has_failed = fa i }
 told_none (Err fault) task row p left printed lines complaint failed l pr li co fa = tt
 
 -- what there is to write is what is written, where this is found of it
 pub file_none : (task : TaskView) (row : RowView) (p : Progress) (portion : Option Portion) (rest : Progress → Work) → None ≡ portion
-    → rest (told task row None p) ≡ file_work task row p portion rest
+    → rest (told_progress task row None p) ≡ file_work task row p portion rest
 unfolding file_work
 file_none task row p portion rest is = ap (λ (q : Option Portion). file_work task row p q rest) is
 
 pub file_some : (task : TaskView) (row : RowView) (p q : Progress) (bytes file : List ℕ) (extent : Extent) (portion : Option Portion) (rest : Progress → Work)
-    → Some (record { bytes = bytes; extent = extent }) ≡ portion → file ≡ host_name p.taken row extent → q ≡ named file p
+    → Some (record { bytes = bytes; extent = extent }) ≡ portion → file ≡ host_name p.taken row extent → q ≡ named_progress file p
     → write_work task row file bytes q rest ≡ file_work task row p portion rest
 unfolding file_work
 file_some task row p q bytes file extent portion rest is file_is q_is =
     ap (λ (r : Progress). write_work task row file bytes r rest) q_is
-    ∙ ap (λ (f : List ℕ). write_work task row f bytes (named f p) rest) file_is
+    ∙ ap (λ (f : List ℕ). write_work task row f bytes (named_progress f p) rest) file_is
     ∙ ap (λ (o : Option Portion). file_work task row p o rest) is
 
 -- what there is to write of the file of a row, by what the code asks for
@@ -86,11 +86,11 @@ portion_same task row with_parts image slot is_parts is_image is_slot =
 
 -- one more file
 pub next_file : (task : TaskView) (row : RowView) (later all : List RowView) (p : Progress) → all ≡ row ∷ later
-    → file_work task row (spent task row p) (within p.left (portion_of task row)) (files_work task later) ≡ files_work task all p
+    → file_work task row (spent_progress task row p) (portion_within p.left (portion_of task row)) (files_work task later) ≡ files_work task all p
 unfolding files_work
 next_file task row later all p is = sym (ap (λ (rs : List RowView). files_work task rs p) is)
 
 -- the list of the files has come
-pub all_listed : (task : TaskView) (p q : Progress) → q ≡ closed task p → list_work task q ≡ files_work task [] p
+pub all_listed : (task : TaskView) (p q : Progress) → q ≡ closed_progress task p → list_work task q ≡ files_work task [] p
 unfolding files_work
 all_listed task p q is = ap (list_work task) is

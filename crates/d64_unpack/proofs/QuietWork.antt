@@ -6,7 +6,7 @@ use Rattle.d64_host.specs.Files.{HostState}
 use Rattle.d64_survey.specs.Dump.{DumpView}
 use Rattle.d64_inventory.specs.Rows.{RowView, rows}
 use Rattle.d64_extract.specs.Portions.{Portion}
-use Rattle.d64_extract.specs.Limits.{within}
+use Rattle.d64_extract.specs.Limits.{portion_within}
 use Rattle.d64_report.specs.DumpOf.{dump_of}
 use Rattle.d64_wording.specs.FaultLines.{too_much_line}
 use Rattle.d64_collection.specs.Answers.{Answer}
@@ -14,10 +14,10 @@ use Rattle.d64_collection.specs.declared.report.Verdict.TheVariants.{Clean, Amis
 use Rattle.d64_host_names.specs.ImagePlace.{folders_of}
 use Rattle.d64_inventory.specs.ListingAmiss.{is_listing_amiss}
 use Rattle.d64_unpack.specs.Setup.{SetupView, TaskView}
-use Rattle.d64_unpack.specs.Paths.{inside, with_slash}
+use Rattle.d64_unpack.specs.Paths.{path_inside, with_slash}
 use Rattle.d64_unpack.specs.Work.{Work, Done, Then, Rename, Does}
-use Rattle.d64_unpack.specs.Progress.{Progress, begun, portion_of, host_name, told, spent, named, tried}
-use Rattle.d64_unpack.specs.Unpacking.{unread, skipped, present, finished, unnamed, unfinished, closed, name_work, list_work, file_work, files_work, folder_work, folders_work, folder_after, task_work_with, task_of, dump_work, unpacking}
+use Rattle.d64_unpack.specs.Progress.{Progress, first_progress, portion_of, host_name, told_progress, spent_progress, named_progress, tried_progress}
+use Rattle.d64_unpack.specs.Unpacking.{unread_answer, skipped_answer, present_answer, finished_answer, unnamed_answer, unfinished_answer, closed_progress, name_work, list_work, file_work, files_work, folder_work, folders_work, folder_after, task_work_with, task_of, dump_work, unpacking}
 use Rattle.d64_unpack.specs.UnpackLaws.{CleanIsQuiet}
 
 -- whatever the host says, nothing is complained of where the verdict is clean
@@ -40,8 +40,8 @@ abbrev IsQuietSoFar : Progress → Type 0
 IsQuietSoFar p = p.has_failed ≡ false → p.complaint ≡ []
 
 -- the folder has its name
-finished_quiet : (task : TaskView) (p : Progress) → p.has_failed ≡ false → IsQuietSoFar p → IsQuietWork (Done (finished task (closed task p)))
-unfolding IsQuietWork closed
+finished_quiet : (task : TaskView) (p : Progress) → p.has_failed ≡ false → IsQuietSoFar p → IsQuietWork (Done (finished_answer task (closed_progress task p)))
+unfolding IsQuietWork closed_progress
 finished_quiet task p unfailed quiet = by_left p.left (p.complaint) (quiet unfailed)
   where
     by_left : (left : Option ℕ) (complaint : List ℕ) → complaint ≡ []
@@ -49,52 +49,52 @@ finished_quiet task p unfailed quiet = by_left p.left (p.complaint) (quiet unfai
     by_left (Some count) complaint none clean = append-nil complaint ∙ none
     by_left None complaint none clean = absurd (let e : Failed ≡ Clean = clean in cc)
 
-named_quiet : (task : TaskView) (p : Progress) (is_listed : Bool) → IsQuietSoFar p → IsQuietWork (name_work task (closed task p) is_listed)
-unfolding name_work closed IsQuietWork
+named_quiet : (task : TaskView) (p : Progress) (is_listed : Bool) → IsQuietSoFar p → IsQuietWork (name_work task (closed_progress task p) is_listed)
+unfolding name_work closed_progress IsQuietWork
 named_quiet task p false quiet = λ clean. absurd (let e : Failed ≡ Clean = clean in cc)
 named_quiet task p true quiet = by_failure p.has_failed refl
   where
     by_failure : (failed : Bool) → failed ≡ p.has_failed → IsQuietWork (cond (not failed)
-        (Then (Rename task.partial task.done) (λ is_named. Done (cond is_named (finished task (closed task p)) (unnamed task (closed task p))))) (Done (unfinished task (closed task p) true)))
+        (Then (Rename task.partial task.done) (λ is_named. Done (cond is_named (finished_answer task (closed_progress task p)) (unnamed_answer task (closed_progress task p))))) (Done (unfinished_answer task (closed_progress task p) true)))
     by_failure true is = λ clean. absurd (let e : Failed ≡ Clean = clean in cc)
     by_failure false is = by_name
       where
-        by_name : (said : Bool) → IsQuietWork (Done (cond said (finished task (closed task p)) (unnamed task (closed task p))))
+        by_name : (said : Bool) → IsQuietWork (Done (cond said (finished_answer task (closed_progress task p)) (unnamed_answer task (closed_progress task p))))
         by_name true = finished_quiet task p (sym is) quiet
         by_name false = λ clean. absurd (let e : Failed ≡ Clean = clean in cc)
 
-listed_quiet : (task : TaskView) (p : Progress) → IsQuietSoFar p → IsQuietWork (list_work task (closed task p))
+listed_quiet : (task : TaskView) (p : Progress) → IsQuietSoFar p → IsQuietWork (list_work task (closed_progress task p))
 unfolding list_work IsQuietWork
 listed_quiet task p quiet = λ is_listed. named_quiet task p is_listed quiet
 
 -- one more file
-tried_quiet : (task : TaskView) (row : RowView) (file : List ℕ) (said : Bool) (p : Progress) → IsQuietSoFar p → IsQuietSoFar (tried task row file said p)
-unfolding tried told
+tried_quiet : (task : TaskView) (row : RowView) (file : List ℕ) (said : Bool) (p : Progress) → IsQuietSoFar p → IsQuietSoFar (tried_progress task row file said p)
+unfolding tried_progress told_progress
 tried_quiet task row file true p quiet = quiet
 tried_quiet task row file false p quiet = λ unfailed. absurd (let e : true ≡ false = unfailed in cc)
 
-told_quiet : (task : TaskView) (row : RowView) (path : Option (List ℕ)) (p : Progress) → IsQuietSoFar p → IsQuietSoFar (told task row path p)
-unfolding told
+told_quiet : (task : TaskView) (row : RowView) (path : Option (List ℕ)) (p : Progress) → IsQuietSoFar p → IsQuietSoFar (told_progress task row path p)
+unfolding told_progress
 told_quiet task row path p quiet = quiet
 
 file_quiet : (task : TaskView) (row : RowView) (p : Progress) (portion : Option Portion) (rest : Progress → Work) → IsQuietSoFar p → ((q : Progress) → IsQuietSoFar q → IsQuietWork (rest q))
     → IsQuietWork (file_work task row p portion rest)
 unfolding file_work IsQuietWork
-file_quiet task row p None rest quiet later = later (told task row None p) (told_quiet task row None p quiet)
+file_quiet task row p None rest quiet later = later (told_progress task row None p) (told_quiet task row None p quiet)
 file_quiet task row p (Some portion) rest quiet later =
     let file = host_name p.taken row portion.extent in
-    λ said. later (tried task row file said (named file p)) (tried_quiet task row file said (named file p) quiet)
+    λ said. later (tried_progress task row file said (named_progress file p)) (tried_quiet task row file said (named_progress file p) quiet)
 
 files_quiet : (task : TaskView) (rows : List RowView) (p : Progress) → IsQuietSoFar p → IsQuietWork (files_work task rows p)
 unfolding files_work
 files_quiet task [] p quiet = listed_quiet task p quiet
 files_quiet task (row ∷ rows) p quiet =
-    file_quiet task row (spent task row p) (within p.left (portion_of task row)) (files_work task rows) quiet (λ q. files_quiet task rows q)
+    file_quiet task row (spent_progress task row p) (portion_within p.left (portion_of task row)) (files_work task rows) quiet (λ q. files_quiet task rows q)
 
 -- the folders, and what is in them
 folder_quiet : (task : TaskView) → IsQuietWork (folder_work task)
 unfolding folder_work IsQuietWork
-folder_quiet task true = files_quiet task (rows task.dump) (begun task) (λ unfailed. refl)
+folder_quiet task true = files_quiet task (rows task.dump) (first_progress task) (λ unfailed. refl)
 folder_quiet task false = λ clean. absurd (let e : Failed ≡ Clean = clean in cc)
 
 after_quiet : (task : TaskView) (unmade : Option (List ℕ)) → IsQuietWork (folder_after task unmade)
@@ -115,12 +115,12 @@ folders_quiet task place (folder ∷ folders) = by_answer (folders_quiet task (w
 task_quiet : (task : TaskView) (folders : List (List ℕ)) → task.setup.skips ≡ false → IsQuietWork (task_work_with task folders)
 unfolding task_work_with IsQuietWork
 task_quiet task folders skips true =
-    subst (λ (s : Bool). IsQuietWork (Done (cond s (skipped task) (present task task.done)))) (sym skips) (λ clean. absurd (let e : Failed ≡ Clean = clean in cc))
+    subst (λ (s : Bool). IsQuietWork (Done (cond s (skipped_answer task) (present_answer task task.done)))) (sym skips) (λ clean. absurd (let e : Failed ≡ Clean = clean in cc))
 task_quiet task folders skips false = by_begun
   where
-    by_begun : (said : Bool) → IsQuietWork (cond said (Done (present task task.partial)) (folders_work (folder_after task) (inside task.setup.into) folders))
+    by_begun : (said : Bool) → IsQuietWork (cond said (Done (present_answer task task.partial)) (folders_work (folder_after task) (path_inside task.setup.into) folders))
     by_begun true = λ clean. absurd (let e : Failed ≡ Clean = clean in cc)
-    by_begun false = folders_quiet task (inside task.setup.into) folders
+    by_begun false = folders_quiet task (path_inside task.setup.into) folders
 
 dump_quiet : (setup : SetupView) (name bytes : List ℕ) (dump : Option DumpView) → setup.skips ≡ false → IsQuietWork (dump_work setup name bytes dump)
 unfolding IsQuietWork
@@ -132,7 +132,7 @@ unfolding unpacking IsQuietWork
 unpacking_quiet setup name None skips = λ clean. absurd (let e : Failed ≡ Clean = clean in cc)
 unpacking_quiet setup name (Some bytes) skips = by_text (is_utf8 name)
   where
-    by_text : (t : Bool) → IsQuietWork (cond t (dump_work setup name bytes (dump_of bytes)) (Done (unread setup name)))
+    by_text : (t : Bool) → IsQuietWork (cond t (dump_work setup name bytes (dump_of bytes)) (Done (unread_answer setup name)))
     by_text true = dump_quiet setup name bytes (dump_of bytes) skips
     by_text false = λ clean. absurd (let e : Failed ≡ Clean = clean in cc)
 

@@ -4,10 +4,10 @@ use Rattle.std.specs.Prelude.{IfOk}
 use Rattle.d64_collection.specs.Answers.{Answer}
 use Rattle.d64_collection.specs.declared.report.Verdict.{Verdict}
 use Rattle.d64_unpack.specs.Setup.{SetupView}
-use Rattle.d64_unpack.specs.Unpacking.{refused}
+use Rattle.d64_unpack.specs.Unpacking.{refused_answer}
 
 -- an answer of this name, with this complaint
 pub refused_with : {E : Type 0} (result : Result Verdict E) (answer : Verdict → Answer) (setup : SetupView) (named name error complaint wanted : List ℕ) → named ≡ name → complaint ≡ wanted
-    → IfOk result (λ verdict. answer verdict ≡ refused setup named error complaint) → IfOk result (λ verdict. answer verdict ≡ refused setup name error wanted)
-refused_with (Ok verdict) answer setup named name error complaint wanted is_name is told = told ∙ ap₂ (λ n c. refused setup n error c) is_name is
+    → IfOk result (λ verdict. answer verdict ≡ refused_answer setup named error complaint) → IfOk result (λ verdict. answer verdict ≡ refused_answer setup name error wanted)
+refused_with (Ok verdict) answer setup named name error complaint wanted is_name is told = told ∙ ap₂ (λ n c. refused_answer setup n error c) is_name is
 refused_with (Err fault) answer setup named name error complaint wanted is_name is told = tt

@@ -12,8 +12,8 @@ abbrev pub ends_in_slash : List ℕ → Bool
 ends_in_slash path = slice_index path (length path - 1) == slash
 
 -- what the paths in a folder begin with: the folder's, and a `/`, unless it ends in one
-abbrev pub inside : List ℕ → List ℕ
-inside folder = if ends_in_slash folder then folder else with_slash folder
+abbrev pub path_inside : List ℕ → List ℕ
+path_inside folder = if ends_in_slash folder then folder else with_slash folder
 
 -- what the paths in the last of some folders begin with, each of which lies in the one before it,
 -- and the first at this place
@@ -23,7 +23,7 @@ place_below place (folder ∷ folders) = place_below (with_slash (place ++ folde
 
 -- the same for the folder of an image, by what is asked for and the name of its file
 abbrev pub place_of : List ℕ → List ℕ → List ℕ
-place_of into name = place_below (inside into) (folders_of name)
+place_of into name = place_below (path_inside into) (folders_of name)
 
 -- the path of that folder when all is in it, and before
 abbrev pub done_path : List ℕ → List ℕ → List ℕ

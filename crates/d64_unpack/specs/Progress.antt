@@ -31,8 +31,8 @@ pub record Progress : Type 0 where
   pub has_failed : Bool
 
 -- no file has come
-abbrev pub begun : TaskView → Progress
-begun task = record {
+abbrev pub first_progress : TaskView → Progress
+first_progress task = record {
   left = Some limit;
   taken = [];
   printed = before_rows task.setup.form task.name task.dump.image;
@@ -67,25 +67,25 @@ abbrev pub portion_of : TaskView → RowView → Option Portion
 portion_of task row = portion_at task.setup.with_parts task.dump.image row.slot
 
 -- a file was told of, with the path of its host file, or that none was written
-unfoldable pub told : TaskView → RowView → Option (List ℕ) → Progress → Progress
-told task row path progress = record progress {
+unfoldable pub told_progress : TaskView → RowView → Option (List ℕ) → Progress → Progress
+told_progress task row path progress = record progress {
   printed = progress.printed ++ printed_file task.setup.form task.name row path;
   lines = progress.lines ++ printed_file Json task.name row path;
 }
 
 -- of the files that may come after one, fewer bytes are left
-abbrev pub spent : TaskView → RowView → Progress → Progress
-spent task row progress = record progress { left = left_after progress.left (portion_of task row) }
+abbrev pub spent_progress : TaskView → RowView → Progress → Progress
+spent_progress task row progress = record progress { left = left_after progress.left (portion_of task row) }
 
 -- a host name is taken
-abbrev pub named : List ℕ → Progress → Progress
-named file progress = record progress { taken = progress.taken ++ file ∷ [] }
+abbrev pub named_progress : List ℕ → Progress → Progress
+named_progress file progress = record progress { taken = progress.taken ++ file ∷ [] }
 
 -- a write at a path failed
 abbrev pub failed_at : List ℕ → Progress → Progress
 failed_at path progress = record progress { complaint = progress.complaint ++ unwritten_line path; has_failed = true }
 
 -- a write was tried for the file of a row, whose host name is taken, and went well or not
-unfoldable pub tried : TaskView → RowView → List ℕ → Bool → Progress → Progress
-tried task row file true progress = told task row (Some (path_in task.done file)) progress
-tried task row file false progress = told task row None (failed_at (path_in task.partial file) progress)
+unfoldable pub tried_progress : TaskView → RowView → List ℕ → Bool → Progress → Progress
+tried_progress task row file true progress = told_progress task row (Some (path_in task.done file)) progress
+tried_progress task row file false progress = told_progress task row None (failed_at (path_in task.partial file) progress)

@@ -6,7 +6,7 @@ use Rattle.d64_survey.specs.Dump.{DumpView}
 use Rattle.d64_inventory.specs.Rows.{RowView, rows}
 use Rattle.d64_inventory.specs.ListingAmiss.{is_listing_amiss}
 use Rattle.d64_extract.specs.Portions.{Portion}
-use Rattle.d64_extract.specs.Limits.{within}
+use Rattle.d64_extract.specs.Limits.{portion_within}
 use Rattle.d64_report.specs.DumpOf.{dump_of}
 use Rattle.d64_wording.specs.FaultLines.{unread_line, wrong_length_line, unwritten_line, present_line, skipped_line, too_much_line}
 use Rattle.d64_listing.specs.Files.{after_rows}
@@ -16,17 +16,17 @@ use Rattle.d64_collection.specs.declared.report.Verdict.{Verdict}
 use Rattle.d64_collection.specs.declared.report.Verdict.TheVariants.{Clean, Amiss, Failed}
 use Rattle.d64_host_names.specs.ImagePlace.{folders_of}
 use Rattle.d64_unpack.specs.Setup.{SetupView, TaskView}
-use Rattle.d64_unpack.specs.Paths.{inside, with_slash, done_path, partial_path, path_in}
+use Rattle.d64_unpack.specs.Paths.{path_inside, with_slash, done_path, partial_path, path_in}
 use Rattle.d64_unpack.specs.Work.{Work, Done, Then, Look, Folder, NewFolder, NewFile, Rename}
-use Rattle.d64_unpack.specs.Progress.{Progress, begun, portion_of, host_name, told, spent, named, tried}
+use Rattle.d64_unpack.specs.Progress.{Progress, first_progress, portion_of, host_name, told_progress, spent_progress, named_progress, tried_progress}
 
 -- an image that is not answered otherwise: its error is printed, and this is complained of
-abbrev pub refused : SetupView → List ℕ → List ℕ → List ℕ → Answer
-refused setup name error complaint = record { printed = printed_error setup.form name error; complaint = complaint; verdict = Failed }
+abbrev pub refused_answer : SetupView → List ℕ → List ℕ → List ℕ → Answer
+refused_answer setup name error complaint = record { printed = printed_error setup.form name error; complaint = complaint; verdict = Failed }
 
 -- it cannot be read
-abbrev pub unread : SetupView → List ℕ → Answer
-unread setup name = refused setup name (codes "cannot be read") (unread_line name)
+abbrev pub unread_answer : SetupView → List ℕ → Answer
+unread_answer setup name = refused_answer setup name (codes "cannot be read") (unread_line name)
 
 -- no dump has its length
 abbrev pub wrong_length : SetupView → List ℕ → Bytes → Answer
@@ -34,16 +34,16 @@ wrong_length setup name bytes =
     record { printed = printed_length setup.form name (length bytes); complaint = wrong_length_line name bytes; verdict = Failed }
 
 -- its folder, or what it was before, is there already at this path
-abbrev pub present : TaskView → List ℕ → Answer
-present task path = refused task.setup task.name (codes "is there already") (present_line path)
+abbrev pub present_answer : TaskView → List ℕ → Answer
+present_answer task path = refused_answer task.setup task.name (codes "is there already") (present_line path)
 
 -- its folder is there, and is passed over
-abbrev pub skipped : TaskView → Answer
-skipped task = record { printed = []; complaint = skipped_line task.done; verdict = Clean }
+abbrev pub skipped_answer : TaskView → Answer
+skipped_answer task = record { printed = []; complaint = skipped_line task.done; verdict = Clean }
 
 -- a folder cannot be made at this path
-abbrev pub unmade : TaskView → List ℕ → Answer
-unmade task path = refused task.setup task.name (codes "cannot be written") (unwritten_line path)
+abbrev pub unmade_answer : TaskView → List ℕ → Answer
+unmade_answer task path = refused_answer task.setup task.name (codes "cannot be written") (unwritten_line path)
 
 -- the path of the list of the files
 abbrev pub list_path : TaskView → List ℕ
@@ -55,21 +55,21 @@ verdict_on task progress =
     if is_some progress.left then (if is_listing_amiss task.dump then Amiss else Clean) else Failed
 
 -- all is written, and the folder has its name
-abbrev pub finished : TaskView → Progress → Answer
-finished task progress = record { printed = progress.printed; complaint = progress.complaint; verdict = verdict_on task progress }
+abbrev pub finished_answer : TaskView → Progress → Answer
+finished_answer task progress = record { printed = progress.printed; complaint = progress.complaint; verdict = verdict_on task progress }
 
 -- all is written, and the folder doesn't get its name
-abbrev pub unnamed : TaskView → Progress → Answer
-unnamed task progress = refused task.setup task.name (codes "cannot be written") (progress.complaint ++ unwritten_line task.done)
+abbrev pub unnamed_answer : TaskView → Progress → Answer
+unnamed_answer task progress = refused_answer task.setup task.name (codes "cannot be written") (progress.complaint ++ unwritten_line task.done)
 
 -- something wasn't written, and the folder keeps the name that it has
-abbrev pub unfinished : TaskView → Progress → Bool → Answer
-unfinished task progress is_listed =
+abbrev pub unfinished_answer : TaskView → Progress → Bool → Answer
+unfinished_answer task progress is_listed =
     record { printed = progress.printed; complaint = progress.complaint ++ (if is_listed then [] else unwritten_line (list_path task)); verdict = Failed }
 
 -- all files have come: what stands after them is printed, and it is complained of too many bytes
-unfoldable pub closed : TaskView → Progress → Progress
-closed task progress = record progress {
+unfoldable pub closed_progress : TaskView → Progress → Progress
+closed_progress task progress = record progress {
   printed = progress.printed ++ after_rows task.setup.form task.dump;
   complaint = progress.complaint ++ (if is_some progress.left then [] else too_much_line task.name);
 }
@@ -78,8 +78,8 @@ closed task progress = record progress {
 unfoldable pub name_work : TaskView → Progress → Bool → Work
 name_work task progress is_listed =
     if is_listed && not progress.has_failed
-    then Then (Rename task.partial task.done) (λ is_named. Done (if is_named then finished task progress else unnamed task progress))
-    else Done (unfinished task progress is_listed)
+    then Then (Rename task.partial task.done) (λ is_named. Done (if is_named then finished_answer task progress else unnamed_answer task progress))
+    else Done (unfinished_answer task progress is_listed)
 
 -- the list of the files is written, in JSON
 unfoldable pub list_work : TaskView → Progress → Work
@@ -88,25 +88,25 @@ list_work task progress = Then (NewFile (list_path task) progress.lines) (name_w
 -- a file is written under a host name that is taken, and then comes the rest
 abbrev pub write_work : TaskView → RowView → List ℕ → Bytes → Progress → (Progress → Work) → Work
 write_work task row file bytes progress rest =
-    Then (NewFile (path_in task.partial file) bytes) (λ is_written. rest (tried task row file is_written progress))
+    Then (NewFile (path_in task.partial file) bytes) (λ is_written. rest (tried_progress task row file is_written progress))
 
 -- the file of a row is written, if there is something to write, and then comes the rest
 unfoldable pub file_work : TaskView → RowView → Progress → Option Portion → (Progress → Work) → Work
-file_work task row progress None rest = rest (told task row None progress)
+file_work task row progress None rest = rest (told_progress task row None progress)
 file_work task row progress (Some portion) rest =
     let file = host_name progress.taken row portion.extent in
-    write_work task row file portion.bytes (named file progress) rest
+    write_work task row file portion.bytes (named_progress file progress) rest
 
 -- the files of rows are written, one after another, and then the list of them
 unfoldable pub files_work : TaskView → List RowView → Progress → Work
-files_work task [] progress = list_work task (closed task progress)
+files_work task [] progress = list_work task (closed_progress task progress)
 files_work task (row ∷ rows) progress =
-    file_work task row (spent task row progress) (within progress.left (portion_of task row)) (files_work task rows)
+    file_work task row (spent_progress task row progress) (portion_within progress.left (portion_of task row)) (files_work task rows)
 
 -- the image's folder is made, and then come its files
 unfoldable pub folder_work : TaskView → Work
 folder_work task =
-    Then (NewFolder task.partial) (λ is_made. if is_made then files_work task (rows task.dump) (begun task) else Done (unmade task task.partial))
+    Then (NewFolder task.partial) (λ is_made. if is_made then files_work task (rows task.dump) (first_progress task) else Done (unmade_answer task task.partial))
 
 -- folders are made where they aren't there, each in the one before it, and then comes the rest,
 -- which is told of a folder that can't be made
@@ -118,15 +118,15 @@ folders_work rest place (folder ∷ folders) =
 -- the folder of the image is made, unless one before it can't be made
 abbrev pub folder_after : TaskView → Option (List ℕ) → Work
 folder_after task None = folder_work task
-folder_after task (Some path) = Done (unmade task path)
+folder_after task (Some path) = Done (unmade_answer task path)
 
 -- it is looked whether the image's folder is there, and what it is before all is in it, and else it
 -- is made, in these folders
 unfoldable pub task_work_with : TaskView → List (List ℕ) → Work
 task_work_with task folders =
-    Then (Look task.done) (λ is_done. if is_done then Done (if task.setup.skips then skipped task else present task task.done)
-    else Then (Look task.partial) (λ is_begun. if is_begun then Done (present task task.partial)
-    else folders_work (folder_after task) (inside task.setup.into) folders))
+    Then (Look task.done) (λ is_done. if is_done then Done (if task.setup.skips then skipped_answer task else present_answer task task.done)
+    else Then (Look task.partial) (λ is_begun. if is_begun then Done (present_answer task task.partial)
+    else folders_work (folder_after task) (path_inside task.setup.into) folders))
 
 -- the same in the folders of the image's path
 abbrev pub task_work : TaskView → Work
@@ -146,5 +146,5 @@ dump_work setup name bytes (Some dump) = task_work (task_of setup name dump)
 -- what is done with a file: with its bytes, or where it cannot be read. A name that is no text is
 -- no file's
 unfoldable pub unpacking : SetupView → List ℕ → Option Bytes → Work
-unpacking setup name None = Done (unread setup name)
-unpacking setup name (Some bytes) = if is_utf8 name then dump_work setup name bytes (dump_of bytes) else Done (unread setup name)
+unpacking setup name None = Done (unread_answer setup name)
+unpacking setup name (Some bytes) = if is_utf8 name then dump_work setup name bytes (dump_of bytes) else Done (unread_answer setup name)

@@ -3,7 +3,7 @@ ghost use Rattle.std.specs.Prelude.{◌≡◌, [], IfOk, is_some, if◌then◌el
 ghost use Rattle.d64_inventory.specs.ListingAmiss.{is_listing_amiss};
 ghost use Rattle.d64_unpack.specs.Work.{answer_in};
 ghost use Rattle.d64_unpack.specs.FilesNow.{progress_of};
-ghost use Rattle.d64_unpack.specs.Unpacking.{refused, unread, wrong_length, present, skipped, unmade, unnamed, unfinished, finished};
+ghost use Rattle.d64_unpack.specs.Unpacking.{refused_answer, unread_answer, wrong_length, present_answer, skipped_answer, unmade_answer, unnamed_answer, unfinished_answer, finished_answer};
 
 use crate::files::Files;
 use crate::paths::put_path;
@@ -38,7 +38,7 @@ fn refuse(
     error: &str,
     room: &mut AnswerRoom,
 ) -> Result<Verdict, AllocError>
-    ensures { IfOk result (λ verdict. answer_in room.new verdict ≡ refused setup.now name.now error.now room.old.complaint.items) }
+    ensures { IfOk result (λ verdict. answer_in room.new verdict ≡ refused_answer setup.now name.now error.now room.old.complaint.items) }
 {
     let printed = emptied(scratch, room);
     room.printed = print_error(setup.form, scratch, name, error, printed)?;
@@ -52,7 +52,7 @@ pub(crate) fn tell_unread(
     name: &[u8],
     room: &mut AnswerRoom,
 ) -> Result<Verdict, AllocError>
-    ensures { IfOk result (λ verdict. answer_in room.new verdict ≡ unread setup.now name.now) }
+    ensures { IfOk result (λ verdict. answer_in room.new verdict ≡ unread_answer setup.now name.now) }
 {
     room.complaint.clear();
     unread_line(&mut room.complaint, name)?;
@@ -83,7 +83,7 @@ pub(crate) fn tell_present(
     path: &str,
     room: &mut AnswerRoom,
 ) -> Result<Verdict, AllocError>
-    ensures { IfOk result (λ verdict. answer_in room.new verdict ≡ present task.now path.now) }
+    ensures { IfOk result (λ verdict. answer_in room.new verdict ≡ present_answer task.now path.now) }
 {
     room.complaint.clear();
     present_line(&mut room.complaint, path.as_bytes())?;
@@ -92,7 +92,7 @@ pub(crate) fn tell_present(
 
 /// Answers that the folder of an image is there, and is passed over.
 fn tell_skipped(task: &Task, room: &mut AnswerRoom) -> Result<Verdict, AllocError>
-    ensures { IfOk result (λ verdict. answer_in room.new verdict ≡ skipped task.now) }
+    ensures { IfOk result (λ verdict. answer_in room.new verdict ≡ skipped_answer task.now) }
 {
     room.clear();
     skipped_line(&mut room.complaint, task.done.as_bytes())?;
@@ -105,7 +105,7 @@ pub(crate) fn tell_done(
     scratch: &mut Scratch,
     room: &mut AnswerRoom,
 ) -> Result<Verdict, AllocError>
-    ensures { IfOk result (λ verdict. answer_in room.new verdict ≡ (if task.now.setup.skips then skipped task.now else present task.now task.now.done)) }
+    ensures { IfOk result (λ verdict. answer_in room.new verdict ≡ (if task.now.setup.skips then skipped_answer task.now else present_answer task.now task.now.done)) }
 {
     let setup = task.setup;
     if setup.skips {
@@ -122,7 +122,7 @@ pub(crate) fn tell_unmade(
     path: &str,
     room: &mut AnswerRoom,
 ) -> Result<Verdict, AllocError>
-    ensures { IfOk result (λ verdict. answer_in room.new verdict ≡ unmade task.now path.now) }
+    ensures { IfOk result (λ verdict. answer_in room.new verdict ≡ unmade_answer task.now path.now) }
 {
     room.complaint.clear();
     unwritten_line(&mut room.complaint, path.as_bytes())?;
@@ -136,7 +136,7 @@ pub(crate) fn tell_unnamed(
     files: &mut Files,
     room: &mut AnswerRoom,
 ) -> Result<Verdict, AllocError>
-    ensures { IfOk result (λ verdict. answer_in room.new verdict ≡ unnamed task.now (progress_of files.old)) }
+    ensures { IfOk result (λ verdict. answer_in room.new verdict ≡ unnamed_answer task.now (progress_of files.old)) }
 {
     unwritten_line(&mut files.told.complaint, task.done.as_bytes())?;
     mem::swap(&mut room.complaint, &mut files.told.complaint);
@@ -174,7 +174,7 @@ fn verdict_on(task: &Task, extraction: &Extraction) -> Verdict
 
 /// Answers that the folder of an image has its name.
 pub(crate) fn tell_finished(task: &Task, files: &mut Files, room: &mut AnswerRoom) -> Verdict
-    ensures { answer_in room.new result ≡ finished task.now (progress_of files.old) }
+    ensures { answer_in room.new result ≡ finished_answer task.now (progress_of files.old) }
 {
     let verdict = verdict_on(task, &files.extraction);
     tell_files(files, room);
@@ -189,7 +189,7 @@ pub(crate) fn tell_unfinished(
     files: &mut Files,
     room: &mut AnswerRoom,
 ) -> Result<Verdict, AllocError>
-    ensures { IfOk result (λ verdict. answer_in room.new verdict ≡ unfinished task.now (progress_of files.old) is_listed) }
+    ensures { IfOk result (λ verdict. answer_in room.new verdict ≡ unfinished_answer task.now (progress_of files.old) is_listed) }
 {
     if !is_listed {
         put_path(&mut files.path, &task.partial, LIST_NAME)?;

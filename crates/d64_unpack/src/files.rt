@@ -2,11 +2,11 @@
 ghost use Rattle.std.specs.Prelude.{◌≡◌, ◌∷◌, [], ◌++◌, ℕ, List, Option, Some, None, OnOk};
 ghost use Rattle.petscii.specs.Spelling.{spelling};
 ghost use Rattle.d64_inventory.specs.Rows.{rows};
-ghost use Rattle.d64_extract.specs.Limits.{within};
+ghost use Rattle.d64_extract.specs.Limits.{portion_within};
 ghost use Rattle.d64_unpack.specs.Work.{Work, Comes};
-ghost use Rattle.d64_unpack.specs.Progress.{Progress, begun, portion_of, host_name, spent, tried};
+ghost use Rattle.d64_unpack.specs.Progress.{Progress, first_progress, portion_of, host_name, spent_progress, tried_progress};
 ghost use Rattle.d64_unpack.specs.FilesNow.{progress_of};
-ghost use Rattle.d64_unpack.specs.Unpacking.{write_work, file_work, files_work, list_work, closed};
+ghost use Rattle.d64_unpack.specs.Unpacking.{write_work, file_work, files_work, list_work, closed_progress};
 
 use crate::calls::make_file;
 use crate::ending::{ending_by, is_part};
@@ -72,7 +72,7 @@ impl Files {
 
     /// Begins with the files of an image, and forgets those before.
     fn begin(&mut self, task: &Task) -> Result<(), AllocError>
-        ensures { OnOk result (progress_of self.new ≡ begun task.now) }
+        ensures { OnOk result (progress_of self.new ≡ first_progress task.now) }
     {
         self.extraction = Extraction::new();
         self.taken.clear();
@@ -86,7 +86,7 @@ impl Files {
         row: &FileRow,
         is_written: bool,
     ) -> Result<(), AllocError>
-        ensures { OnOk result (progress_of self.new ≡ tried task.now row.now self.old.name.items is_written (progress_of self.old)) }
+        ensures { OnOk result (progress_of self.new ≡ tried_progress task.now row.now self.old.name.items is_written (progress_of self.old)) }
     {
         if is_written {
             put_path(&mut self.path, &task.done, &self.name)?;
@@ -122,7 +122,7 @@ impl Files {
         host: &mut H,
     ) -> Result<(), AllocError>
         ensures { (rest : Progress → Work) → Comes result
-            (file_work task.now row.now (spent task.now row.now (progress_of self.old)) (within self.old.extraction (portion_of task.now row.now)) rest) (H.state host.old)
+            (file_work task.now row.now (spent_progress task.now row.now (progress_of self.old)) (portion_within self.old.extraction (portion_of task.now row.now)) rest) (H.state host.old)
             (rest (progress_of self.new)) (H.state host.new) }
     {
         let slot = SlotNo::at(row.slot);
@@ -147,7 +147,7 @@ impl Files {
         host: &mut H,
     ) -> Result<(), AllocError>
         ensures { Comes result
-            (files_work task.now (rows task.now.dump) (begun task.now)) (H.state host.old)
+            (files_work task.now (rows task.now.dump) (first_progress task.now)) (H.state host.old)
             (files_work task.now [] (progress_of self.new)) (H.state host.new) }
     {
         self.begin(task)?;
@@ -159,7 +159,7 @@ impl Files {
 
     /// Ends with the files of an image: tells what stands after them, and of too many bytes.
     pub(crate) fn close(&mut self, task: &Task) -> Result<(), AllocError>
-        ensures { OnOk result (progress_of self.new ≡ closed task.now (progress_of self.old)) }
+        ensures { OnOk result (progress_of self.new ≡ closed_progress task.now (progress_of self.old)) }
     {
         let setup = task.setup;
         print_after(setup.form, task.all, &mut self.told.printed)?;

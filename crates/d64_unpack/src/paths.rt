@@ -1,7 +1,7 @@
 //! The paths at which an image is unpacked.
 ghost use Rattle.std.specs.Prelude.{◌≡◌, ◌++◌, map, string_bytes, IfOk, OnOk};
-ghost use Rattle.d64_host_names.specs.ImagePlace.{finished, unfinished};
-ghost use Rattle.d64_unpack.specs.Paths.{ends_in_slash, inside, place_below, path_in};
+ghost use Rattle.d64_host_names.specs.ImagePlace.{finished_name, unfinished_name};
+ghost use Rattle.d64_unpack.specs.Paths.{ends_in_slash, path_inside, place_below, path_in};
 
 use d64_host_names::ImagePlace;
 use std::alloc::{AllocError, Global};
@@ -18,7 +18,7 @@ fn ends_in_slash(path: &[u8]) -> bool
 
 /// What the paths in a folder begin with: the folder's, and a `/`, unless it ends in one.
 pub(crate) fn inside(alloc: Global, folder: &str) -> Result<String, AllocError>
-    ensures { IfOk result (λ path. string_bytes path ≡ inside folder.now) }
+    ensures { IfOk result (λ path. string_bytes path ≡ path_inside folder.now) }
 {
     let mut path = String::from_str(alloc, folder)?;
     if !ends_in_slash(folder.as_bytes()) {
@@ -42,7 +42,7 @@ fn go_below(place: &mut String, folders: &[&str]) -> Result<(), AllocError>
 /// What the paths in the last folder of an image's path begin with, below the folder that is asked
 /// for.
 fn place_of(alloc: Global, into: &str, place: &ImagePlace) -> Result<String, AllocError>
-    ensures { IfOk result (λ path. string_bytes path ≡ place_below (inside into.now) (map (λ folder. folder.now) place.now.folders.items)) }
+    ensures { IfOk result (λ path. string_bytes path ≡ place_below (path_inside into.now) (map (λ folder. folder.now) place.now.folders.items)) }
 {
     let mut path = inside(alloc, into)?;
     go_below(&mut path, place.folders.as_slice())?;
@@ -51,7 +51,7 @@ fn place_of(alloc: Global, into: &str, place: &ImagePlace) -> Result<String, All
 
 /// The path of the folder of the image in this place when all is in it.
 pub(crate) fn done_path(alloc: Global, into: &str, place: &ImagePlace) -> Result<String, AllocError>
-    ensures { IfOk result (λ path. string_bytes path ≡ place_below (inside into.now) (map (λ folder. folder.now) place.now.folders.items) ++ finished place.now.last.now) }
+    ensures { IfOk result (λ path. string_bytes path ≡ place_below (path_inside into.now) (map (λ folder. folder.now) place.now.folders.items) ++ finished_name place.now.last.now) }
 {
     let mut path = place_of(alloc, into, place)?;
     place.push_name(&mut path)?;
@@ -64,7 +64,7 @@ pub(crate) fn partial_path(
     into: &str,
     place: &ImagePlace,
 ) -> Result<String, AllocError>
-    ensures { IfOk result (λ path. string_bytes path ≡ place_below (inside into.now) (map (λ folder. folder.now) place.now.folders.items) ++ unfinished place.now.last.now) }
+    ensures { IfOk result (λ path. string_bytes path ≡ place_below (path_inside into.now) (map (λ folder. folder.now) place.now.folders.items) ++ unfinished_name place.now.last.now) }
 {
     let mut path = place_of(alloc, into, place)?;
     place.push_partial_name(&mut path)?;

@@ -1,10 +1,10 @@
 //! An image is unpacked, call by call of the host.
 ghost use Rattle.std.specs.Prelude.{map};
 ghost use Rattle.d64_inventory.specs.Rows.{rows};
-ghost use Rattle.d64_unpack.specs.Paths.{inside};
+ghost use Rattle.d64_unpack.specs.Paths.{path_inside};
 ghost use Rattle.d64_unpack.specs.Work.{Ends};
 ghost use Rattle.d64_unpack.specs.FilesNow.{progress_of};
-ghost use Rattle.d64_unpack.specs.Unpacking.{name_work, list_work, closed, files_work, folder_work, folders_work, folder_after, task_work_with};
+ghost use Rattle.d64_unpack.specs.Unpacking.{name_work, list_work, closed_progress, files_work, folder_work, folders_work, folder_after, task_work_with};
 
 use crate::answering::{
     LIST_NAME, tell_done, tell_finished, tell_present, tell_unfinished, tell_unmade, tell_unnamed,
@@ -81,7 +81,7 @@ impl<'a, 'd> Task<'a, 'd> {
         host: &mut H,
         room: &mut AnswerRoom,
     ) -> Result<Verdict, AllocError>
-        ensures { Ends result room.new (folders_work (folder_after self.now) (inside self.now.setup.into) (map (λ folder. folder.now) folders.now)) (H.state host.old) (H.state host.new) }
+        ensures { Ends result room.new (folders_work (folder_after self.now) (path_inside self.now.setup.into) (map (λ folder. folder.now) folders.now)) (H.state host.old) (H.state host.new) }
     {
         let setup = self.setup;
         let start = inside(self.alloc, &setup.into)?;

@@ -8,7 +8,7 @@ use Rattle.std.proofs.lemmas.Bool.{agree_below_at, ltb-true, leb-true}
 use Rattle.std.proofs.lemmas.List.Elements.{All-nil, All-cons, All-append, All-from_get_or}
 use Rattle.std.proofs.lemmas.List.{get_or-take, length-take}
 use Rattle.petscii.specs.Spelling.{hex_digit}
-use Rattle.d64_wording.specs.Shown.{following, continues_at, is_second, character_number, is_hidden, digit_at, digit_from, hexadecimal, shown_character, shown_byte, shown_first, shown_after, IsPrinted, backslash}
+use Rattle.d64_wording.specs.Shown.{following_count, continues_at, is_second, character_number, is_hidden, digit_at, digit_from, hexadecimal, shown_character, shown_byte, shown_first, shown_after, IsPrinted, backslash}
 
 -- both sides of a test that passes
 and_left : (a b : Bool) → (a && b) ≡ true → a ≡ true
@@ -153,8 +153,8 @@ pick false false false true P p q r s count is = let same : 3 ≡ count = cc in 
 pick false false false false P p q r s count is = absurd (cc)
 
 -- which of the two a character's bytes are
-character_bytes : (first : ℕ) (rest : List ℕ) (count : ℕ) → following first rest ≡ Some count → IsEither first rest count
-unfolding following
+character_bytes : (first : ℕ) (rest : List ℕ) (count : ℕ) → following_count first rest ≡ Some count → IsEither first rest count
+unfolding following_count
 character_bytes first rest count is =
     pick (nat_lt first 0x80) (is_in_range 0xC2 0xDF first && continues_at rest 0)
     (is_in_range 0xE0 0xEF first && (is_second first rest && continues_at rest 1))
@@ -205,9 +205,9 @@ bytes_are_printed first rest count (inr high) plain =
 
 -- the first character, or byte
 first_is_printed : (first : ℕ) (rest : List ℕ) → All IsPrinted (shown_first first rest)
-first_is_printed first rest = by_count (following first rest) refl
+first_is_printed first rest = by_count (following_count first rest) refl
   where
-    by_count : (found : Option ℕ) → following first rest ≡ found
+    by_count : (found : Option ℕ) → following_count first rest ≡ found
         → All IsPrinted (option_map_or (λ count. shown_character (character_number first count rest) (first ∷ take count rest)) found (shown_byte first))
     by_count None is = byte_is_printed first
     by_count (Some count) is =
@@ -220,5 +220,5 @@ name_is_printed zero [] = All-nil IsPrinted
 name_is_printed (suc count) [] = All-nil IsPrinted
 name_is_printed (suc count) (byte ∷ rest) = name_is_printed count rest
 name_is_printed zero (byte ∷ rest) =
-    All-append IsPrinted (shown_first byte rest) (shown_after (unwrap_or (following byte rest) 0) rest) (first_is_printed byte rest)
-    (name_is_printed (unwrap_or (following byte rest) 0) rest)
+    All-append IsPrinted (shown_first byte rest) (shown_after (unwrap_or (following_count byte rest) 0) rest) (first_is_printed byte rest)
+    (name_is_printed (unwrap_or (following_count byte rest) 0) rest)

@@ -8,21 +8,21 @@ use Rattle.d64_effects.specs.View.{disk_id}
 use Rattle.d64_survey.specs.Dump.{DumpView}
 use Rattle.d64_survey.specs.Faults.{faults}
 use Rattle.d64_survey.specs.Inspection.{entry_count, unwhole_count, is_amiss}
-use Rattle.d64_survey.specs.Owners.{way_slots, unowned}
+use Rattle.d64_survey.specs.Owners.{way_slots, unowned_count}
 use Rattle.d64_survey.specs.ReadErrors.{read_errors}
 use Rattle.d64_survey.specs.declared.fault.Fault.{Fault}
 use Rattle.d64_survey.specs.declared.read_error.ReadError.{ReadError}
 use Rattle.petscii.specs.Spelling.{spelling}
-use Rattle.d64_wording.specs.Shown.{shown}
+use Rattle.d64_wording.specs.Shown.{shown_name}
 use Rattle.d64_names.specs.Names.{disk_name}
-use Rattle.d64_wording.specs.Names.{quoted}
+use Rattle.d64_wording.specs.Names.{quoted_name}
 use Rattle.d64_wording.specs.Words.{count_of, line_below}
 use Rattle.d64_wording.specs.FaultText.{fault_text, read_error_text}
 use Rattle.d64_wording.specs.FileText.{file_lines}
 
 -- the disk: its name and its id
 unfoldable pub label_text : Disk → List ℕ
-label_text image = quoted (disk_name image) ++ (codes " " ++ spelling (disk_id image))
+label_text image = quoted_name (disk_name image) ++ (codes " " ++ spelling (disk_id image))
 
 -- what is on it
 unfoldable pub contents_text : Disk → List ℕ
@@ -45,7 +45,7 @@ state_text dump =
 -- the image's line
 unfoldable pub image_line : List ℕ → DumpView → List ℕ
 image_line name dump =
-    shown name ++ (codes ": " ++ (label_text dump.image ++ (codes ", " ++ (contents_text dump.image ++ (codes ": " ++ (state_text dump ++ codes "\n"))))))
+    shown_name name ++ (codes ": " ++ (label_text dump.image ++ (codes ", " ++ (contents_text dump.image ++ (codes ": " ++ (state_text dump ++ codes "\n"))))))
 
 -- a line each fault
 unfoldable pub fault_lines : Disk → List Fault → List ℕ
@@ -65,7 +65,7 @@ unowned_by count = if count == 0 then [] else line_below (count_of count (codes 
 
 -- a line of them, where something is amiss
 unfoldable pub unowned_line : DumpView → List ℕ
-unowned_line dump = if is_amiss dump then unowned_by (unowned dump.image) else []
+unowned_line dump = if is_amiss dump then unowned_by (unowned_count dump.image) else []
 
 -- the text of an image
 unfoldable pub check_text : List ℕ → DumpView → List ℕ

@@ -1,13 +1,13 @@
 -- The lines on standard error of files that are not answered, or not written.
 use Rattle.std.specs.Prelude.{ℕ, List, [], ◌++◌, length, codes, decimal}
 use Rattle.std.specs.Option.{option_map_or}
-use Rattle.d64_wording.specs.Shown.{shown}
+use Rattle.d64_wording.specs.Shown.{shown_name}
 use Rattle.d64_wording.specs.Guesses.{guess_of, guess_text}
 use Rattle.d64_wording.specs.declared.guess.Guess.{Guess}
 
 -- a line of the program about a file
 unfoldable pub line_about : List ℕ → List ℕ → List ℕ
-line_about name text = codes "d64sh: " ++ (shown name ++ (codes ": " ++ (text ++ codes "\n")))
+line_about name text = codes "d64sh: " ++ (shown_name name ++ (codes ": " ++ (text ++ codes "\n")))
 
 -- a file that cannot be read
 abbrev pub unread_line : List ℕ → List ℕ

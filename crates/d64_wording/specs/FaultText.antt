@@ -77,11 +77,11 @@ unfoldable pub status_text : Option ℕ → List ℕ
 status_text status = option_map_or (λ number. codes ", drive error " ++ decimal number) status []
 
 -- to whom a block belongs, if to anyone
-unfoldable pub belonging : Disk → ℕ → List ℕ
-belonging image block =
+unfoldable pub belonging_text : Disk → ℕ → List ℕ
+belonging_text image block =
     if length (owners_of image block) == 0 then codes ", belongs to no file" else codes ", belongs to " ++ block_owners image block
 
 -- a read error
 unfoldable pub read_error_text : Disk → ReadError → List ℕ
 read_error_text image error =
-    block_text error.block ++ (codes " could not be read: code " ++ (decimal error.code ++ (status_text (drive_status error.code) ++ belonging image error.block)))
+    block_text error.block ++ (codes " could not be read: code " ++ (decimal error.code ++ (status_text (drive_status error.code) ++ belonging_text image error.block)))

@@ -11,7 +11,7 @@ use Rattle.d64_survey.specs.Inspection.{is_unwhole_file}
 use Rattle.d64_survey.specs.SlotBlocks.{slot_blocks}
 use Rattle.d64_survey.specs.declared.flaw.Flaw.{Flaw}
 use Rattle.d64_survey.specs.declared.flaw.Flaw.TheVariants.{Unclosed, Kindless, Broken, Shared, Unreadable, Missized, Geos}
-use Rattle.d64_wording.specs.Names.{quoted}
+use Rattle.d64_wording.specs.Names.{quoted_name}
 use Rattle.d64_wording.specs.Words.{count_of, line_below}
 
 -- the three letters of a kind
@@ -56,7 +56,7 @@ flaws_text shown there flaws = flaws_from shown there 0 flaws
 
 -- a file that isn't whole, for these reasons
 unfoldable pub file_text : Disk → Bytes → List Flaw → List ℕ
-file_text image cell flaws = quoted (name_of cell) ++ (codes " " ++ (letters_of cell ++ (codes ": " ++ flaws_text (size_of cell) (length (slot_blocks image cell)) flaws)))
+file_text image cell flaws = quoted_name (name_of cell) ++ (codes " " ++ (letters_of cell ++ (codes ": " ++ flaws_text (size_of cell) (length (slot_blocks image cell)) flaws)))
 
 -- the line of a slot, where its file isn't whole
 unfoldable pub file_line : DumpView → Bytes → List ℕ

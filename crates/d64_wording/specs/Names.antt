@@ -4,5 +4,5 @@ use Rattle.d64_image.specs.Disk.{Bytes}
 use Rattle.petscii.specs.Spelling.{spelling}
 
 -- a name in text form, between quotes
-unfoldable pub quoted : Bytes → List ℕ
-quoted name = codes "\"" ++ (spelling name ++ codes "\"")
+unfoldable pub quoted_name : Bytes → List ℕ
+quoted_name name = codes "\"" ++ (spelling name ++ codes "\"")

@@ -7,7 +7,7 @@ use Rattle.d64_survey.specs.declared.owner.Part.TheVariants.{Data, Side}
 use Rattle.d64_survey.specs.declared.owner.Owner.{Owner}
 use Rattle.d64_survey.specs.declared.owner.Owner.TheVariants.{Map, Directory, File}
 use Rattle.d64_names.specs.Names.{slot_name}
-use Rattle.d64_wording.specs.Names.{quoted}
+use Rattle.d64_wording.specs.Names.{quoted_name}
 
 -- what stands before the name of a file, of which this part is meant
 abbrev pub part_text : Part → List ℕ
@@ -16,7 +16,7 @@ part_text Side = codes "the side sectors of "
 
 -- a part of the file of a slot
 unfoldable pub file_part : Disk → ℕ → Part → List ℕ
-file_part image slot part = part_text part ++ quoted (slot_name image slot)
+file_part image slot part = part_text part ++ quoted_name (slot_name image slot)
 
 -- an owner
 abbrev pub owner_text : Disk → Owner → List ℕ

@@ -15,8 +15,8 @@ is_second first rest = is_in_range (second_byte_min first) (second_byte_max firs
 
 -- how many bytes more the character has that begins with this byte; none where no character does
 -- (Unicode, well-formed UTF-8)
-unfoldable pub following : ℕ → List ℕ → Option ℕ
-following first rest =
+unfoldable pub following_count : ℕ → List ℕ → Option ℕ
+following_count first rest =
     if nat_lt first 0x80 then Some 0
     else (if is_in_range 0xC2 0xDF first && continues_at rest 0 then Some 1
     else (if is_in_range 0xE0 0xEF first && (is_second first rest && continues_at rest 1) then Some 2
@@ -75,17 +75,17 @@ shown_byte byte = codes "\\x" ++ (digit_at 16 byte ∷ digit_at 1 byte ∷ [])
 -- the character that begins with this byte, or else the byte
 abbrev pub shown_first : ℕ → List ℕ → List ℕ
 shown_first first rest =
-    option_map_or (λ count. shown_character (character_number first count rest) (first ∷ take count rest)) (following first rest) (shown_byte first)
+    option_map_or (λ count. shown_character (character_number first count rest) (first ∷ take count rest)) (following_count first rest) (shown_byte first)
 
 -- the text of bytes of which so many in front are of a character that is shown already
 unfoldable pub shown_after : ℕ → List ℕ → List ℕ
 shown_after count [] = []
 shown_after (suc count) (byte ∷ rest) = shown_after count rest
-shown_after zero (byte ∷ rest) = shown_first byte rest ++ shown_after (unwrap_or (following byte rest) 0) rest
+shown_after zero (byte ∷ rest) = shown_first byte rest ++ shown_after (unwrap_or (following_count byte rest) 0) rest
 
 -- a name as it is shown
-abbrev pub shown : List ℕ → List ℕ
-shown name = shown_after 0 name
+abbrev pub shown_name : List ℕ → List ℕ
+shown_name name = shown_after 0 name
 
 -- a byte that is no control of a terminal
 abbrev pub IsPrinted : ℕ → Type 0
@@ -93,4 +93,4 @@ IsPrinted byte = (32 ≤ byte) × (byte ≢ 127)
 
 -- no name shows a control byte, so none makes a line
 abbrev pub NoNameMakesALine : Type 0
-NoNameMakesALine = (name : List ℕ) → All IsPrinted (shown name)
+NoNameMakesALine = (name : List ℕ) → All IsPrinted (shown_name name)

@@ -1,7 +1,7 @@
 //! The lines on standard error of files that are not answered, or not written.
 ghost use Rattle.std.specs.Prelude.{◌≡◌, ◌++◌, [], codes, OnOk};
 ghost use Rattle.std.specs.Option.{option_map_or};
-ghost use Rattle.d64_wording.specs.Shown.{shown};
+ghost use Rattle.d64_wording.specs.Shown.{shown_name};
 ghost use Rattle.d64_wording.specs.Guesses.{guess_of as guess_by_all};
 ghost use Rattle.d64_wording.specs.FaultLines.{line_about, unread_line, unwritten_line, present_line, skipped_line, too_much_line, in_brackets, wrong_length_text, wrong_length_line};
 
@@ -12,7 +12,7 @@ use std::alloc::AllocError;
 
 /// Adds what a line of the program about a file begins with.
 fn push_start(out: &mut Vec<u8>, name: &[u8]) -> Result<(), AllocError>
-    ensures { OnOk result (out.new.items ≡ out.old.items ++ (codes "d64sh: " ++ (shown name.now ++ codes ": "))) }
+    ensures { OnOk result (out.new.items ≡ out.old.items ++ (codes "d64sh: " ++ (shown_name name.now ++ codes ": "))) }
 {
     out.extend_from_slice(b"d64sh: ")?;
     push_shown(out, name)?;

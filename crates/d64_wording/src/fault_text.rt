@@ -1,7 +1,7 @@
 //! The faults of an image and its read errors, in words.
 ghost use Rattle.std.specs.Prelude.{◌≡◌, ◌++◌, false, codes, OnOk};
 ghost use Rattle.d64_wording.specs.OwnerText.{file_part};
-ghost use Rattle.d64_wording.specs.FaultText.{last_text, are_many, breaks_text, loops_text, ends_text, off_text, loop_text, end_text, count_text, kind_text, owned_text, fault_text, status_text, belonging, read_error_text};
+ghost use Rattle.d64_wording.specs.FaultText.{last_text, are_many, breaks_text, loops_text, ends_text, off_text, loop_text, end_text, count_text, kind_text, owned_text, fault_text, status_text, belonging_text, read_error_text};
 
 use crate::number::push_number;
 use crate::owner_text::{push_owners, push_part};
@@ -207,9 +207,9 @@ pub fn push_status(out: &mut Vec<u8>, status: Option<u8>) -> Result<(), AllocErr
 }
 
 /// Adds to whom a block belongs, if to anyone.
-#[tactic(auto, unfolding(crate::specs::FaultText::belonging))]
+#[tactic(auto, unfolding(crate::specs::FaultText::belonging_text))]
 fn push_belonging(out: &mut Vec<u8>, survey: &Survey, block: BlockNo) -> Result<(), AllocError>
-    ensures { OnOk result (out.new.items ≡ out.old.items ++ belonging survey.now block) }
+    ensures { OnOk result (out.new.items ≡ out.old.items ++ belonging_text survey.now block) }
 {
     if survey.owners(block).count() == 0 {
         return out.extend_from_slice(b", belongs to no file");

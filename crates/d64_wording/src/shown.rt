@@ -1,6 +1,6 @@
 //! Names of the host as they are shown.
 ghost use Rattle.std.specs.Prelude.{◌≡◌, ◌≤◌, ◌<◌, ◌%◌, ◌++◌, ◌∷◌, length, take, drop, slice_index, unwrap_or, IsTrue, OnOk, IfOk, IfSome};
-ghost use Rattle.d64_wording.specs.Shown.{following, continues_at, is_second, six_bits, character_number, is_hidden, shown_character, shown_byte, shown_first, shown};
+ghost use Rattle.d64_wording.specs.Shown.{following_count, continues_at, is_second, six_bits, character_number, is_hidden, shown_character, shown_byte, shown_first, shown_name};
 
 use crate::hexadecimal::{digit_at, push_hexadecimal};
 use std::alloc::AllocError;
@@ -38,9 +38,9 @@ fn is_second(first: u8, rest: &[u8]) -> bool
 }
 
 /// How many bytes more the character has that begins with this byte; None where no character does.
-#[tactic(auto, unfolding(crate::specs::Shown::following))]
+#[tactic(auto, unfolding(crate::specs::Shown::following_count))]
 fn following(first: u8, rest: &[u8]) -> Option<usize>
-    ensures value { result ≡ following first rest.now }
+    ensures value { result ≡ following_count first rest.now }
     ensures within { IfSome result (λ count. count ≤ length rest.now) }
 {
     match first {
@@ -124,7 +124,7 @@ fn push_byte(out: &mut Vec<u8>, byte: u8) -> Result<(), AllocError>
 /// Adds the character that begins with this byte, or else the byte; what follows it.
 fn push_first<'a>(out: &mut Vec<u8>, first: u8, rest: &'a [u8]) -> Result<&'a [u8], AllocError>
     ensures shown { OnOk result (out.new.items ≡ out.old.items ++ shown_first first rest.now) }
-    ensures left { IfOk result (λ left. left.now ≡ drop (unwrap_or (following first rest.now) 0) rest.now) }
+    ensures left { IfOk result (λ left. left.now ≡ drop (unwrap_or (following_count first rest.now) 0) rest.now) }
 {
     match following(first, rest) {
         Some(count) => {
@@ -142,7 +142,7 @@ fn push_first<'a>(out: &mut Vec<u8>, first: u8, rest: &'a [u8]) -> Result<&'a [u
 /// Adds a name as it is shown: a `\` doubled, control characters and the marks of direction by
 /// their numbers as `\u{1b}`, bytes that aren't UTF-8 as `\xff`, and all else as it is.
 pub fn push_shown(out: &mut Vec<u8>, name: &[u8]) -> Result<(), AllocError>
-    ensures { OnOk result (out.new.items ≡ out.old.items ++ shown name.now) }
+    ensures { OnOk result (out.new.items ≡ out.old.items ++ shown_name name.now) }
 {
     let mut left = name;
     while let [first, rest @ ..] = left {

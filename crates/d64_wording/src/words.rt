@@ -1,7 +1,7 @@
 //! Small wordings: names, numbers of things, and blocks.
 ghost use Rattle.std.specs.Prelude.{◌≡◌, ◌++◌, OnOk};
 ghost use Rattle.petscii.specs.Spelling.{spelling};
-ghost use Rattle.d64_wording.specs.Names.{quoted};
+ghost use Rattle.d64_wording.specs.Names.{quoted_name};
 ghost use Rattle.d64_wording.specs.Words.{plural_of, count_of, pair_text, block_text};
 
 use crate::number::push_number;
@@ -15,9 +15,9 @@ pub(crate) const LINE_START: &[u8] = b"  ";
 pub(crate) const LINE_END: &[u8] = b"\n";
 
 /// Adds a name of the disk in text form, between quotes.
-#[tactic(auto, unfolding(crate::specs::Names::quoted))]
+#[tactic(auto, unfolding(crate::specs::Names::quoted_name))]
 pub fn push_quoted(out: &mut Vec<u8>, name: &[u8]) -> Result<(), AllocError>
-    ensures { OnOk result (out.new.items ≡ out.old.items ++ quoted name.now) }
+    ensures { OnOk result (out.new.items ≡ out.old.items ++ quoted_name name.now) }
 {
     out.extend_from_slice(b"\"")?;
     push_spelling(out, name)?;

@@ -11,7 +11,7 @@ use Rattle.clap.specs.Simple.{App, Shape, argument_words, built, entered, is_sim
 use Rattle.clap.specs.Walk.{Names, Rule, Text, Walk, answers_to, finished, idle, nothing_held, rows_after, walk, walk_from, walked}
 use Rattle.clap.proofs.OnLiterals.{clap_on_literals}
 use Rattle.clap.proofs.WalkLemmas.{both, find-map}
-use Rattle.d64_words.specs.Commands.{apps, d64sh, named}
+use Rattle.d64_words.specs.Commands.{apps, d64sh, app_named}
 use Rattle.d64_words.proofs.Filled.{found_passes}
 use Rattle.d64_words.proofs.Parses.{none≢some, same_Some}
 
@@ -111,7 +111,7 @@ unfolding d64sh
 has_binary_name = refl
 
 -- the words of the program, which go on with the name of a subcommand
-module _ (words : List Text) (name : Text) (rest : List Text) (leaf : App) (is : named name ≡ Some leaf) (begins : drop 1 words ≡ name ∷ rest) where
+module _ (words : List Text) (name : Text) (rest : List Text) (leaf : App) (is : app_named name ≡ Some leaf) (begins : drop 1 words ≡ name ∷ rest) where
   part : IsPart leaf
   part = part_found (λ app. bytes_eq app.top.name name) apps leaf are_parts is
 

@@ -98,13 +98,13 @@ abbrev pub apps : List App
 apps = shell ∷ petcat ∷ crunch ∷ check ∷ files ∷ extract ∷ map ∷ diff ∷ catalogue ∷ []
 
 -- the one of this name
-abbrev pub named : List ℕ → Option App
-named name = find (λ app. bytes_eq app.top.name name) apps
+abbrev pub app_named : List ℕ → Option App
+app_named name = find (λ app. bytes_eq app.top.name name) apps
 
 -- `d64sh` alone: it has a version, wants a subcommand, and tells its help where it is given
 -- nothing, and after `help`
-abbrev pub bare : App
-bare = let named = new_app (codes "d64sh") in record named {
+abbrev pub bare_app : App
+bare_app = let named = new_app (codes "d64sh") in record named {
   top = record named.top {
     has_version = true;
     subcommand_required = true;
@@ -114,4 +114,4 @@ bare = let named = new_app (codes "d64sh") in record named {
 
 -- `d64sh` with its subcommands
 unfoldable pub d64sh : App
-d64sh = fold (λ command app. with_subcommand command app.top) bare apps
+d64sh = fold (λ command app. with_subcommand command app.top) bare_app apps

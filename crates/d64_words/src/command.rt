@@ -4,7 +4,7 @@ ghost use Rattle.std.specs.Prelude.{◌≡◌, IfOk, false, option_map};
 ghost use Rattle.clap.specs.Words.{app_of, kind_of, new_app, rule_of};
 ghost use Rattle.clap.specs.declared.error.kind.ErrorKind.TheVariants.{InvalidValue};
 ghost use Rattle.clap.specs.declared.builder.command.Command.TheViews.{out-Command as fields_of};
-ghost use Rattle.d64_words.specs.Commands.{bare, d64sh, named, shell, petcat, crunch, check, files, extract, map, diff, catalogue, survey, with_names, file_argument, required_argument, files_argument, valued_option, output_option, line_option, stop_flag, flag, with_script};
+ghost use Rattle.d64_words.specs.Commands.{bare_app, d64sh, app_named, shell, petcat, crunch, check, files, extract, map, diff, catalogue, survey, with_names, file_argument, required_argument, files_argument, valued_option, output_option, line_option, stop_flag, flag, with_script};
 
 use crate::help::help_of;
 use clap::error::ErrorKind;
@@ -33,7 +33,7 @@ pub(crate) fn d64sh<'a>(alloc: Global) -> Result<Command<'a>, AllocError>
 /// The subcommand of this name, where there is one. It makes of the words from its name on what
 /// `d64sh` makes of all words, and the options of the other subcommands are not made for it.
 pub(crate) fn named<'a>(alloc: Global, name: &str) -> Result<Option<Command<'a>>, AllocError>
-    ensures { IfOk result (λ command. option_map app_of command ≡ named name.now) }
+    ensures { IfOk result (λ command. option_map app_of command ≡ app_named name.now) }
 {
     Ok(Some(match name {
         "shell" => shell(alloc)?,
@@ -61,7 +61,7 @@ pub(crate) fn lacks_value(alloc: Global, name: &str, message: &str) -> Result<Er
 
 /// The command `d64sh` without its subcommands.
 fn bare<'a>(alloc: Global) -> Command<'a>
-    ensures app { app_of result ≡ bare }
+    ensures app { app_of result ≡ bare_app }
     ensures local { (fields_of result).has_globals ≡ false }
 {
     let help = help_of("");

@@ -5,7 +5,7 @@ use Rattle.std.specs.Option.{option_map_or}
 use Rattle.std.specs.Char.{to_ascii_lowercase}
 use Rattle.std.specs.Str.{str_to_ascii_lowercase}
 use Rattle.petscii.specs.ControlNames.{control_name}
-use Rattle.petscii.specs.Spelling.{character, spell, braced, dollar, hex_digit, hex_name}
+use Rattle.petscii.specs.Spelling.{character, spell, braced_name, dollar, hex_digit, hex_name}
 use Rattle.petscii.specs.TextForm.{open_brace, close_brace, IsUnit, IsAccepted, Names}
 use Rattle.petscii.specs.TextFault.{IsUnknown}
 use Rattle.petscii.proofs.Digits.{digit_once, digit_small}
@@ -16,25 +16,25 @@ use Rattle.petscii.proofs.Tables.{character_once, control_once, control_hidden, 
 -- a byte with a character is spelled by it
 pub spell_character : (b c : ℕ) → character b ≡ Some c → spell b ≡ c ∷ []
 unfolding spell
-spell_character b c is = ap (λ (o : Option ℕ). option_map_or (λ x. x ∷ []) o (braced (option_map_or (λ name. name) (control_name b) (hex_name b)))) is
+spell_character b c is = ap (λ (o : Option ℕ). option_map_or (λ x. x ∷ []) o (braced_name (option_map_or (λ name. name) (control_name b) (hex_name b)))) is
 
 -- a control code is spelled by its name
-pub spell_control : (b : ℕ) (name : List ℕ) → b < 256 → control_name b ≡ Some name → spell b ≡ braced name
+pub spell_control : (b : ℕ) (name : List ℕ) → b < 256 → control_name b ≡ Some name → spell b ≡ braced_name name
 unfolding spell
 spell_control b name small is =
-    ap (λ (o : Option ℕ). option_map_or (λ x. x ∷ []) o (braced (option_map_or (λ name. name) (control_name b) (hex_name b)))) (control_hidden b small name is)
-    ∙ ap (λ (o : Option (List ℕ)). braced (option_map_or (λ name. name) o (hex_name b))) is
+    ap (λ (o : Option ℕ). option_map_or (λ x. x ∷ []) o (braced_name (option_map_or (λ name. name) (control_name b) (hex_name b)))) (control_hidden b small name is)
+    ∙ ap (λ (o : Option (List ℕ)). braced_name (option_map_or (λ name. name) o (hex_name b))) is
 
 -- a byte with neither is spelled by its value
-pub spell_value : (b : ℕ) → character b ≡ None → control_name b ≡ None → spell b ≡ braced (hex_name b)
+pub spell_value : (b : ℕ) → character b ≡ None → control_name b ≡ None → spell b ≡ braced_name (hex_name b)
 unfolding spell
 spell_value b hidden unnamed =
-    ap (λ (o : Option ℕ). option_map_or (λ x. x ∷ []) o (braced (option_map_or (λ name. name) (control_name b) (hex_name b)))) hidden
-    ∙ ap (λ (o : Option (List ℕ)). braced (option_map_or (λ name. name) o (hex_name b))) unnamed
+    ap (λ (o : Option ℕ). option_map_or (λ x. x ∷ []) o (braced_name (option_map_or (λ name. name) (control_name b) (hex_name b)))) hidden
+    ∙ ap (λ (o : Option (List ℕ)). braced_name (option_map_or (λ name. name) o (hex_name b))) unnamed
 
 -- the unit is the byte's character, or a name of the byte in braces
 abbrev pub HasForm : ℕ → List ℕ → Type 0
-HasForm b unit = ((c : ℕ) × (character b ≡ Some c) × (unit ≡ c ∷ [])) ⊎ ((name : List ℕ) × Names name b × (unit ≡ braced name))
+HasForm b unit = ((c : ℕ) × (character b ≡ Some c) × (unit ≡ c ∷ [])) ⊎ ((name : List ℕ) × Names name b × (unit ≡ braced_name name))
 
 -- the form of a spelling, by what the tables say of the byte
 spell_form_from : (b : ℕ) → b < 256 → (o : Option ℕ) → character b ≡ o → (p : Option (List ℕ)) → control_name b ≡ p → HasForm b (spell b)
@@ -50,17 +50,17 @@ spell_form b small = spell_form_from b small (character b) refl (control_name b)
 -- ---- braces and small letters
 
 -- braces round two names make two texts
-pub braced_once : (a b : List ℕ) → braced a ≡ braced b → a ≡ b
+pub braced_once : (a b : List ℕ) → braced_name a ≡ braced_name b → a ≡ b
 braced_once a b same =
     let tails : a ++ close_brace ∷ [] ≡ b ++ close_brace ∷ [] = cc in
     append_cancel_right a b (close_brace ∷ []) tails
 
 -- a name in braces is no single byte
-pub braced_not_one : (name : List ℕ) (c : ℕ) → braced name ≢ c ∷ []
+pub braced_not_one : (name : List ℕ) (c : ℕ) → braced_name name ≢ c ∷ []
 braced_not_one name c same = absurd (omega (arith, ap length same, length-append name (close_brace ∷ [])))
 
 -- braces have no capital letters
-pub small_braced : (name : List ℕ) → str_to_ascii_lowercase (braced name) ≡ braced (str_to_ascii_lowercase name)
+pub small_braced : (name : List ℕ) → str_to_ascii_lowercase (braced_name name) ≡ braced_name (str_to_ascii_lowercase name)
 small_braced name = ap (λ (cs : List ℕ). open_brace ∷ cs) (map-append to_ascii_lowercase name (close_brace ∷ []))
 
 -- a byte's name has no capital letters
@@ -95,7 +95,7 @@ names_once a b name (small_a, inr at_a) (small_b, inr at_b) = names_value_once a
 
 -- the unit is the byte's character, or a name of the byte in braces, in either case
 abbrev pub HasAcceptedForm : ℕ → List ℕ → Type 0
-HasAcceptedForm b unit = ((c : ℕ) × (character b ≡ Some c) × (unit ≡ c ∷ [])) ⊎ ((name : List ℕ) × Names (str_to_ascii_lowercase name) b × (unit ≡ braced name))
+HasAcceptedForm b unit = ((c : ℕ) × (character b ≡ Some c) × (unit ≡ c ∷ [])) ⊎ ((name : List ℕ) × Names (str_to_ascii_lowercase name) b × (unit ≡ braced_name name))
 
 -- a unit that is a spelling has an accepted form
 form_of_spelling : (b : ℕ) (unit : List ℕ) → unit ≡ spell b → HasForm b (spell b) → HasAcceptedForm b unit
@@ -103,12 +103,12 @@ form_of_spelling b unit same (inl (c, is, spelled)) = inl (c, is, same ∙ spell
 form_of_spelling b unit same (inr (name, names, spelled)) = inr (name, subst (λ (cs : List ℕ). Names cs b) (sym (small_name name b names)) names, same ∙ spelled)
 
 -- a name that is a spelling but for its capitals names the byte
-form_of_capitals : (b : ℕ) (name : List ℕ) → braced (str_to_ascii_lowercase name) ≡ spell b → HasForm b (spell b) → Names (str_to_ascii_lowercase name) b
+form_of_capitals : (b : ℕ) (name : List ℕ) → braced_name (str_to_ascii_lowercase name) ≡ spell b → HasForm b (spell b) → Names (str_to_ascii_lowercase name) b
 form_of_capitals b name same (inl (c, is, spelled)) = absurd (braced_not_one (str_to_ascii_lowercase name) c (same ∙ spelled))
 form_of_capitals b name same (inr (known, names, spelled)) = subst (λ (cs : List ℕ). Names cs b) (sym (braced_once (str_to_ascii_lowercase name) known (same ∙ spelled))) names
 
 -- a unit in braces in small letters
-small_unit : (name unit : List ℕ) → unit ≡ braced name → str_to_ascii_lowercase unit ≡ braced (str_to_ascii_lowercase name)
+small_unit : (name unit : List ℕ) → unit ≡ braced_name name → str_to_ascii_lowercase unit ≡ braced_name (str_to_ascii_lowercase name)
 small_unit name unit is = ap str_to_ascii_lowercase is ∙ small_braced name
 
 -- what is accepted has an accepted form
@@ -127,12 +127,12 @@ unfolding IsAccepted
 accepted_character b c small is = (small, inl (sym (spell_character b c is)))
 
 -- a byte's name in braces is accepted for it, in either case
-pub accepted_name : (b : ℕ) (name : List ℕ) → ¬ (Contains name close_brace) → Names (str_to_ascii_lowercase name) b → IsAccepted b (braced name)
+pub accepted_name : (b : ℕ) (name : List ℕ) → ¬ (Contains name close_brace) → Names (str_to_ascii_lowercase name) b → IsAccepted b (braced_name name)
 unfolding IsAccepted Names
 accepted_name b name next (small, inl named_by) =
     (small, inr (record { name = name; is = refl; next = next }, inl (small_braced name ∙ sym (spell_control b (str_to_ascii_lowercase name) small named_by))))
 accepted_name b name next (small, inr is) =
-    (small, inr (record { name = name; is = refl; next = next }, inr (small_braced name ∙ ap (λ (cs : List ℕ). braced cs) (sym is))))
+    (small, inr (record { name = name; is = refl; next = next }, inr (small_braced name ∙ ap (λ (cs : List ℕ). braced_name cs) (sym is))))
 
 -- what is no byte's character stands for no byte
 pub unknown_character : (c : ℕ) → ((b : ℕ) → character b ≢ Some c) → c ≢ open_brace → IsUnknown (c ∷ [])
@@ -142,8 +142,8 @@ unknown_character c hidden no_brace b accepted = elim (accepted_form b (c ∷ []
 ]
 
 -- what is no byte's name stands for no byte in braces
-pub unknown_name : (name : List ℕ) → ((b : ℕ) → ¬ (Names (str_to_ascii_lowercase name) b)) → IsUnknown (braced name)
-unknown_name name none b accepted = elim (accepted_form b (braced name) accepted) [
+pub unknown_name : (name : List ℕ) → ((b : ℕ) → ¬ (Names (str_to_ascii_lowercase name) b)) → IsUnknown (braced_name name)
+unknown_name name none b accepted = elim (accepted_form b (braced_name name) accepted) [
   | inl (shown, is, same) ↦ braced_not_one name shown same
   | inr (other, names, same) ↦ none b (subst (λ (cs : List ℕ). Names (str_to_ascii_lowercase cs) b) (sym (braced_once name other same)) names)
 ]

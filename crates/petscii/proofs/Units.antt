@@ -8,7 +8,7 @@ use Rattle.std.proofs.lemmas.List.Sums.{fails_before_first}
 use Rattle.std.specs.List.{position_or_len}
 use Rattle.std.specs.Prelude.{◌==◌, nat_lt, position, take, drop, Bool, true, false, cond, Some, None}
 use Rattle.std.specs.Str.{str_to_ascii_lowercase}
-use Rattle.petscii.specs.Spelling.{braced}
+use Rattle.petscii.specs.Spelling.{braced_name}
 use Rattle.petscii.specs.TextForm.{open_brace, close_brace, IsUnit, IsAccepted, Names, BeginsWith}
 use Rattle.petscii.specs.TextFault.{IsUnknown, BeginsUnknownName, BeginsFault}
 use Rattle.petscii.specs.declared.fault.TextFault.{TextFault}
@@ -47,7 +47,7 @@ abbrev SameParts : List ℕ → List ℕ → List ℕ → List ℕ → Type 0
 SameParts u v x y = (u ≡ v) × (x ≡ y)
 
 -- a text that begins with a name in braces
-pub braced_joined : (name x : List ℕ) → braced name ++ x ≡ open_brace ∷ (name ++ close_brace ∷ x)
+pub braced_joined : (name x : List ℕ) → braced_name name ++ x ≡ open_brace ∷ (name ++ close_brace ∷ x)
 braced_joined name x = ap (λ (cs : List ℕ). open_brace ∷ cs) (append_assoc name (close_brace ∷ []) x)
 
 -- a text begins with at most one unit
@@ -66,7 +66,7 @@ unit_once u v x y (inr one) (inr other) same =
     let joined : open_brace ∷ (one.name ++ close_brace ∷ x) ≡ open_brace ∷ (other.name ++ close_brace ∷ y) = sym (ap (λ (w : List ℕ). w ++ x) one.is ∙ braced_joined one.name x) ∙ same ∙ ap (λ (w : List ℕ). w ++ y) other.is ∙ braced_joined other.name y in
     let tails : one.name ++ close_brace ∷ x ≡ other.name ++ close_brace ∷ y = cc in
     let parts = next_once one.name other.name x y one.next other.next tails in
-    (one.is ∙ ap (λ (w : List ℕ). braced w) parts.0 ∙ sym other.is, parts.1)
+    (one.is ∙ ap (λ (w : List ℕ). braced_name w) parts.0 ∙ sym other.is, parts.1)
 
 -- a text begins with one byte at most
 pub begins_once : (text : List ℕ) (a b : ℕ) (x y : List ℕ) → BeginsWith text a x → BeginsWith text b y → (a ≡ b) × (x ≡ y)
@@ -115,8 +115,8 @@ stuck_same x y same stuck = subst (λ (w : List ℕ). IsStuck w) (sym same) stuc
 -- no unit goes on at a fault
 pub stuck_fault : (place : ℕ) (left : List ℕ) (fault : TextFault) → BeginsFault place left fault → IsStuck left
 stuck_fault place left (UnknownName at) (is, begins) =
-    stuck_same left (braced begins.name ++ begins.rest) begins.joined
-    (stuck_unknown (braced begins.name) begins.rest (inr (record { name = begins.name; is = refl; next = begins.next })) begins.unknown)
+    stuck_same left (braced_name begins.name ++ begins.rest) begins.joined
+    (stuck_unknown (braced_name begins.name) begins.rest (inr (record { name = begins.name; is = refl; next = begins.next })) begins.unknown)
 stuck_fault place left (OpenBrace at) (is, begins) = stuck_same left (open_brace ∷ begins.rest) begins.joined (stuck_open begins.rest begins.not_closed)
 stuck_fault place left (BadByte at) (is, begins) =
     stuck_same left (begins.byte ∷ begins.rest) begins.joined
@@ -156,7 +156,7 @@ never_closes text none (k, within, is) =
 -- a `{`, a byte's name and a `}` stand for the byte
 pub begins_name : (text name rest : List ℕ) (b : ℕ) → Closes text name rest → Names (str_to_ascii_lowercase name) b → BeginsWith (open_brace ∷ text) b rest
 begins_name text name rest b closes names = record {
-  unit = braced name;
+  unit = braced_name name;
   is_unit = inr (record { name = name; is = refl; next = closes.next });
   accepted = accepted_name b name closes.next names;
   joined = ap (λ (w : List ℕ). open_brace ∷ w) closes.joined ∙ sym (braced_joined name rest);

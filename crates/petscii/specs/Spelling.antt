@@ -25,8 +25,8 @@ unfoldable pub character : ℕ → Option ℕ
 character b = character_in character_ranges b
 
 -- A name between braces.
-abbrev pub braced : List ℕ → List ℕ
-braced name = codes "{" ++ name ++ codes "}"
+abbrev pub braced_name : List ℕ → List ℕ
+braced_name name = codes "{" ++ name ++ codes "}"
 
 -- The digit of a number below 16.
 unfoldable pub hex_digit : ℕ → ℕ
@@ -42,7 +42,7 @@ hex_name b = dollar ∷ hex_digit (b / 16) ∷ hex_digit (b % 16) ∷ []
 
 -- The text of a byte: its character, else the name of the control code, else its value.
 unfoldable pub spell : ℕ → List ℕ
-spell b = option_map_or (λ c. c ∷ []) (character b) (braced (option_map_or (λ name. name) (control_name b) (hex_name b)))
+spell b = option_map_or (λ c. c ∷ []) (character b) (braced_name (option_map_or (λ name. name) (control_name b) (hex_name b)))
 
 -- The text of bytes.
 unfoldable pub spelling : List ℕ → List ℕ

@@ -2,7 +2,7 @@
 use Rattle.std.specs.Prelude.{◌≡◌, ◌≢◌, ℕ, List, [], ◌∷◌, ◌++◌, length, Contains}
 use Rattle.petscii.specs.declared.fault.TextFault.{TextFault}
 use Rattle.petscii.specs.declared.fault.TextFault.TheVariants.{UnknownName, OpenBrace, BadByte, Memory}
-use Rattle.petscii.specs.Spelling.{braced}
+use Rattle.petscii.specs.Spelling.{braced_name}
 use Rattle.petscii.specs.TextForm.{open_brace, close_brace, IsAccepted, IsTextOf}
 
 -- The unit stands for no byte.
@@ -13,9 +13,9 @@ IsUnknown unit = (b : ℕ) → ¬ (IsAccepted b unit)
 pub record BeginsUnknownName (text : List ℕ) : Type 0 where
   pub name : List ℕ
   pub rest : List ℕ
-  pub joined : text ≡ braced name ++ rest
+  pub joined : text ≡ braced_name name ++ rest
   pub next : ¬ (Contains name close_brace)
-  pub unknown : IsUnknown (braced name)
+  pub unknown : IsUnknown (braced_name name)
 
 -- The text begins with a `{` that no `}` follows.
 pub record BeginsOpenBrace (text : List ℕ) : Type 0 where

@@ -2,7 +2,7 @@
 use Rattle.std.specs.Prelude.{◌≡◌, ◌≢◌, ℕ, ◌<◌, ◌⊎◌, List, [], ◌∷◌, ◌++◌, Some, Contains}
 use Rattle.std.specs.Str.{str_to_ascii_lowercase}
 use Rattle.petscii.specs.ControlNames.{control_name}
-use Rattle.petscii.specs.Spelling.{braced, hex_name, spell}
+use Rattle.petscii.specs.Spelling.{braced_name, hex_name, spell}
 
 -- `{`
 abbrev pub open_brace : ℕ
@@ -15,7 +15,7 @@ close_brace = 125
 -- The unit is a `{` up to the next `}`.
 pub record IsBraced (unit : List ℕ) : Type 0 where
   pub name : List ℕ
-  pub is : unit ≡ braced name
+  pub is : unit ≡ braced_name name
   pub next : ¬ (Contains name close_brace)
 
 -- The unit is one byte other than a `{`.
@@ -32,7 +32,7 @@ IsUnit unit = IsOneByte unit ⊎ IsBraced unit
 -- in either case of the letters.
 unfoldable pub IsAccepted : ℕ → List ℕ → Type 0
 IsAccepted b unit = (b < 256) × ((unit ≡ spell b)
-    ⊎ (IsBraced unit × ((str_to_ascii_lowercase unit ≡ spell b) ⊎ (str_to_ascii_lowercase unit ≡ braced (hex_name b)))))
+    ⊎ (IsBraced unit × ((str_to_ascii_lowercase unit ≡ spell b) ⊎ (str_to_ascii_lowercase unit ≡ braced_name (hex_name b)))))
 
 -- A name in small letters names the byte: by its control code, or by its value.
 unfoldable pub Names : List ℕ → ℕ → Type 0

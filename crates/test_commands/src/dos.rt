@@ -1,7 +1,7 @@
 //! Commands on images, and the texts of their refusals.
 ghost use Rattle.std.specs.Prelude.{ℕ, List, IfOk};
 ghost use Rattle.d64_image.specs.Patch.{IsPatchOf};
-ghost use Rattle.d64_dos.specs.Change.{said};
+ghost use Rattle.d64_dos.specs.Change.{change_of};
 ghost use Rattle.d64_dos.specs.Command.{IsWithin};
 
 use d64_dos::{Command, Refusal, Reply, apply};
@@ -17,7 +17,7 @@ const MAP: usize = 357;
 
 /// The command that makes an empty disk.
 fn format() -> Result<Command, Fail>
-    ensures { IfOk result (λ command. (image : List (List ℕ)) → IsWithin image (said command)) }
+    ensures { IfOk result (λ command. (image : List (List ℕ)) → IsWithin image (change_of command)) }
 {
     Ok(Command::Format {
         name: Name::new(b"D")?,
@@ -27,7 +27,7 @@ fn format() -> Result<Command, Fail>
 
 /// Applies a command, and answers what was there before.
 fn run(rt: &HostRuntime, image: &mut Image, command: &Command) -> Result<Patch, Fail>
-    requires { IsWithin image.old (said command.now) }
+    requires { IsWithin image.old (change_of command.now) }
     ensures { IfOk result (λ patch. IsPatchOf image.new patch) }
 {
     let mut patch = Patch::new(rt.alloc());
@@ -56,7 +56,7 @@ fn a_command_that_changes_nothing_leaves_an_empty_patch(rt: HostRuntime) -> Resu
 
 /// The command that writes a file of one byte as `X`.
 fn write_x(rt: &HostRuntime) -> Result<Command, Fail>
-    ensures { IfOk result (λ command. (image : List (List ℕ)) → IsWithin image (said command)) }
+    ensures { IfOk result (λ command. (image : List (List ℕ)) → IsWithin image (change_of command)) }
 {
     Ok(Command::Write {
         name: Name::new(b"X")?,

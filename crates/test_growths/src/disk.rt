@@ -1,6 +1,6 @@
 //! The disk on which calls are made.
 ghost use Rattle.std.specs.Prelude.{◌≡◌, ◌<◌, [], length, IfOk};
-ghost use Rattle.d64_dos.specs.Change.{said};
+ghost use Rattle.d64_dos.specs.Change.{change_of};
 ghost use Rattle.d64_dos.specs.Command.{IsWithin};
 ghost use Rattle.d64_image.specs.Patch.{IsPatchOf};
 
@@ -42,7 +42,7 @@ pub fn block_in(image: &Image, track: u8, sector: u8) -> Result<BlockNo, Fail>
 
 /// An error where the image doesn't have the block that a command names.
 pub fn within(image: &Image, command: &Command) -> Result<(), Fail>
-    ensures { IfOk result (λ _. IsWithin image.now (said command.now)) }
+    ensures { IfOk result (λ _. IsWithin image.now (change_of command.now)) }
 {
     match command {
         Command::BlockWrite { at, block: _ } if !image.holds(*at) => {

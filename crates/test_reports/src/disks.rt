@@ -1,6 +1,6 @@
 //! Dumps to be told of.
 ghost use Rattle.std.specs.Prelude.{ℕ, List, IfOk};
-ghost use Rattle.d64_dos.specs.Change.{said};
+ghost use Rattle.d64_dos.specs.Change.{change_of};
 ghost use Rattle.d64_dos.specs.Command.{IsWithin};
 
 use d64_dos::{Command, apply};
@@ -19,7 +19,7 @@ const FILES: [(&[u8], Kind, usize); 4] = [
 
 /// The command that makes an empty disk.
 fn format() -> Result<Command, Fail>
-    ensures { IfOk result (λ command. (image : List (List ℕ)) → IsWithin image (said command)) }
+    ensures { IfOk result (λ command. (image : List (List ℕ)) → IsWithin image (change_of command)) }
 {
     Ok(Command::Format {
         name: Name::new(b"HOLIDAY 1984")?,
@@ -29,7 +29,7 @@ fn format() -> Result<Command, Fail>
 
 /// The command that writes a file of so many bytes.
 fn write(rt: &HostRuntime, name: &[u8], kind: Kind, len: usize) -> Result<Command, Fail>
-    ensures { IfOk result (λ command. (image : List (List ℕ)) → IsWithin image (said command)) }
+    ensures { IfOk result (λ command. (image : List (List ℕ)) → IsWithin image (change_of command)) }
 {
     Ok(Command::Write {
         name: Name::new(name)?,
@@ -40,7 +40,7 @@ fn write(rt: &HostRuntime, name: &[u8], kind: Kind, len: usize) -> Result<Comman
 
 /// Applies a command.
 fn run(rt: &HostRuntime, image: &mut Image, command: &Command) -> Result<(), Fail>
-    requires { IsWithin image.old (said command.now) }
+    requires { IsWithin image.old (change_of command.now) }
 {
     let mut patch = Patch::new(rt.alloc());
     apply(image, &mut patch, command)?;

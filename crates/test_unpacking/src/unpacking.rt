@@ -1,6 +1,6 @@
 //! Images that are unpacked on a host in memory.
 ghost use Rattle.std.specs.Prelude.{ℕ, List, IfOk};
-ghost use Rattle.d64_dos.specs.Change.{said};
+ghost use Rattle.d64_dos.specs.Change.{change_of};
 ghost use Rattle.d64_dos.specs.Command.{IsWithin};
 
 use d64_collection::{AnswerRoom, Clerk, Verdict};
@@ -17,7 +17,7 @@ const NAME: &[u8] = b"../disks//a/side1.d64";
 
 /// A command that makes an empty disk.
 fn format() -> Result<Command, Fail>
-    ensures { IfOk result (λ command. (image : List (List ℕ)) → IsWithin image (said command)) }
+    ensures { IfOk result (λ command. (image : List (List ℕ)) → IsWithin image (change_of command)) }
 {
     Ok(Command::Format {
         name: Name::new(b"HOLIDAY")?,
@@ -27,7 +27,7 @@ fn format() -> Result<Command, Fail>
 
 /// A command that writes a file of so many bytes.
 fn write(rt: &HostRuntime, name: &[u8], len: usize) -> Result<Command, Fail>
-    ensures { IfOk result (λ command. (image : List (List ℕ)) → IsWithin image (said command)) }
+    ensures { IfOk result (λ command. (image : List (List ℕ)) → IsWithin image (change_of command)) }
 {
     Ok(Command::Write {
         name: Name::new(name)?,
@@ -38,7 +38,7 @@ fn write(rt: &HostRuntime, name: &[u8], len: usize) -> Result<Command, Fail>
 
 /// Applies a command.
 fn run(rt: &HostRuntime, image: &mut Image, command: &Command) -> Result<(), Fail>
-    requires { IsWithin image.old (said command.now) }
+    requires { IsWithin image.old (change_of command.now) }
 {
     let mut patch = Patch::new(rt.alloc());
     apply(image, &mut patch, command)?;

@@ -1,12 +1,12 @@
 use Rattle.std.proofs.Common.{ℕ, length, drop, Option, ◌∙◌, ap}
 use Rattle.std.specs.Prelude.{unwrap_or}
 use Rattle.std.proofs.lemmas.List.{take_rest}
-use Rattle.cbm_text.specs.TextLine.{is_no_space, unspaced}
+use Rattle.cbm_text.specs.TextLine.{is_no_space, unspaced_line}
 use Rattle.cbm_text.proofs.TextLines.{place_or_length}
 use Rattle.cbm_text.proofs.text_line.after_spaces.Goals as goal
 
 pub returns : goal.returns
-unfolding unspaced
+unfolding unspaced_line
 returns c =
     let text = c.args.text.now in
     take_rest text c.unwrap_or-spaces.result

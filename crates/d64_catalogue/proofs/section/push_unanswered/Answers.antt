@@ -3,11 +3,11 @@ use Rattle.std.specs.Prelude.{codes}
 use Rattle.d64_wording.proofs.Joins.{join3}
 use Rattle.d64_markup.specs.Markup.{tag, element}
 use Rattle.d64_catalogue.specs.Elements.{text_line}
-use Rattle.d64_catalogue.specs.Sections.{host_line, unanswered}
+use Rattle.d64_catalogue.specs.Sections.{host_line, unanswered_section}
 use Rattle.d64_catalogue.proofs.section.push_unanswered.Goals as goal
 
 pub returns : goal.returns
-unfolding tag element unanswered
+unfolding tag element unanswered_section
 returns c =
     let before = c.args.out.now.items in
     let start = codes "<section class=\"amiss\">\n" in

@@ -4,7 +4,7 @@ use Rattle.std.proofs.Math.ListN.{replicate}
 use Rattle.d64_image.specs.Image.{with_sector}
 use Rattle.d64_image.specs.Patch.{IsPatchOf}
 use Rattle.d64_image.proofs.Sizes.{size_most}
-use Rattle.d64_effects.specs.Format.{blank}
+use Rattle.d64_effects.specs.Format.{blank_disk}
 use Rattle.d64_dos.proofs.Blanks.{one_more, all_blank}
 use Rattle.d64_dos.proofs.format.blank.Goals as goal
 use Rattle.d64_dos.proofs.format.blank.Goals.{in-Some+in_ok-blank_block-in-Some, in-None}
@@ -31,7 +31,7 @@ loop-index-preserved c =
     ]
 
 pub returns-clause-blank : goal.returns-clause-blank
-unfolding blank
+unfolding blank_disk
 returns-clause-blank c =
     let image = c.args.image.now in
     let long = c.block_count-index-end.ensures.count in

@@ -5,7 +5,7 @@ use Rattle.std.proofs.lemmas.Result.{on_ok_weaker}
 use Rattle.d64_image.specs.declared.image.TheConstants.{BLOCK_BYTES}
 use Rattle.d64_image.specs.BlockSet.{MembersAreBelow}
 use Rattle.d64_image.proofs.Sizes.{size_least}
-use Rattle.d64_effects.specs.Format.{blank}
+use Rattle.d64_effects.specs.Format.{blank_disk}
 use Rattle.d64_effects.proofs.EmptyDisks.{members_are_below, formatted_from_parts}
 use Rattle.d64_dos.proofs.format.format.Goals as goal
 
@@ -21,8 +21,8 @@ returns-clause-formatted c =
     c.put_map.ensures.written
 
 -- the image is as long as before after each step
-long_blank : (image after : List (List ℕ)) → after ≡ blank (length image) → length after ≡ length image
-unfolding blank
+long_blank : (image after : List (List ℕ)) → after ≡ blank_disk (length image) → length after ≡ length image
+unfolding blank_disk
 long_blank image after e = ap length e ∙ length-replicate (length image) (replicate BLOCK_BYTES 0)
 
 pub write-requires : goal.write-requires

@@ -3,13 +3,13 @@ use Rattle.d64_image.specs.BlockSet.{MembersAreBelow}
 use Rattle.d64_map.specs.Map.{with_map}
 use Rattle.d64_files.specs.Directory.{owned_blocks}
 use Rattle.d64_effects.specs.Clear.{with_cleared}
-use Rattle.d64_effects.specs.Validate.{unclosed_slots, validated}
+use Rattle.d64_effects.specs.Validate.{unclosed_slots, validated_disk}
 use Rattle.d64_effects.proofs.Lengths.{length-with_cleared}
 use Rattle.d64_effects.proofs.ValidatedDisks.{members-all_but}
 use Rattle.d64_dos.proofs.validate.validate.Goals as goal
 
 pub returns-clause-image : goal.returns-clause-image
-unfolding validated
+unfolding validated_disk
 returns-clause-image c =
     let image = c.args.image.now in
     let places : c.as_slice.result.now ≡ unclosed_slots image =

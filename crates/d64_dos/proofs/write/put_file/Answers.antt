@@ -15,7 +15,7 @@ use Rattle.d64_effects.proofs.Lengths.{length-with_new_entry}
 use Rattle.d64_effects.proofs.TakenBlocks.{free_is_block}
 use Rattle.d64_effects.proofs.WrittenImages.{left_are_blocks}
 use Rattle.d64_dos.specs.Space.{grown_at}
-use Rattle.d64_dos.proofs.Spaces.{room-bound, written-in_space}
+use Rattle.d64_dos.proofs.Spaces.{room-bound, written_disk-in_space}
 use Rattle.d64_dos.proofs.write.put_file.Goals as goal
 
 -- a file has no more blocks than a disk
@@ -39,7 +39,7 @@ returns-clause-written c =
     c.index-blocks-0.is ∙ get_or_default blocks 0 c.index-blocks-0.result 0 some in
     let entered = c.in_ok-put_new_entry.ensures.written in
     let chained = c.in_ok-put_chain.ensures.written in
-    let whole = written-in_space image file.name.now file.kind file.bytes.now blocks c.args.space.now c.requires in
+    let whole = written_disk-in_space image file.name.now file.kind file.bytes.now blocks c.args.space.now c.requires in
     on_ok_weaker c.put_map.result (λ written. let mapped = written in cc) c.put_map.ensures.written
 
 -- the image has the blocks of the file

@@ -2,13 +2,13 @@ use Rattle.std.proofs.Common.{◌≡◌, ℕ, List, length, take, ap, ap₂, ◌
 use Rattle.std.proofs.lemmas.List.{take_all}
 use Rattle.sha2.specs.Sha256.{sha256}
 use Rattle.d64_files.specs.FileData.{data_along}
-use Rattle.d64_inventory.specs.Contents.{digested}
+use Rattle.d64_inventory.specs.Contents.{digested_content}
 use Rattle.d64_inventory.specs.declared.row.Content.{Content}
 use Rattle.d64_inventory.proofs.content_table.digest_along.Goals as goal
 
 -- what is told of bytes
-told : (bytes : List ℕ) (count : ℕ) (digest : List ℕ) → count ≡ length bytes → digest ≡ sha256 bytes → ◌≡◌ {A = Content} (record { bytes = count; digest = digest }) (digested bytes)
-unfolding digested
+told : (bytes : List ℕ) (count : ℕ) (digest : List ℕ) → count ≡ length bytes → digest ≡ sha256 bytes → ◌≡◌ {A = Content} (record { bytes = count; digest = digest }) (digested_content bytes)
+unfolding digested_content
 told bytes count digest e f = ap₂ (λ (n : ℕ) (d : List ℕ). record { bytes = n; digest = d }) e f
 
 pub returns : goal.returns

@@ -4,9 +4,9 @@ use Rattle.std.proofs.lemmas.Str.Ascii.{IsAscii-from_all}
 use Rattle.petscii.specs.Spelling.{spelling}
 use Rattle.d64_dos.specs.Reading.{read_refusal}
 use Rattle.d64_line.specs.FoundFile.{found_name, found_content, is_file_name}
-use Rattle.d64_undo.specs.History.{present}
+use Rattle.d64_undo.specs.History.{present_image}
 use Rattle.d64_script.specs.declared.status.Status.TheVariants.{BadName}
-use Rattle.d64_line.proofs.Acts.{Does-given, Does-refuse, Does-allowed}
+use Rattle.d64_line.proofs.Acts.{Does-given, Does-refuse, Does-refuse_by}
 use Rattle.d64_line.proofs.FoundFiles.{found_name-read, found_content-read}
 use Rattle.d64_line.proofs.handlers.read_as_found.Goals as goal
 
@@ -17,12 +17,12 @@ returns-then-not-is_file_name g c =
     let old = g.H.Host.state c.args.host.now in
     let got : c.read.result ≡ Ok c.in_ok-file.file = search rules in
     let back = rw (c.image.ensures.present, got) at c.read.ensures.back in
-    let refused : None ≡ read_refusal (present history) pattern = rw (c.image.ensures.present, got) at c.read.ensures.refused in
-    let text : c.in_ok-name.name.items ≡ spelling (found_name (present history) pattern) =
-    c.in_ok-name.ensures.spelled ∙ ap spelling (c.as_slice.ensures.value ∙ found_name-read (present history) pattern c.in_ok-file.file.name.items c.in_ok-file.file.bytes.items back) in
+    let refused : None ≡ read_refusal (present_image history) pattern = rw (c.image.ensures.present, got) at c.read.ensures.refused in
+    let text : c.in_ok-name.name.items ≡ spelling (found_name (present_image history) pattern) =
+    c.in_ok-name.ensures.spelled ∙ ap spelling (c.as_slice.ensures.value ∙ found_name-read (present_image history) pattern c.in_ok-file.file.name.items c.in_ok-file.file.bytes.items back) in
     let fails : c.is_file_name.result ≡ false = search rules in
-    let no_name : false ≡ is_file_name (spelling (found_name (present history) pattern)) = sym fails ∙ c.is_file_name.ensures ∙ ap is_file_name (c.as_slice-3.ensures.value ∙ text) in
-    Does-allowed _ _ _ _ _ refused (Does-given _ _ [] old old history _ _ (refl, refl) (rw (← no_name) (Does-refuse BadName _)))
+    let no_name : false ≡ is_file_name (spelling (found_name (present_image history) pattern)) = sym fails ∙ c.is_file_name.ensures ∙ ap is_file_name (c.as_slice-3.ensures.value ∙ text) in
+    Does-refuse_by _ _ _ _ _ refused (Does-given _ _ [] old old history _ _ (refl, refl) (rw (← no_name) (Does-refuse BadName _)))
 
 pub unwrap-name-requires : goal.unwrap-name-requires
 unwrap-name-requires g c =
@@ -39,15 +39,15 @@ returns g c =
     let old = g.H.Host.state c.args.host.now in
     let got : c.read.result ≡ Ok c.in_ok-file.file = search rules in
     let back = rw (c.image.ensures.present, got) at c.read.ensures.back in
-    let refused : None ≡ read_refusal (present history) pattern = rw (c.image.ensures.present, got) at c.read.ensures.refused in
-    let text : c.in_ok-name.name.items ≡ spelling (found_name (present history) pattern) =
-    c.in_ok-name.ensures.spelled ∙ ap spelling (c.as_slice.ensures.value ∙ found_name-read (present history) pattern c.in_ok-file.file.name.items c.in_ok-file.file.bytes.items back) in
+    let refused : None ≡ read_refusal (present_image history) pattern = rw (c.image.ensures.present, got) at c.read.ensures.refused in
+    let text : c.in_ok-name.name.items ≡ spelling (found_name (present_image history) pattern) =
+    c.in_ok-name.ensures.spelled ∙ ap spelling (c.as_slice.ensures.value ∙ found_name-read (present_image history) pattern c.in_ok-file.file.name.items c.in_ok-file.file.bytes.items back) in
     let same : c.unwrap-name.result.now ≡ c.as_slice-4.result.now = search rules in
-    let name : c.unwrap-name.result.now ≡ spelling (found_name (present history) pattern) = same ∙ c.as_slice-4.ensures.value ∙ text in
-    let bytes : c.as_slice-5.result.now ≡ found_content (present history) pattern =
-    c.as_slice-5.ensures.value ∙ found_content-read (present history) pattern c.in_ok-file.file.name.items c.in_ok-file.file.bytes.items back in
+    let name : c.unwrap-name.result.now ≡ spelling (found_name (present_image history) pattern) = same ∙ c.as_slice-4.ensures.value ∙ text in
+    let bytes : c.as_slice-5.result.now ≡ found_content (present_image history) pattern =
+    c.as_slice-5.ensures.value ∙ found_content-read (present_image history) pattern c.in_ok-file.file.name.items c.in_ok-file.file.bytes.items back in
     let passes : c.is_file_name.result ≡ true = search rules in
-    let names : true ≡ is_file_name (spelling (found_name (present history) pattern)) = sym passes ∙ c.is_file_name.ensures ∙ ap is_file_name (c.as_slice-3.ensures.value ∙ text) in
-    Does-allowed _ _ _ _ _ refused
+    let names : true ≡ is_file_name (spelling (found_name (present_image history) pattern)) = sym passes ∙ c.is_file_name.ensures ∙ ap is_file_name (c.as_slice-3.ensures.value ∙ text) in
+    Does-refuse_by _ _ _ _ _ refused
     (Does-given _ _ [] old old history _ _ (refl, refl)
     (rw (← names) (rw (name, bytes) at (c.store.ensures history))))

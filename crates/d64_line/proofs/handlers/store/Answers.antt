@@ -1,8 +1,8 @@
 use Rattle.std.proofs.Common.{[], Ok, Err, refl}
 use Rattle.d64_line.specs.Act.{Does, Store, Gives, World}
-use Rattle.d64_undo.specs.History.{present}
+use Rattle.d64_undo.specs.History.{present_image}
 use Rattle.d64_line.specs.Line.{leave}
-use Rattle.d64_line.specs.Response.{shown}
+use Rattle.d64_line.specs.Response.{shown_answer}
 use Rattle.d64_line.proofs.Acts.{Does-given, Does-refused}
 use Rattle.d64_line.proofs.handlers.store.Goals as goal
 
@@ -14,8 +14,8 @@ returns-in-Ok g c = λ history.
     let after : World = record { host = new; history = history } in
     let gives : Gives (Store c.args.name.now c.args.bytes.now) old (Ok []) new =
     (Ok tt, record { answer = c.in-Ok.ensures.stored; counted = c.in-Ok.ensures.counted }, refl) in
-    let done : Does (leave history) after (shown (present history) c.plain.result) after = (c.plain.ensures (present history), refl) in
-    Does-given (Store c.args.name.now c.args.bytes.now) (λ stored. leave history) [] old new history (shown (present history) c.plain.result) after gives done
+    let done : Does (leave history) after (shown_answer (present_image history) c.plain.result) after = (c.plain.ensures (present_image history), refl) in
+    Does-given (Store c.args.name.now c.args.bytes.now) (λ stored. leave history) [] old new history (shown_answer (present_image history) c.plain.result) after gives done
 
 pub returns-in-Err : goal.returns-in-Err
 returns-in-Err g c = λ history.

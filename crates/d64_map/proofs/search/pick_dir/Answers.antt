@@ -3,7 +3,7 @@ use Rattle.std.specs.List.{find}
 use Rattle.std.specs.FinSet as set
 use Rattle.d64_image.specs.Block.{sectors_on}
 use Rattle.d64_map.specs.Track.{blocks_on}
-use Rattle.d64_map.specs.Search.{rotated, sector_after}
+use Rattle.d64_map.specs.Search.{rotated_list, sector_after}
 use Rattle.d64_map.proofs.Searching.{dir_order-directory, dir_order-other}
 use Rattle.d64_map.proofs.search.pick_dir.Goals as goal
 
@@ -11,7 +11,7 @@ pub returns-then-track-eq-DIRECTORY_TRACK : goal.returns-then-track-eq-DIRECTORY
 returns-then-track-eq-DIRECTORY_TRACK c =
     let p = set.contains c.args.free.now in
     c.pick_around.ensures
-    ∙ ap (λ (n : ℕ). find p (rotated n (blocks_on 18))) (c.sector_after.ensures.after
+    ∙ ap (λ (n : ℕ). find p (rotated_list n (blocks_on 18))) (c.sector_after.ensures.after
     ∙ ap (λ (n : ℕ). sector_after 3 n c.sector.result) c.sector_count-sectors.ensures.sectors
     ∙ ap (sector_after 3 (sectors_on 18)) c.sector.ensures.pair)
     ∙ ap (find p) (sym (dir_order-directory c.args.last (sym c.track.ensures.pair ∙ c.if-track-eq-DIRECTORY_TRACK.true)))

@@ -3,13 +3,13 @@ use Rattle.std.specs.List.{flat_map, find}
 use Rattle.std.specs.FinSet as set
 use Rattle.d64_image.specs.Block.{sectors_on, pair_at}
 use Rattle.d64_map.specs.Track.{blocks_on}
-use Rattle.d64_map.specs.Search.{rotated, sector_after, tracks_after}
+use Rattle.d64_map.specs.Search.{rotated_list, sector_after, tracks_after}
 use Rattle.d64_map.proofs.Searching.{found_first, found_second, next_order-directory, next_order-other, tracks_after-is, around_is}
 use Rattle.d64_map.proofs.search.pick_next.Goals as goal
 
 -- the blocks of the last block's own track, in the order of the search
 abbrev own : ℕ → List ℕ
-own last = rotated (sector_after 10 (sectors_on (pair_at last).0) (pair_at last).1) (blocks_on (pair_at last).0)
+own last = rotated_list (sector_after 10 (sectors_on (pair_at last).0) (pair_at last).1) (blocks_on (pair_at last).0)
 
 -- the blocks of all other tracks
 abbrev others : ℕ → List ℕ

@@ -1,7 +1,7 @@
 use Rattle.std.proofs.Common.{◌≡◌, ℕ, List, [], ◌∷◌, length, get_or, sym, ap, ◌∙◌, subst, arith}
 use Rattle.std.proofs.lemmas.List.Elements.{All-get_or}
-use Rattle.d64_image.specs.Patch.{Kept, IsPatchOf, RisesBetween, back}
-use Rattle.d64_image.proofs.Patches.{length-back}
+use Rattle.d64_image.specs.Patch.{Kept, IsPatchOf, RisesBetween, restored_image}
+use Rattle.d64_image.proofs.Patches.{length-restored_image}
 use Rattle.d64_undo.specs.ResumeFault.{differ_along}
 use Rattle.d64_undo.specs.Resuming.{on_side}
 use Rattle.d64_undo.proofs.Reading.{differ_ends, differ_on, differ_all}
@@ -34,13 +34,13 @@ loop-preserved c =
     let left = c.loop.invariant.left in
     record {
       differ =
-          ap (λ (image : List (List ℕ)). differ_along image rest) (c.put_back.ensures ∙ ap (λ (p : Kept). back c.loop.image p) (sym c.at.ensures.kept))
+          ap (λ (image : List (List ℕ)). differ_along image rest) (c.put_back.ensures ∙ ap (λ (p : Kept). restored_image c.loop.image p) (sym c.at.ensures.kept))
           ∙ differ_on list rest c.loop.image patch side c.if-not-is_difference.ensures
           ∙ c.loop.invariant.differ;
       left = omega arith;
       within = c.next_on_side.ensures.after.0;
       place = c.next_on_side.ensures.after.1;
-      long = ap (λ (image : List (List ℕ)). length image) c.put_back.ensures ∙ length-back (get_or c.args.records.now c.next_on_side.result.0.number []) c.loop.image ∙ c.loop.invariant.long;
+      long = ap (λ (image : List (List ℕ)). length image) c.put_back.ensures ∙ length-restored_image (get_or c.args.records.now c.next_on_side.result.0.number []) c.loop.image ∙ c.loop.invariant.long;
     }
 
 -- the image has the blocks of the record

@@ -1,7 +1,7 @@
 use Rattle.std.proofs.Common.{◌≡◌, ◌+◌, List, [], ◌∷◌, ◌++◌, map, take, ap, sym, ◌∙◌, subst, arith}
 use Rattle.std.specs.Vec.{vec_len}
 use Rattle.std.proofs.lemmas.List.{map-append}
-use Rattle.d64_undo.specs.History.{present}
+use Rattle.d64_undo.specs.History.{present_image}
 use Rattle.d64_undo.specs.Request.{Asked, asked_by, IsAskedOf, Run}
 use Rattle.d64_undo.specs.declared.request.Request.{Request}
 use Rattle.d64_undo.specs.declared.request.Answer.{Answer}
@@ -32,6 +32,6 @@ loop-request-preserved c =
 -- the image has as many blocks as before, and so the one that the request names
 pub run_one-requires : goal.run_one-requires
 run_one-requires c =
-    asked_alike (present c.args.session.now) (present c.loop-request.session) (asked_by c.request-item.result) c.loop-request.invariant.kind
-    (subst (λ (r : Request). IsAskedOf (present c.args.session.now) (asked_by r)) (sym c.request-item.is)
+    asked_alike (present_image c.args.session.now) (present_image c.loop-request.session) (asked_by c.request-item.result) c.loop-request.invariant.kind
+    (subst (λ (r : Request). IsAskedOf (present_image c.args.session.now) (asked_by r)) (sym c.request-item.is)
     (c.requires c.loop-request.request-index c.request-item.result c.loop-request-test.true))

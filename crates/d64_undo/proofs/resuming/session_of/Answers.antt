@@ -1,6 +1,6 @@
 use Rattle.std.proofs.Common.{List, ℕ, sym, ◌∙◌, subst}
 use Rattle.std.proofs.lemmas.Result.{err_from_is_err_and}
-use Rattle.d64_undo.specs.Resuming.{given, Fails}
+use Rattle.d64_undo.specs.Resuming.{given_bytes, Fails}
 use Rattle.d64_undo.specs.ResumeFault.{parts_at}
 use Rattle.d64_undo.specs.declared.resume_fault.ResumeFault.TheVariants.{Trailing}
 use Rattle.d64_undo.proofs.Given.{given_on, each_record, fails_last, file_trails, whole_file, parts_seen}
@@ -11,7 +11,7 @@ use Rattle.d64_undo.proofs.resuming.session_of.Goals as goal
 pub returns-in_err-parts-clause-refused : goal.returns-in_err-parts-clause-refused
 returns-in_err-parts-clause-refused c =
     let p = err_from_is_err_and c.from_residual.result c.from_residual.ensures.1 in
-    rw (p.1, p.2) (session_fails c.in_err-parts.field-0.0 (given c.args.parts c.args.rest.now) c.in_err-parts.ensures.fault)
+    rw (p.1, p.2) (session_fails c.in_err-parts.field-0.0 (given_bytes c.args.parts c.args.rest.now) c.in_err-parts.ensures.fault)
 
 -- or in a record
 pub returns-in_err-after-clause-refused : goal.returns-in_err-after-clause-refused
@@ -19,14 +19,14 @@ returns-in_err-after-clause-refused c =
     let p = err_from_is_err_and c.from_residual-in_err-after.result c.from_residual-in_err-after.ensures.1 in
     let f = c.in_err-after.ensures.fault in
     let read = given_on c.in_ok-parts.parts c.read_records.new.parts c.in_ok-parts.rest.now f.0 c.in_err-after.ensures.same f.1 ∙ c.in_ok-parts.ensures.given in
-    rw (p.1, p.2) (session_fails c.in_err-after.field-0.0 (given c.args.parts c.args.rest.now)
+    rw (p.1, p.2) (session_fails c.in_err-after.field-0.0 (given_bytes c.args.parts c.args.rest.now)
     (subst (λ (bytes : List ℕ). Fails c.in_err-after.field-0.0 (parts_at bytes)) read
     (fails_last c.in_err-after.field-0.0 c.read_records.new.parts f.0 c.in_err-after.ensures.started f.2 f.4)))
 
 -- bytes after the last record
 pub returns-then-not-is_empty-clause-refused : goal.returns-then-not-is_empty-clause-refused
 returns-then-not-is_empty-clause-refused c =
-    session_fails Trailing (given c.args.parts c.args.rest.now) (file_trails c.args.parts c.in_ok-parts.parts c.read_records.new.parts c.args.rest.now c.in_ok-parts.rest.now c.in_ok-after.after.now
+    session_fails Trailing (given_bytes c.args.parts c.args.rest.now) (file_trails c.args.parts c.in_ok-parts.parts c.read_records.new.parts c.args.rest.now c.in_ok-parts.rest.now c.in_ok-after.after.now
     c.in_ok-parts.ensures.given c.in_ok-after.ensures.same c.in_ok-after.ensures.read c.in_ok-after.ensures.started c.in_ok-after.ensures.all
     (sym c.is_empty.ensures ∙ c.if-not-is_empty.true))
 
@@ -36,7 +36,7 @@ returns-then-not-branch-clause-refused c =
     let w = whole_file c.args.parts c.in_ok-parts.parts c.read_records.new.parts c.args.rest.now c.in_ok-parts.rest.now c.in_ok-after.after.now
     c.in_ok-parts.ensures.given c.in_ok-after.ensures.same c.in_ok-after.ensures.read c.in_ok-after.ensures.started c.in_ok-after.ensures.all
     (sym c.is_empty.ensures ∙ c.if-not-is_empty.false) in
-    no_difference (given c.args.parts c.args.rest.now) (parts_seen c.read_records.new.parts) w.read (sym c.in_ok-lead_away.ensures ∙ c.if-not-branch.true)
+    no_difference (given_bytes c.args.parts c.args.rest.now) (parts_seen c.read_records.new.parts) w.read (sym c.in_ok-lead_away.ensures ∙ c.if-not-branch.true)
 
 -- the records lead away from the image
 pub of_records-requires-clause-lead : goal.of_records-requires-clause-lead
@@ -49,7 +49,7 @@ returns-clause-refused c =
     let w = whole_file c.args.parts c.in_ok-parts.parts c.read_records.new.parts c.args.rest.now c.in_ok-parts.rest.now c.in_ok-after.after.now
     c.in_ok-parts.ensures.given c.in_ok-after.ensures.same c.in_ok-after.ensures.read c.in_ok-after.ensures.started c.in_ok-after.ensures.all
     (sym c.is_empty.ensures ∙ c.if-not-is_empty.false) in
-    all_difference (given c.args.parts c.args.rest.now) (parts_seen c.read_records.new.parts) w.read (sym c.in_ok-lead_away.ensures ∙ c.if-not-branch.false)
+    all_difference (given_bytes c.args.parts c.args.rest.now) (parts_seen c.read_records.new.parts) w.read (sym c.in_ok-lead_away.ensures ∙ c.if-not-branch.false)
 
 -- the session is that of the file's parts
 pub returns-clause-file : goal.returns-clause-file
@@ -57,7 +57,7 @@ returns-clause-file c =
     let w = whole_file c.args.parts c.in_ok-parts.parts c.read_records.new.parts c.args.rest.now c.in_ok-parts.rest.now c.in_ok-after.after.now
     c.in_ok-parts.ensures.given c.in_ok-after.ensures.same c.in_ok-after.ensures.read c.in_ok-after.ensures.started c.in_ok-after.ensures.all
     (sym c.is_empty.ensures ∙ c.if-not-is_empty.false) in
-    (history_read (given c.args.parts c.args.rest.now) (parts_seen c.read_records.new.parts) c.of_records.result w.are
+    (history_read (given_bytes c.args.parts c.args.rest.now) (parts_seen c.read_records.new.parts) c.of_records.result w.are
     (sym c.in_ok-lead_away.ensures ∙ c.if-not-branch.false) c.of_records.ensures.images c.of_records.ensures.cursor).1
 
 pub returns-clause-session : goal.returns-clause-session
@@ -65,5 +65,5 @@ returns-clause-session c =
     let w = whole_file c.args.parts c.in_ok-parts.parts c.read_records.new.parts c.args.rest.now c.in_ok-parts.rest.now c.in_ok-after.after.now
     c.in_ok-parts.ensures.given c.in_ok-after.ensures.same c.in_ok-after.ensures.read c.in_ok-after.ensures.started c.in_ok-after.ensures.all
     (sym c.is_empty.ensures ∙ c.if-not-is_empty.false) in
-    (history_read (given c.args.parts c.args.rest.now) (parts_seen c.read_records.new.parts) c.of_records.result w.are
+    (history_read (given_bytes c.args.parts c.args.rest.now) (parts_seen c.read_records.new.parts) c.of_records.result w.are
     (sym c.in_ok-lead_away.ensures ∙ c.if-not-branch.false) c.of_records.ensures.images c.of_records.ensures.cursor).0

@@ -4,12 +4,12 @@ use Rattle.d64_wording.specs.FaultLines.{present_line}
 use Rattle.d64_collection.specs.declared.report.Verdict.{Verdict}
 use Rattle.d64_unpack.specs.Setup.{TaskView}
 use Rattle.d64_unpack.specs.Work.{answer_in}
-use Rattle.d64_unpack.specs.Unpacking.{present}
+use Rattle.d64_unpack.specs.Unpacking.{present_answer}
 use Rattle.d64_unpack.proofs.Refusing.{refused_with}
 use Rattle.d64_unpack.proofs.answering.tell_present.Goals as goal
 
 pub returns : goal.returns
 returns c =
-    subst (λ (t : TaskView). IfOk c.refuse.result (λ (verdict : Verdict). answer_in c.refuse.new.room verdict ≡ present t c.args.path.now)) c.task.view_is
+    subst (λ (t : TaskView). IfOk c.refuse.result (λ (verdict : Verdict). answer_in c.refuse.new.room verdict ≡ present_answer t c.args.path.now)) c.task.view_is
     (refused_with c.refuse.result (answer_in c.refuse.new.room) c.task.inside.setup.now _ c.task.inside.name.now (codes "is there already") c.present_line.new.out.items (present_line c.args.path.now) c.as_bytes-2.ensures.value
     (c.in_ok-present_line.ensures ∙ ap (λ (b : List ℕ). b ++ present_line c.as_bytes.result.now) c.clear.ensures.items ∙ ap present_line c.as_bytes.ensures.value) c.refuse.ensures)

@@ -1,6 +1,6 @@
 use Rattle.std.proofs.Common.{List, ℕ, ◌++◌, ap, ◌∙◌}
 use Rattle.std.specs.Prelude.{codes}
-use Rattle.d64_wording.specs.Shown.{shown}
+use Rattle.d64_wording.specs.Shown.{shown_name}
 use Rattle.d64_wording.specs.CheckText.{label_text, contents_text, state_text, image_line}
 use Rattle.d64_wording.proofs.Joins.{join4, join5}
 use Rattle.d64_wording.proofs.image_text.push_image_line.Goals as goal
@@ -10,7 +10,7 @@ unfolding image_line
 returns c =
     let dump = c.args.inspection.now in
     let after_label = c.push_label.new.out.items in
-    join4 c.args.out.now.items (shown c.args.name.now) (codes ": ") (label_text dump.image)
+    join4 c.args.out.now.items (shown_name c.args.name.now) (codes ": ") (label_text dump.image)
     (codes ", " ++ (contents_text dump.image ++ (codes ": " ++ (state_text dump ++ codes "\n"))))
     c.push_shown.new.out.items c.extend_from_slice.new.self.items after_label c.extend_from_slice-4.new.self.items
     c.in_ok-push_shown.ensures c.in_ok-extend_from_slice.ensures.items

@@ -1,5 +1,5 @@
 use Rattle.std.proofs.Common.{◌++◌, List, ℕ, ap, sym, ◌∙◌, append-nil, arith}
-use Rattle.d64_wording.proofs.ShownNames.{shown-nil, shown_more}
+use Rattle.d64_wording.proofs.ShownNames.{shown_name-nil, shown_more}
 use Rattle.d64_wording.proofs.shown.push_shown.Goals as goal
 
 pub loop-left-preserved : goal.loop-left-preserved
@@ -9,5 +9,5 @@ loop-left-preserved c =
 
 pub returns : goal.returns
 returns c =
-    sym (append-nil c.loop-left.out.items) ∙ ap (λ (text : List ℕ). c.loop-left.out.items ++ text) (sym (shown-nil c.loop-left.left.now (omega arith)))
+    sym (append-nil c.loop-left.out.items) ∙ ap (λ (text : List ℕ). c.loop-left.out.items ++ text) (sym (shown_name-nil c.loop-left.left.now (omega arith)))
     ∙ c.loop-left.invariant

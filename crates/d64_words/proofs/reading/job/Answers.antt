@@ -6,7 +6,7 @@ use Rattle.std.proofs.lemmas.Result.{IfOk-weaker, IfErr-weaker}
 use Rattle.clap.specs.Words.{App, HasMatchesOf, Text, app_of, fault_of, found_of, is_simple_and_free, matches_of, rows_of, subcommand_of}
 use Rattle.clap.specs.declared.builder.command.Command.{Command}
 use Rattle.clap.specs.declared.parser.matches.ArgMatches.{ArgMatches}
-use Rattle.d64_words.specs.Commands.{d64sh, named}
+use Rattle.d64_words.specs.Commands.{d64sh, app_named}
 use Rattle.d64_words.proofs.Alone.{free, same_fault, same_met, simple}
 use Rattle.d64_words.proofs.Parses.{asked, refused, told}
 use Rattle.d64_words.proofs.Required.{met_is_whole}
@@ -19,10 +19,10 @@ text word = word.now
 record Begins (words : List (Bor (List ℕ))) (name : Bor (List ℕ)) (app : App) : Type 0 where
   has : 1 < length words
   is : name ≡ slice_index_or words 1 name
-  is_app : named name.now ≡ Some app
+  is_app : app_named name.now ≡ Some app
 
 begins_with : {words : List (Bor (List ℕ))} {name : Bor (List ℕ)} {found : Option Command} {command : Command} → 1 < length words
-    → name ≡ slice_index_or words 1 name → option_map app_of found ≡ named name.now → found ≡ Some command → Begins words name (app_of command)
+    → name ≡ slice_index_or words 1 name → option_map app_of found ≡ app_named name.now → found ≡ Some command → Begins words name (app_of command)
 begins_with has is finds found = record { has = has; is = is; is_app = sym finds ∙ ap (option_map app_of) found }
 
 -- the words that the subcommand is given, and those of the program

@@ -1,7 +1,7 @@
 use Rattle.std.proofs.Common.{rules, ◌≡◌, false, true}
 use Rattle.d64_collection.specs.Names.{is_name}
 use Rattle.d64_collection.proofs.RunSteps.{EndsAt-never}
-use Rattle.d64_collection.proofs.ListSteps.{Runs-no_name, Runs-name, listed-file, listed-no_file}
+use Rattle.d64_collection.proofs.ListSteps.{Runs-no_name, Runs-name, listed_name-file, listed_name-no_file}
 use Rattle.d64_collection.proofs.list_desk.ListDesk.end.Goals as goal
 
 pub returns-then-not-is_name-clause-answered : goal.returns-then-not-is_name-clause-answered
@@ -12,12 +12,12 @@ returns-then-not-is_name-clause-answered g c =
 pub returns-in-Some-clause-answered : goal.returns-in-Some-clause-answered
 returns-in-Some-clause-answered g c =
     let named : is_name c.args.self.now.name ≡ true = search rules in
-    Runs-name _ _ _ _ c.args.self.now.name _ named (listed-file c.args.self.now.name _ c.in-Some.ensures.0 c.in-Some.ensures.1) c.answer_file.ensures.answered
+    Runs-name _ _ _ _ c.args.self.now.name _ named (listed_name-file c.args.self.now.name _ c.in-Some.ensures.0 c.in-Some.ensures.1) c.answer_file.ensures.answered
 
 pub returns-in-None-clause-answered : goal.returns-in-None-clause-answered
 returns-in-None-clause-answered g c =
     let named : is_name c.args.self.now.name ≡ true = search rules in
-    Runs-name _ _ _ _ c.args.self.now.name _ named (listed-no_file c.args.self.now.name _ c.in-None.ensures (search rules)) c.answer_no_file.ensures.answered
+    Runs-name _ _ _ _ c.args.self.now.name _ named (listed_name-no_file c.args.self.now.name _ c.in-None.ensures (search rules)) c.answer_no_file.ensures.answered
 
 pub returns-in-None-clause-never : goal.returns-in-None-clause-never
 returns-in-None-clause-never g c = EndsAt-never _ _ _ _ c.answer_no_file.result c.answer_no_file.ensures.answered

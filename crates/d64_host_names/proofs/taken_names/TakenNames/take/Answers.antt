@@ -1,7 +1,7 @@
 use Rattle.std.proofs.Common.{◌≡◌, ◌+◌, ◌-◌, ◌^◌, ◌≤◌, ◌<◌, true, ℕ, List, [], ◌∷◌, ◌++◌, length, take, drop, get_or, sym, subst, ap, ◌∙◌, rules, arith}
 use Rattle.std.proofs.lemmas.List.{get_or-take, length-append}
 use Rattle.d64_host_names.specs.declared.taken_names.Taken.{Taken}
-use Rattle.d64_host_names.specs.HostName.{is_same_name, numbered, tail}
+use Rattle.d64_host_names.specs.HostName.{is_same_name, numbered_name, tail}
 use Rattle.d64_host_names.specs.TakenNames.{first_free}
 use Rattle.d64_host_names.specs.Records.{names_of, AreTried, AreRecords}
 use Rattle.d64_host_names.proofs.NextNames.{tail_at, next_is, end_fits, end_at}
@@ -79,7 +79,7 @@ pass-requires-clause-tried c = λ d.
     let same : is_same_name (get_or records place d).name.items whole ≡ true =
     ap (is_same_name (get_or records place d).name.items) (sym c.deref.ensures.value) ∙ c.in-Some.ensures.found d in
     let number_is = c.in_ok-number.ensures.number in
-    let new_is : new ≡ numbered front back (first_free (names_of records) front back) = c.in_ok-number.ensures.named ∙ ap (numbered front back) number_is in
+    let new_is : new ≡ numbered_name front back (first_free (names_of records) front back) = c.in_ok-number.ensures.named ∙ ap (numbered_name front back) number_is in
     let tried = tried_all records whole new c.len-stem_len.result place d c.args.ending c.args.is_part all fits ends c.in-Some.ensures.within same new_is in
     let kept : after ≡ c.keep.new.names.items = c.deref_mut.ensures.value in
     let items = c.self.inside.names.items in

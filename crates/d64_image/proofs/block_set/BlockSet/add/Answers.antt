@@ -1,7 +1,7 @@
 use Rattle.std.proofs.Common.{◌/◌, ◌%◌, get_or, refl, ap₂, ◌∙◌}
 use Rattle.std.specs.FinSet.{insert}
 use Rattle.std.proofs.Math.ListN.{set}
-use Rattle.d64_image.specs.BlockSet.{marked}
+use Rattle.d64_image.specs.BlockSet.{marked_blocks}
 use Rattle.d64_image.proofs.Sets.{with_bit, with_bit-fits, AreWords-set, inserted, members_are_blocks}
 use Rattle.d64_image.proofs.block_set.BlockSet.add.Goals as goal
 
@@ -20,4 +20,4 @@ returns-clause-blocks c =
     let words = c.self.inside.words in
     let index = c.index-index.result in
     let new = set words (index / 32) (with_bit (get_or words (index / 32) 0) (index % 32)) in
-    members_are_blocks new (marked new) refl
+    members_are_blocks new (marked_blocks new) refl

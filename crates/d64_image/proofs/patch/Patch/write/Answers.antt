@@ -1,8 +1,8 @@
 use Rattle.std.proofs.Common.{ℕ, length, ap, sym, ◌∙◌, subst, arith}
 use Rattle.std.proofs.lemmas.List.{length-set}
 use Rattle.d64_image.specs.Image.{sector_at, with_sector}
-use Rattle.d64_image.specs.Patch.{IsPatchOf, RisesBetween, back, with_kept}
-use Rattle.d64_image.proofs.Patches.{with_kept-again, rises-with_kept, back-written}
+use Rattle.d64_image.specs.Patch.{IsPatchOf, RisesBetween, restored_image, with_kept}
+use Rattle.d64_image.proofs.Patches.{with_kept-again, rises-with_kept, restored_image-written}
 use Rattle.d64_image.proofs.patch.Patch.write.Goals as goal
 use Rattle.d64_image.proofs.patch.Patch.write.Goals.{then-not-keeps+in_ok-keep, else-not-keeps}
 
@@ -16,8 +16,8 @@ returns-clause-kept c = elim c.if-not-keeps.branch [
 -- what is written and what is kept go together
 pub returns-clause-back : goal.returns-clause-back
 returns-clause-back c =
-    ap (back (with_sector c.args.image.now c.args.block c.args.bytes.now)) (returns-clause-kept c)
-    ∙ back-written c.args.self.now c.args.image.now c.args.block c.args.bytes.now
+    ap (restored_image (with_sector c.args.image.now c.args.block c.args.bytes.now)) (returns-clause-kept c)
+    ∙ restored_image-written c.args.self.now c.args.image.now c.args.block c.args.bytes.now
 
 -- the image has each kept block
 pub returns-clause-held : goal.returns-clause-held

@@ -3,13 +3,13 @@ use Rattle.std.proofs.lemmas.List.{take_all}
 use Rattle.std.specs.Vec.{vec_len}
 use Rattle.d64_image.specs.Patch.{Kept}
 use Rattle.d64_image.specs.PatchList.{total, blocks_before}
-use Rattle.d64_image.proofs.PatchLists.{length-cut, before-cut, total-more, total-take}
+use Rattle.d64_image.proofs.PatchLists.{length-cut_blocks, before-cut_blocks, total-more, total-take}
 use Rattle.d64_image.proofs.patch_list.PatchList.place_before.Goals as goal
 
 -- each record has a number of its blocks
 pub split_at-requires : goal.split_at-requires
 split_at-requires c =
-    let count = length-cut c.self.inside.lens.items c.self.inside.blocks.items in
+    let count = length-cut_blocks c.self.inside.lens.items c.self.inside.blocks.items in
     let all = ap (λ (xs : List Kept). length xs) c.self.view_is in
     let lens = ap (λ (xs : List ℕ). length xs) c.deref.ensures.value in
     let within = c.requires in
@@ -45,5 +45,5 @@ returns-clause-blocks c =
     let lens = c.split_at.result.0.now in
     c.loop-len.invariant
     ∙ ap total (take_all c.loop-len.len-index lens c.loop-len-test.false ∙ c.split_at.ensures.front ∙ ap (λ (xs : List ℕ). take c.args.number xs) c.deref.ensures.value)
-    ∙ sym (before-cut c.self.inside.lens.items c.self.inside.blocks.items c.args.number c.self.invariant.0)
+    ∙ sym (before-cut_blocks c.self.inside.lens.items c.self.inside.blocks.items c.args.number c.self.invariant.0)
     ∙ ap (λ (records : List Kept). blocks_before records c.args.number) c.self.view_is

@@ -2,13 +2,13 @@ use Rattle.std.proofs.Common.{◌≡◌, ◌<◌, ◌+◌, ◌-◌, List, length
 use Rattle.std.specs.Vec.{vec_len}
 use Rattle.d64_image.specs.Patch.{Kept}
 use Rattle.d64_image.specs.PatchList.{blocks_before}
-use Rattle.d64_image.proofs.PatchLists.{length-cut, before-next}
+use Rattle.d64_image.proofs.PatchLists.{length-cut_blocks, before-next}
 use Rattle.d64_image.proofs.patch_list.PatchList.previous.Goals as goal
 
 pub index-requires : goal.index-requires
 index-requires c =
     let long : vec_len c.self.inside.lens ≡ length c.self.inside.lens.items = search rules in
-    let count = length-cut c.self.inside.lens.items c.self.inside.blocks.items in
+    let count = length-cut_blocks c.self.inside.lens.items c.self.inside.blocks.items in
     let all = ap (λ (xs : List Kept). length xs) c.self.view_is in
     let within = c.requires.within in
     omega arith

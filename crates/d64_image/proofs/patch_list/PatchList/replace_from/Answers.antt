@@ -2,16 +2,16 @@ use Rattle.std.proofs.Common.{◌≡◌, ◌≤◌, ◌+◌, ℕ, List, [], ◌�
 use Rattle.std.specs.Vec.{vec_len}
 use Rattle.d64_image.specs.declared.block.TheConstants.{BLOCKS}
 use Rattle.d64_image.specs.Patch.{Kept}
-use Rattle.d64_image.specs.PatchList.{cut, total, blocks_before}
-use Rattle.d64_image.proofs.PatchLists.{AreRecords, before-cut, total-take, cut-take, cut-push, first-are_records, pushed-are_records, moved_front, rises-long}
+use Rattle.d64_image.specs.PatchList.{cut_blocks, total, blocks_before}
+use Rattle.d64_image.proofs.PatchLists.{AreRecords, before-cut_blocks, total-take, cut_blocks-take, cut_blocks-push, first-are_records, pushed-are_records, moved_front, rises-long}
 use Rattle.d64_image.proofs.patch_list.PatchList.replace_from.Goals as goal
 use Rattle.d64_image.proofs.patch_list.PatchList.replace_from.Goals.{After-unwrap, After-extend_from_slice}
 
 -- so many blocks come before the records that go
-before : (lens : List ℕ) (blocks : Kept) (records : List Kept) (number place : ℕ) → AreRecords lens blocks → cut lens blocks ≡ records
+before : (lens : List ℕ) (blocks : Kept) (records : List Kept) (number place : ℕ) → AreRecords lens blocks → cut_blocks lens blocks ≡ records
     → place ≡ blocks_before records number → (place ≡ total (take number lens)) × (place ≤ length blocks)
 before lens blocks records number place are is at =
-    let same : place ≡ total (take number lens) = at ∙ sym (ap (λ (all : List Kept). blocks_before all number) is) ∙ before-cut lens blocks number are.0 in
+    let same : place ≡ total (take number lens) = at ∙ sym (ap (λ (all : List Kept). blocks_before all number) is) ∙ before-cut_blocks lens blocks number are.0 in
     let less = total-take lens number in
     let count = are.0 in
     (same, omega arith)
@@ -72,7 +72,7 @@ returns-clause-replaced c =
     let blocks = take (total lens) c.self.inside.blocks.items in
     let first = first-are_records c.self.inside.lens.items c.self.inside.blocks.items c.args.place.number c.self.invariant in
     let count = c.self.invariant.0 in
-    ap₂ cut l.0 l.1
-    ∙ cut-push lens blocks c.args.patch.now first.0
+    ap₂ cut_blocks l.0 l.1
+    ∙ cut_blocks-push lens blocks c.args.patch.now first.0
     ∙ ap (λ (records : List Kept). records ++ c.args.patch.now ∷ [])
-    (cut-take c.self.inside.lens.items c.self.inside.blocks.items c.args.place.number (omega arith) ∙ ap (take c.args.place.number) c.self.view_is)
+    (cut_blocks-take c.self.inside.lens.items c.self.inside.blocks.items c.args.place.number (omega arith) ∙ ap (take c.args.place.number) c.self.view_is)

@@ -5,7 +5,7 @@ use Rattle.d64_survey.specs.Dump.{DumpView}
 use Rattle.d64_survey.specs.Flaws.{why, wholeness_by, wholeness}
 use Rattle.d64_survey.specs.declared.owner.Part.TheVariants.{Data, Side}
 use Rattle.d64_survey.specs.declared.read_error.ReadError.{ReadError}
-use Rattle.d64_inventory.specs.Contents.{content_of, digested}
+use Rattle.d64_inventory.specs.Contents.{content_of, digested_content}
 use Rattle.d64_inventory.specs.Conditions.{conditions}
 use Rattle.d64_inventory.specs.Rows.{is_of_file, way_length, error_count}
 use Rattle.d64_inventory.proofs.FileTests.{count_same}
@@ -28,7 +28,7 @@ returns-clause-row c =
       record_length = c.record_length.ensures;
       blocks = c.way_length.ensures ∙ ap (λ (d : DumpView). way_length d.image bytes Data) c.self.view_is;
       side = c.way_length-2.ensures ∙ ap (λ (d : DumpView). way_length d.image bytes Side) c.self.view_is;
-      content = c.content.ensures.content ∙ ap (λ (i : List (List ℕ)). option_map digested (content_of i bytes)) c.image.ensures ∙ ap (λ (d : DumpView). option_map digested (content_of d.image bytes)) c.self.view_is;
+      content = c.content.ensures.content ∙ ap (λ (i : List (List ℕ)). option_map digested_content (content_of i bytes)) c.image.ensures ∙ ap (λ (d : DumpView). option_map digested_content (content_of d.image bytes)) c.self.view_is;
       whole = c.wholeness.ensures ∙ ap (wholeness_by bytes) (c.as_slice.ensures.value ∙ c.why-why.ensures) ∙ ap (λ (d : DumpView). wholeness d.image d.codes bytes) c.self.view_is;
       why = c.why-why.ensures ∙ ap (λ (d : DumpView). why d.image d.codes bytes) c.self.view_is;
       conditions = c.conditions.ensures ∙ ap (λ (i : List (List ℕ)). conditions i c.args.entry.now.slot) c.survey-survey.ensures ∙ ap (λ (d : DumpView). conditions d.image c.args.entry.now.slot) c.self.view_is;

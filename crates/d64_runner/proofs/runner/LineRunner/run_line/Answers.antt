@@ -1,5 +1,5 @@
-use Rattle.d64_undo.specs.History.{present}
-use Rattle.d64_line.specs.Response.{shown}
+use Rattle.d64_undo.specs.History.{present_image}
+use Rattle.d64_line.specs.Response.{shown_answer}
 use Rattle.d64_runner.specs.Runner.{manner_of}
 use Rattle.d64_runner.proofs.LinesSoFar.{RunsLine-skipped, RunsLine-answered, StopsInLine-answered}
 use Rattle.d64_runner.proofs.runner.LineRunner.run_line.Goals as goal
@@ -11,10 +11,10 @@ returns-in_default-clause-ran g c raw says open_run =
 pub returns-clause-ran : goal.returns-clause-ran
 returns-clause-ran g c raw says open_run =
     rw c.write_answer.ensures.tally
-    (RunsLine-answered (manner_of c.args.self.manner) raw _ _ _ _ c.args.state.now.tally c.count.new.self (shown (present c.answer_line.new.session) c.in-Some.response) c.write_answer.result
+    (RunsLine-answered (manner_of c.args.self.manner) raw _ _ _ _ c.args.state.now.tally c.count.new.self (shown_answer (present_image c.answer_line.new.session) c.in-Some.response) c.write_answer.result
     (c.in-Some.ensures raw says) c.count.ensures.closed c.count.ensures.accepted c.count.ensures.refused (rw c.image.ensures.present at c.write_answer.ensures.ok))
 
 pub returns-clause-stopped : goal.returns-clause-stopped
 returns-clause-stopped g c raw says open_run =
-    StopsInLine-answered (manner_of c.args.self.manner) raw _ _ _ _ c.args.state.now.tally (shown (present c.answer_line.new.session) c.in-Some.response) c.write_answer.result
+    StopsInLine-answered (manner_of c.args.self.manner) raw _ _ _ _ c.args.state.now.tally (shown_answer (present_image c.answer_line.new.session) c.in-Some.response) c.write_answer.result
     (c.in-Some.ensures raw says) (rw c.image.ensures.present at c.write_answer.ensures.err)

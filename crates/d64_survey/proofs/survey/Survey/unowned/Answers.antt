@@ -5,7 +5,7 @@ use Rattle.std.specs.FinSet as set
 use Rattle.std.proofs.lemmas.List.FromFn.{length-range_with_len}
 use Rattle.d64_image.proofs.Sizes.{size_most}
 use Rattle.d64_map.specs.Map.{free_blocks}
-use Rattle.d64_survey.specs.Owners.{is_owned, unowned}
+use Rattle.d64_survey.specs.Owners.{is_owned, unowned_count}
 use Rattle.d64_survey.proofs.survey.Survey.unowned.Goals as goal
 
 -- how many blocks have no owner and aren't in the set
@@ -16,7 +16,7 @@ zero_plus : (n : ℕ) → 0 + n ≡ n
 zero_plus n = omega arith
 
 pub loop-block-init : goal.loop-block-init
-unfolding unowned
+unfolding unowned_count
 loop-block-init c =
     let image = c.args.self.now in
     let same = c.image-image.ensures in

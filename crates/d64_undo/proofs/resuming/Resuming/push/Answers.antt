@@ -1,16 +1,16 @@
 use Rattle.std.proofs.Common.{◌≡◌, ◌++◌, List, ℕ, ap, ◌∙◌, subst}
 use Rattle.std.specs.Result.{OnOk}
 use Rattle.std.proofs.lemmas.Result.{IfErr-weaker}
-use Rattle.d64_undo.specs.Resuming.{given, Fails}
+use Rattle.d64_undo.specs.Resuming.{given_bytes, Fails}
 use Rattle.d64_undo.specs.ResumeFault.{parts_at, told_by, first_fault}
 use Rattle.d64_undo.proofs.Given.{given_more}
 use Rattle.d64_undo.proofs.Resumed.{session_fails}
 use Rattle.d64_undo.proofs.resuming.Resuming.push.Goals as goal
 
 -- what is given then, before it is read
-joined : (c : goal.After-read_on) → given c.self.inside.parts c.extend_from_slice.new.self.items ≡ c.args.self.now ++ c.args.piece.now
+joined : (c : goal.After-read_on) → given_bytes c.self.inside.parts c.extend_from_slice.new.self.items ≡ c.args.self.now ++ c.args.piece.now
 joined c =
-    ap (given c.self.inside.parts) c.in_ok-extend_from_slice.ensures.items
+    ap (given_bytes c.self.inside.parts) c.in_ok-extend_from_slice.ensures.items
     ∙ given_more c.self.inside.parts c.self.inside.rest.items c.args.piece.now
     ∙ ap (λ (bytes : List ℕ). bytes ++ c.args.piece.now) c.self.view_is
 
@@ -18,7 +18,7 @@ joined c =
 pub returns-clause-refused : goal.returns-clause-refused
 returns-clause-refused c =
     IfErr-weaker c.read_on.result
-    (λ fault. (more : List ℕ) → Fails fault (parts_at (given c.self.inside.parts c.extend_from_slice.new.self.items ++ more)))
+    (λ fault. (more : List ℕ) → Fails fault (parts_at (given_bytes c.self.inside.parts c.extend_from_slice.new.self.items ++ more)))
     (λ fault. (more : List ℕ) → told_by fault (first_fault (c.args.self.now ++ c.args.piece.now ++ more)) ≡ first_fault (c.args.self.now ++ c.args.piece.now ++ more))
     (λ fault fails more. session_fails fault (c.args.self.now ++ c.args.piece.now ++ more)
     (subst (λ (bytes : List ℕ). Fails fault (parts_at (bytes ++ more))) (joined c) (fails more)))

@@ -3,8 +3,8 @@ use Rattle.d64_image.specs.Patch.{Kept}
 use Rattle.d64_image.specs.PatchList.{blocks_before}
 use Rattle.d64_undo.specs.Records.{AreRecords}
 use Rattle.d64_undo.specs.SoundHistory.{IsSoundHistory}
-use Rattle.d64_undo.proofs.Sessions.{history_of, history-begun, none-are_records}
-use Rattle.d64_undo.proofs.SoundHistories.{begun-sound}
+use Rattle.d64_undo.proofs.Sessions.{history_of, history-new_history, none-are_records}
+use Rattle.d64_undo.proofs.SoundHistories.{new_history-sound}
 use Rattle.d64_undo.proofs.session.Session.new.Goals as goal
 use Rattle.d64_undo.proofs.session.Session.new.Goals.{After-new}
 
@@ -26,8 +26,8 @@ invariant_of-result c =
 pub returns-clause-begun : goal.returns-clause-begun
 returns-clause-begun c =
     ap (history_of c.new-records.result c.args.image) (none-done c)
-    ∙ history-begun c.new-records.result c.args.image c.new-records.ensures
+    ∙ history-new_history c.new-records.result c.args.image c.new-records.ensures
 
 -- the one image is sound
 pub returns-clause-sound : goal.returns-clause-sound
-returns-clause-sound c sound = subst IsSoundHistory (sym (returns-clause-begun c)) (begun-sound c.args.image sound)
+returns-clause-sound c sound = subst IsSoundHistory (sym (returns-clause-begun c)) (new_history-sound c.args.image sound)

@@ -1,5 +1,5 @@
 use Rattle.std.proofs.Common.{◌≡◌, ◌+◌, ℕ, length, refl, sym, ap, ◌∙◌, subst, inr, arith}
-use Rattle.d64_undo.specs.History.{History, present}
+use Rattle.d64_undo.specs.History.{History, present_image}
 use Rattle.d64_undo.specs.SoundHistory.{IsSoundHistory}
 use Rattle.d64_undo.proofs.Sessions.{Holds, holds, cursor-is, some_left, beside-patch, holds-swapped, kind-swapped, length-swapped, places-swapped}
 use Rattle.d64_undo.proofs.SoundHistories.{moved-sound}
@@ -51,7 +51,7 @@ returns-clause-moved c =
 
 pub returns-clause-kind : goal.returns-clause-kind
 returns-clause-kind c =
-    ap (λ (h : History). length (present h)) (stepped c).is
+    ap (λ (h : History). length (present_image h)) (stepped c).is
     ∙ kind-swapped c.self.inside.cursor.number (holds c.self.invariant c.self.view_is) (stepped c) c.swap.ensures.image
 
 -- the images are the same

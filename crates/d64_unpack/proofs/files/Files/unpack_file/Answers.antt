@@ -1,9 +1,9 @@
 use Rattle.std.proofs.Common.{◌≡◌, rules, ℕ, List, Option, Some, None, sym, ap, ap₂, ◌∙◌, subst}
 use Rattle.std.specs.Prelude.{option_map}
-use Rattle.d64_extract.specs.Limits.{left_after, within}
+use Rattle.d64_extract.specs.Limits.{left_after, portion_within}
 use Rattle.d64_extract.specs.declared.extent.Extent.{Extent}
 use Rattle.d64_unpack.specs.Work.{Work, Comes, LeadsTo}
-use Rattle.d64_unpack.specs.Progress.{portion_of, spent, named, told}
+use Rattle.d64_unpack.specs.Progress.{portion_of, spent_progress, named_progress, told_progress}
 use Rattle.d64_unpack.specs.FilesNow.{progress_of}
 use Rattle.d64_unpack.specs.Unpacking.{file_work}
 use Rattle.d64_unpack.proofs.Steps.{stops, comes_to, comes_not, nothing_yet}
@@ -28,14 +28,14 @@ returns-in_ok-name_file-in-Some g c = λ rest.
     let is_image : c.survey.result.now ≡ task.dump.image = search rules in
     let is_slot : c.at-slot.result ≡ row.slot = search rules in
     let same = portion_same task row c.setup.inside.with_parts c.survey.result.now c.at-slot.result is_parts is_image is_slot in
-    let found : Some (record { bytes = c.next.new.bytes.items; extent = c.in-Some.extent }) ≡ within left (portion_of task row) =
-    ap (option_map (λ (e : Extent). record { bytes = c.next.new.bytes.items; extent = e })) (sym c.in-Some.is) ∙ c.in_ok-extent.ensures.written ∙ ap (within left) same in
+    let found : Some (record { bytes = c.next.new.bytes.items; extent = c.in-Some.extent }) ≡ portion_within left (portion_of task row) =
+    ap (option_map (λ (e : Extent). record { bytes = c.next.new.bytes.items; extent = e })) (sym c.in-Some.is) ∙ c.in_ok-extent.ensures.written ∙ ap (portion_within left) same in
     let left_is : c.next.new.self ≡ left_after left (portion_of task row) = c.in_ok-extent.ensures.left ∙ ap (left_after left) same in
     let now = progress_of (record c.args.self.now { extraction = c.next.new.self; taken = c.name_file.new.taken }) in
-    let now_is : now ≡ named file (spent task row p) =
+    let now_is : now ≡ named_progress file (spent_progress task row p) =
     ap₂ (λ (l : Option ℕ) (t : List (List ℕ)). record p { left = l; taken = t }) left_is c.in_ok-name_file-in-Some.ensures.taken in
     subst (λ (w : Work). Comes c.write_file.result w (g.H.Host.state c.args.host.now) (rest (progress_of c.write_file.new.self)) (g.H.Host.state c.write_file.new.host))
-    (file_some task row (spent task row p) now c.next.new.bytes.items file c.in-Some.extent (within left (portion_of task row)) rest found c.in_ok-name_file-in-Some.ensures.name now_is)
+    (file_some task row (spent_progress task row p) now c.next.new.bytes.items file c.in-Some.extent (portion_within left (portion_of task row)) rest found c.in_ok-name_file-in-Some.ensures.name now_is)
     (c.write_file.ensures rest)
 
 pub returns-in-None : goal.returns-in-None
@@ -49,9 +49,9 @@ returns-in-None g c = λ rest.
     let is_image : c.survey.result.now ≡ task.dump.image = search rules in
     let is_slot : c.at-slot.result ≡ row.slot = search rules in
     let same = portion_same task row c.setup.inside.with_parts c.survey.result.now c.at-slot.result is_parts is_image is_slot in
-    let found : None ≡ within left (portion_of task row) =
-    ap (option_map (λ (e : Extent). record { bytes = c.next.new.bytes.items; extent = e })) (sym c.in-None.is) ∙ c.in_ok-extent.ensures.written ∙ ap (within left) same in
+    let found : None ≡ portion_within left (portion_of task row) =
+    ap (option_map (λ (e : Extent). record { bytes = c.next.new.bytes.items; extent = e })) (sym c.in-None.is) ∙ c.in_ok-extent.ensures.written ∙ ap (portion_within left) same in
     let left_is : c.next.new.self ≡ left_after left (portion_of task row) = c.in_ok-extent.ensures.left ∙ ap (left_after left) same in
-    comes_to c.tell.result (file_work task row (spent task row p) (within left (portion_of task row)) rest) rest host host _ (told task row None (spent task row p))
+    comes_to c.tell.result (file_work task row (spent_progress task row p) (portion_within left (portion_of task row)) rest) rest host host _ (told_progress task row None (spent_progress task row p))
     (told_none c.tell.result task row p c.next.new.self _ _ _ _ left_is c.tell.ensures.printed c.tell.ensures.lines c.tell.ensures.complaint c.tell.ensures.failed)
-    (subst (λ (w : Work). LeadsTo w host (rest (told task row None (spent task row p))) host) (file_none task row (spent task row p) (within left (portion_of task row)) rest found) (nothing_yet _ host))
+    (subst (λ (w : Work). LeadsTo w host (rest (told_progress task row None (spent_progress task row p))) host) (file_none task row (spent_progress task row p) (portion_within left (portion_of task row)) rest found) (nothing_yet _ host))

@@ -1,6 +1,6 @@
 use Rattle.std.proofs.Common.{◌≡◌, rules}
 use Rattle.d64_unpack.specs.Paths.{path_in}
-use Rattle.d64_unpack.specs.Progress.{tried}
+use Rattle.d64_unpack.specs.Progress.{tried_progress}
 use Rattle.d64_unpack.specs.FilesNow.{progress_of}
 use Rattle.d64_unpack.specs.Unpacking.{write_work}
 use Rattle.d64_unpack.proofs.Steps.{stops, comes_to, comes_not}
@@ -18,6 +18,6 @@ returns g c = λ rest.
     let p = progress_of c.args.self.now in
     let path_is : c.deref-3.result.now ≡ path_in task.partial file = search rules in
     comes_to c.tell_written.result (write_work task row file c.args.self.now.bytes.items p rest) rest (g.H.Host.state c.args.host.now) (g.H.Host.state c.make_file-is_written.new.host)
-    (progress_of c.tell_written.new.self) (tried task row file c.make_file-is_written.result p) c.tell_written.ensures
+    (progress_of c.tell_written.new.self) (tried_progress task row file c.make_file-is_written.result p) c.tell_written.ensures
     (wrote task row file c.args.self.now.bytes.items c.deref-3.result.now c.deref-4.result.now p rest (g.H.Host.state c.args.host.now) (g.H.Host.state c.make_file-is_written.new.host)
     c.make_file-is_written.result path_is c.deref-4.ensures.value c.make_file-is_written.ensures)

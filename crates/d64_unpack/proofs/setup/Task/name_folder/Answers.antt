@@ -2,7 +2,7 @@ use Rattle.std.proofs.Common.{◌≡◌, Bool, true, false, not, ◌&&◌, cond,
 use Rattle.d64_unpack.specs.Setup.{TaskView}
 use Rattle.d64_unpack.specs.Work.{Work, Done, Says, Rename, Ends}
 use Rattle.d64_unpack.specs.FilesNow.{progress_of}
-use Rattle.d64_unpack.specs.Unpacking.{finished, unfinished, unnamed, name_work}
+use Rattle.d64_unpack.specs.Unpacking.{finished_answer, unfinished_answer, unnamed_answer, name_work}
 use Rattle.d64_unpack.proofs.Steps.{ends_after, ends_with}
 use Rattle.d64_unpack.proofs.FolderWork.{not_named, renamed}
 use Rattle.d64_unpack.proofs.setup.Task.name_folder.Goals as goal
@@ -14,7 +14,7 @@ returns-then-not-is_listed g c =
     let host = g.H.Host.state c.args.host.now in
     subst (λ (w : Work). Ends c.tell_unfinished.result c.tell_unfinished.new.room w host host)
     (not_named task p c.args.is_listed (ap (λ (b : Bool). b && not p.has_failed) c.if-not-is_listed.true))
-    (ends_with c.tell_unfinished.result c.tell_unfinished.new.room (unfinished task p c.args.is_listed) host c.tell_unfinished.ensures)
+    (ends_with c.tell_unfinished.result c.tell_unfinished.new.room (unfinished_answer task p c.args.is_listed) host c.tell_unfinished.ensures)
 
 pub returns-then-files : goal.returns-then-files
 returns-then-files g c =
@@ -23,7 +23,7 @@ returns-then-files g c =
     let host = g.H.Host.state c.args.host.now in
     subst (λ (w : Work). Ends c.tell_unfinished-then-files.result c.tell_unfinished-then-files.new.room w host host)
     (not_named task p c.args.is_listed (ap (λ (f : Bool). c.args.is_listed && not f) c.if-files.true ∙ ap (λ (b : Bool). b && false) c.if-not-is_listed.false))
-    (ends_with c.tell_unfinished-then-files.result c.tell_unfinished-then-files.new.room (unfinished task p c.args.is_listed) host c.tell_unfinished-then-files.ensures)
+    (ends_with c.tell_unfinished-then-files.result c.tell_unfinished-then-files.new.room (unfinished_answer task p c.args.is_listed) host c.tell_unfinished-then-files.ensures)
 
 pub returns-then-rename : goal.returns-then-rename
 returns-then-rename g c =
@@ -37,10 +37,10 @@ returns-then-rename g c =
     let says : Says (Rename task.partial task.done) old c.rename.result now =
     subst (λ (q : List ℕ). Says (Rename task.partial q) old c.rename.result now) done_is
     (subst (λ (q : List ℕ). Says (Rename q c.deref-2.result.now) old c.rename.result now) partial_is c.rename.ensures) in
-    ends_after {E = Unit {0}} (Ok c.tell_finished.result) c.tell_finished.new.room (name_work task p c.args.is_listed) (Done (cond c.rename.result (finished task p) (unnamed task p))) old now now
+    ends_after {E = Unit {0}} (Ok c.tell_finished.result) c.tell_finished.new.room (name_work task p c.args.is_listed) (Done (cond c.rename.result (finished_answer task p) (unnamed_answer task p))) old now now
     (renamed task p c.args.is_listed old now c.rename.result test says)
-    (subst (λ (s : Bool). Ends {E = Unit {0}} (Ok c.tell_finished.result) c.tell_finished.new.room (Done (cond s (finished task p) (unnamed task p))) now now) (sym c.if-rename.true)
-    (ends_with {E = Unit {0}} (Ok c.tell_finished.result) c.tell_finished.new.room (finished task p) now c.tell_finished.ensures))
+    (subst (λ (s : Bool). Ends {E = Unit {0}} (Ok c.tell_finished.result) c.tell_finished.new.room (Done (cond s (finished_answer task p) (unnamed_answer task p))) now now) (sym c.if-rename.true)
+    (ends_with {E = Unit {0}} (Ok c.tell_finished.result) c.tell_finished.new.room (finished_answer task p) now c.tell_finished.ensures))
 
 pub returns-else-rename : goal.returns-else-rename
 returns-else-rename g c =
@@ -54,7 +54,7 @@ returns-else-rename g c =
     let says : Says (Rename task.partial task.done) old c.rename.result now =
     subst (λ (q : List ℕ). Says (Rename task.partial q) old c.rename.result now) done_is
     (subst (λ (q : List ℕ). Says (Rename q c.deref-2.result.now) old c.rename.result now) partial_is c.rename.ensures) in
-    ends_after c.tell_unnamed.result c.tell_unnamed.new.room (name_work task p c.args.is_listed) (Done (cond c.rename.result (finished task p) (unnamed task p))) old now now
+    ends_after c.tell_unnamed.result c.tell_unnamed.new.room (name_work task p c.args.is_listed) (Done (cond c.rename.result (finished_answer task p) (unnamed_answer task p))) old now now
     (renamed task p c.args.is_listed old now c.rename.result test says)
-    (subst (λ (s : Bool). Ends c.tell_unnamed.result c.tell_unnamed.new.room (Done (cond s (finished task p) (unnamed task p))) now now) (sym c.if-rename.false)
-    (ends_with c.tell_unnamed.result c.tell_unnamed.new.room (unnamed task p) now c.tell_unnamed.ensures))
+    (subst (λ (s : Bool). Ends c.tell_unnamed.result c.tell_unnamed.new.room (Done (cond s (finished_answer task p) (unnamed_answer task p))) now now) (sym c.if-rename.false)
+    (ends_with c.tell_unnamed.result c.tell_unnamed.new.room (unnamed_answer task p) now c.tell_unnamed.ensures))

@@ -3,9 +3,9 @@ use Rattle.std.specs.Prelude.{IfOk}
 use Rattle.d64_collection.specs.declared.report.Verdict.{Verdict}
 use Rattle.d64_unpack.specs.Setup.{TaskView}
 use Rattle.d64_unpack.specs.Work.{Done, answer_in}
-use Rattle.d64_unpack.specs.Unpacking.{present, skipped, folders_work, folder_after, task_work_with}
+use Rattle.d64_unpack.specs.Unpacking.{present_answer, skipped_answer, folders_work, folder_after, task_work_with}
 use Rattle.d64_unpack.proofs.Steps.{further, ends_after, ends_with}
-use Rattle.d64_unpack.specs.Paths.{inside}
+use Rattle.d64_unpack.specs.Paths.{path_inside}
 use Rattle.d64_unpack.proofs.FolderSteps.{texts}
 use Rattle.d64_unpack.proofs.FolderWork.{is_done, not_done, is_begun, not_begun}
 use Rattle.d64_unpack.proofs.setup.Task.unpack.Goals as goal
@@ -16,9 +16,9 @@ returns-then-is_there g c =
     let folders = texts c.args.folders.now in
     let host = g.H.Host.state c.args.host.now in
     let done_is : c.deref.result.now ≡ task.done = c.deref.ensures ∙ ap (λ (t : TaskView). t.done) c.self.view_is in
-    ends_after c.tell_done.result c.tell_done.new.room (task_work_with task folders) (Done (cond task.setup.skips (skipped task) (present task task.done))) host host host
+    ends_after c.tell_done.result c.tell_done.new.room (task_work_with task folders) (Done (cond task.setup.skips (skipped_answer task) (present_answer task task.done))) host host host
     (is_done task folders c.deref.result.now host host c.is_there.result done_is c.is_there.ensures c.if-is_there.true)
-    (ends_with c.tell_done.result c.tell_done.new.room (cond task.setup.skips (skipped task) (present task task.done)) host c.tell_done.ensures)
+    (ends_with c.tell_done.result c.tell_done.new.room (cond task.setup.skips (skipped_answer task) (present_answer task task.done)) host c.tell_done.ensures)
 
 pub returns-then-is_there-2 : goal.returns-then-is_there-2
 returns-then-is_there-2 g c =
@@ -29,11 +29,11 @@ returns-then-is_there-2 g c =
     let done_is : c.deref.result.now ≡ task.done = c.deref.ensures ∙ ap (λ (t : TaskView). t.done) c.self.view_is in
     let partial_is : c.deref-2.result.now ≡ task.partial = c.deref-2.ensures ∙ ap (λ (t : TaskView). t.partial) c.self.view_is in
     let told_is : c.deref-then-is_there-2.result.now ≡ task.partial = c.deref-then-is_there-2.ensures ∙ ap (λ (t : TaskView). t.partial) c.self.view_is in
-    ends_after c.tell_present.result room (task_work_with task folders) (Done (present task task.partial)) host host host
+    ends_after c.tell_present.result room (task_work_with task folders) (Done (present_answer task task.partial)) host host host
     (further _ _ _ _ _ _ (not_done task folders c.deref.result.now host host c.is_there.result done_is c.is_there.ensures c.if-is_there.false)
     (is_begun task folders c.deref-2.result.now host host c.is_there-2.result partial_is c.is_there-2.ensures c.if-is_there-2.true))
-    (ends_with c.tell_present.result room (present task task.partial) host
-    (subst (λ (q : List ℕ). IfOk c.tell_present.result (λ (v : Verdict). answer_in room v ≡ present task q)) told_is c.tell_present.ensures))
+    (ends_with c.tell_present.result room (present_answer task task.partial) host
+    (subst (λ (q : List ℕ). IfOk c.tell_present.result (λ (v : Verdict). answer_in room v ≡ present_answer task q)) told_is c.tell_present.ensures))
 
 pub returns : goal.returns
 returns g c =
@@ -42,7 +42,7 @@ returns g c =
     let host = g.H.Host.state c.args.host.now in
     let done_is : c.deref.result.now ≡ task.done = c.deref.ensures ∙ ap (λ (t : TaskView). t.done) c.self.view_is in
     let partial_is : c.deref-2.result.now ≡ task.partial = c.deref-2.ensures ∙ ap (λ (t : TaskView). t.partial) c.self.view_is in
-    ends_after c.unpack_below.result c.unpack_below.new.room (task_work_with task folders) (folders_work (folder_after task) (inside task.setup.into) folders) host host
+    ends_after c.unpack_below.result c.unpack_below.new.room (task_work_with task folders) (folders_work (folder_after task) (path_inside task.setup.into) folders) host host
     (g.H.Host.state c.unpack_below.new.host)
     (further _ _ _ _ _ _ (not_done task folders c.deref.result.now host host c.is_there.result done_is c.is_there.ensures c.if-is_there.false)
     (not_begun task folders c.deref-2.result.now host host c.is_there-2.result partial_is c.is_there-2.ensures c.if-is_there-2.false))

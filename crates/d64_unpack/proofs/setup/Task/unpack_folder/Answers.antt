@@ -3,9 +3,9 @@ use Rattle.std.specs.Prelude.{IfOk}
 use Rattle.d64_collection.specs.declared.report.Verdict.{Verdict}
 use Rattle.d64_unpack.specs.Setup.{TaskView}
 use Rattle.d64_unpack.specs.Work.{Work, Done, LeadsTo, answer_in}
-use Rattle.d64_unpack.specs.Progress.{begun}
+use Rattle.d64_unpack.specs.Progress.{first_progress}
 use Rattle.d64_unpack.specs.FilesNow.{progress_of}
-use Rattle.d64_unpack.specs.Unpacking.{unmade, folder_work, files_work, list_work}
+use Rattle.d64_unpack.specs.Unpacking.{unmade_answer, folder_work, files_work, list_work}
 use Rattle.d64_unpack.proofs.Steps.{stops, further, nothing_yet, ends_after, ends_with, ends_not}
 use Rattle.d64_inventory.specs.Rows.{rows}
 use Rattle.d64_unpack.proofs.FolderWork.{made, not_made}
@@ -20,10 +20,10 @@ returns-then-not-make_folder g c =
     let room = c.tell_unmade.new.room in
     let path_is : c.deref.result.now ≡ task.partial = c.deref.ensures ∙ ap (λ (t : TaskView). t.partial) c.self.view_is in
     let told_is : c.deref-then-not-make_folder.result.now ≡ task.partial = c.deref-then-not-make_folder.ensures ∙ ap (λ (t : TaskView). t.partial) c.self.view_is in
-    ends_after c.tell_unmade.result room (folder_work task) (Done (unmade task task.partial)) old now now
+    ends_after c.tell_unmade.result room (folder_work task) (Done (unmade_answer task task.partial)) old now now
     (not_made task c.deref.result.now old now c.make_folder.result path_is c.make_folder.ensures c.if-not-make_folder.true)
-    (ends_with c.tell_unmade.result room (unmade task task.partial) now
-    (subst (λ (q : List ℕ). IfOk c.tell_unmade.result (λ (v : Verdict). answer_in room v ≡ unmade task q)) told_is c.tell_unmade.ensures))
+    (ends_with c.tell_unmade.result room (unmade_answer task task.partial) now
+    (subst (λ (q : List ℕ). IfOk c.tell_unmade.result (λ (v : Verdict). answer_in room v ≡ unmade_answer task q)) told_is c.tell_unmade.ensures))
 
 pub returns-in_err-unpack_files : goal.returns-in_err-unpack_files
 returns-in_err-unpack_files g c =
@@ -50,7 +50,7 @@ returns g c =
     let p = progress_of c.unpack_files.new.self in
     let q = progress_of c.close.new.self in
     let path_is : c.deref.result.now ≡ task.partial = c.deref.ensures ∙ ap (λ (t : TaskView). t.partial) c.self.view_is in
-    let whole = files_work task (rows task.dump) (begun task) in
+    let whole = files_work task (rows task.dump) (first_progress task) in
     ends_after c.list_files.result c.list_files.new.room (folder_work task) (list_work task q) old now (g.H.Host.state c.list_files.new.host)
     (further (folder_work task) whole (list_work task q) old mid now
     (made task c.deref.result.now old mid c.make_folder.result path_is c.make_folder.ensures c.if-not-make_folder.false)

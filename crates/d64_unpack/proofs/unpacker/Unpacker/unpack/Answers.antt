@@ -7,7 +7,7 @@ use Rattle.d64_survey.specs.Dump.{wrong_length}
 use Rattle.d64_survey.specs.declared.dump.DumpFault.{DumpFault}
 use Rattle.d64_report.proofs.Dumps.{dump_of-bytes, dump_of-none, no_image_part}
 use Rattle.d64_unpack.specs.Work.{Work, Ends}
-use Rattle.d64_unpack.specs.Unpacking.{unread, wrong_length as told_length, task_work, task_of}
+use Rattle.d64_unpack.specs.Unpacking.{unread_answer, wrong_length as told_length, task_work, task_of}
 use Rattle.d64_unpack.proofs.Steps.{stops, ends_with}
 use Rattle.d64_unpack.proofs.GivenFiles.{given_none, given_no_text, given_text}
 use Rattle.d64_unpack.proofs.unpacker.Unpacker.unpack.Goals as goal
@@ -19,7 +19,7 @@ returns-in-None-clause-done g c =
     let name = c.args.name.now in
     let given : option_map (λ (b : Bor (List ℕ)). b.now) c.args.bytes ≡ None = search rules in
     subst (λ (w : Work). Ends c.tell_unread.result c.tell_unread.new.room w host host) (given_none setup name _ given)
-    (ends_with c.tell_unread.result c.tell_unread.new.room (unread setup name) host c.tell_unread.ensures)
+    (ends_with c.tell_unread.result c.tell_unread.new.room (unread_answer setup name) host c.tell_unread.ensures)
 
 pub returns-in-Err-clause-done : goal.returns-in-Err-clause-done
 returns-in-Err-clause-done g c =
@@ -29,7 +29,7 @@ returns-in-Err-clause-done g c =
     let given : option_map (λ (b : Bor (List ℕ)). b.now) c.args.bytes ≡ Some c.in-Some.bytes.now = search rules in
     let no_text : is_utf8 name ≡ false = false_from_ne_true (is_utf8 name) (λ passes. c.in-Err.ensures.cases.0 (IsUtf8-from_is_utf8 name passes)) in
     subst (λ (w : Work). Ends c.tell_unread-in-Err.result c.tell_unread-in-Err.new.room w host host) (given_no_text setup name _ c.in-Some.bytes.now given no_text)
-    (ends_with c.tell_unread-in-Err.result c.tell_unread-in-Err.new.room (unread setup name) host c.tell_unread-in-Err.ensures)
+    (ends_with c.tell_unread-in-Err.result c.tell_unread-in-Err.new.room (unread_answer setup name) host c.tell_unread-in-Err.ensures)
 
 pub returns-in-Ok-refill-clause-done : goal.returns-in-Ok-refill-clause-done
 returns-in-Ok-refill-clause-done g c =

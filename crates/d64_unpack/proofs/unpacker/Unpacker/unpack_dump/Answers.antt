@@ -1,7 +1,7 @@
 use Rattle.std.proofs.Common.{◌≡◌, ℕ, List, ◌++◌, ap, ◌∙◌, subst, string_bytes}
-use Rattle.d64_host_names.specs.ImagePlace.{folders_of, finished, unfinished}
+use Rattle.d64_host_names.specs.ImagePlace.{folders_of, finished_name, unfinished_name}
 use Rattle.d64_unpack.specs.declared.unpacker.Unpacker.{Unpacker}
-use Rattle.d64_unpack.specs.Paths.{inside, place_below, done_path, partial_path}
+use Rattle.d64_unpack.specs.Paths.{path_inside, place_below, done_path, partial_path}
 use Rattle.d64_unpack.specs.Work.{Work, Ends}
 use Rattle.d64_unpack.proofs.FolderSteps.{texts}
 use Rattle.d64_unpack.proofs.GivenFiles.{task_made}
@@ -29,13 +29,13 @@ returns-clause-done g c =
     let done_into : c.deref.result.now ≡ setup.into = c.deref.ensures ∙ ap (λ (u : Unpacker). u.setup.into) c.self.view_is in
     let partial_into : c.deref-2.result.now ≡ setup.into = c.deref-2.ensures ∙ ap (λ (u : Unpacker). u.setup.into) c.self.view_is in
     let is_done : string_bytes c.in_ok-done.done ≡ done_path setup.into name =
-    c.in_ok-done.ensures ∙ ap (λ (i : List ℕ). place_below (inside i) folders ++ finished last) done_into
-    ∙ ap (λ (fs : List (List ℕ)). place_below (inside setup.into) fs ++ finished last) c.in_ok-place.ensures.folders
-    ∙ ap (λ (l : List ℕ). place_below (inside setup.into) (folders_of name) ++ finished l) c.in_ok-place.ensures.last in
+    c.in_ok-done.ensures ∙ ap (λ (i : List ℕ). place_below (path_inside i) folders ++ finished_name last) done_into
+    ∙ ap (λ (fs : List (List ℕ)). place_below (path_inside setup.into) fs ++ finished_name last) c.in_ok-place.ensures.folders
+    ∙ ap (λ (l : List ℕ). place_below (path_inside setup.into) (folders_of name) ++ finished_name l) c.in_ok-place.ensures.last in
     let is_partial : string_bytes c.in_ok-partial.partial ≡ partial_path setup.into name =
-    c.in_ok-partial.ensures ∙ ap (λ (i : List ℕ). place_below (inside i) folders ++ unfinished last) partial_into
-    ∙ ap (λ (fs : List (List ℕ)). place_below (inside setup.into) fs ++ unfinished last) c.in_ok-place.ensures.folders
-    ∙ ap (λ (l : List ℕ). place_below (inside setup.into) (folders_of name) ++ unfinished l) c.in_ok-place.ensures.last in
+    c.in_ok-partial.ensures ∙ ap (λ (i : List ℕ). place_below (path_inside i) folders ++ unfinished_name last) partial_into
+    ∙ ap (λ (fs : List (List ℕ)). place_below (path_inside setup.into) fs ++ unfinished_name last) c.in_ok-place.ensures.folders
+    ∙ ap (λ (l : List ℕ). place_below (path_inside setup.into) (folders_of name) ++ unfinished_name l) c.in_ok-place.ensures.last in
     subst (λ (w : Work). Ends c.unpack.result c.unpack.new.room w (g.H.Host.state c.args.host.now) (g.H.Host.state c.unpack.new.host))
     (task_made setup _ name c.args.self.now.dump c.in_ok-all.all (string_bytes c.in_ok-done.done) (string_bytes c.in_ok-partial.partial) (texts c.as_slice.result.now) (ap (λ (u : Unpacker). u.setup) c.self.view_is)
     (c.in_ok-all.ensures ∙ ap (λ (u : Unpacker). u.dump) c.self.view_is) is_done
