@@ -9,9 +9,13 @@ use Rattle.d64_unpack.specs.Setup.{SetupView}
 use Rattle.d64_unpack.specs.declared.unpacker.Unpacker.{Unpacker}
 use Rattle.d64_unpack.proofs.QuietWork.{clean_is_quiet}
 use Rattle.d64_runner.specs.Transcript.{Manner}
-use Rattle.d64_shell.specs.Jobs.{Beginning, Source, Work, Script, Survey, Extraction, PassesOver, work_of}
-use Rattle.d64_shell.specs.SurveyFiles.{SurveyFiles}
-use Rattle.d64_shell.specs.Program.{Outside, EndedShell, EndedSurvey, EndedWork}
+use Rattle.d64_shell_job.specs.Beginnings.{Beginning, Source}
+use Rattle.d64_shell.specs.Jobs.{Work, Script, Survey, Extraction, PassesOver, work_of}
+use Rattle.d64_file_jobs.specs.SurveyFiles.{SurveyFiles}
+use Rattle.d64_job.specs.Outside.{Outside}
+use Rattle.d64_shell_job.specs.ShellRuns.{EndedShell}
+use Rattle.d64_file_jobs.specs.JobEnds.{EndedSurvey}
+use Rattle.d64_shell.specs.Program.{EndedWork}
 
 -- where a job's work is a survey, it has ended as that has
 pub survey_ended : (job : Job) (rule : Rule) (heading : List ℕ) (files shown : SurveyFiles) (old new : Outside) (faults told : Account) (status : ℕ)

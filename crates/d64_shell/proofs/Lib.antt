@@ -1,6 +1,2 @@
-pub mod ProgramRuns
-pub mod SurveyRuns
+mod ProgramRuns
 mod JobEnds
-mod ComparisonRuns
-mod StoredRuns
-mod SessionFiles

@@ -3,11 +3,5 @@ pub use Rattle.d64_dos.specs.Command
 pub use Rattle.d64_undo.specs.History
 pub use Rattle.d64_host.specs.Host
 pub use Rattle.d64_host.specs.MemoryHost
-pub mod SurveyFiles
-pub mod Surveys
-pub mod Comparisons
 pub mod Jobs
-pub mod Scripts
-pub mod RefusalLine
 pub mod Program
-pub mod Tools

@@ -1,46 +1,30 @@
 //! The program `d64sh`, from its words to its exit status.
-ghost use Rattle.std.specs.Prelude.{◌≡◌, ◌≢◌, ◌≤◌, Bool, false, map, true};
+ghost use Rattle.std.specs.Prelude.{◌≡◌, ◌≢◌, ◌≤◌, Bool, IfErr, IfOk, false, map, true};
 ghost use Rattle.d64_script.specs.Input.{IsUnread, Reading, reading_of};
 ghost use Rattle.d64_script.specs.Output.{account_of};
 ghost use Rattle.d64_collection.specs.Runs.{account_at};
 ghost use Rattle.d64_shell.specs.Jobs.{IsScript, PassesOver, work_of};
-ghost use Rattle.d64_shell.specs.Program.{AsksForShell, AsksToPassOver, Ended, EndedWork, outside_at, outside_of};
+ghost use Rattle.d64_shell.specs.Program.{AsksForShell, AsksToPassOver, Ended, EndedWork, named_words};
+ghost use Rattle.d64_job.specs.Outside.{outside_at, outside_of};
+ghost use Rattle.d64_words.specs.Asked.{IsFault, IsJob};
 
-use crate::difference_job::DifferenceJob;
 use crate::extraction::setup_of;
-use crate::file_names::FileNames;
-use crate::shell_job::{ShellJob, exit_status, refusals_of};
-use crate::survey_job::SurveyJob;
-use crate::tool_job::ToolJob;
-use crate::tools::Tool;
-use crate::word_faults::{answer_words, asked};
 use d64_catalogue::CatalogueReport;
 use d64_check::CheckReport;
+use d64_file_jobs::{DifferenceJob, FileNames, SurveyJob};
 use d64_host::Host;
+use d64_job::answer_words;
 use d64_listing::FilesReport;
 use d64_picture::MapReport;
 use d64_runner::{Listener, Nobody};
 use d64_script::input::InputStream;
 use d64_script::output::OutputStream;
+use d64_shell_job::{ShellJob, exit_status, refusals_of};
+use d64_tool_job::{Tool, ToolJob};
 use d64_unpack::Unpacker;
-use d64_words::Job;
+use d64_words::{Job, JobFault, job};
 use std::alloc::Global;
 use std::io::{Read, Write};
-
-/// The most bytes of an image, a program or a text that are read from a file.
-pub(crate) const FILE_BYTES: usize = 16_777_216;
-
-/// The most bytes of a session file that are read.
-pub(crate) const SESSION_BYTES: u32 = 67_108_864;
-
-/// The exit status where all lines were accepted, or a tool's input.
-pub(crate) const ALL_ACCEPTED: u8 = 0;
-
-/// The exit status where some line was refused, or a tool's input.
-pub(crate) const SOME_REFUSED: u8 = 1;
-
-/// The exit status where the words are no use of the program, or it did not come to an end.
-pub(crate) const NOT_RUN: u8 = 2;
 
 /// Does what the words after the program's name ask for, and answers the exit status: 0 where all
 /// lines of the script or a tool's input were accepted, and after help; 1 where some line was
@@ -264,4 +248,21 @@ impl<'l, L: Listener> HeardProgram<'l, L> {
             }
         }
     }
+}
+
+/// The job that the words after the program's name ask for.
+fn asked(alloc: Global, words: &[&str]) -> Result<Job, JobFault>
+    ensures job { IfOk result (IsJob (named_words (map (λ word. word.now) words.now))) }
+    ensures fault { IfErr result (IsFault (named_words (map (λ word. word.now) words.now))) }
+{
+    let mut all = Vec::new(alloc);
+    match all.push("d64sh") {
+        Ok(()) => {}
+        Err(_) => return Err(JobFault::Memory),
+    }
+    match all.extend_from_slice(words) {
+        Ok(()) => {}
+        Err(_) => return Err(JobFault::Memory),
+    }
+    job(alloc, all.as_slice())
 }

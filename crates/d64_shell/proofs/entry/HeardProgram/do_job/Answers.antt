@@ -9,9 +9,10 @@ use Rattle.d64_catalogue.specs.Catalogue.{catalogue_rule, catalogue_heading}
 use Rattle.std.specs.Prelude.{[], ◌∷◌, string_bytes}
 use Rattle.d64_runner.specs.Transcript.{Manner}
 use Rattle.d64_runner.specs.declared.manners.Refusals.{Refusals}
-use Rattle.d64_shell.specs.Jobs.{beginning_of, home_of, refusals_of, setup_of, source_of, work_of}
-use Rattle.d64_shell.specs.SurveyFiles.{Named, files_in, files_of}
-use Rattle.d64_shell.specs.Program.{outside_at}
+use Rattle.d64_shell_job.specs.Beginnings.{beginning_of, home_of, refusals_of, source_of}
+use Rattle.d64_shell.specs.Jobs.{setup_of, work_of}
+use Rattle.d64_file_jobs.specs.SurveyFiles.{Named, files_in, files_of}
+use Rattle.d64_job.specs.Outside.{outside_at}
 use Rattle.d64_shell.proofs.JobEnds.{extraction_ended, extraction_is_quiet, script_ended, survey_ended}
 use Rattle.d64_shell.proofs.entry.HeardProgram.do_job.Goals as goal
 

@@ -1,0 +1,2 @@
+pub mod SurveyRuns
+mod ComparisonRuns

@@ -1,0 +1,47 @@
+-- How a comparison of two files ends.
+use Rattle.std.specs.Prelude.{◌≡◌, ℕ, List, Option, Result, Ok, Err, ◌⊎◌}
+use Rattle.d64_host.specs.Files.{HostState}
+use Rattle.d64_collection.specs.Names.{File}
+use Rattle.d64_collection.specs.Answers.{Answer}
+use Rattle.d64_collection.specs.Runs.{IsCut, IsRead, IsTold, Stand}
+use Rattle.d64_file_jobs.specs.declared.difference_job.DifferenceFault.{DifferenceFault}
+use Rattle.d64_file_jobs.specs.declared.difference_job.DifferenceFault.TheVariants.{Write, Memory}
+
+-- what is answered of an old file and a new one: of the name of each, and of its bytes, or of none
+-- where it cannot be read
+abbrev pub PairRule : Type 0
+PairRule = List ℕ → Option (List ℕ) → List ℕ → Option (List ℕ) → Answer
+
+-- both files were read, the old one first
+pub record AreRead (old_name new_name : List ℕ) (first : HostState) (old new : Option (List ℕ)) (last : HostState) : Type 0 where
+  pub middle : HostState
+  pub old_read : IsRead (File old_name) first old middle
+  pub new_read : IsRead (File new_name) middle new last
+
+-- both files were read, and what the rule says of them was told
+pub record AreCompared (rule : PairRule) (old_name new_name : List ℕ) (first last : Stand) : Type 0 where
+  pub old : Option (List ℕ)
+  pub new : Option (List ℕ)
+  pub read : AreRead old_name new_name first.host old new last.host
+  pub told : IsTold (rule old_name old new_name new) first.told last.told
+
+-- both files were read, and the output failed while they were told of
+pub record AreCut (rule : PairRule) (old_name new_name : List ℕ) (first last : Stand) : Type 0 where
+  pub old : Option (List ℕ)
+  pub new : Option (List ℕ)
+  pub read : AreRead old_name new_name first.host old new last.host
+  pub told : IsCut (rule old_name old new_name new) first.told last.told
+
+-- how far the reading of the files has come: none is read, or the old one, or both
+abbrev pub AreReadSoFar : List ℕ → List ℕ → HostState → HostState → Type 0
+AreReadSoFar old_name new_name first last =
+    (last ≡ first)
+    ⊎ (((old : Option (List ℕ)) × IsRead (File old_name) first old last)
+    ⊎ ((old : Option (List ℕ)) × (new : Option (List ℕ)) × AreRead old_name new_name first old new last))
+
+-- how a comparison ends: both files are read and told of, unless the output failed, or there was no
+-- memory, and nothing was told
+abbrev pub Compares : {A : Type 0} → PairRule → List ℕ → List ℕ → Stand → Stand → Result A DifferenceFault → Type 0
+Compares rule old_name new_name first last (Ok done) = AreCompared rule old_name new_name first last
+Compares rule old_name new_name first last (Err Write) = AreCut rule old_name new_name first last
+Compares rule old_name new_name first last (Err Memory) = AreReadSoFar old_name new_name first.host last.host × (last.told ≡ first.told)

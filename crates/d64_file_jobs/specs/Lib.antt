@@ -1,0 +1,4 @@
+pub mod SurveyFiles
+pub mod Surveys
+pub mod Comparisons
+pub mod JobEnds

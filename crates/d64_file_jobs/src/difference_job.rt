@@ -1,0 +1,153 @@
+//! The job that compares two files.
+ghost use Rattle.std.specs.Prelude.{◌≡◌, ◌≤◌, ℕ, List, Option, IfErr, IfOk, OnOk, option_map, true, false};
+ghost use Rattle.d64_script.specs.Input.{Reading};
+ghost use Rattle.d64_collection.specs.Names.{File};
+ghost use Rattle.d64_collection.specs.Runs.{IsRead, account_at, stand_at};
+ghost use Rattle.d64_collection.specs.declared.report.Verdict.TheVariants.{Clean};
+ghost use Rattle.d64_difference.specs.Differences.{difference_rule};
+ghost use Rattle.d64_file_jobs.specs.Comparisons.{Compares};
+ghost use Rattle.d64_file_jobs.specs.JobEnds.{EndedComparison};
+ghost use Rattle.d64_job.specs.Outside.{outside_of};
+
+use d64_collection::Desk;
+use d64_difference::DifferenceReport;
+use d64_host::{Host, HostFault};
+use d64_job::{FILE_BYTES, ProgramFault};
+use d64_script::output::{OutputStream, WriteFault};
+use d64_words::DiffForm;
+use std::alloc::{AllocError, Global};
+use std::io::Write;
+use thiserror::Error;
+
+/// Why a comparison has no end.
+#[derive(Clone, Copy, Debug, PartialEq, Eq, Error)]
+pub(crate) enum DifferenceFault {
+    /// The output takes no more bytes.
+    #[error("write fault")]
+    Write,
+    #[error("out of memory")]
+    Memory,
+}
+
+impl From<AllocError> for DifferenceFault {
+    ghost use Rattle.std.specs.Prelude.{◌≡◌};
+    ghost use Rattle.d64_file_jobs.specs.declared.difference_job.DifferenceFault.TheVariants.{Memory};
+
+    ghost from_gives = { λ _ fault. fault ≡ Memory };
+
+    fn from(_error: AllocError) -> DifferenceFault {
+        DifferenceFault::Memory
+    }
+}
+
+impl From<WriteFault> for DifferenceFault {
+    ghost use Rattle.std.specs.Prelude.{◌≡◌};
+    ghost use Rattle.d64_file_jobs.specs.declared.difference_job.DifferenceFault.TheVariants.{Write};
+
+    ghost from_gives = { λ _ fault. fault ≡ Write };
+
+    fn from(_fault: WriteFault) -> DifferenceFault {
+        DifferenceFault::Write
+    }
+}
+
+/// A comparison of an old file with a new one, by their names.
+#[derive(Drop)]
+pub struct DifferenceJob<'n> {
+    alloc: Global,
+    form: DiffForm,
+    old: &'n str,
+    new: &'n str,
+}
+
+impl<'n> DifferenceJob<'n> {
+    /// A comparison of the files of these names, which is told in a form.
+    pub fn new(alloc: Global, form: DiffForm, old: &'n str, new: &'n str) -> DifferenceJob<'n>
+        ensures form { result.form ≡ form }
+        ensures old { result.old.now ≡ old.now }
+        ensures new { result.new.now ≡ new.now }
+    {
+        DifferenceJob {
+            alloc,
+            form,
+            old,
+            new,
+        }
+    }
+
+    /// Reads both files, tells what changed, and returns the exit status: 0 where they are the
+    /// same, 1 where they differ, and 2 where one of them is no dump or cannot be read, the output
+    /// takes no more bytes, or memory is wanting.
+    pub fn run<W: Write, F: Write, H: Host>(
+        &self,
+        output: &mut OutputStream<'_, W>,
+        faults: &mut OutputStream<'_, F>,
+        host: &mut H,
+    ) -> u8
+        requires unfailed { output.old.has_failed ≡ false }
+        ensures output { output.new.writer.ghost_name ≡ output.old.writer.ghost_name }
+        ensures faults { faults.new.writer.ghost_name ≡ faults.old.writer.ghost_name }
+        ensures status { result ≤ 2 }
+        ensures ended { (reader : Option (List ℕ)) (reading : Reading) → EndedComparison (difference_rule self.now.form) self.now.old.now self.now.new.now
+            (outside_of reader reading (account_at W.contents output.old) (H.state host.old))
+            (outside_of reader reading (account_at W.contents output.new) (H.state host.new))
+            (account_at F.contents faults.old) (account_at F.contents faults.new) result }
+        ensures delivered { result ≡ 0 → (output.new.is_delivered ≡ true) × (output.new.has_failed ≡ false) }
+        ensures silent { result ≡ 0 → faults.new ≡ faults.old }
+    {
+        let mut desk = Desk::new(self.alloc);
+        match self.compare(&mut desk, output, faults, host) {
+            Ok(()) => desk.worst().exit_status(),
+            Err(DifferenceFault::Write) => ProgramFault::Write.report_on(faults),
+            Err(DifferenceFault::Memory) => ProgramFault::Memory.report_on(faults),
+        }
+    }
+
+    /// Reads both files, and tells at a desk what changed.
+    ///
+    /// It is a call of its own: each job would else take room for the inspections of two dumps.
+    #[inline(never)]
+    fn compare<W: Write, F: Write, H: Host>(
+        &self,
+        desk: &mut Desk,
+        output: &mut OutputStream<'_, W>,
+        faults: &mut OutputStream<'_, F>,
+        host: &mut H,
+    ) -> Result<(), DifferenceFault>
+        ensures output { output.new.writer.ghost_name ≡ output.old.writer.ghost_name }
+        ensures faults { faults.new.writer.ghost_name ≡ faults.old.writer.ghost_name }
+        ensures delivered { OnOk result (output.new.is_delivered ≡ true) }
+        ensures unfailed { OnOk result (output.new.has_failed ≡ output.old.has_failed) }
+        ensures silent { desk.new.worst ≡ Clean → faults.new ≡ faults.old }
+        ensures compared { Compares (difference_rule self.now.form) self.now.old.now self.now.new.now
+            (stand_at H.state host.old W.contents output.old F.contents faults.old desk.old.worst)
+            (stand_at H.state host.new W.contents output.new F.contents faults.new desk.new.worst) result }
+    {
+        let old = self.read(self.old, host)?;
+        let new = self.read(self.new, host)?;
+        let mut report = DifferenceReport::new(self.alloc, self.form)?;
+        let verdict = report.answer(
+            self.old.as_bytes(),
+            old.as_deref(),
+            self.new.as_bytes(),
+            new.as_deref(),
+            &mut desk.room,
+        )?;
+        desk.tell(verdict, output, faults)?;
+        Ok(())
+    }
+
+    /// The bytes of a file of the host, or nothing where it cannot be read.
+    fn read<H: Host>(&self, name: &str, host: &mut H) -> Result<Option<Vec<u8>>, DifferenceFault>
+        ensures read { IfOk result (λ bytes. IsRead (File name.now) (H.state host.old)
+            (option_map (λ bytes. bytes.items) bytes) (H.state host.new)) }
+        ensures memory { IfErr result (λ fault. (fault ≡ DifferenceFault.Memory)
+            × (H.state host.new ≡ H.state host.old)) }
+    {
+        match host.fetch(self.alloc, name, FILE_BYTES) {
+            Ok(bytes) => Ok(Some(bytes)),
+            Err(HostFault::Missing | HostFault::Device | HostFault::TooLong) => Ok(None),
+            Err(HostFault::Memory(_)) => Err(DifferenceFault::Memory),
+        }
+    }
+}

@@ -1,0 +1,3 @@
+pub mod Outside
+pub mod Faults
+pub mod WordFaults

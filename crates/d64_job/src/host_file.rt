@@ -1,0 +1,22 @@
+//! The files of the host that jobs read.
+ghost use Rattle.d64_collection.specs.Runs.{file_limit};
+ghost use Rattle.d64_host.specs.Host.{fetched_bytes};
+ghost use Rattle.d64_line.specs.Act.{FetchesFile};
+
+use d64_host::{Host, HostFault};
+use d64_line::host_file::fetch;
+use std::alloc::Global;
+
+/// The most bytes of an image, a program or a text that are read from a file.
+pub const FILE_BYTES: usize = 16_777_216;
+
+/// The bytes of a host file that is an image, a program or a text: `TooLong` where it has more than
+/// 16,777,216.
+pub fn fetch_file<H: Host>(alloc: Global, host: &mut H, name: &str) -> Result<Vec<u8>, HostFault>
+    ensures { FetchesFile
+        (H.state host.old)
+        name.now file_limit (fetched_bytes result)
+        (H.state host.new) }
+{
+    fetch(alloc, host, name, FILE_BYTES)
+}

@@ -1,0 +1,2 @@
+pub mod ShellRuns
+mod SessionFiles

@@ -1,0 +1,7 @@
+//! The job of the shell: a script on the image of a file, on a blank one, or on a session that was
+//! kept.
+#![tactic(auto)]
+
+mod shell_job;
+
+pub use shell_job::{ShellJob, exit_status, refusals_of};

@@ -1,0 +1,116 @@
+-- How a tool that is run as a job ends, and how that is told.
+use Rattle.std.specs.Prelude.{◌≡◌, ℕ, List, Option, Some, None, Result, Ok, Err, ◌⊎◌}
+use Rattle.std.specs.Io.KnownBytes.{Keeps}
+use Rattle.d64_script.specs.Input.{IsUnreadable}
+use Rattle.d64_script.specs.Output.{Account, Writes}
+use Rattle.d64_script.specs.Status.{status_line}
+use Rattle.d64_host.specs.Files.{HostState}
+use Rattle.d64_host.specs.declared.host.HostFault.{HostFault}
+use Rattle.d64_host.specs.declared.host.HostFault.TheVariants as files
+use Rattle.d64_line.specs.Act.{FetchesFile}
+use Rattle.d64_line.specs.BasicFiles.{status_of_basic, status_of_listing}
+use Rattle.d64_wording.specs.FaultLines.{unwritten_line}
+use Rattle.cbm_text.specs.BasicText.{fault_line as fault_line_of}
+use Rattle.d64_script.specs.declared.status.Status.{Status}
+use Rattle.d64_tool_job.specs.RefusalLine.{refusal_line}
+use Rattle.d64_tool_job.specs.Tools.{HasRead, HasStored, HasWritten, RanTool, ReadsNot, ReadsWith, WritesWith}
+use Rattle.d64_tool_job.specs.declared.tools.Tool.{Tool}
+use Rattle.d64_tool_job.specs.declared.tools.ToolFault.{ToolFault}
+use Rattle.d64_tool_job.specs.declared.tools.ToolFault.TheVariants as tool_faults
+use Rattle.d64_job.specs.declared.program_fault.ProgramFault.TheVariants.{Read, Write, Memory}
+use Rattle.d64_job.specs.Outside.{Outside}
+use Rattle.d64_job.specs.Faults.{Reports}
+use Rattle.d64_collection.specs.Runs.{file_limit}
+
+-- how the fault of a tool's file that cannot be fetched is told
+abbrev pub fault_of_fetch : HostFault → ToolFault
+fault_of_fetch (files.Memory error) = tool_faults.Memory error
+fault_of_fetch fault = tool_faults.Read
+
+-- the bytes of a host file that was fetched so, as a tool has them
+abbrev pub taken_of : Result (List ℕ) HostFault → Result (List ℕ) ToolFault
+taken_of (Ok bytes) = Ok bytes
+taken_of (Err fault) = Err (fault_of_fetch fault)
+
+-- what a tool has written of a host file that was fetched so, and what it answered
+abbrev pub WritesFetched : {A : Type 0} → Tool → Result (List ℕ) HostFault → Option (List ℕ) → Option (List ℕ) → Result A ToolFault → Type 0
+WritesFetched tool (Ok bytes) old new answer = HasWritten tool bytes old new answer
+WritesFetched tool (Err fault) old new answer = (answer ≡ Err (fault_of_fetch fault)) × Keeps old new
+
+-- a tool has run on the input, or on the host file of this name
+abbrev pub RanToolOn : {A : Type 0} → Tool → Option (List ℕ) → Outside → Outside → Result A ToolFault → Type 0
+RanToolOn tool None old new answer = RanTool tool old.reader new.reader old.output.contents new.output.contents answer × (new.host ≡ old.host)
+RanToolOn tool (Some name) old new answer = (new.reader ≡ old.reader)
+    × (fetched : Result (List ℕ) HostFault) × FetchesFile old.host name file_limit fetched new.host × WritesFetched tool fetched old.output.contents new.output.contents answer
+
+-- how a tool's answer is told: status 0 and nothing where it wrote its result; 1 and a status line,
+-- whole unless writing it failed, where it refused its input; and else 2 and the line of a fault
+abbrev pub TellsAnswer : {A : Type 0} → Result A ToolFault → Account → Account → ℕ → Type 0
+TellsAnswer (Ok done) faults told status = (status ≡ 0) × (told ≡ faults)
+TellsAnswer (Err (tool_faults.Text fault)) faults told status =
+    (status ≡ 1) × Writes faults told (status_line (status_of_basic fault))
+TellsAnswer (Err (tool_faults.NotBasic fault)) faults told status = (status ≡ 1) × Writes faults told (status_line (status_of_listing fault))
+TellsAnswer (Err tool_faults.Read) faults told status = Reports Read faults told status
+TellsAnswer (Err tool_faults.Write) faults told status = Reports Write faults told status
+TellsAnswer (Err (tool_faults.Memory error)) faults told status = Reports Memory faults told status
+
+-- a tool has had the bytes that it works on, of the input or of the host file of this name; or it
+-- has not, for this fault
+abbrev pub TakesInput : Option (List ℕ) → Outside → Outside → Result (List ℕ) ToolFault → Type 0
+TakesInput None old new (Ok bytes) = HasRead old.reader new.reader bytes × (new.host ≡ old.host) × (new.output ≡ old.output)
+TakesInput None old new (Err fault) = ReadsNot old.reader new.reader fault × (new.host ≡ old.host) × (new.output ≡ old.output)
+TakesInput (Some name) old new taken = (new.reader ≡ old.reader) × (new.output ≡ old.output)
+    × (fetched : Result (List ℕ) HostFault) × FetchesFile old.host name file_limit fetched new.host × (taken ≡ taken_of fetched)
+
+-- what a tool has stored of the bytes that it works on, which were had so; nothing is stored where
+-- they were not
+abbrev pub StoresTaken : Tool → Result (List ℕ) ToolFault → List ℕ → HostState → HostState → Result (Unit {0}) ToolFault → Type 0
+StoresTaken tool (Ok bytes) target old new answer = HasStored tool bytes target old new answer
+StoresTaken tool (Err fault) target old new answer = (answer ≡ Err fault) × (new ≡ old)
+
+-- a tool has run on the input, or on the host file of this name, to the host file of a second name;
+-- nothing was written
+pub record RanToolTo (tool : Tool) (name : Option (List ℕ)) (target : List ℕ) (old new : Outside) (answer : Result (Unit {0}) ToolFault) : Type 0 where
+  pub taken : Result (List ℕ) ToolFault
+  pub middle : Outside
+  pub takes : TakesInput name old middle taken
+  pub stores : StoresTaken tool taken target middle.host new.host answer
+  pub reader : new.reader ≡ middle.reader
+  pub output : new.output ≡ old.output
+
+-- a refusal is told in the form of compilers, with status 1; or there is no memory for that
+abbrev pub TellsRefusal : Option (List ℕ) → Option ℕ → Status → Account → Account → ℕ → Type 0
+TellsRefusal name line refusal faults told status =
+    ((status ≡ 1) × (words : List ℕ) × Writes faults told (refusal_line name line refusal words)) ⊎ Reports Memory faults told status
+
+-- a result that cannot be stored is told with status 2; or there is no memory for that
+abbrev pub TellsUnwritten : List ℕ → Account → Account → ℕ → Type 0
+TellsUnwritten target faults told status = ((status ≡ 2) × Writes faults told (unwritten_line target)) ⊎ Reports Memory faults told status
+
+-- how the answer is told of a tool that stores its result
+abbrev pub TellsStored : {A : Type 0} → Option (List ℕ) → List ℕ → Result A ToolFault → Account → Account → ℕ → Type 0
+TellsStored name target (Ok done) faults told status = (status ≡ 0) × (told ≡ faults)
+TellsStored name target (Err (tool_faults.Text fault)) faults told status = TellsRefusal name (fault_line_of fault) (status_of_basic fault) faults told status
+TellsStored name target (Err (tool_faults.NotBasic fault)) faults told status = TellsRefusal name None (status_of_listing fault) faults told status
+TellsStored name target (Err tool_faults.Read) faults told status = Reports Read faults told status
+TellsStored name target (Err tool_faults.Write) faults told status = TellsUnwritten target faults told status
+TellsStored name target (Err (tool_faults.Memory error)) faults told status = Reports Memory faults told status
+
+-- how a tool ended that stores its result; it tells a fault of reading its input where that cannot
+-- be read to its end
+abbrev pub EndedToolTo : Tool → Option (List ℕ) → List ℕ → Outside → Outside → Account → Account → ℕ → Type 0
+EndedToolTo tool name target old new faults told status =
+    (answer : Result (Unit {0}) ToolFault) × RanToolTo tool name target old new answer
+    × (name ≡ None → answer ≡ Err tool_faults.Read → IsUnreadable new.reading) × TellsStored name target answer faults told status
+
+-- how a tool ended that writes its result; it tells a fault of reading its input, or of writing,
+-- where the input cannot be read to its end, or a write or a flush has failed
+abbrev pub EndedTool : Tool → Option (List ℕ) → Outside → Outside → Account → Account → ℕ → Type 0
+EndedTool tool name old new faults told status =
+    (answer : Result (Unit {0}) ToolFault) × RanToolOn tool name old new answer
+    × (name ≡ None → ReadsWith answer new.reading) × WritesWith answer old.output.has_failed new.output.has_failed × TellsAnswer answer faults told status
+
+-- how a tool ended whose result goes to the output, or to the host file of this name
+abbrev pub EndedConversion : Tool → Option (List ℕ) → Option (List ℕ) → Outside → Outside → Account → Account → ℕ → Type 0
+EndedConversion tool name None old new faults told status = EndedTool tool name old new faults told status
+EndedConversion tool name (Some target) old new faults told status = EndedToolTo tool name target old new faults told status
