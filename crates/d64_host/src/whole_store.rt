@@ -53,10 +53,7 @@ where
     let opened = OpenOptions::new().write(true).open(rt, name);
     let end = end_of_links(rt, alloc, name)?;
     match opened {
-        Ok(old) => match &end.found {
-            Some(found) => store_over(rt, alloc, limit, old, end.path.as_path(), found, bytes),
-            None => Err(HostFault::Device),
-        },
+        Ok(old) => store_over(rt, alloc, limit, old, &end, bytes),
         Err(error) if error.kind() == ErrorKind::NotFound && end.found.is_none() => {
             make_file(rt, limit, end.path.as_path(), bytes).map_err(|_| HostFault::Device)
         }
@@ -64,20 +61,22 @@ where
     }
 }
 
-/// Stores where something is: it is open for writing, and what was found lies at this path.
+/// Stores where something is: it is open for writing, and lies where the links end.
 fn store_over<R: Files>(
     rt: &R,
     alloc: Global,
     limit: &SizeLimit,
     old: R::File,
-    path: Path<'_>,
-    found: &Metadata,
+    end: &End,
     bytes: &[u8],
 ) -> Result<(), HostFault>
 where
     R::File: AsFd,
     ensures { IfErr result IsOfDeviceOrMemory }
 {
+    let Some(found) = &end.found else {
+        return Err(HostFault::Device);
+    };
     let Ok(opened) = old.metadata() else {
         return Err(HostFault::Device);
     };
@@ -90,7 +89,7 @@ where
     if !is_same_file(&opened, found) {
         return Err(HostFault::Device);
     }
-    let mut file = NewFile::beside(rt, alloc, old, path)?;
+    let mut file = NewFile::beside(rt, alloc, old, end.path.as_path())?;
     replace_by(&mut file, bytes)
 }
 
