@@ -12,8 +12,8 @@ use std::alloc::{AllocError, Global};
 use std::io::Write;
 use thiserror::Error;
 
-/// The most bytes of a file.
-const FILE_BYTES: usize = 16_777_216;
+/// The most bytes of an image, a program or a text that are read from a file.
+pub const FILE_BYTES: usize = 16_777_216;
 
 /// Why a run stopped before its last file.
 #[derive(Clone, Copy, Debug, PartialEq, Eq, Error)]

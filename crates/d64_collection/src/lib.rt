@@ -11,6 +11,6 @@ mod open_name;
 mod report;
 
 pub use clerk::Clerk;
-pub use desk::{Desk, RunFault};
+pub use desk::{Desk, FILE_BYTES, RunFault};
 pub use list_desk::ListDesk;
 pub use report::{AnswerRoom, Report, Verdict};

@@ -9,10 +9,10 @@ ghost use Rattle.d64_file_jobs.specs.Comparisons.{Compares};
 ghost use Rattle.d64_file_jobs.specs.JobEnds.{EndedComparison};
 ghost use Rattle.d64_job.specs.Outside.{outside_of};
 
-use d64_collection::Desk;
+use d64_collection::{Desk, FILE_BYTES};
 use d64_difference::DifferenceReport;
 use d64_host::{Host, HostFault};
-use d64_job::{FILE_BYTES, ProgramFault};
+use d64_job::ProgramFault;
 use d64_script::output::{OutputStream, WriteFault};
 use d64_words::DiffForm;
 use std::alloc::{AllocError, Global};

@@ -3,12 +3,10 @@ ghost use Rattle.d64_collection.specs.Runs.{file_limit};
 ghost use Rattle.d64_host.specs.Host.{fetched_bytes};
 ghost use Rattle.d64_line.specs.Act.{FetchesFile};
 
+use d64_collection::FILE_BYTES;
 use d64_host::{Host, HostFault};
 use d64_line::host_file::fetch;
 use std::alloc::Global;
-
-/// The most bytes of an image, a program or a text that are read from a file.
-pub const FILE_BYTES: usize = 16_777_216;
 
 /// The bytes of a host file that is an image, a program or a text: `TooLong` where it has more than
 /// 16,777,216.

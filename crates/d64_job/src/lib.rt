@@ -8,6 +8,6 @@ mod program_fault;
 mod word_faults;
 
 pub use exit_status::{ALL_ACCEPTED, NOT_RUN, SOME_REFUSED};
-pub use host_file::{FILE_BYTES, fetch_file};
+pub use host_file::fetch_file;
 pub use program_fault::ProgramFault;
 pub use word_faults::answer_words;
