@@ -4,7 +4,7 @@ import subprocess
 import sys
 import time
 
-from crates import TOP
+from crates import TOP, read_crates
 
 PROGRAM = "crates/d64sh/out/d64sh"
 GROWTHS = "crates/test_growths/out/test_growths"
@@ -55,6 +55,12 @@ AFTER = [
     *(([sweep, PROGRAM], "d64sh") for sweep in SWEEPS),
     (["scripts/sweep-calls", GROWTHS], "test_growths"),
 ]
+
+
+def after():
+    """What the gate runs beside `rt ci`: commands, each with the crate that must be built before it."""
+    crates = [it for it in read_crates() if glob.glob(f"{TOP}/crates/{it}/more-wrong-bodies/*.edit")]
+    return [*((["scripts/wrong-bodies", "--gate", it], it) for it in crates), *AFTER]
 
 
 def timed(words):

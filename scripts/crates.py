@@ -18,14 +18,20 @@ def version():
         return next(line.split()[1].rstrip(",") for line in file if line.startswith("## ") and line[3].isdigit())
 
 
-def read_crates():
-    """Of each crate the crates that it names, in the order of crates.txt, where a crate stands after those."""
+def read_libraries():
+    """Of each crate the libraries that its line of crates.txt names, in that order, the toolchain's too."""
     named = {}
     with open(os.path.join(TOP, "crates.txt"), encoding="utf-8") as file:
         for line in file:
             name, colon, libraries = line.split("#")[0].partition(":")
             if colon:
                 named[name.strip()] = libraries.split()
+    return named
+
+
+def read_crates():
+    """Of each crate the crates that it names, in the order of crates.txt, in which a crate comes after those."""
+    named = read_libraries()
     return {name: [it for it in libraries if it in named] for name, libraries in named.items()}
 
 
