@@ -2,7 +2,8 @@
  * scripts/sweep-survey-names and scripts/sweep-extract.
  *
  * A call is counted where its path is relative or its descriptor is none of the standard streams and of no file below /proc,
- * in which the system tells of the process; with SWEEP_STREAMS the standard streams count too. SWEEP_LOG names the file that gets a line for each: its name and the path, or the number of a standard stream.
+ * in which the system tells of the process; with SWEEP_STREAMS the standard streams count too, and with SWEEP_BELOW the paths
+ * that begin with it. SWEEP_LOG names the file that gets a line for each: its name and the path, or the number of a standard stream.
  * SWEEP_AT is the number of the call, from 1, and SWEEP_HOW what becomes of it: the number of an error; `short`, half of a
  * write, or one byte of a read; `full`, half of a write, and no room from then on; `gone`, an error of the device, as every
  * later call on a file has it; `kill`, the end before the call; `killed-half`, the end after half of a write;
@@ -73,9 +74,16 @@ static int turn(const char *name, const char *path, int is_on_file)
     return FAIL;
 }
 
-#define OF_PATH(path) ((path)[0] != '/')
+/* Whether a path begins with the one that is swept. */
+static int is_below(const char *path)
+{
+    const char *top = getenv("SWEEP_BELOW");
+    return top && !strncmp(path, top, strlen(top));
+}
+
+#define OF_PATH(path) ((path)[0] != '/' || is_below(path))
 #define PATH_OF(fd) ((fd) >= 0 && (fd) < MOST_FILES ? paths[fd] : "")
-#define OF_FILE(fd) ((fd) > 2 && strncmp(PATH_OF(fd), "/proc/", 6))
+#define OF_FILE(fd) ((fd) > 2 && (strncmp(PATH_OF(fd), "/proc/", 6) || is_below(PATH_OF(fd))))
 #define REAL(name) ((__typeof__(&name))dlsym(RTLD_NEXT, #name))
 #define CALL(is_counted, name, path, real)                             \
     do {                                                               \

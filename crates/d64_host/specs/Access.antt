@@ -1,4 +1,4 @@
--- Who may use a file that stands for another one.
+-- Who may use a file in the place of another one.
 use Rattle.std.specs.Prelude.{ℕ, ◌+◌, ◌*◌, ◌/◌, ◌%◌, Bool, if◌then◌else◌, bit_and}
 
 -- what a mode lets the owner of a file do, its group, and all others: three bits each
@@ -11,9 +11,9 @@ for_group mode = mode / 0o10 % 0o10
 abbrev pub for_others : ℕ → ℕ
 for_others mode = mode % 0o10
 
--- the mode of a file that stands for one of this mode: the nine bits of who may use it, and no
--- other, as those that give a program its owner's rights; under another group, that one and all
--- others may do what both could do before
+-- the mode of a new file in the place of one of this mode: the nine bits of who may use it, and no
+-- other, as those that give a program its owner's rights; under another owner or group, the group
+-- and all others may do what both could do before
 abbrev pub kept_mode : ℕ → Bool → ℕ
-kept_mode mode has_group =
-    if has_group then mode % 0o1000 else for_owner mode * 0o100 + bit_and (for_group mode) (for_others mode) * 0o11
+kept_mode mode is_of_same =
+    if is_of_same then mode % 0o1000 else for_owner mode * 0o100 + bit_and (for_group mode) (for_others mode) * 0o11

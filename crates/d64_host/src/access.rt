@@ -1,6 +1,6 @@
 //! Who may use a new file that stands for an old one.
 
-ghost use Rattle.std.specs.Prelude.{◌≡◌};
+ghost use Rattle.std.specs.Prelude.{◌≡◌, ◌↔◌, true, bit_and};
 ghost use Rattle.d64_host.specs.Access.{kept_mode};
 
 use std::fs::{OpenFile, Permissions};
@@ -14,20 +14,36 @@ pub fn keep_access<F: OpenFile + AsFd>(old: &F, new: &F) -> io::Result<()> {
     let wanted = old.metadata()?;
     let made = new.metadata()?;
     let has_group = made.gid() == wanted.gid() || fchown(new, None, Some(wanted.gid())).is_ok();
-    if made.uid() != wanted.uid() {
-        // Where the system refuses this, the new file is the user's.
-        let _ = fchown(new, Some(wanted.uid()), None);
-    }
-    let mode = kept_mode(wanted.mode(), has_group);
-    new.set_permissions(Permissions::from_mode(mode))
+    let has_owner = made.uid() == wanted.uid() || fchown(new, Some(wanted.uid()), None).is_ok();
+    let mode = kept_mode(wanted.mode(), has_owner && has_group);
+    set_mode(new, made.mode() % 0o1000, mode)
 }
 
-/// The mode of the new file: the permissions of the old one, and where the new file's group is
-/// another, to it and to all others what both the group and all others had.
-fn kept_mode(mode: u32, has_group: bool) -> u32
-    ensures { result ≡ kept_mode mode has_group }
+/// Sets these permissions of a file that has others. Where the system refuses it, as it does where
+/// files belong to another owner by their mount, the file keeps what it has, if that is no more.
+fn set_mode<F: OpenFile>(file: &F, made: u32, wanted: u32) -> io::Result<()> {
+    if made == wanted {
+        return Ok(());
+    }
+    match file.set_permissions(Permissions::from_mode(wanted)) {
+        Err(_) if is_within(made, wanted) => Ok(()),
+        outcome => outcome,
+    }
+}
+
+/// Whether these permissions are no more than those.
+fn is_within(made: u32, wanted: u32) -> bool
+    ensures { (result ≡ true) ↔ (bit_and made wanted ≡ made) }
 {
-    if has_group {
+    made & wanted == made
+}
+
+/// The mode of the new file: the permissions of the old one, and where its owner or its group is
+/// another, to the group and to all others what both had.
+fn kept_mode(mode: u32, is_of_same: bool) -> u32
+    ensures { result ≡ kept_mode mode is_of_same }
+{
+    if is_of_same {
         return mode % 0o1000;
     }
     let owner = mode / 0o100 % 0o10;

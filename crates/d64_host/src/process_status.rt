@@ -1,7 +1,8 @@
-//! What the system tells of the process in the files below /proc/self.
+//! What the system shows of the process in the files below /proc/self.
 
-use std::fs::File;
+use std::fs::{self, File};
 use std::io::Read;
+use std::os::unix::fs::MetadataExt;
 use std::rt::Files;
 use std::str;
 
@@ -15,4 +16,15 @@ pub fn number_after<R: Files>(rt: &R, path: &str, words: &str) -> Option<u64> {
     let text = str::from_utf8(&bytes[..count]).ok()?;
     let (_, rest) = text.split_once(words)?;
     rest.split_whitespace().next()?.parse().ok()
+}
+
+/// The device on which the files of processes lie, where the system shows them.
+pub fn device_of_processes<R: Files>(rt: &R) -> Option<u64> {
+    let link = fs::symlink_metadata(rt, "/proc/self").ok()?;
+    // The system's own link has no length; one that was copied from it has that of its text.
+    if link.is_symlink() && link.len() == 0 {
+        Some(link.dev())
+    } else {
+        None
+    }
 }

@@ -3,37 +3,53 @@
 //! What a name leads to is found first: nothing, a file, or something that isn't one. A file is
 //! replaced by a new one beside it, so that a store that fails or is cut off leaves the old one.
 
-ghost use Rattle.std.specs.Prelude.{◌≡◌, IfErr};
+ghost use Rattle.std.specs.Prelude.{◌≡◌, ◌↔◌, ◌⊎◌, true, false, Some, IfErr};
 ghost use Rattle.d64_host.specs.Host.{IsOfDeviceOrMemory};
 
 use crate::draft::replace_by;
-use crate::host::HostFault;
+use crate::host::{FolderFault, HostFault};
 use crate::new_entry::make_file;
 use crate::new_file::{NewFile, write_to_end};
+use crate::process_status::device_of_processes;
 use crate::size_limit::SizeLimit;
 use crate::standard_streams::{StandardStreams, is_same_file};
 use std::alloc::{AllocError, Global};
 use std::fs::{self, Metadata, OpenFile, OpenOptions};
 use std::io::{ErrorKind, Write};
 use std::os::fd::AsFd;
-use std::path::{AsPath, Path, PathBuf};
+use std::os::unix::fs::MetadataExt;
+use std::path::{AsPath, PathBuf};
 use std::rt::Files;
 
 /// How many links are followed from a name, as many as the system follows.
 const MOST_LINKS: u32 = 40;
 
-/// Where the links from a name end, and what lies there.
+/// How often a store looks again for a file in whose place another one came meanwhile.
+const MOST_TRIES: u32 = 1_000;
+
+/// Where the links from a name end, and what lies there: a link is one of the system's own.
 #[derive(Drop)]
 struct End {
     path: PathBuf,
     found: Option<Metadata>,
 }
 
+/// What a store does about what it has opened.
+#[derive(Clone, Copy, Debug, PartialEq, Eq)]
+enum Way {
+    /// It writes to it as it is.
+    InPlace,
+    /// It puts a new file in its place.
+    Replaced,
+    /// It looks again: the name leads to something else by now.
+    Again,
+}
+
 /// Makes these bytes the whole content of what this name leads to.
 ///
 /// A file that is there is replaced in one step, or stays as it is. One that is not there is made,
-/// and removed again where its writing fails. What isn't a file is written as it stands. What is
-/// open as a standard stream is refused, and a file of more bytes than the limit lets one have.
+/// and removed again where its writing fails. What isn't a file is written as it is. What is open
+/// as a standard stream is refused, and a file of more bytes than the limit lets one have.
 pub fn store_file<R: Files>(
     rt: &R,
     alloc: Global,
@@ -46,6 +62,28 @@ where
     R::File: AsFd,
     ensures { IfErr result IsOfDeviceOrMemory }
 {
+    for _ in 0..MOST_TRIES {
+        if try_store(rt, alloc, limit, streams, name, bytes)? {
+            return Ok(());
+        }
+    }
+    Err(HostFault::Device)
+}
+
+/// Stores to what this name leads to, unless others change that between two looks at it. Returns
+/// whether it has stored.
+fn try_store<R: Files>(
+    rt: &R,
+    alloc: Global,
+    limit: &SizeLimit,
+    streams: &StandardStreams,
+    name: &str,
+    bytes: &[u8],
+) -> Result<bool, HostFault>
+where
+    R::File: AsFd,
+    ensures { IfErr result IsOfDeviceOrMemory }
+{
     if streams.may_have(rt, name) {
         return Err(HostFault::Device);
     }
@@ -54,18 +92,78 @@ where
     let end = end_of_links(rt, alloc, name)?;
     match opened {
         Ok(old) => store_over(rt, alloc, limit, old, &end, bytes),
-        Err(error) if error.kind() == ErrorKind::NotFound && end.found.is_none() => {
-            make_file(rt, limit, end.path.as_path(), bytes).map_err(|_| HostFault::Device)
-        }
-        Err(_) => Err(HostFault::Device),
+        Err(error) if error.kind() != ErrorKind::NotFound => Err(HostFault::Device),
+        Err(_) if end.found.is_some() => Ok(false),
+        Err(_) => match make_file(rt, limit, end.path.as_path(), bytes) {
+            Ok(()) => Ok(true),
+            Err(FolderFault::Exists) => Ok(false),
+            Err(FolderFault::Device) => Err(HostFault::Device),
+        },
     }
 }
 
-/// Stores where something is: it is open for writing, and lies where the links end.
+/// Stores where something is, which is open for writing, if it still lies where the links end.
+/// Returns whether it has stored.
 fn store_over<R: Files>(
     rt: &R,
     alloc: Global,
     limit: &SizeLimit,
+    old: R::File,
+    end: &End,
+    bytes: &[u8],
+) -> Result<bool, HostFault>
+where
+    R::File: AsFd,
+    ensures { IfErr result IsOfDeviceOrMemory }
+{
+    let Ok(opened) = old.metadata() else {
+        return Err(HostFault::Device);
+    };
+    let is_file = opened.is_file();
+    if is_file && !limit.holds(rt, bytes.len()) {
+        return Err(HostFault::Device);
+    }
+    match way_of(is_file, end.is_link(), end.has(&opened)) {
+        Way::InPlace => write_in_place(old, is_file, bytes)?,
+        Way::Replaced => replace_file(rt, alloc, old, end, bytes)?,
+        Way::Again => return Ok(false),
+    }
+    Ok(true)
+}
+
+impl End {
+    /// Whether the links end at one of the system's own.
+    fn is_link(&self) -> bool {
+        self.found.as_ref().is_some_and(|found| found.is_symlink())
+    }
+
+    /// Whether this file is what lies there.
+    fn has(&self, file: &Metadata) -> bool {
+        self.found
+            .as_ref()
+            .is_some_and(|found| is_same_file(file, found))
+    }
+}
+
+/// How a store goes on from what it has opened: a plain file or not, to which a link of the system's
+/// own leads or none, and which still lies where the links end or does not.
+fn way_of(is_file: bool, is_by_system_link: bool, is_found: bool) -> Way
+    ensures in_place { (result ≡ Way.InPlace) ↔ (is_file ≡ false ⊎ is_by_system_link ≡ true) }
+    ensures replaced { (result ≡ Way.Replaced) ↔ (is_file ≡ true × is_by_system_link ≡ false × is_found ≡ true) }
+{
+    if !is_file || is_by_system_link {
+        Way::InPlace
+    } else if is_found {
+        Way::Replaced
+    } else {
+        Way::Again
+    }
+}
+
+/// Puts a new file of these bytes in the place of the old one.
+fn replace_file<R: Files>(
+    rt: &R,
+    alloc: Global,
     old: R::File,
     end: &End,
     bytes: &[u8],
@@ -74,21 +172,6 @@ where
     R::File: AsFd,
     ensures { IfErr result IsOfDeviceOrMemory }
 {
-    let Some(found) = &end.found else {
-        return Err(HostFault::Device);
-    };
-    let Ok(opened) = old.metadata() else {
-        return Err(HostFault::Device);
-    };
-    if opened.is_file() && !limit.holds(rt, bytes.len()) {
-        return Err(HostFault::Device);
-    }
-    if !opened.is_file() || found.is_symlink() {
-        return write_in_place(old, opened.is_file(), bytes);
-    }
-    if !is_same_file(&opened, found) {
-        return Err(HostFault::Device);
-    }
     let mut file = NewFile::beside(rt, alloc, old, end.path.as_path())?;
     replace_by(&mut file, bytes)
 }
@@ -111,15 +194,17 @@ fn write_in_place<F: OpenFile + Write + Drop>(
 fn end_of_links<R: Files>(rt: &R, alloc: Global, name: &str) -> Result<End, HostFault>
     ensures { IfErr result IsOfDeviceOrMemory }
 {
+    let processes = device_of_processes(rt);
     let mut path = PathBuf::from_str(alloc, name).map_err(HostFault::Memory)?;
-    for _ in 0..MOST_LINKS {
+    for _ in 0..=MOST_LINKS {
         let found = match fs::symlink_metadata(rt, path.as_path()) {
             Ok(found) => Some(found),
             Err(error) if error.kind() == ErrorKind::NotFound => None,
             Err(_) => return Err(HostFault::Device),
         };
-        let is_link = found.as_ref().is_some_and(|found| found.is_symlink());
-        if !is_link || is_of_the_system(path.as_path()) {
+        let is_followed = found.as_ref().is_some_and(|found| found.is_symlink()
+            && !is_of_system(found.dev(), processes));
+        if !is_followed {
             return Ok(End { path, found });
         }
         path = linked(rt, alloc, path)?;
@@ -127,10 +212,12 @@ fn end_of_links<R: Files>(rt: &R, alloc: Global, name: &str) -> Result<End, Host
     Err(HostFault::Device)
 }
 
-/// Whether a link is one of the system's own, as those that stand for the streams of a process:
-/// what they lead to is open already, and a new file in its place would not be.
-fn is_of_the_system(path: Path<'_>) -> bool {
-    path.starts_with("/dev") || path.starts_with("/proc")
+/// Whether a link on this device is one of the system's own, as those that stand for the streams of
+/// a process: what they lead to is open already, and a new file in its place would not be.
+fn is_of_system(device: u64, processes: Option<u64>) -> bool
+    ensures { (result ≡ true) ↔ (processes ≡ Some device) }
+{
+    processes == Some(device)
 }
 
 /// The path that the link at this path names.
