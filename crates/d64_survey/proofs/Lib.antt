@@ -13,3 +13,5 @@ pub mod FileCounts
 pub mod SlotCells
 pub mod Amiss
 pub mod NotedWays
+pub mod DoubtTests
+pub mod DoubtLists

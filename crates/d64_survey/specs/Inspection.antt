@@ -8,6 +8,7 @@ use Rattle.d64_survey.specs.ReadErrors.{read_errors}
 use Rattle.d64_survey.specs.Owners.{way_slots}
 use Rattle.d64_survey.specs.Faults.{faults}
 use Rattle.d64_survey.specs.Flaws.{wholeness}
+use Rattle.d64_survey.specs.Doubts.{doubts}
 use Rattle.d64_survey.specs.declared.file_count.FileCounts.{FileCounts}
 
 -- the bytes of a slot of the directory's way; none where it has no such slot
@@ -48,9 +49,11 @@ unwhole_count dump = count_by (is_unwhole_file dump) (way_slots dump.image)
 abbrev pub is_sound : Disk → Bool
 is_sound image = length (faults image) == 0
 
--- there is a fault, a read error or a file that is not whole
+-- there is a fault, a read error, a file that is not whole or a doubt
 unfoldable pub is_amiss : DumpView → Bool
-is_amiss dump = not (is_sound dump.image) || (not (length (read_errors dump) == 0) || nat_lt 0 (unwhole_count dump))
+is_amiss dump =
+    not (is_sound dump.image)
+    || (not (length (read_errors dump) == 0) || (nat_lt 0 (unwhole_count dump) || not (length (doubts dump.image) == 0)))
 
 -- the counts are those of the files of a dump
 pub record AreCounts (dump : DumpView) (counts : FileCounts) : Type 0 where

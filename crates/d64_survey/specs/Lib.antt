@@ -12,4 +12,6 @@ pub mod Faults
 pub mod FaultLaws
 pub mod Flaws
 pub mod WayFacts
+pub mod Doubts
+pub mod DoubtLaws
 pub mod Inspection

@@ -5,8 +5,11 @@ ghost use Rattle.d64_survey.specs.Owners.{pair_of, unowned_count};
 ghost use Rattle.d64_survey.specs.Flaws.{why};
 ghost use Rattle.d64_survey.specs.ReadErrors.{read_errors};
 ghost use Rattle.d64_survey.specs.Faults.{faults as faults_of};
+ghost use Rattle.d64_survey.specs.Doubts.{doubts as doubts_of};
 ghost use Rattle.d64_survey.specs.Inspection.{entry_count, whole_count, unwhole_count, is_sound as is_sound_in, is_amiss as is_amiss_in};
 
+use crate::doubt::Doubt;
+use crate::doubt_list::DOUBTS;
 use crate::dump::Dump;
 use crate::fault::Fault;
 use crate::file_count::{FileCounts, count_files};
@@ -35,12 +38,14 @@ pub struct Inspection<'a> {
     listed_errors: &'a [ReadError],
     files: FileCounts,
     unowned: usize,
+    listed_doubts: ArrayVec<Doubt, DOUBTS>,
 }
 
 impl<'a> Model for Inspection<'a> {
     ghost use Rattle.std.specs.Prelude.{◌≡◌, option_map};
     ghost use Rattle.d64_survey.specs.Dump.{DumpView};
     ghost use Rattle.d64_survey.specs.Faults.{faults};
+    ghost use Rattle.d64_survey.specs.Doubts.{doubts};
     ghost use Rattle.d64_survey.specs.Owners.{unowned_count};
     ghost use Rattle.d64_survey.specs.ReadErrors.{read_errors};
     ghost use Rattle.d64_survey.specs.Inspection.{AreCounts};
@@ -53,7 +58,7 @@ impl<'a> Model for Inspection<'a> {
     ghost invariant = { λ all. (all.listed_faults.now ≡ faults all.survey)
         × (all.listed_errors.now ≡ read_errors (record { image = all.survey; codes = option_map (λ codes. codes.now) all.codes }))
         × AreCounts (record { image = all.survey; codes = option_map (λ codes. codes.now) all.codes }) all.files
-        × (all.unowned ≡ unowned_count all.survey) × TellsWays all.survey (option_map (λ codes. codes.now) all.codes) all.ways.ways };
+        × (all.unowned ≡ unowned_count all.survey) × (all.listed_doubts.items ≡ doubts all.survey) × TellsWays all.survey (option_map (λ codes. codes.now) all.codes) all.ways.ways };
 }
 
 impl<'a> Inspection<'a> {
@@ -73,6 +78,7 @@ impl<'a> Inspection<'a> {
         dump.list_read_errors(errors)?;
         let files = count_files(&survey, codes, &ways);
         let unowned = survey.unowned();
+        let doubts = survey.doubts();
         Ok(Inspection {
             survey,
             codes,
@@ -81,6 +87,7 @@ impl<'a> Inspection<'a> {
             listed_errors: errors.as_slice(),
             files,
             unowned,
+            listed_doubts: doubts,
         })
     }
 
@@ -169,6 +176,13 @@ impl<'a> Inspection<'a> {
         self.unowned
     }
 
+    /// What makes the image doubtful, in order.
+    pub fn doubts(&self) -> &[Doubt]
+        ensures { result.now ≡ doubts_of self.now.image }
+    {
+        self.listed_doubts.as_slice()
+    }
+
     /// Whether the image has no fault.
     pub fn is_sound(&self) -> bool
         ensures { result ≡ is_sound_in self.now.image }
@@ -176,7 +190,7 @@ impl<'a> Inspection<'a> {
         self.listed_faults.is_empty()
     }
 
-    /// Whether there is a fault, a read error or a file that isn't whole.
+    /// Whether there is a fault, a read error, a file that isn't whole or a doubt.
     pub fn is_amiss(&self) -> bool
         ensures { result ≡ is_amiss_in self.now }
     {
@@ -186,6 +200,9 @@ impl<'a> Inspection<'a> {
         if !self.listed_errors.is_empty() {
             return true;
         }
-        self.files.unwhole > 0
+        if self.files.unwhole > 0 {
+            return true;
+        }
+        !self.listed_doubts.is_empty()
     }
 }

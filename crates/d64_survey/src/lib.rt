@@ -2,6 +2,9 @@
 //! are whole. It is total: noise is surveyed like a sound disk.
 #![tactic(auto)]
 
+mod doubt;
+pub mod doubt_laws;
+mod doubt_list;
 mod dump;
 mod fault;
 pub mod fault_laws;
@@ -23,6 +26,8 @@ mod way_end;
 pub mod way_laws;
 mod way_table;
 
+pub use doubt::Doubt;
+pub use doubt_list::{DOUBTS, directory_block, is_blank};
 pub use dump::{Dump, DumpFault, drive_status, is_read_error};
 pub use fault::{Fault, LastBlock};
 pub use flaw::Flaw;

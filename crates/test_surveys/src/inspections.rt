@@ -2,7 +2,7 @@
 
 use crate::damage::{block, dump_of};
 use d64_files::SlotNo;
-use d64_survey::{Dump, Fault, Inspection, Survey};
+use d64_survey::{Doubt, Dump, Fault, Inspection, Survey};
 use std::test::Fail;
 
 /// "NOTES" in 17/3, a block that is marked free, is shown as two blocks; "DRAFT" was deleted;
@@ -71,6 +71,51 @@ fn one_dump_follows_another(rt: HostRuntime) -> Result<(), Fail> {
     assert_eq!(rt; dump.image().tracks(), 40);
     assert!(rt; dump.codes().is_none());
     assert!(rt; dump.refill(&blank[1..]).is_err());
-    assert!(rt; !is_amiss(&rt, &dump)?);
+    assert!(rt; dump.codes().is_none() && is_amiss(&rt, &dump)?);
+    Ok(())
+}
+
+/// The doubts of a dump that is sound, or None where it isn't or nothing is amiss.
+fn doubts_of(rt: &HostRuntime, dump: &Dump) -> Result<Option<Vec<Doubt>>, Fail> {
+    let mut faults = Vec::new(rt.alloc());
+    let mut errors = Vec::new(rt.alloc());
+    let all = Inspection::of(dump, &mut faults, &mut errors)?;
+    if all.is_sound() && all.is_amiss() {
+        Ok(Some(Vec::from_slice(rt.alloc(), all.doubts())?))
+    } else {
+        Ok(None)
+    }
+}
+
+#[test]
+fn a_disk_of_zeros_is_sound_and_doubtful(rt: HostRuntime) -> Result<(), Fail> {
+    let dump = dump_of(&rt, &[], &[])?;
+    let doubts = doubts_of(&rt, &dump)?.ok_or("not sound, or not amiss")?;
+    assert_eq!(rt;
+        doubts.as_slice(),
+        &[Doubt::Version, Doubt::Blank, Doubt::Unowned][..]
+    );
+    Ok(())
+}
+
+/// A disk of GEOS by its text, whose directory is empty, with a block that a copier filled.
+const FILLED: [(u8, u8, u8, &[u8]); 4] = [
+    (18, 0, 0x02, b"A"),
+    (18, 0, 0xAD, b"GEOS format"),
+    (18, 1, 0, b"\x00\xFF"),
+    (17, 3, 0, FILLER),
+];
+
+/// Sixteen times one text.
+const FILLER: &[u8] = b"-=[BAD SECTOR]=--=[BAD SECTOR]=--=[BAD SECTOR]=--=[BAD SECTOR]=-\
+    -=[BAD SECTOR]=--=[BAD SECTOR]=--=[BAD SECTOR]=--=[BAD SECTOR]=-\
+    -=[BAD SECTOR]=--=[BAD SECTOR]=--=[BAD SECTOR]=--=[BAD SECTOR]=-\
+    -=[BAD SECTOR]=--=[BAD SECTOR]=--=[BAD SECTOR]=--=[BAD SECTOR]=-";
+
+#[test]
+fn what_copiers_write_is_doubted(rt: HostRuntime) -> Result<(), Fail> {
+    let dump = dump_of(&rt, &FILLED, &[])?;
+    let doubts = doubts_of(&rt, &dump)?.ok_or("not sound, or not amiss")?;
+    assert_eq!(rt; doubts.as_slice(), &[Doubt::Filler][..]);
     Ok(())
 }

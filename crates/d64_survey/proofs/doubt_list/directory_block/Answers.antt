@@ -1,0 +1,15 @@
+use Rattle.std.proofs.Common.{◌≡◌, Some, IsSome, sym, ◌∙◌, subst, arith, rules}
+use Rattle.d64_image.specs.Block.{block_of, first_block}
+use Rattle.d64_image.proofs.Pairs.{block_of-legal}
+use Rattle.d64_survey.specs.Doubts.{directory_block}
+use Rattle.d64_survey.proofs.doubt_list.directory_block.Goals as goal
+
+place : block_of 18 1 ≡ Some directory_block
+unfolding first_block
+place = block_of-legal 18 1 (omega arith) (omega arith) (omega arith)
+
+pub unwrap-requires : goal.unwrap-requires
+unwrap-requires c = subst IsSome (sym (c.of.ensures.place ∙ place)) (search rules)
+
+pub returns : goal.returns
+returns c = let e = c.of.ensures.place ∙ place in let f = c.unwrap.ensures in cc
