@@ -3,4 +3,5 @@ pub mod Files
 pub mod Folders
 pub mod Host
 pub mod MemoryHost
+pub mod Obstacles
 pub mod Replacement

@@ -4,12 +4,12 @@ ghost use Rattle.std.specs.Prelude.{◌≡◌, ◌≢◌, ◌+◌, ◌<◌, ◌�
 ghost use Rattle.d64_host.specs.Folders.{failures_after_making};
 ghost use Rattle.d64_host.specs.Host.{failures_after};
 
-use crate::host::{FolderFault, Host, HostFault};
-use crate::new_entry;
+use crate::host::{FolderFault, Host, HostFault, Obstacle};
 use crate::retrying::Retrying;
 use crate::size_limit::SizeLimit;
 use crate::standard_streams::StandardStreams;
 use crate::whole_store::store_file;
+use crate::{look, new_entry};
 use std::alloc::{AllocError, Global};
 use std::fs::File;
 use std::io::{ErrorKind, Read};
@@ -103,6 +103,10 @@ where
 
     fn is_there(&self, path: &str) -> bool {
         new_entry::is_there(&self.rt, path)
+    }
+
+    fn obstacle(&self, path: &str) -> Option<Obstacle> {
+        look::obstacle(&self.rt, path)
     }
 
     fn make_folder(&mut self, path: &str) -> Result<(), FolderFault> {

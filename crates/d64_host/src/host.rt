@@ -4,6 +4,7 @@ ghost use Rattle.std.specs.Prelude.{◌≡◌, true, IfSome, OnOk};
 ghost use Rattle.std.specs.FinMap.{contains_key};
 ghost use Rattle.d64_host.specs.Files.{HostState};
 ghost use Rattle.d64_host.specs.Folders.{folder_name, with_folder, with_file, with_moved, Looks, Makes, CountsMaking};
+ghost use Rattle.d64_host.specs.Obstacles.{LooksFor};
 ghost use Rattle.d64_host.specs.Host.{fault_number, fetched_bytes, filled_bytes, opened_bytes, Fetches, Opens, Stores, CountsDevice, one_more_failure};
 
 use std::alloc::{AllocError, Global};
@@ -40,6 +41,17 @@ impl HostFault {
             HostFault::Memory(_) => 4,
         }
     }
+}
+
+/// What keeps a file from being read, as a look at its path shows.
+#[derive(Clone, Copy, Debug, PartialEq, Eq)]
+pub enum Obstacle {
+    /// Nothing is at the path.
+    Nothing,
+    /// A folder is at the path.
+    Folder,
+    /// The system does not let this process read what is there.
+    NoPermission,
 }
 
 /// Why a host makes no new file or folder.
@@ -105,6 +117,11 @@ pub trait Host {
     /// nothing. Where the system does not say, nothing is.
     fn is_there(&self, path: &str) -> bool
         ensures answer { Looks (state self.now).files path.now result };
+
+    /// What keeps the file at this path from being read, as far as a look shows it. It is for the
+    /// reason of a call that was refused, and changes nothing.
+    fn obstacle(&self, path: &str) -> Option<Obstacle>
+        ensures obstacle { LooksFor (state self.now).files path.now result };
 
     /// Makes a folder. It is refused where something is at the path already, and by the device, as
     /// where the folder around it is missing.

@@ -7,6 +7,7 @@ mod access;
 mod draft;
 mod folder_host;
 mod host;
+mod look;
 mod memory_host;
 mod new_entry;
 mod new_file;
@@ -18,7 +19,7 @@ mod whole_store;
 
 pub use draft::{Draft, replace_by};
 pub use folder_host::FolderHost;
-pub use host::{FolderFault, Host, HostFault};
+pub use host::{FolderFault, Host, HostFault, Obstacle};
 pub use memory_host::MemoryHost;
 pub use retrying::Retrying;
 pub use size_limit::SizeLimit;

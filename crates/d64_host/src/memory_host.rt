@@ -4,9 +4,10 @@ ghost use Rattle.std.specs.Prelude.{◌≡◌, ℕ, ◌+◌, ◌-◌, ◌↔◌,
 ghost use Rattle.std.specs.FinMap.{contains_key, empty, get, insert};
 ghost use Rattle.d64_host.specs.Folders.{folder_name, is_at, moved_name, with_file, with_folder, with_moved, Looks, Makes, CountsMaking};
 ghost use Rattle.d64_host.specs.Host.{fetched_bytes, filled_bytes, opened_bytes, Fetches, Opens, Stores, CountsDevice, answered_fault, one_more_failure};
+ghost use Rattle.d64_host.specs.Obstacles.{LooksFor, obstacle_at};
 ghost use Rattle.d64_host.specs.MemoryHost.{after_call, countdown_after, fetch_refusal, files_of, making_refusal, open_refusal, store_refusal};
 
-use crate::host::{FolderFault, Host, HostFault};
+use crate::host::{FolderFault, Host, HostFault, Obstacle};
 use std::alloc::{AllocError, Global};
 use std::collections::{BTreeMap, VecDeque};
 use std::marker::Model;
@@ -267,6 +268,19 @@ impl Host for MemoryHost {
         ensures answer { Looks (Some self.now.files) path.now result }
     {
         self.file(path).is_some() || self.has_folder(path)
+    }
+
+    fn obstacle(&self, path: &str) -> Option<Obstacle>
+        ensures exactly { result ≡ obstacle_at self.now.files path.now }
+        ensures obstacle { LooksFor (Some self.now.files) path.now result }
+    {
+        if self.file(path).is_some() {
+            None
+        } else if self.has_folder(path) {
+            Some(Obstacle::Folder)
+        } else {
+            Some(Obstacle::Nothing)
+        }
     }
 
     fn make_folder(&mut self, path: &str) -> Result<(), FolderFault>

@@ -4,7 +4,7 @@
 ghost use Rattle.std.specs.Io.{WritesAtMost};
 ghost use Rattle.std.specs.Io.KnownBytes.{WriteAppends, Keeps};
 
-use d64_host::{FolderFault, Host, HostFault};
+use d64_host::{FolderFault, Host, HostFault, Obstacle};
 use std::alloc::Global;
 use std::cell::Cell;
 use std::io::{self, Eprint, Write};
@@ -118,6 +118,10 @@ impl<'a, R: Clock + Eprint, H: Host> Host for WatchedHost<'a, R, H> {
 
     fn is_there(&self, path: &str) -> bool {
         self.host.is_there(path)
+    }
+
+    fn obstacle(&self, path: &str) -> Option<Obstacle> {
+        self.host.obstacle(path)
     }
 
     fn make_folder(&mut self, path: &str) -> Result<(), FolderFault> {

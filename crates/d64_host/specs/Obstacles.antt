@@ -1,0 +1,18 @@
+-- What a look at a path shows that keeps a file there from being read.
+use Rattle.std.specs.Prelude.{◌≡◌, ℕ, if◌then◌else◌, List, Option, Some, None, IfSome}
+use Rattle.std.specs.FinMap.{contains_key}
+use Rattle.d64_host.specs.Files.{Files}
+use Rattle.d64_host.specs.Folders.{folder_name}
+use Rattle.d64_host.specs.declared.host.Obstacle.{Obstacle}
+use Rattle.d64_host.specs.declared.host.Obstacle.TheVariants as obstacles
+
+-- among these files: nothing keeps a file, and else a folder is at the path, or nothing
+abbrev pub obstacle_at : Files → List ℕ → Option Obstacle
+obstacle_at files path =
+    if contains_key files path then None
+    else if contains_key files (folder_name path) then Some obstacles.Folder
+    else Some obstacles.Nothing
+
+-- what a host may say of a path
+abbrev pub LooksFor : Option Files → List ℕ → Option Obstacle → Type 0
+LooksFor files path obstacle = IfSome files (λ all. obstacle ≡ obstacle_at all path)
