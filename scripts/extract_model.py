@@ -9,7 +9,7 @@ from disk_model import REL
 
 COLUMNS = (*model.COLUMNS_OF_FILES, "file")
 FORBIDDEN = '/\\<>:"|?*'
-DEVICES = {"con", "prn", "aux", "nul", *(f"{name}{digit}" for name in ("com", "lpt") for digit in range(1, 10))}
+DEVICES = {"con", "prn", "aux", "nul", "conin$", "conout$", "clock$", *(f"{name}{digit}" for name in ("com", "lpt") for digit in range(1, 10))}
 LINES_FILE, MOST_BYTES = b"files.jsonl", 16_777_216
 IS_THERE, UNWRITTEN = "is there already", "cannot be written"
 
@@ -28,7 +28,7 @@ def host_stem(text):
     if stem[-1:] in (".", " "):
         stem = stem[:-1] + "_"
     stem = stem or "_"
-    return "_" + stem if stem.split(".")[0].lower() in DEVICES else stem
+    return "_" + stem if stem.split(".")[0].rstrip(" ").lower() in DEVICES else stem
 
 
 class TakenNames:

@@ -1,6 +1,7 @@
 pub mod SameNames
 pub mod Numbers
 pub mod Search
+pub mod Spaces
 pub mod Records
 pub mod Digests
 pub mod Tails

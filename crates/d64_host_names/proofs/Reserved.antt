@@ -1,19 +1,20 @@
 -- No name of a file is that of a device.
-use Rattle.std.proofs.Common.{◌≡◌, ◌≢◌, ℕ, suc, ◌+◌, Bool, true, false, not, ◌⊎◌, List, [], ◌∷◌, ◌++◌, length, take, get_or, refl, sym, ap, ◌∙◌, inl, inr, append-nil, arith}
+use Rattle.std.proofs.Common.{◌≡◌, ◌≢◌, ℕ, suc, ◌+◌, Bool, true, false, not, ◌⊎◌, List, [], ◌∷◌, ◌++◌, length, take, get_or, refl, sym, ap, ◌∙◌, inl, inr, append-nil, append_assoc, arith}
 use Rattle.std.specs.Prelude.{◌==◌, ◌&&◌, ◌||◌, if◌then◌else◌, codes, decimal}
 use Rattle.std.specs.Char.{to_ascii_lowercase}
 use Rattle.std.specs.Int.{is_in_range}
 use Rattle.std.specs.List.{list_any, list_all, position_or_len}
 use Rattle.std.specs.Str.{str_to_ascii_lowercase}
-use Rattle.std.proofs.lemmas.Bool.{cases_eq, both_ways, false_from_ne_true, ne_eqb, or_from, and_left, and_right}
+use Rattle.std.proofs.lemmas.Bool.{cases_eq, both_ways, false_from_ne_true, ne_eqb, or_from, and_left, and_parts, and_right}
 use Rattle.std.proofs.lemmas.List.{map-append, length-append}
 use Rattle.std.proofs.lemmas.List.Folds.{list_all-append}
 use Rattle.d64_host_names.specs.declared.ending.Ending.{Ending}
 use Rattle.d64_host_names.specs.declared.ending.Ending.TheVariants.{Del, Seq, Prg, Usr, Rel}
-use Rattle.d64_host_names.specs.HostName.{full_stop, underscore, is_same_name, before_dot, devices, ports, is_port, is_reserved, allowed_name, shown_name, closed_name, filled_name, unreserved_name, stem, ending_text, part_text, tail, mark, numbered_name}
+use Rattle.d64_host_names.specs.HostName.{full_stop, underscore, is_same_name, before_dot, device_name, without_last_spaces, devices, ports, is_port, is_reserved, allowed_name, shown_name, closed_name, filled_name, unreserved_name, stem, ending_text, part_text, tail, mark, numbered_name}
 use Rattle.d64_host_names.specs.TakenNames.{first_free, next_name}
 use Rattle.d64_host_names.proofs.SameNames.{lower_from_same}
 use Rattle.d64_host_names.proofs.Numbers.{first_mark, other_mark}
+use Rattle.d64_host_names.proofs.Spaces.{front_kept}
 
 -- ---- names that are not reserved
 
@@ -36,20 +37,21 @@ spaced_differs front rest word spaceless =
     list_all-append (λ byte. not (byte == 32)) (lower front) (32 ∷ lower rest) ∙ and_false (has_no_space (lower front)) in
     both_ways (has_no_space (lower word)) (ap has_no_space (sym is) ∙ none) spaceless)
 
--- no port's word has one
-spaced_word : (front rest : List ℕ) → list_any (is_same_name (front ++ 32 ∷ rest)) ports ≡ false
-spaced_word front rest =
-    or_from (is_same_name (front ++ 32 ∷ rest) (codes "com")) (is_same_name (front ++ 32 ∷ rest) (codes "lpt") || false) (spaced_differs front rest (codes "com") refl)
-    (or_from (is_same_name (front ++ 32 ∷ rest) (codes "lpt")) false (spaced_differs front rest (codes "lpt") refl) refl)
+-- nor any of some words that have none
+spaced_among : (front rest : List ℕ) (words : List (List ℕ)) → list_all (λ word. has_no_space (str_to_ascii_lowercase word)) words ≡ true
+    → list_any (is_same_name (front ++ 32 ∷ rest)) words ≡ false
+spaced_among front rest [] spaceless = refl
+spaced_among front rest (word ∷ words) spaceless =
+    let both = and_parts (has_no_space (str_to_ascii_lowercase word)) (list_all (λ word. has_no_space (str_to_ascii_lowercase word)) words) spaceless in
+    or_from (is_same_name (front ++ 32 ∷ rest) word) (list_any (is_same_name (front ++ 32 ∷ rest)) words) (spaced_differs front rest word both.0)
+    (spaced_among front rest words both.1)
 
--- nor has any device
+-- no port's word has one, nor has any device
+spaced_word : (front rest : List ℕ) → list_any (is_same_name (front ++ 32 ∷ rest)) ports ≡ false
+spaced_word front rest = spaced_among front rest ports refl
+
 spaced_device : (front rest : List ℕ) → list_any (is_same_name (front ++ 32 ∷ rest)) devices ≡ false
-spaced_device front rest =
-    let name = front ++ 32 ∷ rest in
-    or_from (is_same_name name (codes "con")) (list_any (is_same_name name) (codes "prn" ∷ codes "aux" ∷ codes "nul" ∷ [])) (spaced_differs front rest (codes "con") refl)
-    (or_from (is_same_name name (codes "prn")) (list_any (is_same_name name) (codes "aux" ∷ codes "nul" ∷ [])) (spaced_differs front rest (codes "prn") refl)
-    (or_from (is_same_name name (codes "aux")) (list_any (is_same_name name) (codes "nul" ∷ [])) (spaced_differs front rest (codes "aux") refl)
-    (or_from (is_same_name name (codes "nul")) false (spaced_differs front rest (codes "nul") refl) refl)))
+spaced_device front rest = spaced_among front rest devices refl
 
 -- the parts of the test of ports
 no_port_word : (name : List ℕ) → list_any (is_same_name (take 3 name)) ports ≡ false → is_port name ≡ false
@@ -120,39 +122,55 @@ before_tail Rel is_part = before_stop 46 (codes "rel" ++ part_text is_part) refl
 
 -- ---- names
 
+-- the test of a device, by what comes before the first full stop
+abbrev is_device : List ℕ → Bool
+is_device front = is_reserved (without_last_spaces front)
+
 -- what a name begins with
-unreserved_free : (name : List ℕ) → is_reserved (before_dot (unreserved_name name)) ≡ false
-unreserved_free name = by_test (is_reserved (before_dot name)) refl
+unreserved_free : (name : List ℕ) → is_reserved (device_name (unreserved_name name)) ≡ false
+unreserved_free name = by_test (is_reserved (device_name name)) refl
   where
-    by_test : (t : Bool) → is_reserved (before_dot name) ≡ t → is_reserved (before_dot (if t then underscore ∷ name else name)) ≡ false
-    by_test true is = ap is_reserved (before_other underscore name refl) ∙ underscored (before_dot name)
+    by_test : (t : Bool) → is_reserved (device_name name) ≡ t → is_reserved (device_name (if t then underscore ∷ name else name)) ≡ false
+    by_test true is =
+        ap is_device (before_other underscore name refl)
+        ∙ ap is_reserved (front_kept [] underscore (before_dot name) refl)
+        ∙ underscored (device_name name)
     by_test false is = is
 
-stem_free : (text : List ℕ) → is_reserved (before_dot (stem text)) ≡ false
+stem_free : (text : List ℕ) → is_reserved (device_name (stem text)) ≡ false
 unfolding stem
 stem_free text = unreserved_free (filled_name (closed_name (shown_name (allowed_name text))))
 
+-- a bracket after a space is no part of a device's name
+bracketed_free : (front rest : List ℕ) → is_device (front ++ 32 ∷ 40 ∷ rest) ≡ false
+bracketed_free front rest =
+    ap is_device (sym (append_assoc front (32 ∷ []) (40 ∷ rest)))
+    ∙ ap is_reserved (front_kept (front ++ 32 ∷ []) 40 rest refl ∙ append_assoc front (32 ∷ []) (40 ∷ without_last_spaces rest))
+    ∙ spaced front (40 ∷ without_last_spaces rest)
+
 -- a name whose front is free is free
-numbered_free : (front : List ℕ) (number : ℕ) (ending : Ending) (is_part : Bool) → is_reserved (before_dot front) ≡ false
-    → is_reserved (before_dot (numbered_name front (tail ending is_part) number)) ≡ false
+numbered_free : (front : List ℕ) (number : ℕ) (ending : Ending) (is_part : Bool) → is_reserved (device_name front) ≡ false
+    → is_reserved (device_name (numbered_name front (tail ending is_part) number)) ≡ false
 unfolding numbered_name
 numbered_free front number ending is_part free =
     elim (before-append front (mark number ++ tail ending is_part)) [
-      | inl same ↦ ap is_reserved same ∙ free
+      | inl same ↦ ap is_device same ∙ free
       | inr both ↦ elim (cases_eq number 1) [
         | inl one ↦
             let none : before_dot (mark number ++ tail ending is_part) ≡ [] =
             ap (λ (bs : List ℕ). before_dot (bs ++ tail ending is_part)) (ap mark one ∙ first_mark) ∙ before_tail ending is_part in
-            ap is_reserved (both.0 ∙ ap (λ (bs : List ℕ). front ++ bs) none ∙ append-nil front ∙ sym both.1) ∙ free
+            ap is_device (both.0 ∙ ap (λ (bs : List ℕ). front ++ bs) none ∙ append-nil front ∙ sym both.1) ∙ free
         | inr other ↦
-            let more = (40 ∷ (decimal number ++ codes ")")) ++ tail ending is_part in
-            let some : before_dot (mark number ++ tail ending is_part) ≡ 32 ∷ before_dot more =
-            ap (λ (bs : List ℕ). before_dot (bs ++ tail ending is_part)) (other_mark number other) ∙ before_other 32 more refl in
-            ap is_reserved (both.0 ∙ ap (λ (bs : List ℕ). front ++ bs) some) ∙ spaced front (before_dot more)
+            let more = (decimal number ++ codes ")") ++ tail ending is_part in
+            let some : before_dot (mark number ++ tail ending is_part) ≡ 32 ∷ 40 ∷ before_dot more =
+            ap (λ (bs : List ℕ). before_dot (bs ++ tail ending is_part)) (other_mark number other) ∙ before_other 32 (40 ∷ more) refl
+            ∙ ap (λ (bs : List ℕ). 32 ∷ bs) (before_other 40 more refl) in
+            ap is_device (both.0 ∙ ap (λ (bs : List ℕ). front ++ bs) some) ∙ bracketed_free front (before_dot more)
       ]
     ]
 
-pub name_unreserved : (taken : List (List ℕ)) (text : List ℕ) (ending : Ending) (is_part : Bool) → is_reserved (before_dot (next_name taken text ending is_part)) ≡ false
+pub name_unreserved : (taken : List (List ℕ)) (text : List ℕ) (ending : Ending) (is_part : Bool)
+    → is_reserved (device_name (next_name taken text ending is_part)) ≡ false
 unfolding next_name
 name_unreserved taken text ending is_part =
     numbered_free (stem text) (first_free taken (stem text) (tail ending is_part)) ending is_part (stem_free text)

@@ -6,7 +6,7 @@ use Rattle.std.proofs.lemmas.Bool.{cases_eq, and_parts, both_ways, ltb-true, leb
 use Rattle.std.proofs.lemmas.List.{length-append}
 use Rattle.std.proofs.lemmas.List.Elements.{All-nil, All-cons, All-append, All-set, All-map, All-weaker}
 use Rattle.d64_host_names.specs.declared.ending.Ending.{Ending}
-use Rattle.d64_host_names.specs.HostName.{slash, underscore, full_stop, forbidden_characters, is_forbidden, allowed_name, shown_name, is_loose, closed_name, filled_name, is_reserved, before_dot, stem, ending_text, part_text, tail, mark, numbered_name}
+use Rattle.d64_host_names.specs.HostName.{slash, underscore, full_stop, forbidden_characters, is_forbidden, allowed_name, shown_name, is_loose, closed_name, filled_name, is_reserved, device_name, stem, ending_text, part_text, tail, mark, numbered_name}
 use Rattle.d64_host_names.specs.TakenNames.{first_free, next_name}
 use Rattle.d64_host_names.specs.Laws.{AreCounted, StaysInFolder, IsPrinted, EndsWith}
 use Rattle.d64_host_names.proofs.Numbers.{IsDigit, digits, first_mark, other_mark}
@@ -37,7 +37,7 @@ stem_all P text here all =
     let third_all : All P third =
     either P (is_loose (get_or second (length second - 1) 0)) (set second (length second - 1) underscore) second (All-set P second (length second - 1) underscore here second_all) second_all in
     let fourth_all : All P fourth = either P (length third == 0) (underscore ∷ []) third (All-cons P underscore [] here (All-nil P)) third_all in
-    either P (is_reserved (before_dot fourth)) (underscore ∷ fourth) fourth (All-cons P underscore fourth here fourth_all) fourth_all
+    either P (is_reserved (device_name fourth)) (underscore ∷ fourth) fourth (All-cons P underscore fourth here fourth_all) fourth_all
 
 -- what holds of digits, brackets and a space holds of marks
 mark_all : (P : ℕ → Type 0) (number : ℕ) → number < 2 ^ 64 → P 32 → P 40 → P 41 → ((byte : ℕ) → IsDigit byte → P byte) → All P (mark number)

@@ -55,9 +55,21 @@ is_same_name one other = str_eq_ignore_ascii_case one other
 abbrev pub before_dot : List ℕ → List ℕ
 before_dot name = before_first (λ byte. byte == full_stop) name
 
+-- a name without the spaces at its end
+unfoldable pub without_last_spaces : List ℕ → List ℕ
+without_last_spaces [] = []
+without_last_spaces (byte ∷ rest) =
+    if byte == space && length (without_last_spaces rest) == 0 then [] else byte ∷ without_last_spaces rest
+
+-- what some host takes for the name of a device where it is one: what comes before the first `.`,
+-- without the spaces at its end
+abbrev pub device_name : List ℕ → List ℕ
+device_name name = without_last_spaces (before_dot name)
+
 -- the devices that some host has by a name without a number
 abbrev pub devices : List (List ℕ)
-devices = codes "con" ∷ codes "prn" ∷ codes "aux" ∷ codes "nul" ∷ []
+devices =
+    codes "con" ∷ codes "prn" ∷ codes "aux" ∷ codes "nul" ∷ codes "conin$" ∷ codes "conout$" ∷ codes "clock$" ∷ []
 
 -- the ports that it has by a name and a number from 1 to 9
 abbrev pub ports : List (List ℕ)
@@ -74,9 +86,9 @@ is_port name =
 unfoldable pub is_reserved : List ℕ → Bool
 is_reserved name = list_any (is_same_name name) devices || is_port name
 
--- a name with a `_` in front, where what stands before its first `.` is reserved
+-- a name with a `_` in front, if some host takes it for that of a device
 abbrev pub unreserved_name : List ℕ → List ℕ
-unreserved_name name = if is_reserved (before_dot name) then underscore ∷ name else name
+unreserved_name name = if is_reserved (device_name name) then underscore ∷ name else name
 
 -- what the host name of a file begins with whose name is this text: the rules are applied one after
 -- another

@@ -2,7 +2,7 @@
 use Rattle.std.specs.Prelude.{◌≡◌, ◌≢◌, ℕ, ◌+◌, ◌^◌, ◌<◌, ◌≤◌, Bool, false, List, [], ◌++◌, length, All, codes}
 use Rattle.std.specs.List.{IsDistinct}
 use Rattle.d64_host_names.specs.declared.ending.Ending.{Ending}
-use Rattle.d64_host_names.specs.HostName.{slash, is_forbidden, is_reserved, is_same_name, before_dot, tail}
+use Rattle.d64_host_names.specs.HostName.{slash, is_forbidden, is_reserved, is_same_name, device_name, tail}
 use Rattle.d64_host_names.specs.TakenNames.{Named, is_taken, next_name, with_names}
 use Rattle.d64_host_names.specs.ImagePlace.{folders_of, image_name, partial_name}
 
@@ -26,7 +26,7 @@ NamesStayInTheirFolder = (taken : List (List ℕ)) (text : List ℕ) (ending : E
 -- a name that each host takes: no byte of it is forbidden, and it is no device
 pub record IsTakenByHosts (name : List ℕ) : Type 0 where
   pub allowed : All (λ byte. is_forbidden byte ≡ false) name
-  pub no_device : is_reserved (before_dot name) ≡ false
+  pub no_device : is_reserved (device_name name) ≡ false
 
 -- each name of a file is one
 abbrev pub NamesAreTakenByHosts : Type 0

@@ -1,7 +1,7 @@
 //! What a host name begins with.
 ghost use Rattle.std.specs.Prelude.{◌≡◌, OnOk, OnErr, if◌then◌else◌, slice_index, slice_set, ◌-◌, ◌==◌, length, position};
 ghost use Rattle.std.specs.List.{list_any};
-ghost use Rattle.d64_host_names.specs.HostName.{is_forbidden, allowed_name, shown_name, closed_name, filled_name, is_loose, is_same_name, before_dot, full_stop, ports, is_port, is_reserved, unreserved_name, stem};
+ghost use Rattle.d64_host_names.specs.HostName.{is_forbidden, allowed_name, shown_name, closed_name, filled_name, is_loose, is_same_name, before_dot, without_last_spaces, device_name, full_stop, ports, is_port, is_reserved, unreserved_name, stem};
 
 use std::alloc::AllocError;
 
@@ -73,6 +73,9 @@ fn is_reserved(name: &[u8]) -> bool
         || name.eq_ignore_ascii_case(b"prn")
         || name.eq_ignore_ascii_case(b"aux")
         || name.eq_ignore_ascii_case(b"nul")
+        || name.eq_ignore_ascii_case(b"conin$")
+        || name.eq_ignore_ascii_case(b"conout$")
+        || name.eq_ignore_ascii_case(b"clock$")
         || is_port(name)
 }
 
@@ -93,6 +96,27 @@ fn first_dot(name: &[u8]) -> Option<usize>
     name.iter().position(|byte| *byte == b'.')
 }
 
+/// A name without the spaces at its end.
+fn without_last_spaces(name: &[u8]) -> &[u8]
+    ensures { result.now ≡ without_last_spaces name.now }
+{
+    let mut left = name;
+    while let Some((last, front)) = left.split_last() {
+        if *last != b' ' {
+            return left;
+        }
+        left = front;
+    }
+    left
+}
+
+/// What some host takes for the name of a device where it is one, as in `aux .txt`.
+fn device_name(name: &[u8]) -> &[u8]
+    ensures { result.now ≡ device_name name.now }
+{
+    without_last_spaces(before_dot(name))
+}
+
 /// Puts what the host name of a file with this name in text form begins with in the place of the
 /// name.
 #[tactic(auto, unfolding(crate::specs::HostName::stem))]
@@ -105,7 +129,7 @@ pub(crate) fn put_stem(name: &mut Vec<u8>, text: &[u8]) -> Result<(), AllocError
     if name.is_empty() {
         name.push(b'_')?;
     }
-    if is_reserved(before_dot(name)) {
+    if is_reserved(device_name(name)) {
         name.insert(0, b'_')?;
     }
     Ok(())
