@@ -11,10 +11,11 @@ use crate::standard_streams::StandardStreams;
 use crate::whole_store::store_file;
 use crate::{look, new_entry};
 use std::alloc::{AllocError, Global};
-use std::fs::File;
+use std::fs::{self, File};
 use std::io::{ErrorKind, Read};
 use std::marker::Model;
 use std::os::fd::AsFd;
+use std::os::unix::fs::FileTypeExt;
 use std::path::Path;
 use std::rt::Files;
 
@@ -71,11 +72,19 @@ where
 
     fn fetch(&mut self, alloc: Global, name: &str, limit: usize) -> Result<Vec<u8>, HostFault> {
         let mut bytes = Vec::new(alloc);
-        self.fill(name, limit, &mut bytes)?;
-        Ok(bytes)
+        let outcome = read_file(&self.rt, name, &mut self.buffer, limit, &mut bytes);
+        count_failure(&mut self.failures, &outcome);
+        match outcome {
+            Ok(()) => Ok(bytes),
+            Err(fault) => Err(fault),
+        }
     }
 
     fn fill(&mut self, name: &str, limit: usize, bytes: &mut Vec<u8>) -> Result<(), HostFault> {
+        if is_named_pipe(&self.rt, name) {
+            self.count_failed_read();
+            return Err(HostFault::Device);
+        }
         let outcome = read_file(&self.rt, name, &mut self.buffer, limit, bytes);
         count_failure(&mut self.failures, &outcome);
         outcome
@@ -172,6 +181,23 @@ fn read_file<R: Files>(
         Some(buffer) => read_to_end(&mut file, &mut **buffer, limit, bytes),
         None => unreachable!(),
     }
+}
+
+/// Whether a named pipe is at this path: to open it may wait for ever for someone who writes to it.
+/// A pipe that the process has open already, as by `<(..)` of a shell, isn't one.
+fn is_named_pipe<R: Files>(rt: &R, path: &str) -> bool {
+    if is_open_already(path) {
+        return false;
+    }
+    match fs::metadata(rt, path) {
+        Ok(found) => found.file_type().is_fifo(),
+        Err(_) => false,
+    }
+}
+
+/// Whether a path is one of those by which a system shows a process the files that it has open.
+fn is_open_already(path: &str) -> bool {
+    path == "/dev/stdin" || path.starts_with("/dev/fd/") || path.starts_with("/proc/self/fd/")
 }
 
 /// Opens the file at this path, to be read.

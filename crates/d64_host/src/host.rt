@@ -86,8 +86,8 @@ pub trait Host {
         ensures counted { CountsDevice (state self.old).failures (state self.new).failures result };
 
     /// Puts the bytes of the named file in the place of what `bytes` has, in the memory that it
-    /// has, where that is enough. It is refused as `fetch` is; `bytes` then has no content that is
-    /// told.
+    /// has, where that is enough. It is refused as `fetch` is, and a host may refuse what could keep
+    /// many files waiting, as a named pipe; `bytes` then has no content that is told.
     fn fill(&mut self, name: &str, limit: usize, bytes: &mut Vec<u8>) -> Result<(), HostFault>
         ensures answer { Fetches (state self.old).files name.now limit (filled_bytes result bytes.new) }
         ensures files_kept { (state self.new).files ≡ (state self.old).files }
