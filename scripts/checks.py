@@ -15,6 +15,7 @@ PAGES = [*sorted(glob.glob("*.md", root_dir=TOP)), *sorted(glob.glob("docs/*.md"
 # Scripts that take seconds and need no program.
 TEXTS = [
     ["scripts/functions-without-wrong-body"],
+    ["scripts/out-of-memory-places"],
     ["scripts/check-pages", "--names", *PAGES],
     ["scripts/manual-page", "docs/MANUAL.md", "docs/d64sh.1"],
     ["scripts/same-words"],
