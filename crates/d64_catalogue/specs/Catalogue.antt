@@ -3,7 +3,7 @@ use Rattle.std.specs.Prelude.{ℕ, if◌then◌else◌, Bool, List, [], Option, 
 use Rattle.d64_image.specs.Disk.{Bytes}
 use Rattle.d64_survey.specs.Dump.{DumpView}
 use Rattle.d64_inventory.specs.ListingAmiss.{is_listing_amiss}
-use Rattle.d64_wording.specs.FaultLines.{unread_line, wrong_length_text, wrong_length_line}
+use Rattle.d64_wording.specs.FaultLines.{unread_line, no_dump_text, wrong_length_line}
 use Rattle.d64_report.specs.DumpOf.{dump_of}
 use Rattle.d64_collection.specs.Answers.{Answer, Rule}
 use Rattle.d64_collection.specs.declared.report.Verdict.TheVariants.{Clean, Amiss, Failed}
@@ -17,7 +17,7 @@ catalogue_heading = page_head
 -- what is answered of bytes: of a dump, its section, amiss where a file isn't whole or some may be
 -- missing; and else that they are of a wrong length
 abbrev pub answer_of : Bool → Bytes → Bytes → Option DumpView → Answer
-answer_of maps name bytes None = record { printed = unanswered_section name (wrong_length_text bytes); complaint = wrong_length_line name bytes; verdict = Failed }
+answer_of maps name bytes None = record { printed = unanswered_section name (no_dump_text bytes); complaint = wrong_length_line name bytes; verdict = Failed }
 answer_of maps name bytes (Some dump) = record { printed = section maps name dump; complaint = []; verdict = if is_listing_amiss dump then Amiss else Clean }
 
 -- what `catalogue` answers of a file, with pictures of the blocks or without: of its bytes, or that

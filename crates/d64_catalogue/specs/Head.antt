@@ -11,7 +11,7 @@ opening = codes "<!DOCTYPE html>\n<html lang=\"en\">\n<head>\n<meta charset=\"ut
 -- the end of its head, and what stands above the sections: the search field, the buttons, and how
 -- many disks are shown
 unfoldable pub search_head : List ℕ
-search_head = codes "</head>\n<body>\n<header>\n<h1>Disks</h1>\n<div class=\"tools\" role=\"search\" hidden>\n<input type=\"search\" aria-label=\"Search disks and files\" placeholder=\"Search disks and files\" autocomplete=\"off\" autocapitalize=\"none\" spellcheck=\"false\">\n<div role=\"group\" aria-label=\"State\">\n<button type=\"button\" value=\"\" aria-pressed=\"true\">All</button>\n<button type=\"button\" value=\"sound\" aria-pressed=\"false\">Sound</button>\n<button type=\"button\" value=\"amiss\" aria-pressed=\"false\">Amiss</button>\n</div>\n<output></output>\n</div>\n</header>\n"
+search_head = codes "</head>\n<body>\n<header>\n<h1>Disks</h1>\n<div class=\"tools\" role=\"search\" hidden>\n<input type=\"search\" aria-label=\"Search disks and files\" placeholder=\"Search disks and files\" autocomplete=\"off\" autocapitalize=\"none\" spellcheck=\"false\">\n<div role=\"group\" aria-label=\"State\">\n<button type=\"button\" value=\"\" aria-pressed=\"true\">All</button>\n<button type=\"button\" value=\"sound\" aria-pressed=\"false\">Sound</button>\n<button type=\"button\" value=\"amiss\" aria-pressed=\"false\">Problems</button>\n</div>\n<output></output>\n</div>\n</header>\n"
 
 -- all of it: what it leaves open, `body` and `html`, ends with the page
 unfoldable pub page_head : List ℕ

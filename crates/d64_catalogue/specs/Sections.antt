@@ -6,7 +6,7 @@ use Rattle.d64_effects.specs.View.{disk_id}
 use Rattle.d64_names.specs.Names.{disk_name}
 use Rattle.d64_survey.specs.Dump.{DumpView}
 use Rattle.d64_survey.specs.Faults.{faults}
-use Rattle.d64_survey.specs.Inspection.{is_amiss}
+use Rattle.d64_survey.specs.Inspection.{is_amiss, is_sound}
 use Rattle.d64_survey.specs.ReadErrors.{read_errors}
 use Rattle.d64_survey.specs.declared.fault.Fault.{Fault}
 use Rattle.d64_survey.specs.declared.read_error.ReadError.{ReadError}
@@ -75,13 +75,16 @@ picture_where maps name dump = if maps then svg_of name dump else []
 unfoldable pub content : Bool → Bytes → DumpView → List ℕ
 content maps name dump = codes "\n" ++ (summary name dump ++ (wrongs dump ++ (table dump ++ picture_where maps name dump)))
 
--- the attribute that says whether anything is amiss
-abbrev pub amiss_class : Bool → List ℕ
-amiss_class amiss = if amiss then codes " class=\"amiss\"" else codes " class=\"sound\""
+-- the attributes that say whether anything is amiss, and how its sign looks: a warning where the
+-- disk is sound beside that
+abbrev pub amiss_class : Bool → Bool → List ℕ
+amiss_class sound amiss =
+    if amiss then (if sound then codes " class=\"amiss\" data-sign=\"warning\"" else codes " class=\"amiss\"")
+    else codes " class=\"sound\""
 
 -- the section of an image
 unfoldable pub section : Bool → Bytes → DumpView → List ℕ
-section maps name dump = element (codes "details") (amiss_class (is_amiss dump)) (content maps name dump) ++ codes "\n"
+section maps name dump = element (codes "details") (amiss_class (is_sound dump.image) (is_amiss dump)) (content maps name dump) ++ codes "\n"
 
 -- the section of a file that is not answered, with what is wrong with it
 unfoldable pub unanswered_section : Bytes → List ℕ → List ℕ

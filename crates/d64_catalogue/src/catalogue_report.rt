@@ -9,7 +9,7 @@ use d64_collection::{AnswerRoom, Report, Verdict};
 use d64_image::Image;
 use d64_inventory::is_amiss;
 use d64_survey::{Dump, DumpFault, Fault, Inspection, ReadError};
-use d64_wording::{push_wrong_length, unread_line, wrong_length_line};
+use d64_wording::{push_no_dump, unread_line, wrong_length_line};
 use std::alloc::{AllocError, Global};
 
 /// The report of `catalogue`, with the memory that it keeps from file to file.
@@ -77,7 +77,7 @@ impl CatalogueReport {
             ≡ answer_of self.old.maps name.now bytes.now None) }
     {
         self.text.clear();
-        push_wrong_length(&mut self.text, bytes)?;
+        push_no_dump(&mut self.text, bytes)?;
         push_unanswered(&mut room.printed, name, self.text.as_slice())?;
         wrong_length_line(&mut room.complaint, name, bytes)?;
         Ok(Verdict::Failed)

@@ -28,7 +28,7 @@ const SEARCH_HEAD: &[u8] = b"</head>\n\
 <div role=\"group\" aria-label=\"State\">\n\
 <button type=\"button\" value=\"\" aria-pressed=\"true\">All</button>\n\
 <button type=\"button\" value=\"sound\" aria-pressed=\"false\">Sound</button>\n\
-<button type=\"button\" value=\"amiss\" aria-pressed=\"false\">Amiss</button>\n\
+<button type=\"button\" value=\"amiss\" aria-pressed=\"false\">Problems</button>\n\
 </div>\n\
 <output></output>\n\
 </div>\n\

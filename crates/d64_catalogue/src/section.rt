@@ -229,14 +229,14 @@ fn push_content(
     push_picture_where(out, maps, name, all)
 }
 
-/// The attribute that says whether anything is amiss.
-fn amiss_class(is_amiss: bool) -> &'static [u8]
-    ensures { result.now ≡ amiss_class is_amiss }
+/// The attributes that say whether anything is amiss, and how its sign looks.
+fn amiss_class(is_sound: bool, is_amiss: bool) -> &'static [u8]
+    ensures { result.now ≡ amiss_class is_sound is_amiss }
 {
-    if is_amiss {
-        b" class=\"amiss\""
-    } else {
-        b" class=\"sound\""
+    match (is_amiss, is_sound) {
+        (false, _) => b" class=\"sound\"",
+        (true, true) => b" class=\"amiss\" data-sign=\"warning\"",
+        (true, false) => b" class=\"amiss\"",
     }
 }
 
@@ -252,7 +252,7 @@ pub(crate) fn push_section(
     ensures { OnOk result (out.new.items ≡ out.old.items ++ section maps name.now all.now) }
 {
     out.extend_from_slice(b"<details")?;
-    out.extend_from_slice(amiss_class(all.is_amiss()))?;
+    out.extend_from_slice(amiss_class(all.is_sound(), all.is_amiss()))?;
     out.extend_from_slice(b">")?;
     push_content(out, maps, name, all, text)?;
     out.extend_from_slice(b"</details>\n")

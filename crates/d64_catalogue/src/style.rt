@@ -33,6 +33,7 @@ summary{cursor:pointer}\n\
 summary::-webkit-details-marker{display:none}\n\
 summary::before,section::before{grid-row:1/3;align-self:start;width:1.5rem;height:1.5rem;font:700 .9rem/1.5rem system-ui;text-align:center;color:var(--card);content:\"\\2713\";content:\"\\2713\"/\"\";background:var(--good);border-radius:50%;print-color-adjust:exact}\n\
 .amiss summary::before,section::before{content:\"!\";content:\"!\"/\"\";line-height:1.75rem;background:var(--bad);border-radius:0;clip-path:polygon(50% 0,100% 100%,0 100%)}\n\
+[data-sign] summary::before{background:var(--odd)}\n\
 summary::after{grid-area:1/5/3;align-self:center;content:\"\\203a\";content:\"\\203a\"/\"\";font-size:1.4rem;color:var(--soft);text-align:center}\n\
 [open] summary::after{transform:rotate(90deg)}\n";
 
@@ -46,6 +47,7 @@ span.host,.contents{color:var(--soft)}\n\
 .state,p{grid-area:1/4;margin:0;text-align:right;font-weight:600;color:var(--good)}\n\
 .contents{grid-column:4;text-align:right}\n\
 .amiss .state,p{color:var(--bad)}\n\
+[data-sign] .state{color:var(--odd)}\n\
 ul{padding:0;list-style:none;color:var(--bad);font-size:.9rem}\n\
 ul:empty{display:none}\n\
 li{overflow-wrap:anywhere}\n";

@@ -1,13 +1,13 @@
 -- What is told of an image for people: its line, and below it a line each fault, read error and
 -- file that isn't whole.
-use Rattle.std.specs.Prelude.{ℕ, ◌==◌, if◌then◌else◌, List, [], ◌++◌, length, codes}
+use Rattle.std.specs.Prelude.{ℕ, ◌==◌, ◌&&◌, if◌then◌else◌, Bool, List, [], ◌++◌, length, codes}
 use Rattle.std.specs.List.{flat_map}
 use Rattle.d64_image.specs.Disk.{Disk}
 use Rattle.d64_map.specs.Map.{blocks_free}
 use Rattle.d64_effects.specs.View.{disk_id}
 use Rattle.d64_survey.specs.Dump.{DumpView}
 use Rattle.d64_survey.specs.Faults.{faults}
-use Rattle.d64_survey.specs.Inspection.{entry_count, unwhole_count, is_amiss}
+use Rattle.d64_survey.specs.Inspection.{entry_count, unwhole_count, is_amiss, is_sound}
 use Rattle.d64_survey.specs.Owners.{way_slots, unowned_count}
 use Rattle.d64_survey.specs.ReadErrors.{read_errors}
 use Rattle.d64_survey.specs.declared.fault.Fault.{Fault}
@@ -32,15 +32,24 @@ contents_text image = count_of (entry_count image) (codes "file") ++ (codes ", "
 abbrev pub faults_text : ℕ → List ℕ
 faults_text count = if count == 0 then codes "sound" else count_of count (codes "fault")
 
+-- what comes before what else is amiss: right behind `sound` it is a contrast
+abbrev pub joining : Bool → List ℕ
+joining is_contrast = if is_contrast then codes ", but " else codes ", "
+
 -- how many more things are amiss, where there are some
-unfoldable pub and_so_many : ℕ → List ℕ → List ℕ → List ℕ
-and_so_many count noun rest = if count == 0 then [] else codes ", " ++ (count_of count noun ++ rest)
+unfoldable pub and_so_many : Bool → ℕ → List ℕ → List ℕ
+and_so_many is_contrast count noun = if count == 0 then [] else joining is_contrast ++ count_of count noun
+
+-- there is neither a fault nor a read error
+abbrev pub is_read_sound : DumpView → Bool
+is_read_sound dump = is_sound dump.image && length (read_errors dump) == 0
 
 -- the state of a dump
 unfoldable pub state_text : DumpView → List ℕ
 state_text dump =
     faults_text (length (faults dump.image))
-    ++ (and_so_many (length (read_errors dump)) (codes "read error") [] ++ and_so_many (unwhole_count dump) (codes "file") (codes " not whole"))
+    ++ (and_so_many (is_sound dump.image) (length (read_errors dump)) (codes "read error")
+    ++ and_so_many (is_read_sound dump) (unwhole_count dump) (codes "damaged file"))
 
 -- the image's line
 unfoldable pub image_line : List ℕ → DumpView → List ℕ

@@ -1,8 +1,10 @@
--- The lines on standard error of files that are not answered, or not written.
+-- The lines on standard error of files that are not answered, or not written, and what people are
+-- shown of a file that is no dump.
 use Rattle.std.specs.Prelude.{ℕ, List, [], ◌++◌, length, codes, decimal}
 use Rattle.std.specs.Option.{option_map_or}
 use Rattle.d64_wording.specs.Shown.{shown_name}
 use Rattle.d64_wording.specs.Guesses.{guess_of, guess_text}
+use Rattle.d64_wording.specs.Words.{count_of}
 use Rattle.d64_wording.specs.declared.guess.Guess.{Guess}
 
 -- a line of the program about a file
@@ -32,6 +34,14 @@ too_much_line name = line_about name (codes "too much")
 -- a guess in brackets
 abbrev pub in_brackets : Guess → List ℕ
 in_brackets guess = codes " (" ++ (guess_text guess ++ codes ")")
+
+-- what a file that is no dump seems to be, where that is known
+abbrev pub seeming_text : List ℕ → List ℕ
+seeming_text bytes = option_map_or (λ guess. codes "not read: " ++ guess_text guess) (guess_of bytes) (codes "not a disk image")
+
+-- what people are shown of such a file: that, and how many bytes it has
+abbrev pub no_dump_text : List ℕ → List ℕ
+no_dump_text bytes = seeming_text bytes ++ (codes " (" ++ (count_of (length bytes) (codes "byte") ++ codes ")"))
 
 -- a length that no dump has, and what the file seems to be, where that is known
 abbrev pub wrong_length_text : List ℕ → List ℕ

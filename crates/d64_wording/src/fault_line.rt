@@ -1,13 +1,15 @@
-//! The lines on standard error of files that are not answered, or not written.
+//! The lines on standard error of files that are not answered, or not written, and what the
+//! catalogue says of a file that is no dump.
 ghost use Rattle.std.specs.Prelude.{◌≡◌, ◌++◌, [], codes, OnOk};
 ghost use Rattle.std.specs.Option.{option_map_or};
 ghost use Rattle.d64_wording.specs.Shown.{shown_name};
 ghost use Rattle.d64_wording.specs.Guesses.{guess_of as guess_by_all};
-ghost use Rattle.d64_wording.specs.FaultLines.{line_about, unread_line, unwritten_line, present_line, skipped_line, too_much_line, in_brackets, wrong_length_text, wrong_length_line};
+ghost use Rattle.d64_wording.specs.FaultLines.{line_about, unread_line, unwritten_line, present_line, skipped_line, too_much_line, in_brackets, seeming_text, no_dump_text, wrong_length_text, wrong_length_line};
 
 use crate::guess::{guess_of, guess_text};
 use crate::number::push_number;
 use crate::shown::push_shown;
+use crate::words::push_count;
 use std::alloc::AllocError;
 
 /// Adds what a line of the program about a file begins with.
@@ -78,9 +80,33 @@ fn push_brackets(out: &mut Vec<u8>, bytes: &[u8]) -> Result<(), AllocError>
     }
 }
 
+/// Adds what a file that is no dump seems to be, where that is known.
+fn push_seeming(out: &mut Vec<u8>, bytes: &[u8]) -> Result<(), AllocError>
+    ensures { OnOk result (out.new.items ≡ out.old.items ++ seeming_text bytes.now) }
+{
+    match guess_of(bytes) {
+        Some(guess) => {
+            out.extend_from_slice(b"not read: ")?;
+            out.extend_from_slice(guess_text(guess))
+        }
+        None => out.extend_from_slice(b"not a disk image"),
+    }
+}
+
+/// Adds what people are shown of a file that is no dump: what it seems to be, and how many bytes it
+/// has.
+pub fn push_no_dump(out: &mut Vec<u8>, bytes: &[u8]) -> Result<(), AllocError>
+    ensures { OnOk result (out.new.items ≡ out.old.items ++ no_dump_text bytes.now) }
+{
+    push_seeming(out, bytes)?;
+    out.extend_from_slice(b" (")?;
+    push_count(out, bytes.len(), b"byte")?;
+    out.extend_from_slice(b")")
+}
+
 /// Adds the number of bytes of a file, which no dump has, and what the file seems to be, where that
 /// is known.
-pub fn push_wrong_length(out: &mut Vec<u8>, bytes: &[u8]) -> Result<(), AllocError>
+fn push_wrong_length(out: &mut Vec<u8>, bytes: &[u8]) -> Result<(), AllocError>
     ensures { OnOk result (out.new.items ≡ out.old.items ++ wrong_length_text bytes.now) }
 {
     out.extend_from_slice(b"wrong length ")?;

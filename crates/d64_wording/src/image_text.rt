@@ -1,6 +1,6 @@
 //! What is told of an image for people.
 ghost use Rattle.std.specs.Prelude.{◌≡◌, ◌++◌, OnOk};
-ghost use Rattle.d64_wording.specs.CheckText.{label_text, contents_text, faults_text, and_so_many, state_text, image_line, fault_lines, read_error_lines, unowned_words as unowned_words_of, unowned_by, unowned_line, check_text as check_text_of};
+ghost use Rattle.d64_wording.specs.CheckText.{label_text, contents_text, faults_text, joining, and_so_many, is_read_sound, state_text, image_line, fault_lines, read_error_lines, unowned_words as unowned_words_of, unowned_by, unowned_line, check_text as check_text_of};
 ghost use Rattle.d64_wording.specs.FaultText.{fault_text, read_error_text};
 ghost use Rattle.d64_wording.specs.Words.{line_below};
 
@@ -47,17 +47,35 @@ fn push_faults(out: &mut Vec<u8>, count: usize) -> Result<(), AllocError>
     push_count(out, count, b"fault")
 }
 
+/// What comes before what else is amiss: right behind `sound` it is a contrast.
+fn joining(is_contrast: bool) -> &'static [u8]
+    ensures { result.now ≡ joining is_contrast }
+{
+    if is_contrast { b", but " } else { b", " }
+}
+
 /// Adds how many more things are amiss, where there are some.
 #[tactic(auto, unfolding(crate::specs::CheckText::and_so_many))]
-fn push_and(out: &mut Vec<u8>, count: usize, noun: &[u8], rest: &[u8]) -> Result<(), AllocError>
-    ensures { OnOk result (out.new.items ≡ out.old.items ++ and_so_many count noun.now rest.now) }
+fn push_and(
+    out: &mut Vec<u8>,
+    is_contrast: bool,
+    count: usize,
+    noun: &[u8],
+) -> Result<(), AllocError>
+    ensures { OnOk result (out.new.items ≡ out.old.items ++ and_so_many is_contrast count noun.now) }
 {
     if count == 0 {
         return Ok(());
     }
-    out.extend_from_slice(b", ")?;
-    push_count(out, count, noun)?;
-    out.extend_from_slice(rest)
+    out.extend_from_slice(joining(is_contrast))?;
+    push_count(out, count, noun)
+}
+
+/// Whether there is neither a fault nor a read error.
+fn is_read_sound(inspection: &Inspection) -> bool
+    ensures { result ≡ is_read_sound inspection.now }
+{
+    inspection.is_sound() && inspection.read_errors().is_empty()
 }
 
 /// Adds the state of a dump.
@@ -66,9 +84,18 @@ pub fn push_state(out: &mut Vec<u8>, inspection: &Inspection) -> Result<(), Allo
     ensures { OnOk result (out.new.items ≡ out.old.items ++ state_text inspection.now) }
 {
     push_faults(out, inspection.faults().len())?;
-    push_and(out, inspection.read_errors().len(), b"read error", b"")?;
-    push_and(out, inspection.unwhole(), b"file", b" not whole")?;
-    Ok(())
+    push_and(
+        out,
+        inspection.is_sound(),
+        inspection.read_errors().len(),
+        b"read error",
+    )?;
+    push_and(
+        out,
+        is_read_sound(inspection),
+        inspection.unwhole(),
+        b"damaged file",
+    )
 }
 
 /// Adds the image's line.

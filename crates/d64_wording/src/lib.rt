@@ -15,7 +15,7 @@ mod shown;
 mod words;
 
 pub use fault_line::{
-    present_line, push_wrong_length, skipped_line, too_much_line, unread_line, unwritten_line,
+    present_line, push_no_dump, skipped_line, too_much_line, unread_line, unwritten_line,
     wrong_length_line,
 };
 pub use fault_text::{push_fault, push_read_error, push_status};
