@@ -26,6 +26,7 @@ TEXTS = [
 SHORT = [
     ["scripts/check-pages", PROGRAM, *PAGES],
     ["scripts/exit-statuses", PROGRAM],
+    ["scripts/manual-texts", PROGRAM],
 ]
 
 OF_PAGES = ("scripts/manual-page", "scripts/check-pages")
