@@ -1,6 +1,6 @@
-# d64sh: `make` builds it, `make run` runs the main job, `make check` is the gate, `make quick` checks what differs since the gate was green,
-# `make wrong-bodies` tries all wrong bodies, `make bench` measures; `make install` and `make uninstall` put it below PREFIX and take it away again;
-# `make dist` packs what others install.
+# d64sh: `make run` runs the main job and `make test` all tests, both without proofs where nothing is built yet; `make` proves and builds,
+# `make check` is the gate, `make quick` checks what differs since the gate was green, `make wrong-bodies` tries all wrong bodies, `make bench` measures;
+# `make install` and `make uninstall` put it below PREFIX and take it away again; `make dist` packs what others install.
 PREFIX ?= /usr/local
 # a ~ that the shell left as it is
 override PREFIX := $(patsubst ~/%,$(HOME)/%,$(PREFIX))
@@ -11,16 +11,23 @@ PROGRAM = crates/d64sh/out/d64sh
 # the program is there, and no source is newer
 IS_BUILT = [ -x $(PROGRAM) ] && [ -z "$$(find crates -name '*.rt' -newer $(PROGRAM))" ]
 
-.PHONY: all run check quick wrong-bodies bench install uninstall dist
+.PHONY: all run test check quick wrong-bodies bench install uninstall dist
 
+# the libraries side by side
 all:
 	@$(NEEDS_RT)
-	@cd crates/d64sh && $(RT) run -- shell </dev/null >/dev/null
+	@scripts/build
 	@touch $(PROGRAM)
 
-run: all
-	@rm -rf out/run && mkdir -p out && cp -r examples out/run
-	@cd out/run && PATH="$$OLDPWD/$(dir $(PROGRAM)):$$PATH" ./answers first.script holiday.d64
+# with the program that is built, or else with one that is checked as it runs and not proved
+run:
+	@$(IS_BUILT) || { $(NEEDS_RT); }
+	@scripts/run-example
+
+# all tests, worked examples and examples of the pages, without proofs
+test:
+	@$(NEEDS_RT)
+	@scripts/tests
 
 check:
 	@$(NEEDS_RT)

@@ -1,15 +1,18 @@
 """The crates of crates.txt, the libraries below each, and how many checks run side by side."""
 import concurrent.futures
 import contextlib
+import functools
+import glob
 import os
 import shutil
 import subprocess
 import tempfile
+import time
 
 TOP = os.path.dirname(os.path.dirname(os.path.abspath(__file__)))
 RT = os.environ.get("RT", "rt")
-# What the check of a crate takes at most, in bytes.
-MEMORY = 3_500_000_000
+# What the check of a crate takes at most, in bytes, and so does a try of its tests.
+MEMORY = 2_600_000_000
 
 
 def version():
@@ -40,6 +43,26 @@ def below(crates, name):
     return {it for library in crates[name] for it in (library, *below(crates, library))}
 
 
+def lines_of(name):
+    """How many lines a crate's code, definitions and lemmas have: by these its check takes longer."""
+    count = 0
+    for part in ("src", "specs", "proofs"):
+        for folder, _, files in os.walk(os.path.join(TOP, "crates", name, part)):
+            for file in files:
+                with open(os.path.join(folder, file), "rb") as text:
+                    count += sum(1 for _ in text)
+    return count
+
+
+def chains(crates, wanted):
+    """Of each wanted crate the lines of the longest chain of wanted crates that begins with it, where each crate needs the one before."""
+    @functools.cache
+    def chain(name):
+        return lines_of(name) + max((chain(it) for it in wanted if name in crates[it]), default=0)
+
+    return {name: chain(name) for name in crates if name in wanted}
+
+
 def at_once():
     """How many checks run side by side: one a processor, as far as memory goes."""
     with open("/proc/meminfo", encoding="ascii") as file:
@@ -55,10 +78,11 @@ def rt(crate, *words, top=TOP, **how):
 
 
 def in_order(crates, wanted, call):
-    """Calls a function for each wanted crate once it was true for those of them that the crate stands on, as many side by side as there is room for.
-    Yields each crate as it ends with what the call returned, or None where a crate below it was false."""
-    left, ended, running = [it for it in crates if it in wanted], {}, {}
-    with concurrent.futures.ThreadPoolExecutor(at_once()) as pool:
+    """Calls a function for each wanted crate once it was true for those of them that the crate stands on, as many side by side as there is room for,
+    and that with the longest chain above it first. Yields each crate as it ends with what the call returned, or None where a crate below it was false."""
+    lines, most = chains(crates, wanted), at_once()
+    left, ended, running = sorted(lines, key=lambda it: -lines[it]), {}, {}
+    with concurrent.futures.ThreadPoolExecutor(most) as pool:
         while left or running:
             for crate in list(left):
                 needed = below(crates, crate) & set(wanted)
@@ -66,7 +90,7 @@ def in_order(crates, wanted, call):
                     left.remove(crate)
                     ended[crate] = None
                     yield crate, None
-                elif all(it in ended for it in needed):
+                elif len(running) < most and all(it in ended for it in needed):
                     left.remove(crate)
                     running[pool.submit(call, crate)] = crate
             for done in concurrent.futures.wait(running, return_when=concurrent.futures.FIRST_COMPLETED).done:
@@ -83,6 +107,56 @@ def link_or_copy(source, target):
         shutil.copy2(source, target)
 
 
+def read(*path):
+    """What a file of the repository holds, or nothing where there is none."""
+    try:
+        with open(os.path.join(TOP, *path), "rb") as file:
+            return file.read()
+    except OSError:
+        return b""
+
+
+def sources_of(crate):
+    """The files of a crate's code."""
+    return glob.glob(os.path.join(TOP, "crates", crate, "src", "**", "*.rt"), recursive=True)
+
+
+def has_tests(crate):
+    return any(b"#[test]" in read(file) for file in sources_of(crate))
+
+
+def is_built(crates, crate, program):
+    """Whether a crate's program is there, and none of the sources that it is made of is newer."""
+    if not os.path.isfile(program):
+        return False
+    sources = (file for it in (crate, *below(crates, crate)) for file in sources_of(it))
+    return all(os.path.getmtime(file) <= os.path.getmtime(program) for file in sources)
+
+
+def run_of(crate, program, left_out=()):
+    """The status of a run of a crate's program, and what it prints. As in the gate it runs in a copy of data/, by its files args and stdin; some files of
+    data/ can be left out."""
+    with tempfile.TemporaryDirectory() as room:
+        data = os.path.join(room, crate)
+        if os.path.isdir(os.path.join(TOP, "crates", crate, "data")):
+            shutil.copytree(os.path.join(TOP, "crates", crate, "data"), data, ignore=lambda _, names: set(left_out) & set(names))
+        os.makedirs(data, exist_ok=True)
+        words = [os.path.abspath(program), *read("crates", crate, "args").decode().splitlines()]
+        done = subprocess.run(words, cwd=data, input=read("crates", crate, "stdin"), stdout=subprocess.PIPE, check=False)
+        return done.returncode, done.stdout
+
+
+def wanted_of(crate):
+    """The same as the crate's files status and stdout have it."""
+    return int(read("crates", crate, "status") or 0), read("crates", crate, "stdout")
+
+
+def difference_of_run(crate, program):
+    """What is wrong with a run of a crate's program, if anything."""
+    status, printed = came = run_of(crate, program)
+    return "" if came == wanted_of(crate) else f"the program ends with status {status} and prints\n{printed.decode(errors='replace')}"
+
+
 def take_copy(names, top, room):
     """Makes a repository of these crates alone: a copy of their sources, and their libraries as they are proved."""
     for name in names:
@@ -94,12 +168,18 @@ def take_copy(names, top, room):
         file.writelines(line for line in listed if line.partition(":")[0].strip() in names)
 
 
+def room_for(what):
+    """A folder for that time, beside what is built, so that files of it can be linked."""
+    os.makedirs(os.path.join(TOP, "out"), exist_ok=True)
+    return tempfile.TemporaryDirectory(prefix=f"{what}-", dir=os.path.join(TOP, "out"))
+
+
 @contextlib.contextmanager
 def set_apart(crates, name):
     """The top of a repository of a crate and those below it alone, to which the crate's own work moves for that time: so that rt, which lets nobody
     else work in a library while it checks what stands on it, can check several such crates side by side."""
     mine = os.path.join(TOP, "crates", name, "out")
-    with tempfile.TemporaryDirectory(prefix="set-apart-") as room:
+    with room_for("set-apart") as room:
         take_copy({name, *below(crates, name)}, TOP, room)
         theirs = os.path.join(room, "crates", name, "out")
         if os.path.isdir(mine):
@@ -113,16 +193,18 @@ def set_apart(crates, name):
 
 
 def build_libraries(crates, wanted):
-    """Proves and builds these libraries over what was kept, and returns whether all were, printing what was not."""
-    printed = {}
+    """Proves and builds these libraries over what was kept, one job each, and returns whether all were, printing what was not."""
+    printed, seconds = {}, {}
 
     def build(crate):
+        begin = time.monotonic()
         with set_apart(crates, crate) as top:
-            status, printed[crate] = rt(crate, "lib", "--jobs", "2", top=top)
+            status, printed[crate] = rt(crate, "lib", "--jobs", "1", top=top)
+        seconds[crate] = round(time.monotonic() - begin)
         return status == 0
 
     well = True
     for crate, is_built in in_order(crates, wanted, build):
-        print(f"{crate} is proved" if is_built else f"{printed.get(crate, '')}{crate} is not proved", flush=True)
+        print(f"{crate} is proved, {seconds[crate]} s" if is_built else f"{printed.get(crate, '')}{crate} is not proved", flush=True)
         well = well and bool(is_built)
     return well
