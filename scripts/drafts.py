@@ -86,9 +86,9 @@ class Draft:
         type_byte = 0x80 | kind | chance.choice((0, 0, 0x40, 0x10, 0x70))
         return File(self.entry(type_byte, *data[0], *self.name(), *tail, *size.to_bytes(2, "little")), kind, data, side)
 
-    def mark(self):
-        """Writes the map: of the blocks that nobody has some are marked used."""
-        kept = self.chance.choice((0, 0, 1, 30))
+    def mark(self, kept=None):
+        """Writes the map: of the blocks that nobody has some are marked used, or so many."""
+        kept = self.chance.choice((0, 0, 1, 30)) if kept is None else kept
         free, head = set(self.left[kept:]), BLOCK * PLACES[MAP]
         for track in range(1, self.tracks + 1):
             marks = sum(1 << sector for sector in range(SECTORS[track]) if (track, sector) in free)
@@ -195,6 +195,55 @@ def unclosed_geos_file(draft):
 ALONE = (false_count, broken_directory, no_kind, broken_file, shared_block, marked_free, unclosed, read_error, false_size, geos_file)
 
 
+# One doubt
+
+def other_version(draft):
+    draft.mark(0)
+    draft.put(MAP, 2, draft.chance.choice((0, 1, 0x40, 0x42, 0xFF)))
+
+
+def blank_directory(draft):
+    """The directory's first block is zeros, on a disk of GEOS, where blocks that belong to nobody say nothing."""
+    draft.mark(0)
+    draft.put(MAP, 0xAD, *b"GEOS format")
+    draft.put(DIRECTORY, 0, *bytes(BLOCK))
+
+
+def unowned_blocks(draft):
+    """Blocks are marked used and belong to nobody; on 40 tracks they may all lie beyond track 35."""
+    draft.mark(draft.chance.choice((1, 2, 30)))
+
+
+def filled_block(draft):
+    draft.mark(0)
+    draft.put(draft.chance.choice(draft.left), 0, *b"-=[BAD SECTOR]=-" * 16)
+
+
+DOUBTED = (other_version, blank_directory, unowned_blocks, filled_block)
+
+
+# What a disk loses that matters most
+
+def map_block_lost(draft):
+    draft.put(MAP, 0, *bytes(BLOCK))
+
+
+def map_lost(draft):
+    draft.put(MAP, 4, *bytes(0x8C))
+    draft.put(MAP, 0xC0, *bytes(20))
+
+
+def directory_lost(draft):
+    draft.put(DIRECTORY, 0, *bytes(BLOCK))
+
+
+def all_lost(draft):
+    draft.image[:] = bytes(len(draft.image))
+
+
+LOSSES = (map_block_lost, map_lost, directory_lost, all_lost)
+
+
 # Anything amiss
 
 def random_pair(draft):
@@ -229,6 +278,21 @@ def one_thing(spoil):
         spoil(draft)
         return draft.bytes()
     return made
+
+
+def intact(chance):
+    """A disk that is sound, and of which each block that is used belongs to a file."""
+    draft = Draft(chance)
+    draft.mark(0)
+    return draft.bytes()
+
+
+def lost(chance, loss):
+    """An intact disk without read codes that lost what matters most, and that nobody told so."""
+    draft = Draft(chance, has_codes=False)
+    draft.mark(0)
+    loss(draft)
+    return draft.bytes()
 
 
 def two_things(chance):
@@ -269,8 +333,8 @@ def wrong_length(chance):
     return chance.choice(FIRST_BYTES).ljust(length, b"\x00")[:length]
 
 
-RECIPES = [*(one_thing(spoil) for spoil in (*ALONE, *ALONE, read_error_elsewhere, unclosed_geos_file)), *[sound] * 3, *[damaged] * 9, *[noise] * 2,
-           *[two_things] * 2, zeros, wrong_length]
+RECIPES = [*(one_thing(spoil) for spoil in (*ALONE, *ALONE, *DOUBTED, *DOUBTED, read_error_elsewhere, unclosed_geos_file)), *[sound] * 3,
+           *[damaged] * 7, *[noise] * 2, *[two_things] * 2, zeros, wrong_length]
 
 
 def all_owning(tracks, loops):

@@ -17,6 +17,10 @@ KINDS_OF_DUMPS = {174_848: (35, False), 175_531: (35, True), 196_608: (40, False
 # The status of the drive for each code that has one. Codes 0 and 1 are good.
 STATUSES = {**{code: code + 18 for code in range(2, 12)}, 15: 74}
 WORDS = ("open", "kind", "chain", "shared", "error", "size", "geos")
+
+# The doubts, by what the text says of each; and what makes a disk one of GEOS, and a block one that a copier filled.
+DOUBTS = {"version": "version byte", "blank": " blank", "unowned": "marked used and belong", "filler": "[BAD SECTOR]"}
+GEOS, FILLER = b"GEOS format", b"-=[BAD SECTOR]=-" * 16
 MOST_OWNERS, MOST_NAME, SHOWN_OF_LONGER, LIMIT = 8, 4_096, 64, 16_777_216
 
 COLUMNS = ("image", "tracks", "codes", "name", "id", "dos", "entries", "whole", "free", "unowned", "sound", "amiss", "faults", "read_errors")
@@ -179,9 +183,18 @@ class Survey:
     def not_whole(self):
         return sum(why not in (None, [], ["geos"]) for why in self.all_why)
 
+    @functools.cached_property
+    def doubts(self):
+        """What makes the disk doubtful: signs that a reader wrote something else for what it could not read."""
+        head, first = self.disk.block(MAP), self.disk.block(DIRECTORY)
+        strays = [pair for pair in self.disk.pairs if pair[0] <= 35 and pair not in self.free and pair not in self.owners]
+        holds = {"version": head[2] != 0x41, "blank": len(set(head)) == 1 or len(set(first)) == 1, "unowned": strays and head[0xAD:0xB8] != GEOS,
+                 "filler": any(self.disk.block(pair) == FILLER for pair in self.disk.pairs)}
+        return [word for word in DOUBTS if holds[word]]
+
     @property
     def is_amiss(self):
-        return bool(self.faults or self.errors or self.not_whole)
+        return bool(self.faults or self.errors or self.not_whole or self.doubts)
 
     @property
     def is_list_cut(self):
@@ -301,7 +314,7 @@ def csv_field(value):
 
 
 def csv_header(digest=False):
-    return csv_line([*COLUMNS, *["sha256"] * digest, "error"])
+    return csv_line([*COLUMNS, *["sha256"] * digest, "doubts", "error"])
 
 
 def files_header():
@@ -325,17 +338,18 @@ def check_json(name, data, digest=False):
     head, error = {"image": name.decode(errors="replace")}, error_of(data)
     if error:
         return json_line({**head, "error": error, **({"length": len(data)} if error == "wrong length" else {})})
-    return json_line({**head, **survey_of(data).told(), **({"sha256": hashlib.sha256(data).hexdigest()} if digest else {})})
+    survey, digests = survey_of(data), {"sha256": hashlib.sha256(data).hexdigest()} if digest else {}
+    return json_line({**head, **survey.told(), **digests, "doubts": survey.doubts})
 
 
 def check_csv(name, data, digest=False):
     """The row of a file."""
     name, error = name.decode(errors="replace"), error_of(data)
     if error:
-        return csv_line([name, *[None] * (len(COLUMNS) - 1 + digest), error])
+        return csv_line([name, *[None] * (len(COLUMNS) + digest), error])
     told = survey_of(data).told()
     told.update(image=name, faults=len(told["faults"]), read_errors=len(told["read_errors"]))
-    return csv_line([*(told[column] for column in COLUMNS), *[hashlib.sha256(data).hexdigest()] * digest, None])
+    return csv_line([*(told[column] for column in COLUMNS), *[hashlib.sha256(data).hexdigest()] * digest, " ".join(survey_of(data).doubts), None])
 
 
 def error_json(name, data):
@@ -424,19 +438,29 @@ def text_lines(data):
 
 
 def is_of_unowned(line, data):
-    """Whether a line may tell of the blocks that are marked used and belong to nobody: it may be left out."""
+    """Whether a line may tell of the blocks that are marked used and belong to nobody, which the first line doesn't say: it may be left out."""
     told = survey_of(data).told()
-    return told["amiss"] and told["unowned"] > 0 and numbers_in(line)[:1] == [told["unowned"]]
+    return told["amiss"] and "unowned" not in survey_of(data).doubts and told["unowned"] > 0 and numbers_in(line)[:1] == [told["unowned"]]
 
 
 def is_first_line(line, name, data):
     """Whether a line may be the first that tells of a dump."""
     survey, told = survey_of(data), survey_of(data).told()
+    line, doubtful, doubts = line.partition(f", {'but' if told['sound'] else 'and'} doubtful: ")
     begin, _, end = line.rpartition(": ")
     head = f'{shown(name)}: "{told["name"]}" {told["id"]}'
     counts = [count for count in (len(survey.faults), len(survey.errors), survey.not_whole) if count]
     is_told = begin.startswith(head) and numbers_in(begin[len(head):]) == [told["entries"], told["free"]]
-    return is_told and end.startswith("sound") == told["sound"] and numbers_in(end) == counts
+    is_told = is_told and end.startswith("sound") == told["sound"] and numbers_in(end) == counts
+    return is_told and bool(doubtful) == bool(survey.doubts) and are_doubts(doubts, survey)
+
+
+def are_doubts(text, survey):
+    """Whether a text may say what makes a disk doubtful: it says each doubt, and of the blocks that nobody owns how many there are."""
+    unowned = survey.told()["unowned"]
+    is_counted = "unowned" not in survey.doubts or re.search(rf"\b{unowned} blocks? (are|is) marked used", text) is not None
+    said = [word for word, phrase in DOUBTS.items() if phrase in text.replace("is marked used and belongs", "are marked used and belong")]
+    return is_counted and said == survey.doubts
 
 
 def is_file_line(line, file):

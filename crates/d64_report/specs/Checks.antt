@@ -12,11 +12,13 @@ use Rattle.d64_survey.specs.Dump.{DumpView}
 use Rattle.d64_survey.specs.Owners.{unowned_count}
 use Rattle.d64_survey.specs.Faults.{faults}
 use Rattle.d64_survey.specs.ReadErrors.{read_errors}
+use Rattle.d64_survey.specs.Doubts.{doubts}
 use Rattle.d64_survey.specs.Inspection.{entry_count, whole_count, is_sound, is_amiss}
 use Rattle.d64_report.specs.Values.{Field, object_of, array_of, numeral}
 use Rattle.d64_names.specs.Names.{disk_name, disk_dos}
 use Rattle.d64_report.specs.Names.{name_value}
 use Rattle.d64_report.specs.Findings.{fault_object, read_error_object}
+use Rattle.d64_report.specs.Doubts.{doubt_value, doubts_text}
 use Rattle.d64_report.specs.Unanswered.{image_member}
 use Rattle.d64_report.specs.Rows.{truth_text, row_of}
 
@@ -55,11 +57,17 @@ finding_members dump = fault_list dump ∷ error_list dump ∷ []
 abbrev pub digest_members : Option Bytes → List Field
 digest_members digest = option_map_or (λ bytes. (codes "sha256", string (encode_lower bytes)) ∷ []) digest []
 
+-- what makes the image doubtful
+abbrev pub doubt_members : DumpView → List Field
+doubt_members dump = (codes "doubts", array_of (map doubt_value (doubts dump.image))) ∷ []
+
 -- what is printed of a dump with this host name, and with a digest where it is asked for
 unfoldable pub check_object : DumpView → Bytes → Option Bytes → Json
 check_object dump name digest =
     object_of
-    (dump_members dump name ++ (label_members dump.image ++ (count_members dump ++ (state_members dump ++ (finding_members dump ++ digest_members digest)))))
+    (dump_members dump name
+    ++ (label_members dump.image
+    ++ (count_members dump ++ (state_members dump ++ (finding_members dump ++ (digest_members digest ++ doubt_members dump))))))
 
 -- the file, the number of tracks, and whether there are read codes
 abbrev pub dump_fields : DumpView → Bytes → List (List ℕ)
@@ -81,10 +89,10 @@ abbrev pub state_fields : DumpView → List (List ℕ)
 state_fields dump =
     truth_text (is_sound dump.image) ∷ truth_text (is_amiss dump) ∷ decimal (length (faults dump.image)) ∷ decimal (length (read_errors dump)) ∷ []
 
--- the columns of a dump, but for the digest and the error
+-- the columns of a dump before the digest
 abbrev pub check_fields : DumpView → Bytes → List (List ℕ)
 check_fields dump name = dump_fields dump name ++ (label_fields dump.image ++ (count_fields dump ++ state_fields dump))
 
 -- the row of a dump, with a digest in hexadecimal digits where it is asked for; it has no error
 unfoldable pub check_row : DumpView → Bytes → Option Bytes → List ℕ
-check_row dump name digest = row_of (check_fields dump name) (option_map encode_lower digest) []
+check_row dump name digest = row_of (check_fields dump name) (option_map encode_lower digest) (doubts_text (doubts dump.image)) []

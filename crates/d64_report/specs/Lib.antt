@@ -5,5 +5,6 @@ pub mod Owners
 pub mod Findings
 pub mod Unanswered
 pub mod Rows
+pub mod Doubts
 pub mod Checks
 pub mod DumpOf

@@ -17,10 +17,10 @@ truth_text value = if value then codes "true" else codes "false"
 abbrev pub field_where : Option (List ℕ) → List (List ℕ)
 field_where field = option_map_or (λ text. text ∷ []) field []
 
--- a row on a line of its own: what stands before the digest, the digest where there is a column for
--- it, and the error
-abbrev pub row_of : List (List ℕ) → Option (List ℕ) → List ℕ → List ℕ
-row_of fields digest error = row_text default_writer (fields ++ (field_where digest ++ error ∷ []))
+-- a row on a line of its own: what is before the digest, the digest where there is a column for it,
+-- the doubts, and the error
+abbrev pub row_of : List (List ℕ) → Option (List ℕ) → List ℕ → List ℕ → List ℕ
+row_of fields digest doubts error = row_text default_writer (fields ++ (field_where digest ++ doubts ∷ error ∷ []))
 
 -- a text in the column of the digest, where there is one
 abbrev pub in_digest : Bool → List ℕ → Option (List ℕ)
@@ -28,9 +28,9 @@ in_digest has_digest text = if has_digest then Some text else None
 
 -- the header row
 abbrev pub header_row : Bool → List ℕ
-header_row has_digest = row_of columns (in_digest has_digest (codes "sha256")) (codes "error")
+header_row has_digest = row_of columns (in_digest has_digest (codes "sha256")) (codes "doubts") (codes "error")
 
 -- a row with a name and an error alone
-abbrev pub unanswered_row : List ℕ → Bool → List ℕ → List ℕ
+unfoldable pub unanswered_row : List ℕ → Bool → List ℕ → List ℕ
 unanswered_row name has_digest error =
-    row_of (name ∷ [] ∷ [] ∷ [] ∷ [] ∷ [] ∷ [] ∷ [] ∷ [] ∷ [] ∷ [] ∷ [] ∷ [] ∷ [] ∷ []) (in_digest has_digest []) error
+    row_of (name ∷ [] ∷ [] ∷ [] ∷ [] ∷ [] ∷ [] ∷ [] ∷ [] ∷ [] ∷ [] ∷ [] ∷ [] ∷ [] ∷ []) (in_digest has_digest []) [] error

@@ -5,6 +5,7 @@ ghost use Rattle.hex.specs.Hex.{encode_lower};
 ghost use Rattle.d64_report.specs.Rows.{field_where};
 ghost use Rattle.d64_report.specs.Checks.{dump_fields, label_fields, count_fields, state_fields, check_fields, check_row};
 
+use crate::doubt::push_doubts;
 use crate::field::{push_boolean, push_field, push_hexadecimal, push_name, push_number};
 use crate::row::end_row;
 use crate::scratch::Scratch;
@@ -63,7 +64,7 @@ fn push_state(row: &mut ByteRecord, inspection: &Inspection) -> Result<(), Alloc
     push_number(row, inspection.read_errors().len() as u64)
 }
 
-/// Makes the row of a dump, but for the digest and the error.
+/// Makes the row of a dump, as far as the digest.
 fn put_dump_row(
     scratch: &mut Scratch,
     name: &[u8],
@@ -96,7 +97,7 @@ fn push_digest(
 }
 
 /// Adds the row of a dump to a text: the name of its file, what is on the disk, how much is wrong
-/// with it, and the SHA-256 digest of the file's bytes where there is one.
+/// with it, the SHA-256 digest of the file's bytes where there is one, and its doubts.
 pub fn check_csv(
     scratch: &mut Scratch,
     name: &[u8],
@@ -108,5 +109,6 @@ pub fn check_csv(
 {
     put_dump_row(scratch, name, inspection)?;
     push_digest(&mut scratch.text, &mut scratch.row, digest)?;
+    push_doubts(&mut scratch.text, &mut scratch.row, inspection.doubts())?;
     end_row(&mut scratch.row, b"", out)
 }

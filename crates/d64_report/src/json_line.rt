@@ -3,6 +3,7 @@ ghost use Rattle.std.specs.Prelude.{◌≡◌, [], ◌∷◌, ◌++◌, option_m
 ghost use Rattle.d64_report.specs.Values.{line_of, member_tokens};
 ghost use Rattle.d64_report.specs.Checks.{dump_members, label_members, count_members, state_members, fault_list, error_list, finding_members, digest_members, check_object};
 
+use crate::doubt::put_doubts;
 use crate::finding::{put_faults, put_read_errors};
 use crate::member::{put_boolean, put_hexadecimal, put_number};
 use crate::name::put_name;
@@ -121,7 +122,8 @@ fn put_digest(
 }
 
 /// Adds the line of a dump to a text: an object of JSON with the name of its file, what is on the
-/// disk, what is wrong with it, and the SHA-256 digest of the file's bytes where there is one.
+/// disk, what is wrong with it, the SHA-256 digest of the file's bytes where there is one, and its
+/// doubts.
 pub fn check_json(
     scratch: &mut Scratch,
     name: &[u8],
@@ -139,6 +141,7 @@ pub fn check_json(
     put_state(&mut writer, inspection)?;
     put_findings(&mut scratch.text, &mut writer, inspection)?;
     put_digest(&mut scratch.text, &mut writer, digest)?;
+    put_doubts(&mut writer, inspection.doubts())?;
     writer.end_object()?;
     let text = into_line(writer)?;
     Ok(text)

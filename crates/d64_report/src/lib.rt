@@ -2,6 +2,7 @@
 #![tactic(auto)]
 
 mod csv_line;
+mod doubt;
 mod field;
 mod finding;
 mod hexadecimal;

@@ -10,7 +10,7 @@ use crate::unanswered::{UNREAD, WRONG_LENGTH};
 use csv::{ByteRecord, Writer};
 use std::alloc::AllocError;
 
-/// The columns that each row has, but for the digest and the error.
+/// The columns that each row has, but for the digest, the doubts and the error.
 const COLUMNS: [&[u8]; 14] = [
     b"image",
     b"tracks",
@@ -28,7 +28,7 @@ const COLUMNS: [&[u8]; 14] = [
     b"read_errors",
 ];
 
-/// The columns of a row between the name and the error, with nothing in them.
+/// The columns of a row between the name and the digest, with nothing in them.
 const EMPTY: [&[u8]; 13] = [b""; 13];
 
 /// Adds a row with an error after its fields to a text.
@@ -78,6 +78,7 @@ pub fn csv_header(
     scratch.row.clear();
     push_fields(&mut scratch.row, &COLUMNS)?;
     push_in_digest(&mut scratch.row, has_digest, b"sha256")?;
+    push_field(&mut scratch.row, b"doubts")?;
     end_row(&mut scratch.row, b"error", out)
 }
 
@@ -95,6 +96,7 @@ fn push_unanswered(
     push_field(&mut scratch.row, name)?;
     push_fields(&mut scratch.row, &EMPTY)?;
     push_in_digest(&mut scratch.row, has_digest, b"")?;
+    push_field(&mut scratch.row, b"")?;
     end_row(&mut scratch.row, error, out)
 }
 

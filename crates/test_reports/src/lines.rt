@@ -21,9 +21,9 @@ fn prints(rt: &HostRuntime, dump: &Dump, expected: &[u8]) -> Result<bool, Fail> 
 fn a_sound_disk(rt: HostRuntime) -> Result<(), Fail> {
     let dump = holiday(&rt)?;
     let expected =
-        br#"image,tracks,codes,name,id,dos,entries,whole,free,unowned,sound,amiss,faults,read_errors,error
-a.d64,35,false,holiday 1984,84,2a,4,4,637,0,true,false,0,0,
-{"image":"a.d64","tracks":35,"codes":false,"name":"holiday 1984","id":"84","dos":"2a","entries":4,"whole":4,"free":637,"unowned":0,"sound":true,"amiss":false,"faults":[],"read_errors":[]}
+        br#"image,tracks,codes,name,id,dos,entries,whole,free,unowned,sound,amiss,faults,read_errors,doubts,error
+a.d64,35,false,holiday 1984,84,2a,4,4,637,0,true,false,0,0,,
+{"image":"a.d64","tracks":35,"codes":false,"name":"holiday 1984","id":"84","dos":"2a","entries":4,"whole":4,"free":637,"unowned":0,"sound":true,"amiss":false,"faults":[],"read_errors":[],"doubts":[]}
 "#;
     assert!(rt; prints(&rt, &dump, expected.as_slice())?);
     Ok(())
@@ -62,9 +62,9 @@ const SHARED: [(usize, &[u8]); 5] = [
 fn a_map_and_a_directory_with_faults(rt: HostRuntime) -> Result<(), Fail> {
     let dump = dump_of(&rt, &MAP)?;
     let expected =
-        br#"image,tracks,codes,name,id,dos,entries,whole,free,unowned,sound,amiss,faults,read_errors,error
-a.d64,35,true,map,{$00}{$00},{$00}{$00},1,0,19,662,false,true,4,0,
-{"image":"a.d64","tracks":35,"codes":true,"name":"map","id":"{$00}{$00}","dos":"{$00}{$00}","entries":1,"whole":0,"free":19,"unowned":662,"sound":false,"amiss":true,"faults":[{"condition":1,"track":19,"count":19,"marked":18},{"condition":2,"at":"18/4","end":"loop","to":"18/1"},{"condition":3,"slot":2,"name":"x","type":133},{"condition":6,"block":"18/0","owners":[{"what":"map"}]}],"read_errors":[]}
+        br#"image,tracks,codes,name,id,dos,entries,whole,free,unowned,sound,amiss,faults,read_errors,doubts,error
+a.d64,35,true,map,{$00}{$00},{$00}{$00},1,0,19,662,false,true,4,0,version unowned,
+{"image":"a.d64","tracks":35,"codes":true,"name":"map","id":"{$00}{$00}","dos":"{$00}{$00}","entries":1,"whole":0,"free":19,"unowned":662,"sound":false,"amiss":true,"faults":[{"condition":1,"track":19,"count":19,"marked":18},{"condition":2,"at":"18/4","end":"loop","to":"18/1"},{"condition":3,"slot":2,"name":"x","type":133},{"condition":6,"block":"18/0","owners":[{"what":"map"}]}],"read_errors":[],"doubts":["version","unowned"]}
 "#;
     assert!(rt; prints(&rt, &dump, expected.as_slice())?);
     Ok(())
@@ -74,9 +74,9 @@ a.d64,35,true,map,{$00}{$00},{$00}{$00},1,0,19,662,false,true,4,0,
 fn files_with_faults(rt: HostRuntime) -> Result<(), Fail> {
     let dump = dump_of(&rt, &SHARED)?;
     let expected =
-        br#"image,tracks,codes,name,id,dos,entries,whole,free,unowned,sound,amiss,faults,read_errors,error
-a.d64,35,true,shared,{$00}{$00},{$00}{$00},2,0,0,680,false,true,3,2,
-{"image":"a.d64","tracks":35,"codes":true,"name":"shared","id":"{$00}{$00}","dos":"{$00}{$00}","entries":2,"whole":0,"free":0,"unowned":680,"sound":false,"amiss":true,"faults":[{"condition":4,"slot":2,"name":"x","what":"data","at":"17/3","end":"off","to":"99/7"},{"condition":4,"slot":5,"name":"y","what":"data","at":"17/3","end":"off","to":"99/7"},{"condition":5,"block":"17/3","owners":[{"what":"data","slot":2,"name":"x"},{"what":"data","slot":5,"name":"y"}]}],"read_errors":[{"block":"17/3","code":5,"status":23,"owners":[{"what":"data","slot":2,"name":"x"},{"what":"data","slot":5,"name":"y"}]},{"block":"17/4","code":12,"status":null,"owners":[]}]}
+        br#"image,tracks,codes,name,id,dos,entries,whole,free,unowned,sound,amiss,faults,read_errors,doubts,error
+a.d64,35,true,shared,{$00}{$00},{$00}{$00},2,0,0,680,false,true,3,2,version unowned,
+{"image":"a.d64","tracks":35,"codes":true,"name":"shared","id":"{$00}{$00}","dos":"{$00}{$00}","entries":2,"whole":0,"free":0,"unowned":680,"sound":false,"amiss":true,"faults":[{"condition":4,"slot":2,"name":"x","what":"data","at":"17/3","end":"off","to":"99/7"},{"condition":4,"slot":5,"name":"y","what":"data","at":"17/3","end":"off","to":"99/7"},{"condition":5,"block":"17/3","owners":[{"what":"data","slot":2,"name":"x"},{"what":"data","slot":5,"name":"y"}]}],"read_errors":[{"block":"17/3","code":5,"status":23,"owners":[{"what":"data","slot":2,"name":"x"},{"what":"data","slot":5,"name":"y"}]},{"block":"17/4","code":12,"status":null,"owners":[]}],"doubts":["version","unowned"]}
 "#;
     assert!(rt; prints(&rt, &dump, expected.as_slice())?);
     Ok(())
