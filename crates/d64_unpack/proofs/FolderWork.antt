@@ -7,7 +7,7 @@ use Rattle.d64_unpack.specs.Setup.{TaskView}
 use Rattle.d64_unpack.specs.Paths.{path_inside}
 use Rattle.d64_unpack.specs.Progress.{Progress, first_progress}
 use Rattle.d64_unpack.specs.Work.{Work, Done, Then, Look, NewFolder, NewFile, Rename, Says, SaysFile, LeadsTo}
-use Rattle.d64_unpack.specs.Unpacking.{list_path, unfinished_answer, finished_answer, unnamed_answer, unmade_answer, present_answer, skipped_answer, name_work, list_work, files_work, folder_work, folders_work, folder_after, task_work_with}
+use Rattle.d64_unpack.specs.Unpacking.{list_in, list_path, unfinished_answer, finished_answer, unnamed_answer, unmade_answer, present_answer, skipped_answer, name_work, list_work, files_work, folder_work, folders_work, folder_after, present_work, task_work_with}
 use Rattle.d64_unpack.proofs.Steps.{asked}
 
 -- something wasn't written, and nothing more is done
@@ -56,22 +56,38 @@ after_look task folders =
     Then (Look task.partial) (λ is_begun. cond is_begun (Done (present_answer task task.partial)) (folders_work (folder_after task) (path_inside task.setup.into) folders))
 
 abbrev look_work : TaskView → List (List ℕ) → Work
-look_work task folders = Then (Look task.done) (λ is_done. cond is_done (Done (cond task.setup.skips (skipped_answer task) (present_answer task task.done))) (after_look task folders))
+look_work task folders = Then (Look task.done) (λ is_done. cond is_done (present_work task) (after_look task folders))
 
 -- the image's folder is there
 pub is_done : (task : TaskView) (folders : List (List ℕ)) (path : List ℕ) (old now : HostState) (said : Bool) → path ≡ task.done → Says (Look path) old said now → said ≡ true
-    → LeadsTo (task_work_with task folders) old (Done (cond task.setup.skips (skipped_answer task) (present_answer task task.done))) now
+    → LeadsTo (task_work_with task folders) old (present_work task) now
 unfolding task_work_with
 is_done task folders path old now said is_path says is_said =
-    asked (Look task.done) (λ is_done. cond is_done (Done (cond task.setup.skips (skipped_answer task) (present_answer task task.done))) (after_look task folders)) old now true
+    asked (Look task.done) (λ is_done. cond is_done (present_work task) (after_look task folders)) old now true
     (subst (λ (s : Bool). Says (Look task.done) old s now) is_said (subst (λ (q : List ℕ). Says (Look q) old said now) is_path says))
+
+-- what is there is not to be passed over
+pub not_skipped : (task : TaskView) → task.setup.skips ≡ false → Done (present_answer task task.done) ≡ present_work task
+unfolding present_work
+not_skipped task is =
+    sym (ap (λ (t : Bool). cond t (Then (Look (list_in task.done)) (λ is_complete. Done (cond is_complete (skipped_answer task) (present_answer task task.done)))) (Done (present_answer task task.done))) is)
+
+-- it may be, and it was looked for the list in it
+pub looked_into : (task : TaskView) (path : List ℕ) (host : HostState) (said : Bool) → task.setup.skips ≡ true → path ≡ list_in task.done → Says (Look path) host said host
+    → LeadsTo (present_work task) host (Done (cond said (skipped_answer task) (present_answer task task.done))) host
+unfolding present_work
+looked_into task path host said is is_path says =
+    subst (λ (t : Bool). LeadsTo (cond t (Then (Look (list_in task.done)) (λ is_complete. Done (cond is_complete (skipped_answer task) (present_answer task task.done)))) (Done (present_answer task task.done))) host
+    (Done (cond said (skipped_answer task) (present_answer task task.done))) host) (sym is)
+    (asked (Look (list_in task.done)) (λ is_complete. Done (cond is_complete (skipped_answer task) (present_answer task task.done))) host host said
+    (subst (λ (q : List ℕ). Says (Look q) host said host) is_path says))
 
 -- it isn't
 pub not_done : (task : TaskView) (folders : List (List ℕ)) (path : List ℕ) (old now : HostState) (said : Bool) → path ≡ task.done → Says (Look path) old said now → said ≡ false
     → LeadsTo (task_work_with task folders) old (after_look task folders) now
 unfolding task_work_with
 not_done task folders path old now said is_path says is_said =
-    asked (Look task.done) (λ is_done. cond is_done (Done (cond task.setup.skips (skipped_answer task) (present_answer task task.done))) (after_look task folders)) old now false
+    asked (Look task.done) (λ is_done. cond is_done (present_work task) (after_look task folders)) old now false
     (subst (λ (s : Bool). Says (Look task.done) old s now) is_said (subst (λ (q : List ℕ). Says (Look q) old said now) is_path says))
 
 -- what it is before is there

@@ -15,9 +15,9 @@ use Rattle.d64_host_names.specs.ImagePlace.{folders_of}
 use Rattle.d64_inventory.specs.ListingAmiss.{is_listing_amiss}
 use Rattle.d64_unpack.specs.Setup.{SetupView, TaskView}
 use Rattle.d64_unpack.specs.Paths.{path_inside, with_slash}
-use Rattle.d64_unpack.specs.Work.{Work, Done, Then, Rename, Does}
+use Rattle.d64_unpack.specs.Work.{Work, Done, Then, Look, Rename, Does}
 use Rattle.d64_unpack.specs.Progress.{Progress, first_progress, portion_of, host_name, told_progress, spent_progress, named_progress, tried_progress}
-use Rattle.d64_unpack.specs.Unpacking.{unread_answer, skipped_answer, present_answer, finished_answer, unnamed_answer, unfinished_answer, closed_progress, name_work, list_work, file_work, files_work, folder_work, folders_work, folder_after, task_work_with, task_of, dump_work, unpacking}
+use Rattle.d64_unpack.specs.Unpacking.{unread_answer, skipped_answer, present_answer, finished_answer, unnamed_answer, unfinished_answer, closed_progress, name_work, list_work, file_work, files_work, folder_work, folders_work, folder_after, list_in, present_work, task_work_with, task_of, dump_work, unpacking}
 use Rattle.d64_unpack.specs.UnpackLaws.{CleanIsQuiet}
 
 -- whatever the host says, nothing is complained of where the verdict is clean
@@ -112,10 +112,15 @@ folders_quiet task place (folder ∷ folders) = by_answer (folders_quiet task (w
     by_answer quiet true = quiet
     by_answer quiet false = after_quiet task (Some (place ++ folder))
 
+present_quiet : (task : TaskView) → task.setup.skips ≡ false → IsQuietWork (present_work task)
+unfolding IsQuietWork present_work
+present_quiet task skips =
+    subst (λ (s : Bool). IsQuietWork (cond s (Then (Look (list_in task.done)) (λ is_complete. Done (cond is_complete (skipped_answer task) (present_answer task task.done)))) (Done (present_answer task task.done)))) (sym skips)
+    (λ clean. absurd (let e : Failed ≡ Clean = clean in cc))
+
 task_quiet : (task : TaskView) (folders : List (List ℕ)) → task.setup.skips ≡ false → IsQuietWork (task_work_with task folders)
 unfolding task_work_with IsQuietWork
-task_quiet task folders skips true =
-    subst (λ (s : Bool). IsQuietWork (Done (cond s (skipped_answer task) (present_answer task task.done)))) (sym skips) (λ clean. absurd (let e : Failed ≡ Clean = clean in cc))
+task_quiet task folders skips true = present_quiet task skips
 task_quiet task folders skips false = by_begun
   where
     by_begun : (said : Bool) → IsQuietWork (cond said (Done (present_answer task task.partial)) (folders_work (folder_after task) (path_inside task.setup.into) folders))

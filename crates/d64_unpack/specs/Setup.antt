@@ -4,7 +4,7 @@ use Rattle.d64_survey.specs.Dump.{DumpView}
 use Rattle.d64_words.specs.declared.asked.Format.{Format}
 
 -- what is asked for: the folder below which all goes, whether parts are written too, whether what
--- is there is passed over, and the form of the output
+-- is complete is passed over, and the form of the output
 pub record SetupView : Type 0 where
   pub into : List ℕ
   pub with_parts : Bool

@@ -4,7 +4,7 @@ use Rattle.d64_collection.specs.Answers.{KeepsQuiet}
 use Rattle.d64_unpack.specs.Setup.{SetupView}
 use Rattle.d64_unpack.specs.Conduct.{unpacks}
 
--- nothing is complained of an image on which the verdict is clean, unless those that are there are
--- passed over
+-- nothing is complained of an image on which the verdict is clean, unless those that are complete
+-- are passed over
 abbrev pub CleanIsQuiet : Type 0
 CleanIsQuiet = (setup : SetupView) → setup.skips ≡ false → KeepsQuiet (unpacks setup)

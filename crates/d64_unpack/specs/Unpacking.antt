@@ -45,9 +45,13 @@ skipped_answer task = record { printed = []; complaint = skipped_line task.done;
 abbrev pub unmade_answer : TaskView → List ℕ → Answer
 unmade_answer task path = refused_answer task.setup task.name (codes "cannot be written") (unwritten_line path)
 
+-- the path of the list of the files of the image in a folder
+abbrev pub list_in : List ℕ → List ℕ
+list_in folder = path_in folder (codes "files.jsonl")
+
 -- the path of the list of the files
 abbrev pub list_path : TaskView → List ℕ
-list_path task = path_in task.partial (codes "files.jsonl")
+list_path task = list_in task.partial
 
 -- the verdict on an image whose files are all written that could be
 abbrev pub verdict_on : TaskView → Progress → Verdict
@@ -120,11 +124,19 @@ abbrev pub folder_after : TaskView → Option (List ℕ) → Work
 folder_after task None = folder_work task
 folder_after task (Some path) = Done (unmade_answer task path)
 
+-- something has the path of the image's folder: it is passed over if that is asked for and the list
+-- of the files is in it, since then it is complete
+unfoldable pub present_work : TaskView → Work
+present_work task =
+    if task.setup.skips
+    then Then (Look (list_in task.done)) (λ is_complete. Done (if is_complete then skipped_answer task else present_answer task task.done))
+    else Done (present_answer task task.done)
+
 -- it is looked whether the image's folder is there, and what it is before all is in it, and else it
 -- is made, in these folders
 unfoldable pub task_work_with : TaskView → List (List ℕ) → Work
 task_work_with task folders =
-    Then (Look task.done) (λ is_done. if is_done then Done (if task.setup.skips then skipped_answer task else present_answer task task.done)
+    Then (Look task.done) (λ is_done. if is_done then present_work task
     else Then (Look task.partial) (λ is_begun. if is_begun then Done (present_answer task task.partial)
     else folders_work (folder_after task) (path_inside task.setup.into) folders))
 

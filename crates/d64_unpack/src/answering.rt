@@ -90,29 +90,13 @@ pub(crate) fn tell_present(
     refuse(task.setup, scratch, task.name.as_bytes(), IS_THERE, room)
 }
 
-/// Answers that the folder of an image is there, and is passed over.
-fn tell_skipped(task: &Task, room: &mut AnswerRoom) -> Result<Verdict, AllocError>
+/// Answers that the folder of an image is complete, and is passed over.
+pub(crate) fn tell_skipped(task: &Task, room: &mut AnswerRoom) -> Result<Verdict, AllocError>
     ensures { IfOk result (λ verdict. answer_in room.new verdict ≡ skipped_answer task.now) }
 {
     room.clear();
     skipped_line(&mut room.complaint, task.done.as_bytes())?;
     Ok(Verdict::Clean)
-}
-
-/// Answers that the folder of an image is there.
-pub(crate) fn tell_done(
-    task: &Task,
-    scratch: &mut Scratch,
-    room: &mut AnswerRoom,
-) -> Result<Verdict, AllocError>
-    ensures { IfOk result (λ verdict. answer_in room.new verdict ≡ (if task.now.setup.skips then skipped_answer task.now else present_answer task.now task.now.done)) }
-{
-    let setup = task.setup;
-    if setup.skips {
-        tell_skipped(task, room)
-    } else {
-        tell_present(task, scratch, &task.done, room)
-    }
 }
 
 /// Answers that a folder cannot be made at a path.

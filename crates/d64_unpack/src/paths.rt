@@ -2,6 +2,7 @@
 ghost use Rattle.std.specs.Prelude.{◌≡◌, ◌++◌, map, string_bytes, IfOk, OnOk};
 ghost use Rattle.d64_host_names.specs.ImagePlace.{finished_name, unfinished_name};
 ghost use Rattle.d64_unpack.specs.Paths.{ends_in_slash, path_inside, place_below, path_in};
+ghost use Rattle.d64_unpack.specs.Unpacking.{list_in};
 
 use d64_host_names::ImagePlace;
 use std::alloc::{AllocError, Global};
@@ -68,6 +69,16 @@ pub(crate) fn partial_path(
 {
     let mut path = place_of(alloc, into, place)?;
     place.push_partial_name(&mut path)?;
+    Ok(path)
+}
+
+/// The path of the list of an image's files in this folder.
+pub(crate) fn list_in(alloc: Global, folder: &str) -> Result<String, AllocError>
+    ensures { IfOk result (λ path. string_bytes path ≡ list_in folder.now) }
+{
+    let mut path = String::from_str(alloc, folder)?;
+    path.push('/')?;
+    path.push_str("files.jsonl")?;
     Ok(path)
 }
 

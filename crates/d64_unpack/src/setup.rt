@@ -12,7 +12,7 @@ pub struct Setup {
     pub into: String,
     /// Whether parts are written too of files that have no content.
     pub with_parts: bool,
-    /// Whether an image whose folder is there is passed over.
+    /// Whether an image whose folder is complete is passed over.
     pub skips: bool,
     /// The form of what is printed.
     pub form: Format,

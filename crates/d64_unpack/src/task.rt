@@ -4,15 +4,16 @@ ghost use Rattle.d64_inventory.specs.Rows.{rows};
 ghost use Rattle.d64_unpack.specs.Paths.{path_inside};
 ghost use Rattle.d64_unpack.specs.Work.{Ends};
 ghost use Rattle.d64_unpack.specs.FilesNow.{progress_of};
-ghost use Rattle.d64_unpack.specs.Unpacking.{name_work, list_work, closed_progress, files_work, folder_work, folders_work, folder_after, task_work_with};
+ghost use Rattle.d64_unpack.specs.Unpacking.{name_work, list_work, closed_progress, files_work, folder_work, folders_work, folder_after, present_work, task_work_with};
 
 use crate::answering::{
-    LIST_NAME, tell_done, tell_finished, tell_present, tell_unfinished, tell_unmade, tell_unnamed,
+    LIST_NAME, tell_finished, tell_present, tell_skipped, tell_unfinished, tell_unmade,
+    tell_unnamed,
 };
 use crate::calls::{is_there, make_file, make_folder, rename};
 use crate::files::Files;
 use crate::folders::have_folders;
-use crate::paths::{inside, put_path};
+use crate::paths::{inside, list_in, put_path};
 use crate::setup::Task;
 use d64_collection::{AnswerRoom, Verdict};
 use d64_host::Host;
@@ -91,6 +92,27 @@ impl<'a, 'd> Task<'a, 'd> {
         }
     }
 
+    /// Ends where something has the path of the image's folder.
+    fn end_present<H: Host>(
+        &self,
+        files: &mut Files,
+        host: &H,
+        room: &mut AnswerRoom,
+    ) -> Result<Verdict, AllocError>
+        ensures { Ends result room.new (present_work self.now) (H.state host.now) (H.state host.now) }
+    {
+        let setup = self.setup;
+        if !setup.skips {
+            return tell_present(self, &mut files.told.scratch, &self.done, room);
+        }
+        let list = list_in(self.alloc, &self.done)?;
+        if is_there(host, &list) {
+            tell_skipped(self, room)
+        } else {
+            tell_present(self, &mut files.told.scratch, &self.done, room)
+        }
+    }
+
     /// Unpacks the image, which lies in these folders, unless its folder is there.
     pub(crate) fn unpack<H: Host>(
         &self,
@@ -102,7 +124,7 @@ impl<'a, 'd> Task<'a, 'd> {
         ensures { Ends result room.new (task_work_with self.now (map (λ folder. folder.now) folders.now)) (H.state host.old) (H.state host.new) }
     {
         if is_there(host, &self.done) {
-            return tell_done(self, &mut files.told.scratch, room);
+            return self.end_present(files, host, room);
         }
         if is_there(host, &self.partial) {
             return tell_present(self, &mut files.told.scratch, &self.partial, room);

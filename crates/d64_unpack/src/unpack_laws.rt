@@ -4,7 +4,7 @@
 ghost use Rattle.d64_unpack.specs.UnpackLaws.{CleanIsQuiet};
 
 /// Nothing is complained of an image on which the verdict is clean, unless those whose folder is
-/// there are passed over.
+/// complete are passed over.
 pub fn clean_images_are_quiet()
     ensures { CleanIsQuiet }
 {}

@@ -124,6 +124,22 @@ fn a_disk_that_is_there_is_passed_over(rt: HostRuntime) -> Result<(), Fail> {
 }
 
 #[test]
+fn a_folder_without_a_list_is_not_passed_over(rt: HostRuntime) -> Result<(), Fail> {
+    let image = disk(&rt)?;
+    let mut host = MemoryHost::new(rt.alloc());
+    let mut room = AnswerRoom::new(rt.alloc());
+    let mut unpacker = unpacker(&rt, true)?;
+    assert!(rt; host.make_folder("out/disks/a/side1.d64.files").is_ok());
+    let verdict = unpacker.answer(NAME, Some(image.bytes()), &mut host, &mut room)?;
+    assert!(rt; verdict == Verdict::Failed);
+    assert_eq!(rt;
+        room.complaint.as_slice(),
+        b"d64sh: out/disks/a/side1.d64.files: is there already\n".as_slice()
+    );
+    Ok(())
+}
+
+#[test]
 fn each_call_that_fails_is_told(rt: HostRuntime) -> Result<(), Fail> {
     let image = disk(&rt)?;
     let mut unpacker = unpacker(&rt, false)?;

@@ -1,9 +1,9 @@
-use Rattle.std.proofs.Common.{◌≡◌, List, ℕ, cond, ap, ◌∙◌, subst}
+use Rattle.std.proofs.Common.{◌≡◌, List, ℕ, ap, ◌∙◌, subst}
 use Rattle.std.specs.Prelude.{IfOk}
 use Rattle.d64_collection.specs.declared.report.Verdict.{Verdict}
 use Rattle.d64_unpack.specs.Setup.{TaskView}
 use Rattle.d64_unpack.specs.Work.{Done, answer_in}
-use Rattle.d64_unpack.specs.Unpacking.{present_answer, skipped_answer, folders_work, folder_after, task_work_with}
+use Rattle.d64_unpack.specs.Unpacking.{present_answer, folders_work, folder_after, present_work, task_work_with}
 use Rattle.d64_unpack.proofs.Steps.{further, ends_after, ends_with}
 use Rattle.d64_unpack.specs.Paths.{path_inside}
 use Rattle.d64_unpack.proofs.FolderSteps.{texts}
@@ -16,9 +16,8 @@ returns-then-is_there g c =
     let folders = texts c.args.folders.now in
     let host = g.H.Host.state c.args.host.now in
     let done_is : c.deref.result.now ≡ task.done = c.deref.ensures ∙ ap (λ (t : TaskView). t.done) c.self.view_is in
-    ends_after c.tell_done.result c.tell_done.new.room (task_work_with task folders) (Done (cond task.setup.skips (skipped_answer task) (present_answer task task.done))) host host host
-    (is_done task folders c.deref.result.now host host c.is_there.result done_is c.is_there.ensures c.if-is_there.true)
-    (ends_with c.tell_done.result c.tell_done.new.room (cond task.setup.skips (skipped_answer task) (present_answer task task.done)) host c.tell_done.ensures)
+    ends_after c.end_present.result c.end_present.new.room (task_work_with task folders) (present_work task) host host host
+    (is_done task folders c.deref.result.now host host c.is_there.result done_is c.is_there.ensures c.if-is_there.true) c.end_present.ensures
 
 pub returns-then-is_there-2 : goal.returns-then-is_there-2
 returns-then-is_there-2 g c =
