@@ -44,6 +44,7 @@ SWEEPS = [
     "scripts/sweep-damage",
     "scripts/sweep-sessions",
     "scripts/sweep-surveys",
+    "scripts/check-schema",
     "scripts/sweep-differences",
     "scripts/sweep-catalogue",
     "scripts/sweep-survey-names",
