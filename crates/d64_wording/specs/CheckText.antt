@@ -1,11 +1,12 @@
 -- What is told of an image for people: its line, and below it a line each fault, read error and
 -- file that isn't whole.
 use Rattle.std.specs.Prelude.{ℕ, ◌==◌, ◌&&◌, if◌then◌else◌, Bool, List, [], ◌++◌, length, codes}
-use Rattle.std.specs.List.{flat_map}
+use Rattle.std.specs.List.{flat_map, list_any}
 use Rattle.d64_image.specs.Disk.{Disk}
 use Rattle.d64_map.specs.Map.{blocks_free}
 use Rattle.d64_effects.specs.View.{disk_id}
 use Rattle.d64_survey.specs.Dump.{DumpView}
+use Rattle.d64_survey.specs.Doubts.{doubts}
 use Rattle.d64_survey.specs.Faults.{faults}
 use Rattle.d64_survey.specs.Inspection.{entry_count, unwhole_count, is_amiss, is_sound}
 use Rattle.d64_survey.specs.Owners.{way_slots, unowned_count}
@@ -17,6 +18,7 @@ use Rattle.d64_wording.specs.Shown.{shown_name}
 use Rattle.d64_names.specs.Names.{disk_name}
 use Rattle.d64_wording.specs.Names.{quoted_name}
 use Rattle.d64_wording.specs.Words.{count_of, line_below}
+use Rattle.d64_wording.specs.DoubtText.{unowned_text, doubts_text, is_of_unowned}
 use Rattle.d64_wording.specs.FaultText.{fault_text, read_error_text}
 use Rattle.d64_wording.specs.FileText.{file_lines}
 
@@ -44,12 +46,17 @@ and_so_many is_contrast count noun = if count == 0 then [] else joining is_contr
 abbrev pub is_read_sound : DumpView → Bool
 is_read_sound dump = is_sound dump.image && length (read_errors dump) == 0
 
+-- there is neither a fault nor a read error nor a damaged file
+abbrev pub is_clean : DumpView → Bool
+is_clean dump = is_read_sound dump && unwhole_count dump == 0
+
 -- the state of a dump
 unfoldable pub state_text : DumpView → List ℕ
 state_text dump =
     faults_text (length (faults dump.image))
     ++ (and_so_many (is_sound dump.image) (length (read_errors dump)) (codes "read error")
-    ++ and_so_many (is_read_sound dump) (unwhole_count dump) (codes "damaged file"))
+    ++ (and_so_many (is_read_sound dump) (unwhole_count dump) (codes "damaged file")
+    ++ doubts_text dump.image (is_clean dump) (doubts dump.image)))
 
 -- the image's line
 unfoldable pub image_line : List ℕ → DumpView → List ℕ
@@ -64,17 +71,14 @@ fault_lines image list = flat_map (λ fault. line_below (fault_text image fault)
 unfoldable pub read_error_lines : Disk → List ReadError → List ℕ
 read_error_lines image list = flat_map (λ error. line_below (read_error_text image error)) list
 
--- what is said of so many blocks that are marked used and that nothing owns
-abbrev pub unowned_words : ℕ → List ℕ
-unowned_words count = if count == 1 then codes " is marked used and belongs to no file" else codes " are marked used and belong to no file"
-
 -- a line of so many, where there are some
 unfoldable pub unowned_by : ℕ → List ℕ
-unowned_by count = if count == 0 then [] else line_below (count_of count (codes "block") ++ unowned_words count)
+unowned_by count = if count == 0 then [] else line_below (unowned_text count)
 
--- a line of them, where something is amiss
+-- a line of them, where something is amiss and they are no doubt, which the image's line says
 unfoldable pub unowned_line : DumpView → List ℕ
-unowned_line dump = if is_amiss dump then unowned_by (unowned_count dump.image) else []
+unowned_line dump =
+    if is_amiss dump then (if list_any is_of_unowned (doubts dump.image) then [] else unowned_by (unowned_count dump.image)) else []
 
 -- the text of an image
 unfoldable pub check_text : List ℕ → DumpView → List ℕ

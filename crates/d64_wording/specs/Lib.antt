@@ -6,4 +6,5 @@ pub mod Words
 pub mod OwnerText
 pub mod FaultText
 pub mod FileText
+pub mod DoubtText
 pub mod CheckText

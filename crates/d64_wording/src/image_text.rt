@@ -1,9 +1,10 @@
 //! What is told of an image for people.
 ghost use Rattle.std.specs.Prelude.{◌≡◌, ◌++◌, OnOk};
-ghost use Rattle.d64_wording.specs.CheckText.{label_text, contents_text, faults_text, joining, and_so_many, is_read_sound, state_text, image_line, fault_lines, read_error_lines, unowned_words as unowned_words_of, unowned_by, unowned_line, check_text as check_text_of};
+ghost use Rattle.d64_wording.specs.CheckText.{label_text, contents_text, faults_text, joining, and_so_many, is_read_sound, is_clean, state_text, image_line, fault_lines, read_error_lines, unowned_by, unowned_line, check_text as check_text_of};
 ghost use Rattle.d64_wording.specs.FaultText.{fault_text, read_error_text};
 ghost use Rattle.d64_wording.specs.Words.{line_below};
 
+use crate::doubt_text::{any_of_unowned, push_doubts, push_unowned_text};
 use crate::fault_text::{push_fault, push_read_error};
 use crate::file_text::push_file_lines;
 use crate::shown::push_shown;
@@ -78,6 +79,13 @@ fn is_read_sound(inspection: &Inspection) -> bool
     inspection.is_sound() && inspection.read_errors().is_empty()
 }
 
+/// Whether there is neither a fault nor a read error nor a damaged file.
+fn is_clean(inspection: &Inspection) -> bool
+    ensures { result ≡ is_clean inspection.now }
+{
+    is_read_sound(inspection) && inspection.unwhole() == 0
+}
+
 /// Adds the state of a dump.
 #[tactic(auto, unfolding(crate::specs::CheckText::state_text))]
 pub fn push_state(out: &mut Vec<u8>, inspection: &Inspection) -> Result<(), AllocError>
@@ -95,7 +103,8 @@ pub fn push_state(out: &mut Vec<u8>, inspection: &Inspection) -> Result<(), Allo
         is_read_sound(inspection),
         inspection.unwhole(),
         b"damaged file",
-    )
+    )?;
+    push_doubts(out, inspection, is_clean(inspection))
 }
 
 /// Adds the image's line.
@@ -164,17 +173,6 @@ fn push_error_lines(
     Ok(())
 }
 
-/// What is said of so many blocks that nothing owns.
-fn unowned_words(count: usize) -> &'static [u8]
-    ensures { result.now ≡ unowned_words_of count }
-{
-    if count == 1 {
-        b" is marked used and belongs to no file"
-    } else {
-        b" are marked used and belong to no file"
-    }
-}
-
 /// Adds the line of so many blocks that nothing owns, where there are some.
 #[tactic(auto, unfolding(crate::specs::CheckText::unowned_by, crate::specs::Words::line_below))]
 fn push_unowned(out: &mut Vec<u8>, count: usize) -> Result<(), AllocError>
@@ -184,13 +182,12 @@ fn push_unowned(out: &mut Vec<u8>, count: usize) -> Result<(), AllocError>
         return Ok(());
     }
     out.extend_from_slice(LINE_START)?;
-    push_count(out, count, b"block")?;
-    out.extend_from_slice(unowned_words(count))?;
-    out.extend_from_slice(LINE_END)?;
-    Ok(())
+    push_unowned_text(out, count)?;
+    out.extend_from_slice(LINE_END)
 }
 
-/// Adds the line of the blocks that nothing owns, where there are some and something is amiss.
+/// Adds the line of the blocks that nothing owns, where there are some and something is amiss. Where
+/// they are a doubt the image's line says it.
 #[tactic(auto, unfolding(crate::specs::CheckText::unowned_line))]
 fn push_unowned_line(out: &mut Vec<u8>, inspection: &Inspection) -> Result<(), AllocError>
     ensures { OnOk result (out.new.items ≡ out.old.items ++ unowned_line inspection.now) }
@@ -198,12 +195,15 @@ fn push_unowned_line(out: &mut Vec<u8>, inspection: &Inspection) -> Result<(), A
     if !inspection.is_amiss() {
         return Ok(());
     }
+    if any_of_unowned(inspection.doubts()) {
+        return Ok(());
+    }
     push_unowned(out, inspection.unowned())
 }
 
 /// Adds the text of an image for people: its line, a line each fault, read error and file that
 /// isn't whole, and one of the blocks that are marked used and belong to no file, where something
-/// is amiss.
+/// is amiss and the image's line doesn't say it.
 #[tactic(auto, unfolding(crate::specs::CheckText::check_text))]
 pub fn check_text(name: &[u8], inspection: &Inspection, out: &mut Vec<u8>) -> Result<(), AllocError>
     ensures { OnOk result (out.new.items ≡ out.old.items ++ check_text_of name.now inspection.now) }

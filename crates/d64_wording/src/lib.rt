@@ -2,6 +2,7 @@
 //! standard error.
 #![tactic(auto)]
 
+mod doubt_text;
 mod fault_line;
 mod fault_text;
 mod file_text;
