@@ -495,8 +495,8 @@ def difference_of_picture(data, text):
 # What came of a run
 
 def without_guesses(faults):
-    """The lines of standard error without what a file of a wrong length seems to be, which is free."""
-    return re.sub(r"(?m)(: wrong length \d+) \([^()\n]+\)$", r"\1", faults)
+    """The lines of standard error without what a file of a wrong length seems to be, and without the reason of one that cannot be read, which are free."""
+    return re.sub(r"(?m)(: wrong length \d+|: cannot be read) \([^()\n]+\)$", r"\1", faults)
 
 
 def first_difference(came, wanted):

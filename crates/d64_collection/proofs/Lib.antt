@@ -2,3 +2,4 @@ pub mod RunSteps
 pub mod ListNames
 pub mod ListSteps
 pub mod ListStreams
+pub mod Serving

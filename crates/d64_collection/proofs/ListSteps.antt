@@ -3,8 +3,9 @@ use Rattle.std.proofs.Common.{◌≡◌, ◌≢◌, ℕ, ◌+◌, ◌<◌, Bool,
 use Rattle.std.specs.Prelude.{All, IfErr}
 use Rattle.std.proofs.lemmas.List.{map-append, take_more, take-append-drop}
 use Rattle.std.proofs.lemmas.List.Elements.{All-append, All-cons}
-use Rattle.d64_collection.specs.Names.{Asked, File, NoFile, kept_name, is_name, is_file_name, shortened_name, names_in, listed_name, asked_by}
+use Rattle.d64_collection.specs.Names.{Asked, File, NoFile, kept_name, is_name, is_file_name, name_reason, shortened_name, names_in, listed_name, asked_by}
 use Rattle.d64_collection.specs.Answers.{Conduct}
+use Rattle.d64_collection.specs.declared.reason.Reason.{Reason}
 use Rattle.d64_collection.specs.Runs.{Stand, Steps, Runs, StopsIn, EndsAt}
 use Rattle.d64_collection.specs.Lists.{HasCome, IsEnded, StopsInList}
 use Rattle.d64_collection.specs.declared.desk.RunFault.{RunFault}
@@ -121,11 +122,13 @@ Runs-name conduct asked a b held result named is ends =
 
 -- what a name asks for that can be a file's
 pub listed_name-file : (held name : List ℕ) → is_file_name held ≡ true → name ≡ held → listed_name held ≡ File name
-listed_name-file held name can is = ap (λ (t : Bool). if t then File held else NoFile (shortened_name held)) can ∙ ap File (sym is)
+listed_name-file held name can is = ap (λ (t : Bool). if t then File held else NoFile (shortened_name held) (name_reason held)) can ∙ ap File (sym is)
 
 -- and what another one asks for
-pub listed_name-no_file : (held name : List ℕ) → is_file_name held ≡ false → name ≡ shortened_name held → listed_name held ≡ NoFile name
-listed_name-no_file held name cannot is = ap (λ (t : Bool). if t then File held else NoFile (shortened_name held)) cannot ∙ ap NoFile (sym is)
+pub listed_name-no_file : (held name : List ℕ) (reason : Reason) → is_file_name held ≡ false → name ≡ shortened_name held → reason ≡ name_reason held → listed_name held ≡ NoFile name reason
+listed_name-no_file held name reason cannot is why =
+    ap (λ (t : Bool). if t then File held else NoFile (shortened_name held) (name_reason held)) cannot
+    ∙ ap (λ (r : Reason). NoFile (shortened_name held) r) (sym why) ∙ ap (λ (n : List ℕ). NoFile n reason) (sym is)
 
 -- the next bytes up to one more have come
 came_next : (came bytes : List ℕ) (i : ℕ) (byte : ℕ) → i < length bytes → byte ≡ get_or bytes i 0

@@ -1,3 +1,4 @@
+pub mod Reasons
 pub mod Names
 pub mod Answers
 pub mod Runs

@@ -8,6 +8,8 @@ use Rattle.d64_host.specs.declared.host.HostFault.TheVariants.{Missing, Device, 
 use Rattle.d64_script.specs.Output.{Account, AppendsPart, Writes, account_of}
 use Rattle.d64_script.specs.declared.output.OutputStream.{OutputStream}
 use Rattle.d64_collection.specs.Names.{Asked, File, NoFile}
+use Rattle.d64_collection.specs.Reasons.{IsReason, with_known_reason}
+use Rattle.d64_collection.specs.declared.reason.Reason.{Reason}
 use Rattle.d64_collection.specs.Answers.{Answer, Conduct, worse_verdict}
 use Rattle.d64_collection.specs.declared.report.Verdict.{Verdict}
 use Rattle.d64_script.specs.declared.output.WriteFault.{WriteFault}
@@ -66,12 +68,24 @@ IsFetched name old answer new =
 -- file the host is asked nothing
 abbrev pub IsRead : Asked → HostState → Option (List ℕ) → HostState → Type 0
 IsRead (File name) old bytes new = (answer : Result (List ℕ) HostFault) × IsFetched name old answer new × (given_by answer ≡ Some bytes)
-IsRead (NoFile name) old bytes new = (bytes ≡ None) × (new ≡ old)
+IsRead (NoFile name reason) old bytes new = (bytes ≡ None) × (new ≡ old)
+
+-- why what was asked for could not be read, as far as the host can say: no reason where it was
+-- read, that of a name that can be no file's, and else that of the fault of the read
+abbrev pub SaysWhy : Asked → HostState → Option (List ℕ) → HostState → Option Reason → Type 0
+SaysWhy asked old (Some bytes) new reason = reason ≡ None
+SaysWhy (File name) old None new reason =
+    (fault : HostFault) × IsFetched name old (Err fault) new × (given_by (Err fault) ≡ Some None) × IsReason new.files name fault reason
+SaysWhy (NoFile name why) old None new reason = reason ≡ Some why
+
+-- an answer with the reason, where one is known, behind what is complained
+abbrev pub explained : Option Reason → Answer → Answer
+explained reason answer = record answer { complaint = with_known_reason reason answer.complaint }
 
 -- how the name is shown to a report
 abbrev pub shown_name : Asked → List ℕ
 shown_name (File name) = name
-shown_name (NoFile name) = name
+shown_name (NoFile name reason) = name
 
 -- an answer was told: all of it went to the output, which was flushed, and to the standard error,
 -- unless that failed; and its verdict counts
@@ -101,12 +115,16 @@ Begins heading old new (Err faults.Write) = AppendsPart old.contents new.content
 Begins heading old new (Err faults.Memory) = new ≡ old
 Begins heading old new (Err faults.List) = ⊥
 
--- a file is read, and this is answered
+-- a file is read, and this is answered; where it could not be read, with the reason
 pub record Serves (conduct : Conduct) (asked : Asked) (old : HostState) (answer : Answer) (new : HostState) : Type 0 where
   pub bytes : Option (List ℕ)
   pub host : HostState
   pub read : IsRead asked old bytes host
-  pub done : conduct.does (shown_name asked) bytes host answer new
+  pub plain : Answer
+  pub done : conduct.does (shown_name asked) bytes host plain new
+  pub reason : Option Reason
+  pub why : SaysWhy asked old bytes host reason
+  pub is : answer ≡ explained reason plain
 
 -- a file is answered: what is answered of it is told
 pub record Answers (conduct : Conduct) (asked : Asked) (old new : Stand) : Type 0 where
@@ -125,12 +143,27 @@ pub record FailsToTell (conduct : Conduct) (asked : Asked) (old new : Stand) : T
   pub served : Serves conduct asked old.host answer new.host
   pub told : IsCut answer old.told new.told
 
--- there was no memory to answer a file that was read
+-- there was no memory to answer a file of this name, with these bytes; or, where it could not be
+-- read, to say why
+abbrev pub HaltsAt : Conduct → List ℕ → Option (List ℕ) → HostState → HostState → Type 0
+HaltsAt conduct name (Some bytes) old new = conduct.halts name (Some bytes) old new
+HaltsAt conduct name None old new =
+    conduct.halts name None old new ⊎ ((plain : Answer) × conduct.does name None old plain new)
+
+-- there was no memory to answer a file that was read, or could not be
 pub record Halts (conduct : Conduct) (asked : Asked) (old new : HostState) : Type 0 where
   pub bytes : Option (List ℕ)
   pub host : HostState
   pub read : IsRead asked old bytes host
-  pub halted : conduct.halts (shown_name asked) bytes host new
+  pub halted : HaltsAt conduct (shown_name asked) bytes host new
+
+-- how answering what could not be read ends, where this is the answer
+abbrev pub EndsUnread : Conduct → List ℕ → Option Reason → HostState → HostState → (Verdict → Answer) → Result Verdict RunFault → Type 0
+EndsUnread conduct name reason old new answer (Ok verdict) =
+    (plain : Answer) × conduct.does name None old plain new × (answer verdict ≡ explained reason plain)
+EndsUnread conduct name reason old new answer (Err faults.Memory) = HaltsAt conduct name None old new
+EndsUnread conduct name reason old new answer (Err faults.Write) = ⊥
+EndsUnread conduct name reason old new answer (Err faults.List) = ⊥
 
 -- there was no memory to read a file, or to answer it
 abbrev pub Wants : Conduct → Asked → HostState → HostState → Type 0

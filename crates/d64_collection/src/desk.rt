@@ -1,10 +1,11 @@
 //! Where files are answered, one after another.
 ghost use Rattle.std.specs.Prelude.{◌≡◌, [], true, map, string_bytes, IfOk, OnErr, OnOk};
-ghost use Rattle.d64_collection.specs.Names.{File, NoFile};
+ghost use Rattle.d64_collection.specs.Names.{File, NoFile as no_file};
 ghost use Rattle.d64_collection.specs.Answers.{KeepsQuiet, answer_of};
-ghost use Rattle.d64_collection.specs.Runs.{Begins, EndsAt, EndsServing, Runs, Tells, account_at, stand_at, told_at};
+ghost use Rattle.d64_collection.specs.Runs.{Begins, EndsAt, EndsServing, EndsUnread, Runs, Tells, account_at, stand_at, told_at};
 
 use crate::clerk::Clerk;
+use crate::reason::{Reason, reason_of};
 use crate::report::{AnswerRoom, Verdict};
 use d64_host::{Host, HostFault};
 use d64_script::output::{OutputStream, WriteFault};
@@ -48,6 +49,13 @@ impl From<WriteFault> for RunFault {
     fn from(_fault: WriteFault) -> RunFault {
         RunFault::Write
     }
+}
+
+/// A name that can be no file's: how it is shown, and why it is none.
+#[derive(Clone, Copy, Debug)]
+pub(crate) struct NoFile<'n> {
+    pub(crate) shown: &'n [u8],
+    pub(crate) reason: Reason,
 }
 
 /// The memory of a run, which is kept from file to file, and its worst verdict so far.
@@ -122,6 +130,7 @@ impl Desk {
     }
 
     /// Reads a file of the host, and lets the clerk put the answer into the room.
+    #[tactic(auto, using(crate::proofs::Serving::serves_read, crate::proofs::Serving::halts_read, crate::proofs::Serving::ends_unread))]
     fn serve<H: Host, C: Clerk>(
         &mut self,
         name: &str,
@@ -139,17 +148,41 @@ impl Desk {
                 let bytes = Some(self.bytes.as_slice());
                 Ok(clerk.answer(name.as_bytes(), bytes, host, &mut self.room)?)
             }
-            Err(HostFault::Missing | HostFault::Device | HostFault::TooLong) => {
-                Ok(clerk.answer(name.as_bytes(), None, host, &mut self.room)?)
-            }
             Err(HostFault::Memory(_)) => Err(RunFault::Memory),
+            Err(fault) => {
+                let reason = reason_of(host, name, fault);
+                self.serve_unread(name.as_bytes(), reason, host, clerk)
+            }
         }
     }
 
-    /// Answers a name that is shown so and that can be no file's.
-    pub(crate) fn answer_no_file<H: Host, C: Clerk, W: Write, F: Write>(
+    /// Puts into the room what is printed of a file that could not be read, and the reason behind
+    /// it, if one is known.
+    fn serve_unread<H: Host, C: Clerk>(
         &mut self,
         name: &[u8],
+        reason: Option<Reason>,
+        host: &mut H,
+        clerk: &mut C,
+    ) -> Result<Verdict, RunFault>
+        ensures manner { C.manner clerk.new ≡ C.manner clerk.old }
+        ensures worst { self.new.worst ≡ self.old.worst }
+        ensures quiet { IfOk result (λ verdict. KeepsQuiet (C.conduct (C.manner clerk.old)) → verdict ≡ Verdict.Clean → self.new.room.complaint.items ≡ []) }
+        ensures served { EndsUnread (C.conduct (C.manner clerk.old)) name.now reason (H.state host.old) (H.state host.new)
+            (answer_of self.new.room.printed.items self.new.room.complaint.items) result }
+    {
+        let verdict = clerk.answer(name, None, host, &mut self.room)?;
+        if let Some(reason) = reason {
+            reason.add_to(&mut self.room.complaint)?;
+        }
+        Ok(verdict)
+    }
+
+    /// Answers a name that can be no file's.
+    #[tactic(auto, using(crate::proofs::Serving::serves_no_file, crate::proofs::Serving::halts_no_file))]
+    pub(crate) fn answer_no_file<H: Host, C: Clerk, W: Write, F: Write>(
+        &mut self,
+        name: NoFile<'_>,
         host: &mut H,
         clerk: &mut C,
         output: &mut OutputStream<'_, W>,
@@ -161,11 +194,11 @@ impl Desk {
         ensures delivered { OnOk result (output.new.is_delivered ≡ true) }
         ensures unfailed { OnOk result (output.new.has_failed ≡ output.old.has_failed) }
         ensures silent { KeepsQuiet (C.conduct (C.manner clerk.old)) → self.new.worst ≡ Verdict.Clean → (self.old.worst ≡ Verdict.Clean) × (faults.new ≡ faults.old) }
-        ensures answered { EndsAt (C.conduct (C.manner clerk.old)) (NoFile name.now)
+        ensures answered { EndsAt (C.conduct (C.manner clerk.old)) (no_file name.entry.shown.now name.entry.reason)
             (stand_at H.state host.old W.contents output.old F.contents faults.old self.old.worst)
             (stand_at H.state host.new W.contents output.new F.contents faults.new self.new.worst) result }
     {
-        let verdict = clerk.answer(name, None, host, &mut self.room)?;
+        let verdict = self.serve_unread(name.shown, Some(name.reason), host, clerk)?;
         self.tell(verdict, output, faults)?;
         Ok(())
     }

@@ -8,9 +8,11 @@ mod clerk;
 mod desk;
 mod list_desk;
 mod open_name;
+mod reason;
 mod report;
 
 pub use clerk::Clerk;
 pub use desk::{Desk, FILE_BYTES, RunFault};
 pub use list_desk::ListDesk;
+pub use reason::{Reason, reason_of};
 pub use report::{AnswerRoom, Report, Verdict};

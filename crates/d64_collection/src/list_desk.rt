@@ -7,7 +7,7 @@ ghost use Rattle.d64_collection.specs.Runs.{Runs, Stand, stand_at};
 ghost use Rattle.d64_collection.specs.Lists.{HasCome, RunsStream, StopsInList};
 
 use crate::clerk::Clerk;
-use crate::desk::{Desk, RunFault};
+use crate::desk::{Desk, NoFile, RunFault};
 use crate::open_name::OpenName;
 use crate::report::Verdict;
 use d64_host::Host;
@@ -192,9 +192,13 @@ impl ListDesk {
         match self.name.file_name() {
             Some(name) => self.desk.answer_file(name, host, clerk, output, faults),
             None => {
+                let reason = self.name.reason();
                 self.name.shorten();
-                self.desk
-                    .answer_no_file(self.name.as_bytes(), host, clerk, output, faults)
+                let name = NoFile {
+                    shown: self.name.as_bytes(),
+                    reason,
+                };
+                self.desk.answer_no_file(name, host, clerk, output, faults)
             }
         }
     }

@@ -1,7 +1,8 @@
 //! The name of a list that is being read.
 ghost use Rattle.std.specs.Prelude.{◌≡◌, ◌≤◌, ◌<◌, if◌then◌else◌, [], ◌∷◌, ◌++◌, length, take, MatchOption, true, false, ◌==◌};
-ghost use Rattle.d64_collection.specs.Names.{is_file_name, is_name, shortened_name};
+ghost use Rattle.d64_collection.specs.Names.{is_file_name, is_name, name_reason, shortened_name};
 
+use crate::reason::Reason;
 use arrayvec::ArrayVec;
 use std::marker::Model;
 
@@ -74,6 +75,17 @@ impl OpenName {
         match str::from_utf8(self.bytes.as_slice()) {
             Ok(name) => Some(name),
             Err(_) => None,
+        }
+    }
+
+    /// Why the name can be no file's, where it can be none.
+    pub(crate) fn reason(&self) -> Reason
+        ensures { result ≡ name_reason self.now }
+    {
+        if self.bytes.len() > NAME_BYTES {
+            Reason::LongName
+        } else {
+            Reason::NotUtf8
         }
     }
 

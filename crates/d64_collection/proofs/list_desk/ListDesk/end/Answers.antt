@@ -17,7 +17,7 @@ returns-in-Some-clause-answered g c =
 pub returns-in-None-clause-answered : goal.returns-in-None-clause-answered
 returns-in-None-clause-answered g c =
     let named : is_name c.args.self.now.name ≡ true = search rules in
-    Runs-name _ _ _ _ c.args.self.now.name _ named (listed_name-no_file c.args.self.now.name _ c.in-None.ensures (search rules)) c.answer_no_file.ensures.answered
+    Runs-name _ _ _ _ c.args.self.now.name _ named (listed_name-no_file c.args.self.now.name _ _ c.in-None.ensures (search rules) c.reason-reason.ensures) c.answer_no_file.ensures.answered
 
 pub returns-in-None-clause-never : goal.returns-in-None-clause-never
 returns-in-None-clause-never g c = EndsAt-never _ _ _ _ c.answer_no_file.result c.answer_no_file.ensures.answered
