@@ -5,6 +5,7 @@ It has a folder of its own, which goes with it, and each address that isn't a fi
 import base64
 import json
 import os
+import re
 import select
 import shutil
 import subprocess
@@ -101,6 +102,10 @@ class Browser:
         """Types a text, letter by letter."""
         for letter in text:
             self.ask("Input.dispatchKeyEvent", type="char", text=letter)
+
+    def sheets(self):
+        """On how many sheets the page is printed."""
+        return len(re.findall(rb"/Type */Page\b", base64.b64decode(self.ask("Page.printToPDF", paperWidth=8.27, paperHeight=11.69)["data"])))
 
     def picture(self, path, width, height, dark=False, media=""):
         """Writes what is seen of the page in a window of this size to a file, as PNG."""

@@ -6,7 +6,7 @@ use Rattle.d64_catalogue.specs.Script.{script}
 -- the beginning of the page: its language, what it may load, of scripts only its own (by its
 -- digest), and its title
 unfoldable pub opening : List ℕ
-opening = codes "<!DOCTYPE html>\n<html lang=\"en\">\n<head>\n<meta charset=\"utf-8\">\n<meta name=\"viewport\" content=\"width=device-width, initial-scale=1\">\n<meta http-equiv=\"Content-Security-Policy\" content=\"default-src 'none'; style-src 'unsafe-inline'; script-src 'sha256-O5NvN2Y5uY07umS5tjxswLN3hZXI8q2qqRLlHg55YUU='; base-uri 'none'; form-action 'none'\">\n<title>Disks</title>\n"
+opening = codes "<!DOCTYPE html>\n<html lang=\"en\">\n<head>\n<meta charset=\"utf-8\">\n<meta name=\"viewport\" content=\"width=device-width, initial-scale=1\">\n<meta http-equiv=\"Content-Security-Policy\" content=\"default-src 'none'; style-src 'unsafe-inline'; script-src 'sha256-TD4h3keVhuO1sG4/VpmLZV2bySAgO6CpnTw6jgvpkRs='; base-uri 'none'; form-action 'none'\">\n<title>Disks</title>\n"
 
 -- the end of its head, and what stands above the sections: the search field, the buttons, and how
 -- many disks are shown

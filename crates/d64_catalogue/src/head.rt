@@ -14,7 +14,7 @@ const OPENING: &[u8] = b"<!DOCTYPE html>\n\
 <head>\n\
 <meta charset=\"utf-8\">\n\
 <meta name=\"viewport\" content=\"width=device-width, initial-scale=1\">\n\
-<meta http-equiv=\"Content-Security-Policy\" content=\"default-src 'none'; style-src 'unsafe-inline'; script-src 'sha256-O5NvN2Y5uY07umS5tjxswLN3hZXI8q2qqRLlHg55YUU='; base-uri 'none'; form-action 'none'\">\n\
+<meta http-equiv=\"Content-Security-Policy\" content=\"default-src 'none'; style-src 'unsafe-inline'; script-src 'sha256-TD4h3keVhuO1sG4/VpmLZV2bySAgO6CpnTw6jgvpkRs='; base-uri 'none'; form-action 'none'\">\n\
 <title>Disks</title>\n";
 
 /// The end of its head, and what stands above the sections: the search field, the buttons, and how

@@ -19,24 +19,42 @@ addEventListener(\"DOMContentLoaded\", () => {\n\
 
 /// What is shown: the sections and files whose name holds what is typed, of the state that is asked
 /// for.
-const SHOWING: &[u8] = b"  let state = \"\", last = \"\", rest = [], frame;\n\
+const SHOWING: &[u8] = b"  let state = \"\", last = \"\", rest = [], noted = [], frame;\n\
 \x20 const more = (most = 100) => {\n\
 \x20   for (const disk of rest.splice(0, most)) known(disk).box.hidden = disk.hidden = false;\n\
 \x20   frame = rest.length && requestAnimationFrame(() => more());\n\
 \x20 };\n\
+\x20 const counted = (number) => number === 1 ? \"1 file\" : `${number} files`;\n\
+\x20 const unfold = (kept, text) => {\n\
+\x20   let room = 400;\n\
+\x20   for (const disk of disks) disk.box.open = false;\n\
+\x20   for (const part of noted.splice(0)) delete part.dataset.found;\n\
+\x20   for (const disk of text && kept) {\n\
+\x20     if (disk.held) room -= disk.files.filter((file) => file.holds).length;\n\
+\x20     disk.box.open = disk.held ? room >= 0 : kept.length <= 20;\n\
+\x20     if (!disk.held || disk.box.open) continue;\n\
+\x20     const [part] = all(\".contents\", disk.box);\n\
+\x20     part.dataset.found = `${counted(disk.held)} found`;\n\
+\x20     noted.push(part);\n\
+\x20   }\n\
+\x20 };\n\
 \x20 const show = () => {\n\
-\x20   const text = field.value.toLowerCase();\n\
+\x20   const text = field.value.toLowerCase(), asked = text && state + \" \" + text;\n\
 \x20   const kept = disks.filter((disk) => {\n\
 \x20     const whole = !text || known(disk).names.some((name) => name.includes(text)), files = disk.files || [];\n\
-\x20     for (const file of files) file.holds = whole || file.name.includes(text);\n\
-\x20     const found = (whole || files.some((file) => file.holds)) && (!state || disk.box.className === state);\n\
+\x20     const held = text ? files.filter((file) => file.name.includes(text)) : [];\n\
+\x20     for (const file of files) file.holds = whole;\n\
+\x20     for (const file of held) file.holds = true;\n\
+\x20     disk.held = held.length;\n\
+\x20     const found = (whole || disk.held) && (!state || disk.box.className === state);\n\
 \x20     if (!found && !disk.hidden) disk.box.hidden = disk.hidden = true;\n\
 \x20     if (found) for (const file of files) if (file.hidden === file.holds) file.row.hidden = file.hidden = !file.holds;\n\
 \x20     return found;\n\
 \x20   });\n\
-\x20   if (text !== last) for (const disk of disks) disk.box.open = text && kept.length <= 20;\n\
-\x20   last = text;\n\
-\x20   count.value = `${kept.length} of ${disks.length} disks`;\n\
+\x20   if (asked !== last) unfold(kept, text);\n\
+\x20   last = asked;\n\
+\x20   const held = kept.reduce((sum, disk) => sum + disk.held, 0);\n\
+\x20   count.value = `${kept.length} of ${disks.length} disks` + (text && `, ${counted(held)}`);\n\
 \x20   cancelAnimationFrame(frame);\n\
 \x20   rest = kept.filter((disk) => disk.hidden);\n\
 \x20   more();\n\

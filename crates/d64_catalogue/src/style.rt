@@ -46,6 +46,8 @@ span,p{font-size:.9rem}\n\
 span.host,.contents{color:var(--soft)}\n\
 .state,p{grid-area:1/4;margin:0;text-align:right;font-weight:600;color:var(--good)}\n\
 .contents{grid-column:4;text-align:right}\n\
+.contents[data-found]::after{content:\", \" attr(data-found);color:var(--ink);font-weight:600}\n\
+[open] .contents::after{content:none}\n\
 .amiss .state,p{color:var(--bad)}\n\
 [data-sign] .state{color:var(--odd)}\n\
 ul{padding:0;list-style:none;color:var(--bad);font-size:.9rem}\n\
@@ -58,10 +60,11 @@ table:not(:has(td)){display:none}\n\
 table{width:calc(100% - 4rem);border-collapse:collapse;font:.875rem/1.6 var(--mono)}\n\
 th,td{padding:.1rem .9rem .1rem 0;text-align:left;vertical-align:top;font-weight:400}\n\
 thead th,tbody td{white-space:nowrap}\n\
-tbody td:last-child{white-space:normal;width:45%}\n\
+tbody td:last-child{white-space:normal}\n\
 thead th{font:600 .75rem/1.6 system-ui,sans-serif;color:var(--soft);border-bottom:1px solid var(--line)}\n\
 tr :first-child{width:3.5rem;text-align:right}\n\
-tbody th{white-space:pre-wrap;overflow-wrap:anywhere}\n\
+tr :nth-child(3){width:4.5rem}\n\
+tbody th{width:40%;min-width:calc(18ch + .9rem);white-space:pre-wrap;overflow-wrap:anywhere}\n\
 tbody th::before,tbody th::after,.name::before,.name::after{content:\"\\\"\";color:var(--soft);font-weight:400}\n\
 .whole::before{content:\"\\2713  \";color:var(--good)}\n\
 .broken{color:var(--bad)}\n\
@@ -74,8 +77,11 @@ svg{display:block;max-width:calc(100% - 4rem);border-radius:.4rem}\n\
 /// What differs for the keyboard, on a narrow screen, and in print.
 const MEDIUM_RULES: &[u8] = b":focus-visible{outline:3px solid var(--good);outline-offset:2px}\n\
 summary:focus-visible{outline-offset:-4px;border-radius:.6rem}\n\
-@media (max-width:40rem){summary,section{grid-template-columns:1.6rem auto 1fr .8rem}summary::after{grid-column:4}.host,.contents,.state,p{grid-area:auto/2/auto/4;text-align:left}input{flex-basis:100%}ul,table,svg{margin-left:.9rem}table,svg{width:calc(100% - 1.8rem);max-width:none}output{text-align:left}}\n\
-@media print{:root{color-scheme:light;--ink:#000;--paper:#fff}body{max-width:none;padding:0}header{position:static}.tools,summary::after{display:none}details{break-inside:avoid}details::details-content{content-visibility:visible;display:block}}\n";
+@media (max-width:40rem){summary,section{grid-template-columns:1.6rem auto 1fr .8rem}summary::after{grid-column:4}.host,.contents,.state,p{grid-area:auto/2/auto/4;text-align:left}input{flex-basis:100%}ul,table,svg{margin-left:.9rem}table,svg{width:calc(100% - 1.8rem);max-width:none}output{text-align:left}table{font-size:.8125rem}table,thead,tbody{display:block}tr{display:grid;grid-template-columns:2.9rem 1fr 2.2rem 4rem}tr :nth-child(n){width:auto;min-width:0}th,td{padding-right:.5rem}.broken,.unknown{grid-column:2/-1}.id{white-space:pre-wrap;overflow-wrap:anywhere}}\n\
+@media print{:root{color-scheme:light;--ink:#000;--paper:#fff}body{max-width:none;padding:0}header{position:static}.tools,summary::after{display:none}\n\
+summary,thead{break-after:avoid}tr,li,svg,section,details:not(:has(tr:nth-child(30),li:nth-child(9))){break-inside:avoid}\n\
+details::details-content{content-visibility:visible;display:block}details:has(svg)::details-content{display:grid;grid-template-columns:6fr 5fr;align-items:start}\n\
+details:has(svg) ul{grid-column:1/3}details:has(svg) :is(table,svg){width:auto;max-width:none;margin:0 .9rem .9rem}details:has(svg) tr :nth-child(n+2){width:auto}.whole{white-space:nowrap!important}}\n";
 
 /// Adds the rules of the colours, light and dark, and the page.
 #[tactic(auto, unfolding(crate::specs::Style::page_rules))]
