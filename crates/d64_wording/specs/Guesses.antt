@@ -1,9 +1,9 @@
 -- What a file whose length no image has seems to be.
-use Rattle.std.specs.Prelude.{ℕ, ◌==◌, ◌&&◌, nat_eq, nat_le, nat_lt, if◌then◌else◌, List, [], ◌∷◌, length, Option, Some, None, codes}
+use Rattle.std.specs.Prelude.{ℕ, ◌==◌, ◌&&◌, nat_eq, nat_le, nat_lt, if◌then◌else◌, List, [], ◌∷◌, ◌++◌, length, Option, Some, None, codes}
 use Rattle.std.specs.List.{starts_with}
 use Rattle.std.specs.Option.{option_map_or}
 use Rattle.d64_wording.specs.declared.guess.Guess.{Guess}
-use Rattle.d64_wording.specs.declared.guess.Guess.TheVariants.{Empty, Tracks36, Tracks37, Tracks38, Tracks39, Tracks41, Tracks42, Disk1571, Disk1581, G64, Zip, Gzip, Cut35, Cut40}
+use Rattle.d64_wording.specs.declared.guess.Guess.TheVariants.{Empty, Tracks36, Tracks37, Tracks38, Tracks39, Tracks41, Tracks42, Disk1571, Disk1581, D67, D80, D82, G64, Nib, T64, P00, Zip, Gzip, Cut35, Cut40}
 
 -- files that are known by their length: images of other sizes, each without read codes and with one
 -- a block. A track beyond the 35th has 17 blocks
@@ -18,12 +18,17 @@ lengths =
     ∷ (205312, Tracks42) ∷ (206114, Tracks42)
     ∷ (349696, Disk1571) ∷ (351062, Disk1571)
     ∷ (819200, Disk1581) ∷ (822400, Disk1581)
+    ∷ (176640, D67) ∷ (533248, D80) ∷ (1066496, D82)
     ∷ []
 
--- files that are known by the bytes that they begin with
+-- files that are known by the bytes that they begin with; a P00 file before a T64 archive, with
+-- whose letters it begins
 unfoldable pub first_bytes : List (List ℕ × Guess)
 first_bytes =
     (codes "GCR-1541", G64)
+    ∷ (codes "MNIB-1541-RAW", Nib)
+    ∷ (codes "C64File" ++ 0 ∷ [], P00)
+    ∷ (codes "C64", T64)
     ∷ (0x50 ∷ 0x4B ∷ 3 ∷ 4 ∷ [], Zip)
     ∷ (0x1F ∷ 0x8B ∷ [], Gzip)
     ∷ []
@@ -73,7 +78,13 @@ guess_text Tracks41 = codes "41 tracks"
 guess_text Tracks42 = codes "42 tracks"
 guess_text Disk1571 = codes "a 1571 image"
 guess_text Disk1581 = codes "a 1581 image"
+guess_text D67 = codes "a D67 image"
+guess_text D80 = codes "a D80 image"
+guess_text D82 = codes "a D82 image"
 guess_text G64 = codes "a G64 image"
+guess_text Nib = codes "a NIB image"
+guess_text T64 = codes "a T64 archive"
+guess_text P00 = codes "a P00 file"
 guess_text Zip = codes "a zip archive"
 guess_text Gzip = codes "a gzip file"
 guess_text Cut35 = codes "a 35-track image cut short"

@@ -23,8 +23,20 @@ pub enum Guess {
     Disk1571,
     /// An image of a 1581 disk, with read codes or without them.
     Disk1581,
+    /// An image of a 2040 disk.
+    D67,
+    /// An image of an 8050 disk.
+    D80,
+    /// An image of an 8250 disk.
+    D82,
     /// An image of the bits of a 1541 disk.
     G64,
+    /// An image of the bits of a 1541 disk as nibtools reads it.
+    Nib,
+    /// A tape archive of the emulator C64S.
+    T64,
+    /// A single file of the emulator PC64.
+    P00,
     /// A zip archive.
     Zip,
     /// A file that gzip packed.
@@ -50,6 +62,9 @@ fn guess_by_length(len: usize) -> Option<Guess>
         205_312 | 206_114 => Some(Guess::Tracks42),
         349_696 | 351_062 => Some(Guess::Disk1571),
         819_200 | 822_400 => Some(Guess::Disk1581),
+        176_640 => Some(Guess::D67),
+        533_248 => Some(Guess::D80),
+        1_066_496 => Some(Guess::D82),
         _ => None,
     }
 }
@@ -61,6 +76,15 @@ fn guess_by_first_bytes(bytes: &[u8]) -> Option<Guess>
 {
     if bytes.starts_with(b"GCR-1541") {
         return Some(Guess::G64);
+    }
+    if bytes.starts_with(b"MNIB-1541-RAW") {
+        return Some(Guess::Nib);
+    }
+    if bytes.starts_with(b"C64File\0") {
+        return Some(Guess::P00);
+    }
+    if bytes.starts_with(b"C64") {
+        return Some(Guess::T64);
     }
     if bytes.starts_with(b"PK\x03\x04") {
         return Some(Guess::Zip);
@@ -110,7 +134,13 @@ pub(crate) fn guess_text(guess: Guess) -> &'static [u8]
         Guess::Tracks42 => b"42 tracks",
         Guess::Disk1571 => b"a 1571 image",
         Guess::Disk1581 => b"a 1581 image",
+        Guess::D67 => b"a D67 image",
+        Guess::D80 => b"a D80 image",
+        Guess::D82 => b"a D82 image",
         Guess::G64 => b"a G64 image",
+        Guess::Nib => b"a NIB image",
+        Guess::T64 => b"a T64 archive",
+        Guess::P00 => b"a P00 file",
         Guess::Zip => b"a zip archive",
         Guess::Gzip => b"a gzip file",
         Guess::Cut35 => b"a 35-track image cut short",

@@ -18,7 +18,7 @@ fn names_are_shown_without_controls(rt: HostRuntime) -> Result<(), Fail> {
 }
 
 /// What is told of files of so many bytes that are 0.
-const LENGTHS: [(usize, &[u8]); 7] = [
+const LENGTHS: [(usize, &[u8]); 9] = [
     (
         174_000,
         b"d64sh: x.d64: wrong length 174000 (a 35-track image cut short)\n",
@@ -35,6 +35,14 @@ const LENGTHS: [(usize, &[u8]); 7] = [
     (
         822_400,
         b"d64sh: x.d64: wrong length 822400 (a 1581 image)\n",
+    ),
+    (
+        176_640,
+        b"d64sh: x.d64: wrong length 176640 (a D67 image)\n",
+    ),
+    (
+        1_066_496,
+        b"d64sh: x.d64: wrong length 1066496 (a D82 image)\n",
     ),
     (0, b"d64sh: x.d64: wrong length 0 (an empty file)\n"),
     (5, b"d64sh: x.d64: wrong length 5\n"),
@@ -58,9 +66,12 @@ fn first_bytes_are_told(rt: HostRuntime) -> Result<(), Fail> {
     wrong_length_line(&mut out, b"x", b"GCR-1541\0")?;
     wrong_length_line(&mut out, b"x", b"PK\x03\x04")?;
     wrong_length_line(&mut out, b"x", b"\x1f\x8b")?;
+    wrong_length_line(&mut out, b"x", b"C64 tape image file")?;
+    wrong_length_line(&mut out, b"x", b"C64File\0x")?;
+    wrong_length_line(&mut out, b"x", b"MNIB-1541-RAW\x03")?;
     assert_eq!(rt;
         out.as_slice(),
-        b"d64sh: a\\u{a}b: cannot be read\nd64sh: x: wrong length 9 (a G64 image)\nd64sh: x: wrong length 4 (a zip archive)\nd64sh: x: wrong length 2 (a gzip file)\n".as_slice()
+        b"d64sh: a\\u{a}b: cannot be read\nd64sh: x: wrong length 9 (a G64 image)\nd64sh: x: wrong length 4 (a zip archive)\nd64sh: x: wrong length 2 (a gzip file)\nd64sh: x: wrong length 19 (a T64 archive)\nd64sh: x: wrong length 9 (a P00 file)\nd64sh: x: wrong length 14 (a NIB image)\n".as_slice()
     );
     Ok(())
 }
