@@ -2,7 +2,7 @@
  * scripts/sweep-survey-names and scripts/sweep-extract.
  *
  * A call is counted where its path is relative or its descriptor is none of the standard streams and of no file below /proc,
- * in which the system tells of the process; with SWEEP_STREAMS the standard streams count too, and with SWEEP_BELOW the paths
+ * in which the system shows the process; with SWEEP_STREAMS the standard streams count too, and with SWEEP_BELOW the paths
  * that begin with it. SWEEP_LOG names the file that gets a line for each: its name and the path, or the number of a standard stream.
  * SWEEP_AT is the number of the call, from 1, and SWEEP_HOW what becomes of it: the number of an error; `short`, half of a
  * write, or one byte of a read; `full`, half of a write, and no room from then on; `gone`, an error of the device, as every

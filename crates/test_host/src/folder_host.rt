@@ -3,7 +3,7 @@
 use d64_host::{FolderFault, FolderHost, Host, HostFault};
 use std::fs;
 use std::io::Read;
-use std::os::unix::fs::symlink;
+use std::os::unix::fs::{MetadataExt, symlink};
 use std::test::Fail;
 
 #[test]
@@ -35,6 +35,31 @@ fn keeps_files_of_the_system(rt: HostRuntime) -> Result<(), Fail> {
     assert!(rt; host.store(rt.alloc(), folder, &[1]) == Err(HostFault::Device));
     fs::remove_dir(&rt, folder)?;
     assert_eq!(rt; host.failures(), 3);
+    Ok(())
+}
+
+#[test]
+fn stores_through_links(rt: HostRuntime) -> Result<(), Fail> {
+    let file = "d64-shell-linked-file-test";
+    let link = "d64-shell-link-to-a-file-test";
+    let other = "d64-shell-link-to-a-link-test";
+    let mut host = FolderHost::new(rt.clone()?);
+    symlink(&rt, file, link)?;
+    symlink(&rt, link, other)?;
+    host.store(rt.alloc(), other, &[1])?;
+    let made = fs::metadata(&rt, file)?;
+    host.store(rt.alloc(), other, &[2, 3])?;
+    let stored = fs::metadata(&rt, file)?;
+    assert_eq!(rt;
+        host.fetch(rt.alloc(), file, 2)?.as_slice(),
+        [2, 3].as_slice()
+    );
+    assert!(rt; stored.ino() != made.ino() && stored.mode() == made.mode());
+    assert!(rt; fs::symlink_metadata(&rt, link)?.is_symlink());
+    assert!(rt; fs::symlink_metadata(&rt, other)?.is_symlink());
+    for name in [file, link, other] {
+        fs::remove_file(&rt, name)?;
+    }
     Ok(())
 }
 
