@@ -9,3 +9,5 @@ pub mod LinesBack
 pub mod NormalLines
 pub mod WholeTexts
 pub mod FileBytes
+pub mod FaultyTexts
+pub mod Stops

@@ -10,6 +10,8 @@ pub mod Listing
 pub mod Modes
 pub mod ListFault
 pub mod TextLine
+pub mod Causes
 pub mod BasicText
+pub mod FaultyLines
 pub mod NormalText
 pub mod Laws

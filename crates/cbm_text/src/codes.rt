@@ -1,7 +1,8 @@
 //! The crunched bytes of a line, and what they stand for.
 
-ghost use Rattle.std.specs.Prelude.{◌≡◌, ℕ, List, ◌++◌, MatchOption, IfOk, OnOk};
+ghost use Rattle.std.specs.Prelude.{◌≡◌, ◌≤◌, ℕ, List, ◌++◌, length, MatchOption, IfOk, OnOk};
 ghost use Rattle.cbm_text.specs.BasicText.{most_bytes};
+ghost use Rattle.cbm_text.specs.Causes.{StopsAfter};
 ghost use Rattle.cbm_text.specs.Crunching.{Crunched};
 ghost use Rattle.cbm_text.specs.Modes.{CrunchesUpTo, crunches_anyhow, expanded_bytes, first_code, free_code, text_of_code, single_code};
 
@@ -42,6 +43,23 @@ pub(crate) fn crunch_bytes(alloc: Global, bytes: &[u8]) -> Result<Option<Vec<u8>
         left = rest;
     }
     Ok(Some(codes))
+}
+
+/// What is left of a line from the first byte on that crunches to nothing.
+pub(crate) fn uncrunched(bytes: &[u8]) -> &[u8]
+    ensures stops { (codes : List ℕ) × StopsAfter Mode.Free bytes.now codes result.now }
+    ensures shorter { length result.now ≤ length bytes.now }
+{
+    let mut mode = Mode::Free;
+    let mut left = bytes;
+    while !left.is_empty() {
+        let Some((found, rest)) = next_code(mode, left) else {
+            return left;
+        };
+        mode = mode.after(found);
+        left = rest;
+    }
+    left
 }
 
 /// The first crunched byte of a text that begins at such a place, and what follows.

@@ -51,7 +51,7 @@ pub fn crunch(alloc: Global, start: u16, text: &[u8]) -> Result<Vec<u8>, BasicFa
 /// Adds the line of a program that a text line stands for, at an address: the address of what
 /// follows. The line's place in the text goes into a fault.
 #[tactic(auto, using(crate::proofs::TextPrograms::zero_fault, crate::proofs::TextPrograms::long_fault))]
-fn push_text_line(
+pub(crate) fn push_text_line(
     alloc: Global,
     file: &mut Vec<u8>,
     at: u16,

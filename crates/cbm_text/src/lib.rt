@@ -6,9 +6,11 @@
 //! chapter on BASIC; how bytes are written as text is this project's own (`petscii`).
 #![tactic(auto)]
 
+mod cause;
 mod codes;
 mod crunching;
 mod fault;
+mod faulty_text;
 mod keyword;
 mod laws;
 mod listing;
@@ -16,8 +18,10 @@ mod mode;
 mod program;
 mod text_line;
 
+pub use cause::Cause;
 pub use crunching::crunch;
 pub use fault::{BasicFault, ListFault};
+pub use faulty_text::{FaultyLine, faulty_lines};
 pub use laws::{line_comes_back, one_program, text_comes_back};
 pub use listing::list;
 pub use petscii::{TextFault, from_text, one_outcome, spelling_reads_back, to_text};

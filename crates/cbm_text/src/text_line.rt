@@ -26,6 +26,14 @@ pub(crate) fn split_number(text: &[u8], place: usize) -> Result<(u16, &[u8]), Ba
     }
 }
 
+/// What follows the number of a text line and one space.
+pub(crate) fn rest_of(text: &[u8]) -> &[u8]
+    ensures { result.now ≡ rest_of text.now }
+{
+    let (_, rest) = split_digits(after_spaces(text));
+    after_space(rest)
+}
+
 /// A text line without the spaces that it begins with.
 fn after_spaces(text: &[u8]) -> &[u8]
     ensures { result.now ≡ unspaced_line text.now }

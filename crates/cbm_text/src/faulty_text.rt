@@ -1,0 +1,73 @@
+//! The faulty lines of a BASIC text.
+
+ghost use Rattle.std.specs.Prelude.{◌≡◌, ◌≤◌, List, All, IfOk, length, take};
+ghost use Rattle.cbm_text.specs.BasicText.{TellsLine};
+ghost use Rattle.cbm_text.specs.FaultyLines.{AreFaultyIn, IsNoted};
+
+use crate::cause::{Cause, cause_of};
+use crate::crunching::push_text_line;
+use crate::fault::BasicFault;
+use d64_script::raw_lines::{self, RawLines};
+use std::alloc::{AllocError, Global};
+
+/// A faulty line of a BASIC text.
+#[derive(Clone, Copy, Debug)]
+pub struct FaultyLine<'t> {
+    /// Its least fault, in the order of `BasicFault`.
+    pub fault: BasicFault,
+    pub cause: Cause,
+    /// The line without its end.
+    pub text: &'t [u8],
+}
+
+/// The faulty lines of a BASIC text whose program is loaded at `start`, the first `most` of them. A
+/// faulty line gives nothing to the program, so that those behind it begin where it would have
+/// begun.
+pub fn faulty_lines<'t>(
+    alloc: Global,
+    start: u16,
+    text: &'t [u8],
+    most: usize,
+) -> Result<Vec<FaultyLine<'t>>, AllocError>
+    ensures faulty { IfOk result (λ lines. (all : List FaultyLine) × AreFaultyIn start text.now all × (lines.items ≡ take most all)) }
+    ensures places { IfOk result (λ lines. All (λ line. TellsLine text.now line.fault) lines.items) }
+{
+    let mut file = Vec::new(alloc);
+    let mut lines = Vec::new(alloc);
+    let mut at = start;
+    let mut place = 0;
+    for raw in RawLines(text) {
+        place += 1;
+        let line = raw_lines::text(raw);
+        if raw_lines::is_skipped(line) {
+            continue;
+        }
+        let outcome = push_text_line(alloc, &mut file, at, line, place);
+        at = noted(alloc, &mut lines, most, at, line, outcome)?;
+    }
+    Ok(lines)
+}
+
+/// The address behind a line: that of the program's line, or the same one where the line is faulty,
+/// which is then added, if there are fewer than `most`.
+fn noted<'t>(
+    alloc: Global,
+    lines: &mut Vec<FaultyLine<'t>>,
+    most: usize,
+    at: u16,
+    text: &'t [u8],
+    outcome: Result<u16, BasicFault>,
+) -> Result<u16, AllocError>
+    requires { length lines.old.items ≤ most }
+    ensures { IfOk result (λ next. IsNoted at text.now most outcome lines.old.items next lines.new.items) }
+{
+    let fault = match outcome {
+        Ok(next) => return Ok(next),
+        Err(fault) => fault,
+    };
+    let cause = cause_of(alloc, text, &fault)?;
+    if lines.len() < most {
+        lines.push(FaultyLine { fault, cause, text })?;
+    }
+    Ok(at)
+}
