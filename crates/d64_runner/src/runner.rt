@@ -1,10 +1,11 @@
 //! A script, from its bytes to the bytes of its answers, line by line.
-ghost use Rattle.std.specs.Prelude.{◌≡◌, ◌≤◌, ◌<◌, ◌^◌, ◌+◌, ◌++◌, [], true, false, ℕ, List, length, MatchOption, OnOk, OnErr};
+ghost use Rattle.std.specs.Prelude.{◌≡◌, ◌≤◌, ◌<◌, ◌^◌, ◌+◌, ◌++◌, [], true, false, ℕ, List, length, Some, Err, MatchOption, OnOk, OnErr};
 ghost use Rattle.std.specs.Io.KnownBytes.{Keeps};
 ghost use Rattle.d64_script.specs.HeldLine.{Holds, Says};
 ghost use Rattle.d64_script.specs.Input.{IsUnread, reading_of};
 ghost use Rattle.d64_script.specs.Output.{FailsWith};
 ghost use Rattle.d64_script.specs.RawLines.{lines_of};
+ghost use Rattle.d64_script.specs.Script.{script_limit};
 ghost use Rattle.d64_undo.specs.History.{present_image};
 ghost use Rattle.d64_line.specs.Act.{world_of};
 ghost use Rattle.d64_line.specs.Line.{IsSkipped, IsAnswered};
@@ -289,6 +290,40 @@ impl<'n, 'l, L: Listener> ScriptRunner<'n, 'l, L> {
         state.listener.end(session.image());
         ended
     }
+
+    /// Runs a script that is this text, and prints on an output that has not failed.
+    ///
+    /// No read is made: `Read` comes only where the text is longer than a script may be, after the
+    /// lines that end within that length. `Write` comes only where a write or a flush failed.
+    pub fn run_text<W: Write, H: Host>(
+        self,
+        text: &[u8],
+        output: &mut OutputStream<'_, W>,
+        host: &mut H,
+        session: &mut Session,
+    ) -> Result<Outcome, ShellFault>
+        requires unfailed { output.old.has_failed ≡ false }
+        ensures output { output.new.writer.ghost_name ≡ output.old.writer.ghost_name }
+        ensures ran { Ran (manner_of self.entry.manner) (Some text.now) (Some [])
+            (stand_of (W.contents output.old.writer.now) (world_of (H.state host.old) session.old))
+            (stand_of (W.contents output.new.writer.now) (world_of (H.state host.new) session.new))
+            result }
+        ensures written { OnOk result (output.new.has_failed ≡ false) }
+        ensures failed { result ≡ Err ShellFault.Write → output.new.has_failed ≡ true }
+        ensures long { result ≡ Err ShellFault.Read → script_limit < length text.now }
+    {
+        let ScriptRunner {
+            alloc,
+            manner,
+            listener,
+        } = self;
+        let runner = LineRunner { alloc, manner };
+        let mut state = RunState::new(listener);
+        state.listener.begin(session.image());
+        let ended = runner.run_lines(output, host, session, &mut state, text);
+        state.listener.end(session.image());
+        ended
+    }
 }
 
 /// Delivers what was printed, where something was since the last time.
@@ -353,6 +388,42 @@ impl<'n> LineRunner<'n> {
             room -= count;
         }
         Err(ShellFault::Read)
+    }
+
+    /// Runs a script that is this text, as far as a script may be long.
+    fn run_lines<W: Write, H: Host, L: Listener>(
+        self,
+        output: &mut OutputStream<'_, W>,
+        host: &mut H,
+        session: &mut Session,
+        state: &mut RunState<'_, L>,
+        text: &[u8],
+    ) -> Result<Outcome, ShellFault>
+        requires unfailed { output.old.has_failed ≡ false }
+        requires line { Holds state.old.line [] }
+        requires tally { state.old.tally ≡ record { outcome = record { accepted = 0; refused = 0 }; closed = false } }
+        ensures lent { state.new.listener.ghost_name ≡ state.old.listener.ghost_name }
+        ensures output { output.new.writer.ghost_name ≡ output.old.writer.ghost_name }
+        ensures ran { Ran (manner_of self.entry.manner) (Some text.now) (Some [])
+            (stand_of (W.contents output.old.writer.now) (world_of (H.state host.old) session.old))
+            (stand_of (W.contents output.new.writer.now) (world_of (H.state host.new) session.new))
+            result }
+        ensures written { OnOk result (output.new.has_failed ≡ false) }
+        ensures failed { result ≡ Err ShellFault.Write → output.new.has_failed ≡ true }
+        ensures long { result ≡ Err ShellFault.Read → script_limit < length text.now }
+    {
+        let piece = &text[..text.len().min(SCRIPT_BYTES)];
+        match self.run_piece(output, host, session, state, piece) {
+            Ok(()) => {}
+            Err(_) => return Err(ShellFault::Write),
+        }
+        if state.tally.closed {
+            return Ok(state.tally.outcome);
+        }
+        if text.len() > SCRIPT_BYTES {
+            return Err(ShellFault::Read);
+        }
+        self.run_last(output, host, session, state)
     }
 
     /// Runs the line that the script's end ends, if bytes of one have come.

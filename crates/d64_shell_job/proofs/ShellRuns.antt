@@ -2,13 +2,12 @@
 use Rattle.std.proofs.Common.{◌≡◌, ℕ, List, [], ◌++◌, take, Bor, Option, None, Some, Result, Ok, Err, true, inl, inr, refl, sym, subst, option_copied, unwrap_or}
 use Rattle.std.specs.Io.KnownBytes.{Keeps}
 use Rattle.std.proofs.KnownBytes.{Appends-kept}
-use Rattle.d64_script.specs.Input.{IsUnreadable}
 use Rattle.d64_script.specs.RawLines.{lines_of, ended_lines}
 use Rattle.d64_script.specs.Script.{script_limit}
 use Rattle.d64_host.specs.Files.{HostState}
 use Rattle.d64_undo.specs.History.{History}
 use Rattle.d64_shell_job.specs.Beginnings.{Beginning, Blank, ImageFile, SessionFile, Source, Input, Given, home_of}
-use Rattle.d64_shell_job.specs.ShellRuns.{GivesNoImage, GivesNoSession, HasNoHistory, IsDue, IsFirstHistory, RanFrom, RanShell, IsToldOf}
+use Rattle.d64_shell_job.specs.ShellRuns.{GivesNoImage, GivesNoSession, HasNoHistory, IsDue, IsFirstHistory, IsReadDue, RanFrom, RanShell, IsToldOf}
 use Rattle.d64_job.specs.Outside.{Outside}
 use Rattle.d64_job.specs.Faults.{fault_of_file, fault_of_resume, fault_of_run}
 use Rattle.d64_job.specs.declared.program_fault.ProgramFault.{ProgramFault}
@@ -90,7 +89,7 @@ RanFrom-flushed : (source : Source) (manner : Manner) (reader left : Option (Lis
     → RanFrom source manner reader left old new ended → Keeps new.writer flushed → RanFrom source manner reader left old (record new { writer = flushed }) ended
 RanFrom-flushed Input manner reader left old new flushed ended ran kept = Ran-flushed manner reader left old new flushed ended ran kept
 RanFrom-flushed (Given text) manner reader left old new flushed ended ran kept =
-    let (same, rest, run) = ran in (same, rest, Ran-flushed manner (Some text) rest old new flushed ended run kept)
+    (ran.0, Ran-flushed manner (Some text) (Some []) old new flushed ended ran.1 kept)
 
 -- a script has run from a beginning, and then its output was flushed
 pub RanShell-flushed : (old new : Outside) (ended : Result Outcome ShellFault)
@@ -152,13 +151,12 @@ no_history_due told old last (ImageFile name) source new none = no_image_due non
 no_history_due told old last (SessionFile name) source new none = no_session_due none.0 told source new none.2
 
 -- a fault of a run is due where the run's is
-run_due : (fault : ShellFault) (source : Source) (new : Outside) → (source ≡ Input → fault ≡ Read → IsUnreadable new.reading) → (fault ≡ Write → new.output.has_failed ≡ true)
+run_due : (fault : ShellFault) (source : Source) (new : Outside) → (fault ≡ Read → IsReadDue source new.reading) → (fault ≡ Write → new.output.has_failed ≡ true)
     → IsDue (fault_of_run fault) source new
-run_due Read Input new reads writes = reads refl refl
-run_due Read (Given text) new reads writes = tt
+run_due Read source new reads writes = reads refl
 run_due Write source new reads writes = writes refl
 run_due (Memory error) source new reads writes = tt
 
 pub told_run_due : (told : ProgramFault) (fault : ShellFault) (source : Source) (new : Outside) → told ≡ fault_of_run fault
-    → (source ≡ Input → fault ≡ Read → IsUnreadable new.reading) → (fault ≡ Write → new.output.has_failed ≡ true) → IsDue told source new
+    → (fault ≡ Read → IsReadDue source new.reading) → (fault ≡ Write → new.output.has_failed ≡ true) → IsDue told source new
 told_run_due told fault source new is reads writes = due_by told _ source new is (run_due fault source new reads writes)

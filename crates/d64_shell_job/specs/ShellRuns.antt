@@ -1,8 +1,9 @@
 -- How the job of the shell ends.
-use Rattle.std.specs.Prelude.{◌≡◌, ℕ, ◌==◌, true, false, if◌then◌else◌, List, length, replicate, Option, Some, Result, Ok, Err, ◌⊎◌, ⊤}
+use Rattle.std.specs.Prelude.{◌≡◌, ℕ, ◌<◌, ◌==◌, true, false, if◌then◌else◌, List, [], length, replicate, Option, Some, Result, Ok, Err, ◌⊎◌, ⊤}
 use Rattle.std.specs.Io.KnownBytes.{Keeps}
-use Rattle.d64_script.specs.Input.{IsUnreadable}
+use Rattle.d64_script.specs.Input.{Reading, IsUnreadable}
 use Rattle.d64_script.specs.Output.{Account}
+use Rattle.d64_script.specs.Script.{script_limit}
 use Rattle.d64_host.specs.Files.{HostState}
 use Rattle.d64_host.specs.declared.host.HostFault.{HostFault}
 use Rattle.d64_image.specs.Image.{IsImage, bytes_of, count_of_tracks, is_image_length}
@@ -39,10 +40,10 @@ IsFirstHistory old (ImageFile name) history new =
 IsFirstHistory old (SessionFile name) history new = IsSession history × FetchesFile old name session_limit (Ok (file_of history)) new
 
 -- a script has run that comes from the input, or from the words: then nothing of the input was
--- read, and a reader of the text was
+-- read, and the text is all that there was to read
 abbrev pub RanFrom : Source → Manner → Option (List ℕ) → Option (List ℕ) → RunStand → RunStand → Result Outcome ShellFault → Type 0
 RanFrom Input manner reader left old new ended = Ran manner reader left old new ended
-RanFrom (Given text) manner reader left old new ended = (left ≡ reader) × (rest : Option (List ℕ)) × Ran manner (Some text) rest old new ended
+RanFrom (Given text) manner reader left old new ended = (left ≡ reader) × Ran manner (Some text) (Some []) old new ended
 
 -- the script has run from this beginning, and ended so
 pub record RanShell (beginning : Beginning) (source : Source) (manner : Manner) (old new : Outside) (ended : Result Outcome ShellFault) : Type 0 where
@@ -102,11 +103,15 @@ StoppedBy fault beginning source manner old new =
     HasNoText fault source old new ⊎ (HasNotBegunFor fault beginning old new
     ⊎ ((ended : Result Outcome ShellFault) × RanShell beginning source manner old new ended × IsToldOf ended fault))
 
--- a fault of reading or of writing is due: the input cannot be read to its end, or a write or a
--- flush has failed. A script that the words give is read from memory, and of that nothing is said
+-- a fault of reading is due: the input cannot be read to its end, or the words give more than a
+-- script may have
+abbrev pub IsReadDue : Source → Reading → Type 0
+IsReadDue Input reading = IsUnreadable reading
+IsReadDue (Given text) reading = script_limit < length text
+
+-- a fault is due: of reading, as above; and of writing, where a write or a flush has failed
 abbrev pub IsDue : ProgramFault → Source → Outside → Type 0
-IsDue Read Input new = IsUnreadable new.reading
-IsDue Read (Given text) new = ⊤
+IsDue Read source new = IsReadDue source new.reading
 IsDue Write source new = new.output.has_failed ≡ true
 IsDue other source new = ⊤
 

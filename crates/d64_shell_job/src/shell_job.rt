@@ -3,19 +3,19 @@ ghost use Rattle.std.specs.Prelude.{◌≡◌, ℕ, List, Result, Ok, Err, None,
 ghost use Rattle.d64_host.specs.declared.host.HostFault.{HostFault};
 ghost use Rattle.d64_image.specs.Image.{IsImage, bytes_of};
 ghost use Rattle.d64_undo.specs.SessionFile.{IsSession, file_of};
-ghost use Rattle.d64_script.specs.Input.{IsUnread, IsUnreadable, reading_of};
+ghost use Rattle.d64_script.specs.Input.{IsUnread, reading_of};
 ghost use Rattle.d64_line.specs.Act.{FetchesFile, world_of};
 ghost use Rattle.d64_runner.specs.Runner.{manner_of, stand_of};
 ghost use Rattle.d64_shell_job.specs.Beginnings.{Given, beginning_of, refusals_of, source_by, source_of, text_of_lines};
 ghost use Rattle.d64_shell_job.specs.Scripts.{beginning_in, manner_in, source_in};
-ghost use Rattle.d64_shell_job.specs.ShellRuns.{IsDue, IsFirstHistory, HasNoHistory, GivesNoImage, GivesNoSession, RanFrom, RanShell, StoppedBy, blank_image, session_limit, status_of};
+ghost use Rattle.d64_shell_job.specs.ShellRuns.{IsDue, IsFirstHistory, IsReadDue, HasNoHistory, GivesNoImage, GivesNoSession, RanFrom, RanShell, StoppedBy, blank_image, session_limit, status_of};
 ghost use Rattle.d64_collection.specs.Runs.{file_limit};
 ghost use Rattle.d64_job.specs.Outside.{outside_at};
 
 use d64_host::Host;
 use d64_image::{BLOCKS, Image, blocks_of};
 use d64_job::{ALL_ACCEPTED, ProgramFault, SOME_REFUSED, fetch_file};
-use d64_runner::{Listener, Manner, Outcome, Refusals, ScriptRunner, ShellFault, run_script};
+use d64_runner::{Listener, Manner, Nobody, Outcome, Refusals, ScriptRunner, ShellFault};
 use d64_script::input::InputStream;
 use d64_script::output::OutputStream;
 use d64_undo::{ReadFault, Session, resume_from};
@@ -136,7 +136,7 @@ impl<'n> Script<'n> {
             (stand_of (W.contents output.new.writer.now) (world_of (H.state host.new) session.new))
             result }
         ensures unfailed { OnOk result (output.new.has_failed ≡ false) }
-        ensures unreadable { option_copied self.entry.text ≡ None → result ≡ Err ShellFault.Read → IsUnreadable (reading_of input.new.reads input.new.came input.new.has_failed) }
+        ensures due { result ≡ Err ShellFault.Read → IsReadDue (source_by (option_copied self.entry.text)) (reading_of input.new.reads input.new.came input.new.has_failed) }
         ensures failed { result ≡ Err ShellFault.Write → output.new.has_failed ≡ true }
     {
         let Some(text) = self.text else {
@@ -147,9 +147,13 @@ impl<'n> Script<'n> {
             };
             return runner.run(input, output, host, session);
         };
-        let mut reader = text;
-        let mut given = InputStream::new(&mut reader);
-        run_script(self.alloc, &mut given, output, host, self.manner, session)
+        let mut nobody = Nobody;
+        let runner = ScriptRunner {
+            alloc: self.alloc,
+            manner: self.manner,
+            listener: &mut nobody,
+        };
+        runner.run_text(text, output, host, session)
     }
 }
 

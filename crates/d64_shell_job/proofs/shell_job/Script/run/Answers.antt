@@ -1,7 +1,6 @@
-use Rattle.std.proofs.Common.{Some, refl}
+use Rattle.std.proofs.Common.{refl}
 use Rattle.d64_shell_job.proofs.shell_job.Script.run.Goals as goal
 
--- the text's own reader was read, and nothing of the input
+-- the text was run, and nothing of the input was read
 pub returns-clause-ran : goal.returns-clause-ran
-returns-clause-ran g c =
-    rw (c.in-Some.is) (refl, Some c.run_script.new.input.reader.now.now, rw c.new-given.ensures.kept at c.run_script.ensures.ran)
+returns-clause-ran g c = rw (c.in-Some.is) (refl, c.run_text.ensures.ran)
