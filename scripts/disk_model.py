@@ -366,6 +366,7 @@ class Shell:
     def __init__(self, image, files, folders, home):
         self.images, self.cursor, self.files, self.folders, self.home = [Disk(image)], 0, dict(files), {".", "..", *folders}, home
         self.accepted = self.refused = 0
+        self.refusals = []  # of each refused line its number in the script and its bytes
 
     @classmethod
     def started(cls, words, files, folders=()):
@@ -515,11 +516,12 @@ class Shell:
     def run(self, script, stops=False):
         """What a script prints, which ends after the first refused line where `stops` is set."""
         answers = []
-        for line in lines_of(script):
+        for number, line in enumerate(lines_of(script), 1):
             if stops and self.refused:
                 break
             if len(line.removesuffix(b"\n")) > 1_024:
                 self.refused += 1
+                self.refusals.append((number, line))
                 answers.append(status(32))
                 continue
             text = line.removesuffix(b"\r\n").removesuffix(b"\n")
@@ -531,6 +533,7 @@ class Shell:
             except Refused as refused:
                 answers.append(refused.status)
                 self.refused += 1
+                self.refusals.append((number, text))
                 continue
             if words_of(text)[0] == "quit":
                 break

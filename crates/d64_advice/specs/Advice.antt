@@ -157,6 +157,6 @@ advice_by said command (FilesScratched count) = plain_pieces []
 abbrev pub advice : Said → Status → List Piece
 advice said status = advice_by said (command_of said.word) status
 
--- the line that tells it
-abbrev pub advice_line : Said → List Piece → Bytes
-advice_line said told = codes "d64sh: " ++ (flat_map (said_piece said) told ++ codes "\n")
+-- the words of it, with the line's end
+abbrev pub advice_words : Said → List Piece → Bytes
+advice_words said told = flat_map (said_piece said) told ++ codes "\n"

@@ -38,17 +38,18 @@ abbrev pub is_unsaved : Option Kept → Disk → Bool
 is_unsaved None image = true
 is_unsaved (Some kept) image = not (bytes_eq kept.image (sha256 (bytes_of image)))
 
--- what an accepted line of a command does, where `save` stores under a name by default
-abbrev pub effect_by : Bytes → Said → Command → Effect
-effect_by home said Save = Holds (if length said.first == 0 then home else said.first)
-effect_by home said Keep = Holds said.first
-effect_by home said Read = Replaces said.second
-effect_by home said BlockRead = Replaces said.first
-effect_by home said command = Nothing
+-- what an accepted line of a command does, where `save` stores under the first name by default, and
+-- `read` under the second
+abbrev pub effect_by : Bytes → Bytes → Said → Command → Effect
+effect_by home found said Save = Holds (if length said.first == 0 then home else said.first)
+effect_by home found said Keep = Holds said.first
+effect_by home found said Read = Replaces (if length said.second == 0 then found else said.second)
+effect_by home found said BlockRead = Replaces said.first
+effect_by home found said command = Nothing
 
 -- what an accepted line of these words does
-abbrev pub effect_of : Bytes → Said → Effect
-effect_of home said = effect_by home said (command_of said.word)
+abbrev pub effect_of : Bytes → Bytes → Said → Effect
+effect_of home found said = effect_by home found said (command_of said.word)
 
 -- the line that tells that changes are not saved
 abbrev pub unsaved_line : Bytes

@@ -4,3 +4,7 @@ pub mod Hint
 pub mod Faults
 pub mod Advice
 pub mod Kept
+pub mod LineStart
+pub mod Prompt
+pub mod Leaving
+pub mod Ear

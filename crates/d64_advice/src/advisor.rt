@@ -1,119 +1,340 @@
-//! Who tells a person at a terminal what is wrong with a refused line, and that changes are not
+//! Who says to a person what is wrong with a refused line, and what becomes of changes that are not
 //! saved.
-ghost use Rattle.std.specs.Prelude.{◌≡◌, ℕ, List, if◌then◌else◌, ◌++◌, map, flat_map, false, true, [], OnOk, OnErr};
-ghost use Rattle.std.specs.Io.KnownBytes.{Appends};
+ghost use Rattle.std.specs.Prelude.{◌≡◌, ◌⊎◌, ℕ, List, Some, None, IfSome, if◌then◌else◌, ◌++◌, ◌&&◌, ◌||◌, codes, not, false, true};
+ghost use Rattle.d64_host.specs.Files.{HostState};
 ghost use Rattle.d64_script.specs.HeldLine.{Says};
-ghost use Rattle.d64_script.specs.Output.{AppendsPart, FailsWith, Writes, account_of};
+ghost use Rattle.d64_script.specs.Output.{Writes, account_of};
 ghost use Rattle.d64_script.specs.Status.{is_accepted};
-ghost use Rattle.d64_advice.specs.Advice.{advice, advice_line, pieces};
+ghost use Rattle.d64_undo.specs.History.{present_image};
+ghost use Rattle.d64_advice.specs.Advice.{advice, advice_words, pieces};
+ghost use Rattle.std.specs.Option.{option_map_or};
+ghost use Rattle.d64_advice.specs.LineStart.{IsLineStart};
+ghost use Rattle.d64_advice.specs.Ear.{MayStart, stops_at_refusal};
 ghost use Rattle.d64_advice.specs.Kept.{effect_of, is_unsaved, kept_after, kept_in, unsaved_line};
+ghost use Rattle.d64_advice.specs.Leaving.{IsKeptUnder};
+ghost use Rattle.d64_advice.specs.Prompt.{name_in_prompt, prompt};
 ghost use Rattle.d64_advice.specs.Said.{said_by};
 
 use crate::advice::Advice;
+use crate::command::Command;
+use crate::found::{default_name, file_count};
+use crate::help::ROWS;
+use crate::hint::Hint;
 use crate::kept::{Kept, is_unsaved, kept_after};
+use crate::leaving::keep_session;
+use crate::line_start::line_start;
+use crate::more::more_about;
+use crate::past::Past;
+use crate::prompt::{prompt_name, write_prompt};
 use crate::said::Said;
+use arrayvec::ArrayVec;
+use d64_host::Host;
 use d64_image::Image;
-use d64_runner::Listener;
+use d64_runner::{Listener, Opening, Refusals};
 use d64_script::held_line::HeldLine;
 use d64_script::output::{OutputStream, WriteFault};
+use d64_script::raw_lines::LINE_BYTES;
 use d64_script::status::Status;
+use d64_undo::Session;
+use std::alloc::Global;
 use std::io::Write;
+use std::mem;
 
-/// The line that tells that the last image is held by no file.
+/// The line that says that the last image is held by no file.
 const UNSAVED: &[u8] = b"d64sh: changes are not saved\n";
 
-/// Tells on an output, where it listens, what is wrong with each refused line, and at the end
-/// whether changes are not saved.
+/// Says on an output what is wrong with each refused line: with the number of the line where the
+/// arguments give the script or end it at refusals, and else where lines are typed at a terminal.
+/// There it writes the prompt, too, and says what is shown nowhere else: the commands, which line
+/// was taken back, and what becomes of changes that are not saved.
 #[derive(Drop)]
-pub struct Advisor<'w, W: Write> {
+pub struct Advisor<'w, W: Write, H: Host> {
+    alloc: Global,
     output: OutputStream<'w, W>,
-    is_listening: bool,
+    /// Where a session is kept that is left with changes.
+    host: H,
+    /// Whether the input and the output are a terminal.
+    is_terminal: bool,
+    /// Whether lines are typed there.
+    is_typed: bool,
+    /// Whether refused lines are named by their numbers.
+    is_numbered: bool,
+    /// How many lines of the script have come.
+    lines: usize,
+    /// The first bytes of the line that comes, where lines are named by their numbers.
+    first_bytes: ArrayVec<u8, LINE_BYTES>,
+    /// Whether the prompt was the last that was written.
+    is_prompting: bool,
+    /// Whether the session was left by `quit`, or by the script's end.
+    is_left: bool,
+    /// The name in the prompt.
+    name: Option<Vec<u8>>,
     kept: Option<Kept>,
+    /// How many files the disk lists.
+    files: usize,
+    /// How many changes are made.
+    done: usize,
+    past: Past,
 }
 
-impl<'w, W: Write> Advisor<'w, W> {
-    /// One who tells on this writer, where it is to listen.
-    pub fn new(is_listening: bool, writer: &'w mut W) -> Advisor<'w, W>
+impl<'w, W: Write, H: Host> Advisor<'w, W, H> {
+    /// One who speaks on this writer, which may be a terminal at which lines are typed.
+    pub fn new(alloc: Global, is_terminal: bool, writer: &'w mut W, host: H) -> Advisor<'w, W, H>
         ensures lent { result.output.writer.ghost_name ≡ writer.entry.ghost_name }
         ensures same { result.output.writer.now ≡ writer.old }
-        ensures listens { result.is_listening ≡ is_listening }
+        ensures terminal { result.is_terminal ≡ is_terminal }
     {
         Advisor {
+            alloc,
             output: OutputStream::new(writer),
-            is_listening,
+            host,
+            is_terminal,
+            is_typed: false,
+            is_numbered: false,
+            lines: 0,
+            first_bytes: ArrayVec::new(),
+            is_prompting: false,
+            is_left: false,
+            name: None,
             kept: None,
+            files: 0,
+            done: 0,
+            past: Past::new(alloc),
         }
     }
 
-    /// The session begins with an image: of that nothing is said.
-    pub fn begin_with(&mut self, image: &Image)
+    /// The session begins: of that nothing is said.
+    pub fn begin_with(&mut self, opening: &Opening<'_>, session: &Session)
         ensures output { self.new.output ≡ self.old.output }
-        ensures listens { self.new.is_listening ≡ self.old.is_listening }
-        ensures kept { self.new.kept ≡ Some (kept_in image.now []) }
+        ensures typed { self.new.is_typed ≡ (self.old.is_terminal && not opening.now.is_given) }
+        ensures numbered { self.new.is_numbered ≡ (opening.now.is_given || stops_at_refusal opening.now.refusals) }
+        ensures kept { self.new.is_typed ≡ true → self.new.kept ≡ Some (kept_in (present_image session.now) opening.now.held_in.now) }
+        ensures name { self.new.is_typed ≡ true → IfSome self.new.name (λ name. name.items ≡ name_in_prompt opening.now.home.now) }
     {
-        self.kept = Some(Kept::of(image, b""));
+        self.is_typed = self.is_terminal && !opening.is_given;
+        self.is_numbered = opening.is_given || matches!(opening.refusals, Refusals::Stop);
+        if self.is_typed {
+            self.kept = Some(Kept::of(session.image(), opening.held_in.as_bytes()));
+            self.name = prompt_name(self.alloc, opening.home).ok();
+            self.files = file_count(session.image());
+            self.done = session.done();
+        }
     }
 
-    /// What an answered line does to what is held; and where it was refused, what is wrong is told.
-    pub fn tell(&mut self, home: &str, line: &HeldLine, status: &Status, image: &Image)
+    /// Asks for the next line, where this is the image.
+    pub fn ask_with(&mut self, image: &Image)
         ensures lent { self.new.output.writer.ghost_name ≡ self.old.output.writer.ghost_name }
-        ensures listens { self.new.is_listening ≡ self.old.is_listening }
-        ensures kept { (raw : List ℕ) → Says line.now raw → self.new.kept ≡
-            (if is_accepted status.now then kept_after self.old.kept (effect_of home.now (said_by raw)) image.now else self.old.kept) }
-        ensures told { (raw : List ℕ) → Says line.now raw → is_accepted status.now ≡ false → Writes
+        ensures asked { Writes
             (account_of (W.contents self.old.output.writer.now) self.old.output.has_failed)
             (account_of (W.contents self.new.output.writer.now) self.new.output.has_failed)
-            (advice_line (said_by raw) (advice (said_by raw) status.now)) }
+            (prompt (option_map_or (λ name. name.items) self.old.name (codes "d64sh")) (is_unsaved self.old.kept image.now)) }
+    {
+        let is_unsaved = is_unsaved(self.kept, image);
+        let name = self.name.take();
+        let _ = write_prompt(&mut self.output, bytes_of(&name, b"d64sh"), is_unsaved);
+        self.name = name;
+        self.is_prompting = true;
+    }
+
+    /// What an answered line does to what is held; and where it was refused, what is wrong is said.
+    pub fn tell(&mut self, home: &str, line: &HeldLine, status: &Status, image: &Image)
+        ensures lent { self.new.output.writer.ghost_name ≡ self.old.output.writer.ghost_name }
+        ensures typed { self.new.is_typed ≡ self.old.is_typed }
+        ensures numbered { self.new.is_numbered ≡ self.old.is_numbered }
+        ensures lines { self.new.lines ≡ self.old.lines }
+        ensures kept { (raw : List ℕ) → Says line.now raw → self.old.is_typed ≡ true → is_accepted status.now ≡ true → (found : List ℕ) × (self.new.kept ≡ kept_after self.old.kept (effect_of home.now found (said_by raw)) image.now) }
+        ensures held { is_accepted status.now ≡ false → self.new.kept ≡ self.old.kept }
+        ensures told { (raw : List ℕ) → Says line.now raw → is_accepted status.now ≡ false → (start : List ℕ) × MayStart self.old.is_numbered self.old.lines start × Writes
+            (account_of (W.contents self.old.output.writer.now) self.old.output.has_failed)
+            (account_of (W.contents self.new.output.writer.now) self.new.output.has_failed)
+            (start ++ advice_words (said_by raw) (advice (said_by raw) status.now)) }
         ensures silent { is_accepted status.now ≡ true → self.new.output ≡ self.old.output }
     {
         let said = Said::of(line);
         if status.is_accepted() {
-            self.kept = kept_after(self.kept, home, &said, image);
+            if self.is_typed {
+                let found = default_name(self.alloc, image, said.first);
+                self.kept = kept_after(self.kept, home, bytes_of(&found, b""), &said, image);
+            }
         } else {
-            let _ = write_advice(&mut self.output, &said, Advice::of(&said, status));
+            let advice = Advice::of(&said, status);
+            let _ = match self.start_of(line) {
+                Some(start) => write_advice(&mut self.output, start.as_slice(), &said, advice),
+                None => write_advice(&mut self.output, b"d64sh: ", &said, advice),
+            };
         }
     }
 
-    /// The session ends with an image: where that is not what is held, it is told.
-    pub fn end_with(&mut self, image: &Image)
+    /// Holds the first bytes of the line that comes.
+    fn hold(&mut self, bytes: &[u8]) {
+        let room = LINE_BYTES - self.first_bytes.len();
+        let _ = self
+            .first_bytes
+            .try_extend_from_slice(&bytes[..bytes.len().min(room)]);
+    }
+
+    /// What stands before what is wrong with a line, where the line is named by its number. Of one
+    /// that is too long the first bytes are shown.
+    fn start_of(&self, line: &HeldLine) -> Option<Vec<u8>>
+        ensures { IfSome result (λ start. (self.now.is_numbered ≡ true) × IsLineStart self.now.lines start.items) }
+    {
+        if !self.is_numbered {
+            return None;
+        }
+        let text = line.text().unwrap_or(self.first_bytes.as_slice());
+        match line_start(self.alloc, self.lines, text) {
+            Ok(start) => Some(start),
+            Err(_) => None,
+        }
+    }
+
+    /// The session ends: where its image is not what is held, that is said, and it is kept where it
+    /// was left by `quit` or by the end of what is typed.
+    pub fn end_with(&mut self, home: &str, session: &Session)
         ensures lent { self.new.output.writer.ghost_name ≡ self.old.output.writer.ghost_name }
-        ensures told { is_unsaved self.old.kept image.now ≡ true → Writes
+        ensures told { is_unsaved self.old.kept (present_image session.now) ≡ true → (line : List ℕ)
+            × ((line ≡ unsaved_line) ⊎ ((self.old.is_left ≡ true) × IsKeptUnder (H.state self.old.host) home.now session.now line (H.state self.new.host)))
+            × Writes
             (account_of (W.contents self.old.output.writer.now) self.old.output.has_failed)
             (account_of (W.contents self.new.output.writer.now) self.new.output.has_failed)
-            unsaved_line }
-        ensures silent { is_unsaved self.old.kept image.now ≡ false → self.new ≡ self.old }
+            line }
+        ensures silent { is_unsaved self.old.kept (present_image session.now) ≡ false → self.new ≡ self.old }
     {
-        if is_unsaved(self.kept, image) {
-            let _ = self.output.write(UNSAVED);
+        if !is_unsaved(self.kept, session.image()) {
+            return;
+        }
+        let kept = if self.is_left {
+            keep_session(self.alloc, &mut self.host, home, session)
+        } else {
+            None
+        };
+        let _ = self.output.write(bytes_of(&kept, UNSAVED));
+    }
+
+    /// Follows a session along an accepted line: its changes, of which it says which one was taken
+    /// back or made again, and its end.
+    fn follow(&mut self, line: &HeldLine, session: &Session)
+        ensures { self.new.output.writer.ghost_name ≡ self.old.output.writer.ghost_name }
+    {
+        let before = self.done;
+        self.done = session.done();
+        let mut past = mem::replace(&mut self.past, Past::new(self.alloc));
+        match Command::of(Said::of(line).word) {
+            Command::Undo => self.name_change(b"  taken back: ", past.line_of(self.done)),
+            Command::Redo => self.name_change(b"  done again: ", past.line_of(before)),
+            Command::Quit => self.is_left = true,
+            _ if self.done > before => past.record(before, line.text().unwrap_or(b"")),
+            _ => {}
+        }
+        self.past = past;
+    }
+
+    /// Says which line was taken back or made again.
+    fn name_change(&mut self, start: &[u8], line: Option<&[u8]>)
+        ensures { self.new.output.writer.ghost_name ≡ self.old.output.writer.ghost_name }
+    {
+        let _ = write_past(&mut self.output, start, line);
+    }
+}
+
+impl<'w, W: Write, H: Host> Advisor<'w, W, H> {
+    /// Says what more there is to say of a line that left this image.
+    fn explain(&mut self, line: &HeldLine, status: &Status, image: &Image)
+        ensures { self.new.output.writer.ghost_name ≡ self.old.output.writer.ghost_name }
+    {
+        if self.is_numbered && !status.is_accepted() {
+            return;
+        }
+        let text = line.text().unwrap_or(b"");
+        let said = Said::of(line);
+        let more = more_about(self.alloc, text, &said, status, image, self.files);
+        let _ = self.output.write(bytes_of(&more, b""));
+        self.files = file_count(image);
+    }
+}
+
+/// The bytes of a text, or these where there is none.
+fn bytes_of<'a>(text: &'a Option<Vec<u8>>, other: &'a [u8]) -> &'a [u8]
+    ensures { result.now ≡ option_map_or (λ bytes. bytes.items) text.now other.now }
+{
+    match text {
+        Some(text) => text.as_slice(),
+        None => other,
+    }
+}
+
+/// Whether a line asks what can be typed.
+fn asks_for_help(line: &HeldLine, status: &Status) -> bool {
+    match *status {
+        Status::UnknownCommand => matches!(Hint::of(Said::of(line).word), Hint::Help),
+        _ => false,
+    }
+}
+
+impl<'w, W: Write, H: Host> Listener for Advisor<'w, W, H> {
+    fn begin(&mut self, opening: &Opening<'_>, session: &Session) {
+        self.begin_with(opening, session);
+    }
+
+    fn wait(&mut self, image: &Image) {
+        if self.is_typed {
+            self.ask_with(image);
+        }
+    }
+
+    fn take(&mut self, bytes: &[u8]) {
+        if self.is_numbered {
+            self.hold(bytes);
+        }
+    }
+
+    fn reach_end(&mut self) {
+        self.is_left = true;
+        if self.is_prompting {
+            let _ = self.output.write(b"\n");
+        }
+    }
+
+    fn skip(&mut self) {
+        self.lines = self.lines.saturating_add(1);
+        self.is_prompting = false;
+        self.first_bytes.clear();
+    }
+
+    fn needs_delivery(&self, status: &Status) -> bool {
+        self.is_typed || self.is_numbered && !status.is_accepted()
+    }
+
+    fn hear(&mut self, home: &str, line: &HeldLine, status: &Status, session: &Session) {
+        self.lines = self.lines.saturating_add(1);
+        self.is_prompting = false;
+        let asks = self.is_typed && asks_for_help(line, status);
+        if self.is_numbered || self.is_typed && !asks {
+            self.tell(home, line, status, session.image());
+        }
+        if asks {
+            let _ = self.output.write(ROWS);
+        }
+        if self.is_typed {
+            self.explain(line, status, session.image());
+        }
+        if self.is_typed && status.is_accepted() {
+            self.follow(line, session);
+        }
+        self.first_bytes.clear();
+    }
+
+    fn end(&mut self, home: &str, session: &Session) {
+        if self.is_typed {
+            self.end_with(home, session);
         }
     }
 }
 
-impl<'w, W: Write> Listener for Advisor<'w, W> {
-    fn is_listening(&self) -> bool {
-        self.is_listening
-    }
-
-    fn begin(&mut self, image: &Image) {
-        if self.is_listening {
-            self.begin_with(image);
-        }
-    }
-
-    fn hear(&mut self, home: &str, line: &HeldLine, status: &Status, image: &Image) {
-        self.tell(home, line, status, image);
-    }
-
-    fn end(&mut self, image: &Image) {
-        if self.is_listening {
-            self.end_with(image);
-        }
-    }
-}
-
-/// Writes the line of an advice.
+/// Writes what is wrong with a line after the start of what is said.
 fn write_advice<W: Write>(
     output: &mut OutputStream<'_, W>,
+    start: &[u8],
     said: &Said<'_>,
     advice: Advice,
 ) -> Result<(), WriteFault>
@@ -121,11 +342,24 @@ fn write_advice<W: Write>(
     ensures either { Writes
         (account_of (W.contents output.old.writer.now) output.old.has_failed)
         (account_of (W.contents output.new.writer.now) output.new.has_failed)
-        (advice_line said.now (pieces advice)) }
+        (start.now ++ advice_words said.now (pieces advice)) }
 {
-    output.write(b"d64sh: ")?;
+    output.write(start)?;
     for piece in advice.pieces.iter() {
         output.write(piece.of(said))?;
     }
+    output.write(b"\n")
+}
+
+/// Writes which line was taken back or made again.
+fn write_past<W: Write>(
+    output: &mut OutputStream<'_, W>,
+    start: &[u8],
+    line: Option<&[u8]>,
+) -> Result<(), WriteFault>
+    ensures { output.new.writer.ghost_name ≡ output.old.writer.ghost_name }
+{
+    output.write(start)?;
+    output.write(line.unwrap_or(b"a change whose line is not known"))?;
     output.write(b"\n")
 }

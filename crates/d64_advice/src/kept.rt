@@ -27,14 +27,15 @@ impl Kept {
 }
 
 /// What is held after an accepted line of these words, which left this image, where `save` stores
-/// under `home` by default.
+/// under `home` by default, and `read` under `found`.
 pub(crate) fn kept_after(
     kept: Option<Kept>,
     home: &str,
+    found: &[u8],
     said: &Said<'_>,
     image: &Image,
 ) -> Option<Kept>
-    ensures { result ≡ kept_after kept (effect_of home.now said.now) image.now }
+    ensures { result ≡ kept_after kept (effect_of home.now found.now said.now) image.now }
 {
     match Command::of(said.word) {
         Command::Save => {
@@ -45,7 +46,13 @@ pub(crate) fn kept_after(
             }
         }
         Command::Keep => Some(Kept::of(image, said.first)),
-        Command::Read => unless_replaced(kept, said.second),
+        Command::Read => {
+            if said.second.is_empty() {
+                unless_replaced(kept, found)
+            } else {
+                unless_replaced(kept, said.second)
+            }
+        }
         Command::BlockRead => unless_replaced(kept, said.first),
         _ => kept,
     }

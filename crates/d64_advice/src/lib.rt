@@ -1,13 +1,21 @@
-//! Plain words for a person at a terminal: what is wrong with a refused line, and that changes are
-//! not saved.
+//! Plain words for a person: the prompt, what is wrong with a refused line, which change was taken
+//! back, and what becomes of changes that are not saved.
 #![tactic(auto)]
 
 mod advice;
 mod advisor;
 mod command;
 mod faults;
+mod found;
+mod help;
 mod hint;
 mod kept;
+mod leaving;
+mod line_start;
+mod more;
+mod near;
+mod past;
+mod prompt;
 mod said;
 
 pub use advisor::Advisor;

@@ -12,7 +12,7 @@ use Rattle.d64_files.specs.Pattern.{is_pattern}
 use Rattle.d64_files.specs.declared.kind.Kind.TheVariants.{Prg}
 use Rattle.d64_dos.specs.Change.{Change}
 use Rattle.d64_dos.specs.Change as changes
-use Rattle.d64_dos.specs.Command.{image_after, reply_to, refusal_of}
+use Rattle.d64_dos.specs.Command.{reply_to, refusal_of}
 use Rattle.d64_dos.specs.Reading.{directory_refusal, read_refusal}
 use Rattle.d64_dos.specs.declared.refusal.Refusal.{Refusal}
 use Rattle.d64_undo.specs.History.{History, present_image, undone_history, redone_history}

@@ -7,6 +7,6 @@ mod listener;
 mod manners;
 mod runner;
 
-pub use listener::{Listener, Nobody};
+pub use listener::{Listener, Nobody, Opening};
 pub use manners::{Manner, Refusals};
 pub use runner::{Outcome, ScriptRunner, ShellFault, run, run_on, run_script};

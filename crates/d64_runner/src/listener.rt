@@ -1,26 +1,51 @@
 //! Who listens to the run of a script.
 
+use crate::manners::Refusals;
 use d64_image::Image;
 use d64_script::held_line::HeldLine;
 use d64_script::status::Status;
+use d64_undo::Session;
+
+/// What a session begins with, as far as a listener is told.
+#[derive(Clone, Copy, Debug)]
+pub struct Opening<'n> {
+    /// The name of the host file in which `save` stores by default, or empty.
+    pub home: &'n str,
+    /// The name of the host file that has the first image, alone or in a session, or empty.
+    pub held_in: &'n str,
+    /// Whether the script stands among the arguments of the program.
+    pub is_given: bool,
+    /// What a refused line does.
+    pub refusals: Refusals,
+}
 
 /// Is told what becomes of a session: how it begins, what each line was answered, and how it ends.
 /// It has no part in the run, which is the same with every listener.
 pub trait Listener {
-    /// Whether it wants to hear: then what a line answers is delivered before the listener is told
-    /// of it.
-    fn is_listening(&self) -> bool;
+    /// The session begins.
+    fn begin(&mut self, opening: &Opening<'_>, session: &Session);
 
-    /// The session begins with this image.
-    fn begin(&mut self, image: &Image);
+    /// More of the script is read next, with this as the present image.
+    fn wait(&mut self, image: &Image);
 
-    /// A line that was not skipped was answered with this status, and left this image. `home` is
+    /// These bytes of a line have come, after those before; its line feed is not among them.
+    fn take(&mut self, bytes: &[u8]);
+
+    /// The script has come to its end. A line may run yet that the end has ended.
+    fn reach_end(&mut self);
+
+    /// A line was skipped.
+    fn skip(&mut self);
+
+    /// Whether what was printed is delivered before the listener hears of a line of this status.
+    fn needs_delivery(&self, status: &Status) -> bool;
+
+    /// A line that was not skipped was answered with this status, and left this session. `home` is
     /// the name of the host file in which `save` stores by default, or empty.
-    fn hear(&mut self, home: &str, line: &HeldLine, status: &Status, image: &Image);
+    fn hear(&mut self, home: &str, line: &HeldLine, status: &Status, session: &Session);
 
-    /// The session ends with this image. What was printed has been delivered, where writing has not
-    /// failed.
-    fn end(&mut self, image: &Image);
+    /// The session has ended so, however that came.
+    fn end(&mut self, home: &str, session: &Session);
 }
 
 /// Nobody listens.
@@ -28,13 +53,21 @@ pub trait Listener {
 pub struct Nobody;
 
 impl Listener for Nobody {
-    fn is_listening(&self) -> bool {
+    fn begin(&mut self, _opening: &Opening<'_>, _session: &Session) {}
+
+    fn wait(&mut self, _image: &Image) {}
+
+    fn take(&mut self, _bytes: &[u8]) {}
+
+    fn reach_end(&mut self) {}
+
+    fn skip(&mut self) {}
+
+    fn needs_delivery(&self, _status: &Status) -> bool {
         false
     }
 
-    fn begin(&mut self, _image: &Image) {}
+    fn hear(&mut self, _home: &str, _line: &HeldLine, _status: &Status, _session: &Session) {}
 
-    fn hear(&mut self, _home: &str, _line: &HeldLine, _status: &Status, _image: &Image) {}
-
-    fn end(&mut self, _image: &Image) {}
+    fn end(&mut self, _home: &str, _session: &Session) {}
 }

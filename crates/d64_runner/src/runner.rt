@@ -17,7 +17,6 @@ ghost use Rattle.d64_runner.specs.LineByLine.{HasCome, ComesTo, EndsRun, RunsLin
 use crate::listener::{Listener, Nobody};
 use crate::manners::{Manner, Refusals};
 use d64_host::Host;
-use d64_image::Image;
 use d64_line::{Response, answer_line};
 use d64_script::held_line::HeldLine;
 use d64_script::input::InputStream;
@@ -124,30 +123,29 @@ impl<'l, L: Listener> RunState<'l, L> {
         }
     }
 
-    /// Writes the answer to the line, where this is the present image, and tells it to a listener
-    /// once it is delivered.
+    /// Writes the answer to the line, where this is the session that it left, and tells a listener
+    /// of it, once it is delivered where that is needed.
     fn write_answer<W: Write>(
         &mut self,
         home: &str,
         response: &Response,
         output: &mut OutputStream<'_, W>,
-        image: &Image,
+        session: &Session,
     ) -> Result<(), WriteFault>
         ensures lent { self.new.listener.ghost_name ≡ self.old.listener.ghost_name }
         ensures line { self.new.line ≡ self.old.line }
         ensures tally { self.new.tally ≡ self.old.tally }
         ensures same { output.new.writer.ghost_name ≡ output.old.writer.ghost_name }
-        ensures ok { OnOk result (Appends (W.contents output.old.writer.now) (W.contents output.new.writer.now) (printed_bytes (shown_answer image.now response.now))) }
-        ensures err { OnErr result (AppendsPart (W.contents output.old.writer.now) (W.contents output.new.writer.now) (printed_bytes (shown_answer image.now response.now))) }
+        ensures ok { OnOk result (Appends (W.contents output.old.writer.now) (W.contents output.new.writer.now) (printed_bytes (shown_answer (present_image session.now) response.now))) }
+        ensures err { OnErr result (AppendsPart (W.contents output.old.writer.now) (W.contents output.new.writer.now) (printed_bytes (shown_answer (present_image session.now) response.now))) }
         ensures failed { FailsWith result output.old.has_failed output.new.has_failed }
     {
-        response.write(output, image)?;
-        if !self.listener.is_listening() {
-            return Ok(());
+        response.write(output, session.image())?;
+        if self.listener.needs_delivery(&response.status) {
+            deliver(output)?;
         }
-        deliver(output)?;
         self.listener
-            .hear(home, &self.line, &response.status, image);
+            .hear(home, &self.line, &response.status, session);
         Ok(())
     }
 }
@@ -260,8 +258,8 @@ impl<'n, 'l, L: Listener> ScriptRunner<'n, 'l, L> {
     /// `Read` comes where a read failed or a limit was reached, and `Write` where a write or a
     /// flush failed; no read is made while something printed has not been delivered, nor after a
     /// call that failed, an accepted `quit`, or a refused line that ends the script. All this is
-    /// the same with every listener, which is told of the session's begin, of each answer, and of
-    /// the session's end, however that comes.
+    /// the same with every listener, which is told of each read before it is made, of each line
+    /// once it has run or was skipped, and of the script's end.
     pub fn run<R: Read, W: Write, H: Host>(
         self,
         input: &mut InputStream<'_, R>,
@@ -285,10 +283,7 @@ impl<'n, 'l, L: Listener> ScriptRunner<'n, 'l, L> {
             manner: self.manner,
         };
         let mut state = RunState::new(self.listener);
-        state.listener.begin(session.image());
-        let ended = runner.run_all(input, output, host, session, &mut state);
-        state.listener.end(session.image());
-        ended
+        runner.run_all(input, output, host, session, &mut state)
     }
 
     /// Runs a script that is this text, and prints on an output that has not failed.
@@ -319,10 +314,7 @@ impl<'n, 'l, L: Listener> ScriptRunner<'n, 'l, L> {
         } = self;
         let runner = LineRunner { alloc, manner };
         let mut state = RunState::new(listener);
-        state.listener.begin(session.image());
-        let ended = runner.run_lines(output, host, session, &mut state, text);
-        state.listener.end(session.image());
-        ended
+        runner.run_lines(output, host, session, &mut state, text)
     }
 }
 
@@ -370,6 +362,7 @@ impl<'n> LineRunner<'n> {
             let Ok(()) = deliver(output) else {
                 return Err(ShellFault::Write);
             };
+            state.listener.wait(session.image());
             let count = match input.read_after(output, &mut buffer) {
                 Ok(0) => return self.run_last(output, host, session, state),
                 Ok(count) => count,
@@ -446,6 +439,7 @@ impl<'n> LineRunner<'n> {
             (stand_of (W.contents output.new.writer.now) (world_of (H.state host.new) session.new))
             script result }
     {
+        state.listener.reach_end();
         if state.line.is_empty() {
             return Ok(state.tally.outcome);
         }
@@ -489,6 +483,7 @@ impl<'n> LineRunner<'n> {
     {
         for part in RawLines(piece) {
             state.line.push(before_end(part));
+            state.listener.take(before_end(part));
             if !is_ended(part) {
                 continue;
             }
@@ -528,9 +523,10 @@ impl<'n> LineRunner<'n> {
     {
         let Some(response) = answer_line(self.alloc, host, self.manner.home, session, &state.line)
         else {
+            state.listener.skip();
             return Ok(());
         };
         state.tally.count(&response, self.manner.refusals);
-        state.write_answer(self.manner.home, &response, output, session.image())
+        state.write_answer(self.manner.home, &response, output, session)
     }
 }

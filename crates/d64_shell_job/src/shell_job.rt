@@ -15,7 +15,7 @@ ghost use Rattle.d64_job.specs.Outside.{outside_at};
 use d64_host::Host;
 use d64_image::{BLOCKS, Image, blocks_of};
 use d64_job::{ALL_ACCEPTED, ProgramFault, SOME_REFUSED, fetch_file};
-use d64_runner::{Listener, Manner, Nobody, Outcome, Refusals, ScriptRunner, ShellFault};
+use d64_runner::{Listener, Manner, Opening, Outcome, Refusals, ScriptRunner, ShellFault};
 use d64_script::input::InputStream;
 use d64_script::output::OutputStream;
 use d64_undo::{ReadFault, Session, resume_from};
@@ -41,7 +41,8 @@ pub struct ShellJob<'n> {
 
 impl<'n> ShellJob<'n> {
     /// Runs the script on its session, and then flushes the output. Where the words give the
-    /// script, nothing of the input is read, and the listener hears nothing.
+    /// script, nothing of the input is read. All this is the same with every listener, which is
+    /// told of the session's begin and end, too.
     pub fn run<R: Read, W: Write, H: Host, L: Listener>(
         self,
         alloc: Global,
@@ -67,6 +68,7 @@ impl<'n> ShellJob<'n> {
     {
         let text = given_text(alloc, self.lines)?;
         let mut session = first_session(alloc, host, self.image, self.tracks, self.resume)?;
+        listener.begin(&self.opening(), &session);
         let script = Script {
             alloc,
             text: text.as_deref(),
@@ -76,9 +78,22 @@ impl<'n> ShellJob<'n> {
             },
         };
         let ran = script.run(input, output, host, &mut session, listener);
+        listener.end(self.image.unwrap_or(""), &session);
         match output.flush() {
             Ok(()) => Ok(ran?),
             Err(_) => Err(ProgramFault::Write),
+        }
+    }
+}
+
+impl<'n> ShellJob<'n> {
+    /// What a listener is told of it at the session's begin.
+    fn opening(&self) -> Opening<'n> {
+        Opening {
+            home: self.image.unwrap_or(""),
+            held_in: self.resume.or(self.image).unwrap_or(""),
+            is_given: !self.lines.is_empty(),
+            refusals: self.refusals,
         }
     }
 }
@@ -116,8 +131,7 @@ struct Script<'n> {
 }
 
 impl<'n> Script<'n> {
-    /// Runs it on a session. Where it has a text, nothing of the input is read, and the listener
-    /// hears nothing.
+    /// Runs it on a session. Where it has a text, nothing of the input is read.
     fn run<R: Read, W: Write, H: Host, L: Listener>(
         self,
         input: &mut InputStream<'_, R>,
@@ -139,19 +153,13 @@ impl<'n> Script<'n> {
         ensures due { result ≡ Err ShellFault.Read → IsReadDue (source_by (option_copied self.entry.text)) (reading_of input.new.reads input.new.came input.new.has_failed) }
         ensures failed { result ≡ Err ShellFault.Write → output.new.has_failed ≡ true }
     {
-        let Some(text) = self.text else {
-            let runner = ScriptRunner {
-                alloc: self.alloc,
-                manner: self.manner,
-                listener,
-            };
-            return runner.run(input, output, host, session);
-        };
-        let mut nobody = Nobody;
         let runner = ScriptRunner {
             alloc: self.alloc,
             manner: self.manner,
-            listener: &mut nobody,
+            listener,
+        };
+        let Some(text) = self.text else {
+            return runner.run(input, output, host, session);
         };
         runner.run_text(text, output, host, session)
     }

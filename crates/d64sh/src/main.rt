@@ -2,28 +2,39 @@
 #![tactic(auto)]
 
 mod progress;
-mod prompt;
+mod unread_output;
 mod within_limit;
 
 use d64_advice::Advisor;
 use d64_host::{Retrying, SizeLimit, StandardStream};
 use d64_script::input::InputStream;
 use d64_script::output::OutputStream;
-use d64_shell::{FolderHost, HeardProgram, ProgramFault};
+use d64_shell::{FolderHost, HeardProgram, Job, ProgramFault, job};
 use progress::{ProgressLine, WatchedHost, WipingWriter};
-use prompt::PromptingReader;
+use std::alloc::Global;
+use std::cell::Cell;
 use std::env;
 use std::io::{self, BufWriter, ErrorKind, IsTerminal, Write};
 use std::process::ExitCode;
+use unread_output::{MarkingWriter, QuietWriter};
 use within_limit::WithinLimit;
+
+/// The exit status where nothing was done.
+const NOT_RUN: u8 = 2;
+
+/// What is said where a program would be written to a terminal.
+const PROGRAM_AT_TERMINAL: &[u8] =
+    b"d64sh: a program is no text for a terminal: crunch -o FILE stores it in a file\n";
 
 fn main(rt: HostRuntime) -> ExitCode {
     let limit = SizeLimit::default();
     let line = ProgressLine::new(&rt, rt.stderr().is_terminal() && !rt.stdout().is_terminal());
     let errors = Retrying(WithinLimit::new(&rt, &limit, StandardStream::Error, rt.stderr()));
+    let is_unread = Cell::new(false);
+    let errors = QuietWriter::new(&is_unread, errors);
     let mut errors = WipingWriter::new(&line, errors);
     let mut faults = OutputStream::new(&mut errors);
-    let status = match start(&rt, &limit, &line, &mut faults) {
+    let status = match start(&rt, &limit, &line, &is_unread, &mut faults) {
         Ok(status) => status,
         Err(fault) => fault.report_on(&mut faults),
     };
@@ -36,6 +47,7 @@ fn start<'a, E: Write>(
     rt: &'a HostRuntime,
     limit: &'a SizeLimit,
     line: &ProgressLine<HostRuntime>,
+    is_unread: &Cell<bool>,
     faults: &mut OutputStream<'_, E>,
 ) -> Result<u8, ProgramFault> {
     let arguments = env::args(rt).map_err(fault_of_words)?;
@@ -44,16 +56,26 @@ fn start<'a, E: Write>(
         .iter()
         .map(|word| word.as_str())
         .collect(rt.alloc())?;
+    if rt.stdout().is_terminal() && asks_for_program(rt.alloc(), words.as_slice()) {
+        let _ = faults.write(PROGRAM_AT_TERMINAL);
+        return Ok(NOT_RUN);
+    }
     let output = WithinLimit::new(rt, limit, StandardStream::Output, rt.stdout());
+    let unmarked = Cell::new(false);
+    let mark = if is_survey(words.first().copied()) {
+        is_unread
+    } else {
+        &unmarked
+    };
+    let output = MarkingWriter::new(mark, output);
     let mut output = BufWriter::new(rt.alloc(), output).map_err(|_| ProgramFault::Memory)?;
-    let is_typed_at = rt.stdin().is_terminal() && rt.stderr().is_terminal();
-    let is_shell = matches!(words.first(), Some(&"shell"));
-    let mut input = PromptingReader::new(rt, is_typed_at && is_shell, Retrying(rt.stdin()));
+    let mut input = Retrying(rt.stdin());
+    let is_terminal = rt.stdin().is_terminal() && rt.stderr().is_terminal();
     let errors = WithinLimit::new(rt, limit, StandardStream::Error, rt.stderr());
     let mut errors = Retrying(errors);
     let program = HeardProgram {
         alloc: rt.alloc(),
-        listener: &mut Advisor::new(is_typed_at && is_shell, &mut errors),
+        listener: &mut Advisor::new(rt.alloc(), is_terminal, &mut errors, FolderHost::new(rt)),
     };
     Ok(program.run(
         words.as_slice(),
@@ -62,6 +84,27 @@ fn start<'a, E: Write>(
         faults,
         &mut WatchedHost::new(line, FolderHost::new(rt)),
     ))
+}
+
+/// Whether the words ask for a program on the output, as `crunch` writes it without `-o`. Where
+/// there is no memory to read them, they do not.
+fn asks_for_program(alloc: Global, words: &[&str]) -> bool {
+    let mut named = Vec::new(alloc);
+    if named.push("d64sh").is_err() || named.extend_from_slice(words).is_err() {
+        return false;
+    }
+    matches!(
+        job(alloc, named.as_slice()),
+        Ok(Job::Crunch { output: None, .. })
+    )
+}
+
+/// Whether the first word is one after which output that nobody reads is no fault to speak of.
+fn is_survey(word: Option<&str>) -> bool {
+    matches!(
+        word,
+        Some("check" | "files" | "extract" | "map" | "catalogue" | "diff" | "merge")
+    )
 }
 
 /// Why the words cannot be had: there is no memory for them, or one of them is no text.

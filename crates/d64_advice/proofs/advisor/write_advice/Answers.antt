@@ -11,7 +11,7 @@ use Rattle.d64_advice.proofs.advisor.write_advice.Goals as goal
 
 pub returns-in_err-write-clause-either : goal.returns-in_err-write-clause-either
 returns-in_err-write-clause-either g c =
-    inr (AppendsPart-more _ _ (codes "d64sh: ") (flat_map (said_piece c.args.said.now) (pieces c.args.advice) ++ codes "\n") c.in_err-write.ensures.err, c.in_err-write.ensures.failed)
+    inr (AppendsPart-more _ _ (c.args.start.now) (flat_map (said_piece c.args.said.now) (pieces c.args.advice) ++ codes "\n") c.in_err-write.ensures.err, c.in_err-write.ensures.failed)
 
 -- a write failed at a piece
 pub returns-in_err-write-2-clause-either : goal.returns-in_err-write-2-clause-either
@@ -27,9 +27,9 @@ returns-in_err-write-2-clause-either g c =
     let old = g.W.Write.contents c.args.output.now.writer.now in
     let new = g.W.Write.contents c.write-in-loop-piece.new.self.writer.now in
     inr (
-      subst (AppendsPart old new) (whole_of (codes "d64sh: ") i.done word more _ (codes "\n") is)
-          (AppendsPart-more old new ((codes "d64sh: " ++ i.done) ++ word) (more ++ codes "\n")
-          (AppendsPart-after old (g.W.Write.contents c.loop-piece.output.writer.now) new (codes "d64sh: " ++ i.done) word i.written c.in_err-write-2.ensures.err)),
+      subst (AppendsPart old new) (whole_of (c.args.start.now) i.done word more _ (codes "\n") is)
+          (AppendsPart-more old new ((c.args.start.now ++ i.done) ++ word) (more ++ codes "\n")
+          (AppendsPart-after old (g.W.Write.contents c.loop-piece.output.writer.now) new (c.args.start.now ++ i.done) word i.written c.in_err-write-2.ensures.err)),
       c.in_err-write-2.ensures.failed,
     )
 
@@ -48,8 +48,8 @@ loop-piece-preserved g c =
     record {
       done = i.done ++ word;
       split = append_assoc i.done word more ∙ ap (λ l. i.done ++ l) (sym next) ∙ i.split;
-      written = subst (Appends old new) (append_assoc (codes "d64sh: ") i.done word)
-          (Appends-trans old (g.W.Write.contents c.loop-piece.output.writer.now) new (codes "d64sh: " ++ i.done) word i.written c.in_ok-write-2.ensures.ok);
+      written = subst (Appends old new) (append_assoc (c.args.start.now) i.done word)
+          (Appends-trans old (g.W.Write.contents c.loop-piece.output.writer.now) new (c.args.start.now ++ i.done) word i.written c.in_ok-write-2.ensures.ok);
       unfailed = c.in_ok-write-2.ensures.failed ∙ i.unfailed;
       same = c.write-in-loop-piece.ensures.same ∙ i.same;
       said = refl;
@@ -65,5 +65,5 @@ returns-clause-either g c =
     let whole : i.done ≡ flat_map (said_piece c.args.said.now) (pieces c.args.advice) = sym (append-nil i.done) ∙ ap (λ l. i.done ++ told l) (sym none) ∙ i.split in
     let old = account_of (g.W.Write.contents c.args.output.now.writer.now) c.args.output.now.has_failed in
     let new = account_of (g.W.Write.contents c.write-2.new.self.writer.now) c.write-2.new.self.has_failed in
-    subst (Writes old new) (append_assoc (codes "d64sh: ") i.done (codes "\n") ∙ ap (λ l. codes "d64sh: " ++ (l ++ codes "\n")) whole)
-    (Writes-after _ (g.W.Write.contents c.loop-piece.output.writer.now) _ _ c.loop-piece.output.has_failed _ (codes "d64sh: " ++ i.done) (codes "\n") i.written i.unfailed c.write-2.ensures.either)
+    subst (Writes old new) (append_assoc (c.args.start.now) i.done (codes "\n") ∙ ap (λ l. c.args.start.now ++ (l ++ codes "\n")) whole)
+    (Writes-after _ (g.W.Write.contents c.loop-piece.output.writer.now) _ _ c.loop-piece.output.has_failed _ (c.args.start.now ++ i.done) (codes "\n") i.written i.unfailed c.write-2.ensures.either)

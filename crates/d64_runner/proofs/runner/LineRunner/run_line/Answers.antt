@@ -12,9 +12,9 @@ pub returns-clause-ran : goal.returns-clause-ran
 returns-clause-ran g c raw says open_run =
     rw c.write_answer.ensures.tally
     (RunsLine-answered (manner_of c.args.self.manner) raw _ _ _ _ c.args.state.now.tally c.count.new.self (shown_answer (present_image c.answer_line.new.session) c.in-Some.response) c.write_answer.result
-    (c.in-Some.ensures raw says) c.count.ensures.closed c.count.ensures.accepted c.count.ensures.refused (rw c.image.ensures.present at c.write_answer.ensures.ok))
+    (c.in-Some.ensures raw says) c.count.ensures.closed c.count.ensures.accepted c.count.ensures.refused c.write_answer.ensures.ok)
 
 pub returns-clause-stopped : goal.returns-clause-stopped
 returns-clause-stopped g c raw says open_run =
     StopsInLine-answered (manner_of c.args.self.manner) raw _ _ _ _ c.args.state.now.tally (shown_answer (present_image c.answer_line.new.session) c.in-Some.response) c.write_answer.result
-    (c.in-Some.ensures raw says) (rw c.image.ensures.present at c.write_answer.ensures.err)
+    (c.in-Some.ensures raw says) c.write_answer.ensures.err

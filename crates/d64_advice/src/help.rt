@@ -1,0 +1,22 @@
+//! The commands, as they are shown where help is asked for.
+
+/// A row for each command, as `d64sh help shell` has them.
+pub(crate) const ROWS: &[u8] = b"\
+\x20 format NAME,ID         make the disk empty
+\x20 write HOST [NAME[,T]]  write a host file to the disk; T is p, s or u
+\x20 crunch HOST [NAME]     write the BASIC program of a host file's text
+\x20 read NAME [HOST]       store a file of the disk as a host file
+\x20 petcat NAME            print the text of a BASIC program
+\x20 delete PATTERN ..      delete the files whose names match
+\x20 rename OLD NEW         give a file another name
+\x20 list                   print the directory
+\x20 validate               free the blocks that no closed file has
+\x20 block T S              print the block of track T and sector S
+\x20 bread HOST T S         store a block as a host file
+\x20 bwrite HOST T S        write a block from a host file of 256 bytes
+\x20 undo, redo             take a change back, and make it again
+\x20 history                print the changes
+\x20 save [HOST]            store the image, as IMAGE without a name
+\x20 keep HOST              store the session, with its changes
+\x20 quit                   end the script
+";

@@ -1,0 +1,72 @@
+//! The command to which a word is near that is none.
+
+/// The first command to which a word is near.
+pub(crate) fn near_command(word: &[u8]) -> Option<&'static [u8]> {
+    let words: [&'static [u8]; 18] = [
+        b"block",
+        b"bread",
+        b"bwrite",
+        b"crunch",
+        b"delete",
+        b"format",
+        b"history",
+        b"keep",
+        b"list",
+        b"petcat",
+        b"quit",
+        b"read",
+        b"redo",
+        b"rename",
+        b"save",
+        b"undo",
+        b"validate",
+        b"write",
+    ];
+    for command in words {
+        if is_near(word, command) {
+            return Some(command);
+        }
+    }
+    None
+}
+
+/// Whether a word is near to a command.
+fn is_near(word: &[u8], command: &[u8]) -> bool {
+    let mut left = word;
+    let mut right = command;
+    while let [first, more @ ..] = left {
+        let [other, rest @ ..] = right else {
+            return left.len() <= 1;
+        };
+        if !first.eq_ignore_ascii_case(other) {
+            return differs_once(left, right);
+        }
+        left = more;
+        right = rest;
+    }
+    right.len() <= 1
+}
+
+/// Whether two texts that begin with other characters differ in one, which one may lack, or in two
+/// that are exchanged.
+fn differs_once(left: &[u8], right: &[u8]) -> bool {
+    let ([_, more @ ..], [_, rest @ ..]) = (left, right) else {
+        return false;
+    };
+    more.eq_ignore_ascii_case(rest)
+        || left.eq_ignore_ascii_case(rest)
+        || more.eq_ignore_ascii_case(right)
+        || are_exchanged(left, right)
+}
+
+/// Whether two texts differ in that their first two characters are exchanged.
+fn are_exchanged(left: &[u8], right: &[u8]) -> bool {
+    match (left, right) {
+        ([first, second, more @ ..], [other, another, rest @ ..]) => {
+            first.eq_ignore_ascii_case(another)
+                && second.eq_ignore_ascii_case(other)
+                && more.eq_ignore_ascii_case(rest)
+        }
+        _ => false,
+    }
+}

@@ -1,0 +1,78 @@
+//! Output that nobody reads any more, as behind `| head`.
+
+ghost use Rattle.std.specs.Io.{WritesAtMost};
+ghost use Rattle.std.specs.Io.KnownBytes.{WriteAppends, Keeps};
+
+use std::cell::Cell;
+use std::io::{self, ErrorKind, Write};
+
+/// The output, of which is marked once nobody reads it any more.
+#[derive(Drop)]
+pub(crate) struct MarkingWriter<'a, W> {
+    is_unread: &'a Cell<bool>,
+    writer: W,
+}
+
+impl<'a, W> MarkingWriter<'a, W> {
+    /// A writer to the output.
+    pub(crate) fn new(is_unread: &'a Cell<bool>, writer: W) -> MarkingWriter<'a, W> {
+        MarkingWriter { is_unread, writer }
+    }
+}
+
+impl<'a, W: Write> Write for MarkingWriter<'a, W> {
+    ghost contents = { λ marking. W.contents marking.writer };
+
+    fn write(&mut self, bytes: &[u8]) -> io::Result<usize>
+        ensures bound { WritesAtMost result bytes.now }
+        ensures bytes { WriteAppends (W.contents self.old.writer) (W.contents self.new.writer) result bytes.now }
+    {
+        let outcome = self.writer.write(bytes);
+        if let Err(error) = &outcome {
+            if error.kind() == ErrorKind::BrokenPipe {
+                self.is_unread.set(true);
+            }
+        }
+        outcome
+    }
+
+    fn flush(&mut self) -> io::Result<()>
+        ensures { Keeps (W.contents self.old.writer) (W.contents self.new.writer) }
+    {
+        self.writer.flush()
+    }
+}
+
+/// A writer that takes nothing once nobody reads the output.
+#[derive(Drop)]
+pub(crate) struct QuietWriter<'a, W> {
+    is_unread: &'a Cell<bool>,
+    writer: W,
+}
+
+impl<'a, W> QuietWriter<'a, W> {
+    /// A writer beside the output.
+    pub(crate) fn new(is_unread: &'a Cell<bool>, writer: W) -> QuietWriter<'a, W> {
+        QuietWriter { is_unread, writer }
+    }
+}
+
+impl<'a, W: Write> Write for QuietWriter<'a, W> {
+    ghost contents = { λ quiet. W.contents quiet.writer };
+
+    fn write(&mut self, bytes: &[u8]) -> io::Result<usize>
+        ensures bound { WritesAtMost result bytes.now }
+        ensures bytes { WriteAppends (W.contents self.old.writer) (W.contents self.new.writer) result bytes.now }
+    {
+        if self.is_unread.get() {
+            return Err(io::Error::from(ErrorKind::BrokenPipe));
+        }
+        self.writer.write(bytes)
+    }
+
+    fn flush(&mut self) -> io::Result<()>
+        ensures { Keeps (W.contents self.old.writer) (W.contents self.new.writer) }
+    {
+        self.writer.flush()
+    }
+}
