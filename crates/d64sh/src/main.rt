@@ -67,7 +67,7 @@ fn start<'a, E: Write>(
     } else {
         &unmarked
     };
-    let output = MarkingWriter::new(mark, output);
+    let output = Retrying(MarkingWriter::new(mark, output));
     let mut output = BufWriter::new(rt.alloc(), output).map_err(|_| ProgramFault::Memory)?;
     let mut input = Retrying(rt.stdin());
     let is_terminal = rt.stdin().is_terminal() && rt.stderr().is_terminal();
