@@ -1,13 +1,13 @@
 //! The program `d64sh`, from its words to its exit status.
-ghost use Rattle.std.specs.Prelude.{◌≡◌, ◌≢◌, ◌≤◌, Bool, IfErr, IfOk, false, map, true};
+ghost use Rattle.std.specs.Prelude.{◌≡◌, ◌≢◌, ◌≤◌, Bool, false, map, true};
 ghost use Rattle.d64_script.specs.Input.{IsUnread, Reading, reading_of};
 ghost use Rattle.d64_script.specs.Output.{account_of};
 ghost use Rattle.d64_collection.specs.Runs.{account_at};
 ghost use Rattle.d64_shell.specs.Jobs.{IsScript, PassesOver, work_of};
-ghost use Rattle.d64_shell.specs.Program.{AsksForShell, AsksToPassOver, Ended, EndedWork, named_words};
+ghost use Rattle.d64_shell.specs.Program.{AsksForShell, AsksToPassOver, Ended, EndedWork};
 ghost use Rattle.d64_job.specs.Outside.{outside_at, outside_of};
-ghost use Rattle.d64_words.specs.Asked.{IsFault, IsJob};
 
+use crate::asking::asked;
 use crate::extraction::setup_of;
 use d64_catalogue::CatalogueReport;
 use d64_check::CheckReport;
@@ -22,7 +22,7 @@ use d64_script::output::OutputStream;
 use d64_shell_job::{ShellJob, exit_status, refusals_of};
 use d64_tool_job::{Tool, ToolJob};
 use d64_unpack::Unpacker;
-use d64_words::{Job, JobFault, job};
+use d64_words::Job;
 use std::alloc::Global;
 use std::io::{Read, Write};
 
@@ -248,21 +248,4 @@ impl<'l, L: Listener> HeardProgram<'l, L> {
             }
         }
     }
-}
-
-/// The job that the words after the program's name ask for.
-fn asked(alloc: Global, words: &[&str]) -> Result<Job, JobFault>
-    ensures job { IfOk result (IsJob (named_words (map (λ word. word.now) words.now))) }
-    ensures fault { IfErr result (IsFault (named_words (map (λ word. word.now) words.now))) }
-{
-    let mut all = Vec::new(alloc);
-    match all.push("d64sh") {
-        Ok(()) => {}
-        Err(_) => return Err(JobFault::Memory),
-    }
-    match all.extend_from_slice(words) {
-        Ok(()) => {}
-        Err(_) => return Err(JobFault::Memory),
-    }
-    job(alloc, all.as_slice())
 }

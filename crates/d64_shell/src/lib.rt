@@ -1,6 +1,7 @@
 //! The shell over disk images: the program, from its words to its exit status.
 #![tactic(auto)]
 
+mod asking;
 mod entry;
 mod extraction;
 
