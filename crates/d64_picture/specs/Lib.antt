@@ -8,3 +8,5 @@ pub mod Cells
 pub mod Legend
 pub mod Style
 pub mod Svg
+pub mod Regions
+pub mod PagePicture

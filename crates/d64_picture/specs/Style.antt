@@ -15,6 +15,14 @@ colour_rules = codes ".disk .c0{fill:#7ad;stroke:#7ad}\n.disk .c1{fill:#e86;stro
 unfoldable pub mark_rules : List ℕ
 mark_rules = codes ".disk .dot{fill:none;stroke:#6b7280;stroke-width:5;pointer-events:none}\n.disk .bad{fill:#fff;stroke:#a11;stroke-width:2;pointer-events:none}\n"
 
+-- the regions of a picture inside a page, on whose grid a cell is one wide
+unfoldable pub region_rules : List ℕ
+region_rules = codes ".disk .cells path{stroke:#fff;stroke-width:.1}\n.disk .cells .dot{stroke:#6b7280;stroke-width:.23}\n.disk .cells :is(.c8,.c9,.c10,.c11,.c12,.c13,.c14,.c15){stroke:#456;stroke-width:.13}\n"
+
+-- the rules of all pictures inside a page
+unfoldable pub picture_rules : List ℕ
+picture_rules = (basic_rules ++ (colour_rules ++ mark_rules)) ++ region_rules
+
 -- all rules
 unfoldable pub style : List ℕ
 style = element (codes "style") (attribute (codes "type") (codes "text/css")) (codes "\n" ++ (basic_rules ++ (colour_rules ++ mark_rules))) ++ codes "\n"

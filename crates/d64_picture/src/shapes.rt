@@ -109,7 +109,7 @@ pub(crate) fn push_number_of(
 
 /// Adds the class that has a colour, as an attribute.
 #[tactic(auto, unfolding(d64_markup::specs::Markup::attribute))]
-fn push_colour(out: &mut Vec<u8>, colour: Colour) -> Result<(), AllocError>
+pub(crate) fn push_colour(out: &mut Vec<u8>, colour: Colour) -> Result<(), AllocError>
     ensures { OnOk result (out.new.items ≡ out.old.items ++ attribute (codes "class") (class_of colour)) }
 {
     out.extend_from_slice(b" class=\"")?;

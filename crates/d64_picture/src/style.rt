@@ -1,6 +1,6 @@
 //! How the parts of a picture look.
 ghost use Rattle.std.specs.Prelude.{◌≡◌, ◌++◌, OnOk};
-ghost use Rattle.d64_picture.specs.Style.{basic_rules, colour_rules, mark_rules, style};
+ghost use Rattle.d64_picture.specs.Style.{basic_rules, colour_rules, mark_rules, region_rules, picture_rules, style};
 
 use std::alloc::AllocError;
 
@@ -40,6 +40,11 @@ const MARK_RULES: &[u8] =
     b".disk .dot{fill:none;stroke:#6b7280;stroke-width:5;pointer-events:none}\n\
 .disk .bad{fill:#fff;stroke:#a11;stroke-width:2;pointer-events:none}\n";
 
+/// The regions of a picture inside a page, on whose grid a cell is one wide.
+const REGION_RULES: &[u8] = b".disk .cells path{stroke:#fff;stroke-width:.1}\n\
+.disk .cells .dot{stroke:#6b7280;stroke-width:.23}\n\
+.disk .cells :is(.c8,.c9,.c10,.c11,.c12,.c13,.c14,.c15){stroke:#456;stroke-width:.13}\n";
+
 /// Adds the rules of the page, of texts and of squares.
 #[tactic(auto, unfolding(crate::specs::Style::basic_rules))]
 fn push_basic_rules(out: &mut Vec<u8>) -> Result<(), AllocError>
@@ -62,6 +67,23 @@ fn push_mark_rules(out: &mut Vec<u8>) -> Result<(), AllocError>
     ensures { OnOk result (out.new.items ≡ out.old.items ++ mark_rules) }
 {
     out.extend_from_slice(MARK_RULES)
+}
+
+/// Adds those of the regions inside a page.
+#[tactic(auto, unfolding(crate::specs::Style::region_rules))]
+fn push_region_rules(out: &mut Vec<u8>) -> Result<(), AllocError>
+    ensures { OnOk result (out.new.items ≡ out.old.items ++ region_rules) }
+{
+    out.extend_from_slice(REGION_RULES)
+}
+
+/// Adds the rules of all pictures inside a page, which stand in its style.
+#[tactic(auto, unfolding(crate::specs::Style::picture_rules))]
+pub fn push_picture_rules(out: &mut Vec<u8>) -> Result<(), AllocError>
+    ensures { OnOk result (out.new.items ≡ out.old.items ++ picture_rules) }
+{
+    push_rules(out)?;
+    push_region_rules(out)
 }
 
 /// Adds all rules.

@@ -28,7 +28,7 @@ const LABEL_BYTES: usize = 60;
 
 /// How high the picture is, of so many tracks and files.
 #[tactic(auto, unfolding(crate::specs::Svg::height))]
-fn height(tracks: u8, count: usize) -> usize
+pub(crate) fn height(tracks: u8, count: usize) -> usize
     ensures { result ≡ height_of tracks count }
 {
     108 + 22 * usize::from(tracks) + 20 * rows_below(count.min(SHOWN_FILES + 1))
@@ -72,7 +72,11 @@ fn push_description(
 
 /// Adds the title.
 #[tactic(auto, unfolding(crate::specs::Svg::title, d64_markup::specs::Markup::element, d64_markup::specs::Markup::tag))]
-fn push_title(out: &mut Vec<u8>, name: &[u8], inspection: &Inspection) -> Result<(), AllocError>
+pub(crate) fn push_title(
+    out: &mut Vec<u8>,
+    name: &[u8],
+    inspection: &Inspection,
+) -> Result<(), AllocError>
     ensures { OnOk result (out.new.items ≡ out.old.items ++ title name.now inspection.now) }
 {
     let mut text = Vec::new(*out.allocator());
@@ -94,7 +98,7 @@ fn push_page_attributes(out: &mut Vec<u8>, high: usize) -> Result<(), AllocError
 
 /// Adds the paper.
 #[tactic(auto, unfolding(crate::specs::Svg::page, d64_markup::specs::Markup::empty_element, d64_markup::specs::Markup::tag))]
-fn push_page(out: &mut Vec<u8>, high: usize) -> Result<(), AllocError>
+pub(crate) fn push_page(out: &mut Vec<u8>, high: usize) -> Result<(), AllocError>
     ensures { OnOk result (out.new.items ≡ out.old.items ++ page high) }
 {
     out.extend_from_slice(b"<rect")?;
@@ -187,7 +191,7 @@ fn push_row_heads(out: &mut Vec<u8>, tracks: u8) -> Result<(), AllocError>
 
 /// Adds the part of the page that is seen.
 #[tactic(auto, unfolding(crate::specs::Svg::view_box, d64_markup::specs::Markup::attribute))]
-fn push_view_box(out: &mut Vec<u8>, high: usize) -> Result<(), AllocError>
+pub(crate) fn push_view_box(out: &mut Vec<u8>, high: usize) -> Result<(), AllocError>
     ensures { OnOk result (out.new.items ≡ out.old.items ++ view_box high) }
 {
     out.extend_from_slice(b" viewBox=\"0 0 790 ")?;
@@ -226,7 +230,11 @@ fn push_top(
 
 /// Adds what stands around the cells, before them.
 #[tactic(auto, unfolding(crate::specs::Svg::front))]
-fn push_front(out: &mut Vec<u8>, name: &[u8], inspection: &Inspection) -> Result<(), AllocError>
+pub(crate) fn push_front(
+    out: &mut Vec<u8>,
+    name: &[u8],
+    inspection: &Inspection,
+) -> Result<(), AllocError>
     ensures { OnOk result (out.new.items ≡ out.old.items ++ front name.now inspection.now) }
 {
     push_heads(out, name, inspection)?;
