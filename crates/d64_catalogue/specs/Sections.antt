@@ -15,7 +15,7 @@ use Rattle.d64_wording.specs.CheckText.{contents_text, state_text}
 use Rattle.d64_wording.specs.FaultText.{fault_text, read_error_text}
 use Rattle.d64_wording.specs.Shown.{shown_name}
 use Rattle.d64_markup.specs.Markup.{element, held_text}
-use Rattle.d64_picture.specs.Svg.{svg_of}
+use Rattle.d64_picture.specs.PagePicture.{page_svg_of}
 use Rattle.d64_catalogue.specs.Elements.{text_line}
 use Rattle.d64_catalogue.specs.Files.{table}
 
@@ -69,7 +69,7 @@ wrongs dump = element (codes "ul") [] (fault_items dump.image (faults dump.image
 
 -- the picture of the blocks, where it is wanted
 abbrev pub picture_where : Bool → Bytes → DumpView → List ℕ
-picture_where maps name dump = if maps then svg_of name dump else []
+picture_where maps name dump = if maps then page_svg_of name dump else []
 
 -- all that is in the section
 unfoldable pub content : Bool → Bytes → DumpView → List ℕ

@@ -1,6 +1,7 @@
 -- How the page looks.
 use Rattle.std.specs.Prelude.{ℕ, List, [], ◌++◌, codes}
 use Rattle.d64_markup.specs.Markup.{element}
+use Rattle.d64_picture.specs.Style.{picture_rules}
 
 -- the colours, light and dark, and the page
 unfoldable pub page_rules : List ℕ
@@ -26,10 +27,10 @@ table_rules = codes "ul,table,svg{margin:0 .9rem .9rem 3.1rem}\ntable:not(:has(t
 unfoldable pub medium_rules : List ℕ
 medium_rules = codes ":focus-visible{outline:3px solid var(--good);outline-offset:2px}\nsummary:focus-visible{outline-offset:-4px;border-radius:.6rem}\n@media (max-width:40rem){summary,section{grid-template-columns:1.6rem auto 1fr .8rem}summary::after{grid-column:4}.host,.contents,.state,p{grid-area:auto/2/auto/4;text-align:left}input{flex-basis:100%}ul,table,svg{margin-left:.9rem}table,svg{width:calc(100% - 1.8rem);max-width:none}output{text-align:left}table{font-size:.8125rem}table,thead,tbody{display:block}tr{display:grid;grid-template-columns:2.9rem 1fr 2.2rem 4rem}tr :nth-child(n){width:auto;min-width:0}th,td{padding-right:.5rem}.broken,.unknown{grid-column:2/-1}.id{white-space:pre-wrap;overflow-wrap:anywhere}}\n@media print{:root{color-scheme:light;--ink:#000;--paper:#fff}body{max-width:none;padding:0}header{position:static}.tools,summary::after{display:none}\nsummary,thead{break-after:avoid}tr,li,svg,section,details:not(:has(tr:nth-child(30),li:nth-child(9))){break-inside:avoid}\ndetails::details-content{content-visibility:visible;display:block}details:has(svg)::details-content{display:grid;grid-template-columns:6fr 5fr;align-items:start}\ndetails:has(svg) ul{grid-column:1/3}details:has(svg) :is(table,svg){width:auto;max-width:none;margin:0 .9rem .9rem}details:has(svg) tr :nth-child(n+2){width:auto}.whole{white-space:nowrap!important}}\n"
 
--- all rules
+-- all rules of the page
 unfoldable pub rules : List ℕ
 rules = page_rules ++ (search_rules ++ (section_rules ++ (label_rules ++ (table_rules ++ medium_rules))))
 
--- the style
+-- the style, with how the pictures look
 unfoldable pub style : List ℕ
-style = element (codes "style") [] (codes "\n" ++ rules) ++ codes "\n"
+style = element (codes "style") [] (codes "\n" ++ (rules ++ picture_rules)) ++ codes "\n"

@@ -9,7 +9,7 @@ use crate::files::push_table;
 use d64_image::Image;
 use d64_markup::push_held;
 use d64_names::{disk_id, disk_name};
-use d64_picture::map_svg;
+use d64_picture::page_svg;
 use d64_survey::{Fault, Inspection, ReadError, Survey};
 use d64_wording::{
     push_contents, push_fault, push_number, push_read_error, push_shown, push_spelling, push_state,
@@ -205,7 +205,7 @@ fn push_picture_where(
     ensures { OnOk result (out.new.items ≡ out.old.items ++ picture_where maps name.now all.now) }
 {
     if maps {
-        map_svg(name, all, out)
+        page_svg(name, all, out)
     } else {
         Ok(())
     }

@@ -1,7 +1,9 @@
 //! How the page looks.
 ghost use Rattle.std.specs.Prelude.{◌≡◌, ◌++◌, OnOk};
 ghost use Rattle.d64_catalogue.specs.Style.{page_rules, search_rules, section_rules, label_rules, table_rules, medium_rules, rules, style};
+ghost use Rattle.d64_picture.specs.Style.{picture_rules};
 
+use d64_picture::push_picture_rules;
 use std::alloc::AllocError;
 
 /// The colours, light and dark, and the page.
@@ -144,12 +146,20 @@ fn push_rules(out: &mut Vec<u8>) -> Result<(), AllocError>
     push_medium_rules(out)
 }
 
+/// Adds all rules of the page, and those of the pictures in it.
+fn push_rules_with_pictures(out: &mut Vec<u8>) -> Result<(), AllocError>
+    ensures { OnOk result (out.new.items ≡ out.old.items ++ (rules ++ picture_rules)) }
+{
+    push_rules(out)?;
+    push_picture_rules(out)
+}
+
 /// Adds the style.
 #[tactic(auto, unfolding(crate::specs::Style::style, d64_markup::specs::Markup::element, d64_markup::specs::Markup::tag))]
 pub(crate) fn push_style(out: &mut Vec<u8>) -> Result<(), AllocError>
     ensures { OnOk result (out.new.items ≡ out.old.items ++ style) }
 {
     out.extend_from_slice(b"<style>\n")?;
-    push_rules(out)?;
+    push_rules_with_pictures(out)?;
     out.extend_from_slice(b"</style>\n")
 }
