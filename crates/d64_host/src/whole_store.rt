@@ -212,7 +212,7 @@ fn end_of_links<R: Files>(rt: &R, alloc: Global, name: &str) -> Result<End, Host
     Err(HostFault::Device)
 }
 
-/// Whether a link on this device is one of the system's own, as those that lead to the streams of
+/// Whether a link on this device is one of the system's own, as those that stand for the streams of
 /// a process: what they lead to is open already, and a new file in its place would not be.
 fn is_of_system(device: u64, processes: Option<u64>) -> bool
     ensures { (result ≡ true) ↔ (processes ≡ Some device) }
