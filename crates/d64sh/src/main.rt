@@ -9,7 +9,7 @@ use d64_advice::Advisor;
 use d64_host::{Retrying, SizeLimit, StandardStream};
 use d64_script::input::InputStream;
 use d64_script::output::OutputStream;
-use d64_shell::{FolderHost, HeardProgram, Job, ProgramFault, job};
+use d64_shell::{FolderHost, HeardProgram, Job, Listener, ProgramFault, job};
 use progress::{ProgressLine, WatchedHost, WipingWriter};
 use std::alloc::Global;
 use std::cell::Cell;
@@ -61,29 +61,39 @@ fn start<'a, E: Write>(
         return Ok(NOT_RUN);
     }
     let output = WithinLimit::new(rt, limit, StandardStream::Output, rt.stdout());
-    let unmarked = Cell::new(false);
-    let mark = if is_survey(words.first().copied()) {
-        is_unread
-    } else {
-        &unmarked
-    };
-    let output = Retrying(MarkingWriter::new(mark, output));
+    let is_marking = is_survey(arguments.first());
+    let output = Retrying(MarkingWriter::new(is_unread, is_marking, output));
+    run_program(rt, limit, line, output, faults, words.as_slice())
+}
+
+/// Runs the program with these arguments on an output and the process's other streams.
+fn run_program<'a, O: Write + Drop, E: Write>(
+    rt: &'a HostRuntime,
+    limit: &'a SizeLimit,
+    line: &ProgressLine<HostRuntime>,
+    output: O,
+    faults: &mut OutputStream<'_, E>,
+    words: &[&str],
+) -> Result<u8, ProgramFault> {
     let mut output = BufWriter::new(rt.alloc(), output).map_err(|_| ProgramFault::Memory)?;
     let mut input = Retrying(rt.stdin());
     let is_terminal = rt.stdin().is_terminal() && rt.stderr().is_terminal();
     let errors = WithinLimit::new(rt, limit, StandardStream::Error, rt.stderr());
     let mut errors = Retrying(errors);
-    let program = HeardProgram {
-        alloc: rt.alloc(),
-        listener: &mut Advisor::new(rt.alloc(), is_terminal, &mut errors, FolderHost::new(rt)),
-    };
+    let mut advisor = Advisor::new(rt.alloc(), is_terminal, &mut errors, FolderHost::new(rt));
+    let program = program_with(rt.alloc(), &mut advisor);
     Ok(program.run(
-        words.as_slice(),
+        words,
         &mut InputStream::new(&mut input),
         &mut OutputStream::new(&mut output),
         faults,
         &mut WatchedHost::new(line, FolderHost::new(rt)),
     ))
+}
+
+/// The program, with this listener.
+fn program_with<'l, L: Listener>(alloc: Global, listener: &'l mut L) -> HeardProgram<'l, L> {
+    HeardProgram { alloc, listener }
 }
 
 /// Whether the words ask for a program on the output, as `crunch` writes it without `-o`. Where
@@ -99,12 +109,15 @@ fn asks_for_program(alloc: Global, words: &[&str]) -> bool {
     )
 }
 
-/// Whether the first word is one after which output that nobody reads is no fault to speak of.
-fn is_survey(word: Option<&str>) -> bool {
-    matches!(
-        word,
-        Some("check" | "files" | "extract" | "map" | "catalogue" | "diff" | "merge")
-    )
+/// Whether the first argument is a subcommand of which output that nobody reads is no fault.
+fn is_survey(argument: Option<&String>) -> bool {
+    match argument {
+        Some(argument) => matches!(
+            argument.as_str(),
+            "check" | "files" | "extract" | "map" | "catalogue" | "diff"
+        ),
+        None => false,
+    }
 }
 
 /// Why the words cannot be had: there is no memory for them, or one of them is no text.

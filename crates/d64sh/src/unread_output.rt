@@ -6,17 +6,26 @@ ghost use Rattle.std.specs.Io.KnownBytes.{WriteAppends, Keeps};
 use std::cell::Cell;
 use std::io::{self, ErrorKind, Write};
 
-/// The output, of which is marked once nobody reads it any more.
+/// The output, of which it is marked, if that is wanted, once nobody reads it any more.
 #[derive(Drop)]
 pub(crate) struct MarkingWriter<'a, W> {
     is_unread: &'a Cell<bool>,
+    is_marking: bool,
     writer: W,
 }
 
 impl<'a, W> MarkingWriter<'a, W> {
     /// A writer to the output.
-    pub(crate) fn new(is_unread: &'a Cell<bool>, writer: W) -> MarkingWriter<'a, W> {
-        MarkingWriter { is_unread, writer }
+    pub(crate) fn new(
+        is_unread: &'a Cell<bool>,
+        is_marking: bool,
+        writer: W,
+    ) -> MarkingWriter<'a, W> {
+        MarkingWriter {
+            is_unread,
+            is_marking,
+            writer,
+        }
     }
 }
 
@@ -29,7 +38,7 @@ impl<'a, W: Write> Write for MarkingWriter<'a, W> {
     {
         let outcome = self.writer.write(bytes);
         if let Err(error) = &outcome {
-            if error.kind() == ErrorKind::BrokenPipe {
+            if self.is_marking && error.kind() == ErrorKind::BrokenPipe {
                 self.is_unread.set(true);
             }
         }
