@@ -446,7 +446,8 @@ def is_of_unowned(line, data):
 def is_first_line(line, name, data):
     """Whether a line may be the first that tells of a dump."""
     survey, told = survey_of(data), survey_of(data).told()
-    line, doubtful, doubts = line.partition(f", {'but' if told['sound'] else 'and'} doubtful: ")
+    is_clean = told["sound"] and not survey.errors and not survey.not_whole
+    line, doubtful, doubts = line.partition(f", {'but' if is_clean else 'and'} doubtful: ")
     begin, _, end = line.rpartition(": ")
     head = f'{shown(name)}: "{told["name"]}" {told["id"]}'
     counts = [count for count in (len(survey.faults), len(survey.errors), survey.not_whole) if count]
