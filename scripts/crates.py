@@ -13,6 +13,8 @@ TOP = os.path.dirname(os.path.dirname(os.path.abspath(__file__)))
 RT = os.environ.get("RT", "rt")
 # What the check of a crate takes at most, in bytes, and so does a try of its tests.
 MEMORY = 2_600_000_000
+# What a crate costs for being there, in lines of its own.
+LINES_OF_A_CRATE = 1_500
 
 
 def version():
@@ -55,10 +57,10 @@ def lines_of(name):
 
 
 def chains(crates, wanted):
-    """Of each wanted crate the lines of the longest chain of wanted crates that begins with it, where each crate needs the one before."""
+    """Of each wanted crate what the longest chain of wanted crates costs, in lines, that begins with it, where each crate needs the one before."""
     @functools.cache
     def chain(name):
-        return lines_of(name) + max((chain(it) for it in wanted if name in crates[it]), default=0)
+        return LINES_OF_A_CRATE + lines_of(name) + max((chain(it) for it in wanted if name in crates[it]), default=0)
 
     return {name: chain(name) for name in crates if name in wanted}
 
@@ -79,20 +81,23 @@ def rt(crate, *words, top=TOP, **how):
 
 def in_order(crates, wanted, call):
     """Calls a function for each wanted crate once it was true for those of them that the crate stands on, as many side by side as there is room for,
-    and that with the longest chain above it first. Yields each crate as it ends with what the call returned, or None where a crate below it was false."""
+    and that with the longest chain above it first. The function also gets how many jobs are for the crate: more than one if fewer crates can be checked
+    than there is room for. Yields each crate as it ends with what the call returned, or None where a crate below it was false."""
     lines, most = chains(crates, wanted), at_once()
     left, ended, running = sorted(lines, key=lambda it: -lines[it]), {}, {}
     with concurrent.futures.ThreadPoolExecutor(most) as pool:
         while left or running:
-            for crate in list(left):
-                needed = below(crates, crate) & set(wanted)
-                if any(it in ended and not ended[it] for it in needed):
-                    left.remove(crate)
-                    ended[crate] = None
-                    yield crate, None
-                elif len(running) < most and all(it in ended for it in needed):
-                    left.remove(crate)
-                    running[pool.submit(call, crate)] = crate
+            ready = [it for it in left if all(ended.get(one) for one in below(crates, it) & set(wanted))]
+            for crate in ready[: most - len(running)]:
+                left.remove(crate)
+                running[pool.submit(call, crate, max(1, (most - len(running)) // len(ready)))] = crate
+                ready.remove(crate)
+            for crate in [it for it in left if any(one in ended and not ended[one] for one in below(crates, it) & set(wanted))]:
+                left.remove(crate)
+                ended[crate] = None
+                yield crate, None
+            if not running:
+                continue
             for done in concurrent.futures.wait(running, return_when=concurrent.futures.FIRST_COMPLETED).done:
                 crate = running.pop(done)
                 ended[crate] = done.result()
@@ -193,13 +198,13 @@ def set_apart(crates, name):
 
 
 def build_libraries(crates, wanted):
-    """Proves and builds these libraries over what was kept, one job each, and returns whether all were, printing what was not."""
+    """Proves and builds these libraries over what was kept, and returns whether all were, printing what was not."""
     printed, seconds = {}, {}
 
-    def build(crate):
+    def build(crate, jobs):
         begin = time.monotonic()
         with set_apart(crates, crate) as top:
-            status, printed[crate] = rt(crate, "lib", "--jobs", "1", top=top)
+            status, printed[crate] = rt(crate, "lib", "--jobs", str(jobs), top=top)
         seconds[crate] = round(time.monotonic() - begin)
         return status == 0
 
