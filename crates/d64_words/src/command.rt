@@ -1,10 +1,11 @@
 //! The program's subcommands and their arguments, with their help.
 
 ghost use Rattle.std.specs.Prelude.{◌≡◌, IfOk, false, option_map};
-ghost use Rattle.clap.specs.Words.{app_of, kind_of, new_app, rule_of};
+ghost use Rattle.clap.specs.Words.{App, Rule, app_of, kind_of, new_app, rule_of, with_rule, with_subcommand};
 ghost use Rattle.clap.specs.declared.error.kind.ErrorKind.TheVariants.{InvalidValue};
 ghost use Rattle.clap.specs.declared.builder.command.Command.TheViews.{out-Command as fields_of};
-ghost use Rattle.d64_words.specs.Commands.{bare_app, d64sh, app_named, shell, petcat, crunch, check, files, extract, map, diff, catalogue, survey, with_names, file_argument, required_argument, files_argument, valued_option, output_option, line_option, stop_flag, flag, with_script};
+ghost use Rattle.d64_words.specs.Commands.{bare_app, d64sh, app_named, shell, petcat, crunch, check, files, extract, map, diff, catalogue, survey, with_names, file_argument, image_argument, required_argument, files_argument, valued_option, output_option, line_option, stop_flag, flag, with_script};
+ghost use Rattle.d64_words.specs.Making.{IsArgument, IsMade};
 
 use crate::help::help_of;
 use clap::error::ErrorKind;
@@ -16,18 +17,17 @@ const VERSION: &str = "0.2.0";
 
 /// The command `d64sh`, with its subcommands.
 pub(crate) fn d64sh<'a>(alloc: Global) -> Result<Command<'a>, AllocError>
-    ensures { IfOk result (λ command. (app_of command ≡ d64sh) × ((fields_of command).has_globals ≡ false)) }
+    ensures { IsMade d64sh result }
 {
-    bare(alloc)
-        .subcommand(shell(alloc)?)?
-        .subcommand(petcat(alloc)?)?
-        .subcommand(crunch(alloc)?)?
-        .subcommand(check(alloc)?)?
-        .subcommand(files(alloc)?)?
-        .subcommand(extract(alloc)?)?
-        .subcommand(map(alloc)?)?
-        .subcommand(diff(alloc)?)?
-        .subcommand(catalogue(alloc)?)
+    let command = with_subcommand(Ok(bare(alloc)), shell(alloc));
+    let command = with_subcommand(command, petcat(alloc));
+    let command = with_subcommand(command, crunch(alloc));
+    let command = with_subcommand(command, check(alloc));
+    let command = with_subcommand(command, files(alloc));
+    let command = with_subcommand(command, extract(alloc));
+    let command = with_subcommand(command, map(alloc));
+    let command = with_subcommand(command, diff(alloc));
+    with_subcommand(command, catalogue(alloc))
 }
 
 /// The subcommand of this name, where there is one. It makes of the words from its name on what
@@ -35,18 +35,19 @@ pub(crate) fn d64sh<'a>(alloc: Global) -> Result<Command<'a>, AllocError>
 pub(crate) fn named<'a>(alloc: Global, name: &str) -> Result<Option<Command<'a>>, AllocError>
     ensures { IfOk result (λ command. option_map app_of command ≡ app_named name.now) }
 {
-    Ok(Some(match name {
-        "shell" => shell(alloc)?,
-        "petcat" => petcat(alloc)?,
-        "crunch" => crunch(alloc)?,
-        "check" => check(alloc)?,
-        "files" => files(alloc)?,
-        "extract" => extract(alloc)?,
-        "map" => map(alloc)?,
-        "diff" => diff(alloc)?,
-        "catalogue" => catalogue(alloc)?,
+    let command = match name {
+        "shell" => shell(alloc),
+        "petcat" => petcat(alloc),
+        "crunch" => crunch(alloc),
+        "check" => check(alloc),
+        "files" => files(alloc),
+        "extract" => extract(alloc),
+        "map" => map(alloc),
+        "diff" => diff(alloc),
+        "catalogue" => catalogue(alloc),
         _ => return Ok(None),
-    }))
+    };
+    Ok(Some(command?))
 }
 
 /// The error that an option lacks its value, with the usage of the subcommand of this name, where
@@ -85,11 +86,37 @@ fn subcommand<'a>(alloc: Global, name: &'a str) -> Command<'a>
         .after_help(help.details)
 }
 
+/// The command with one argument more. A command or the want of memory for it is passed on without
+/// an exit between, since each exit would drop all that is made until then.
+fn with_argument<'a>(
+    command: Result<Command<'a>, AllocError>,
+    argument: Arg<'a>,
+) -> Result<Command<'a>, AllocError>
+    ensures { (app : App) (rule : Rule) → IsMade app command.entry → IsArgument rule argument.entry → IsMade (with_rule app rule) result }
+{
+    match command {
+        Ok(command) => command.arg(argument),
+        Err(error) => Err(error),
+    }
+}
+
+/// The command with one subcommand more.
+fn with_subcommand<'a>(
+    command: Result<Command<'a>, AllocError>,
+    subcommand: Result<Command<'a>, AllocError>,
+) -> Result<Command<'a>, AllocError>
+    ensures { (app below : App) → IsMade app command.entry → IsMade below subcommand.entry → IsMade (with_subcommand app below.top) result }
+{
+    match command {
+        Ok(command) => command.subcommand(subcommand?),
+        Err(error) => Err(error),
+    }
+}
+
 /// `shell [-e] [-c LINE].. [--tracks N] [IMAGE]` and `shell [-e] [-c LINE].. --resume FILE
 /// [IMAGE]`.
 fn shell<'a>(alloc: Global) -> Result<Command<'a>, AllocError>
-    ensures app { IfOk result (λ command. app_of command ≡ shell) }
-    ensures local { IfOk result (λ command. (fields_of command).has_globals ≡ false) }
+    ensures { IsMade shell result }
 {
     let tracks = valued_option(
         alloc,
@@ -97,44 +124,42 @@ fn shell<'a>(alloc: Global) -> Result<Command<'a>, AllocError>
         "N",
         "Tracks of the blank image: 35 or 40; without it, 35. Not with IMAGE",
     );
+    let command = with_argument(Ok(subcommand(alloc, "shell")), tracks);
     let resume = valued_option(
         alloc,
         "resume",
         "FILE",
         "The session to go on with, as `keep` stored it. Not with --tracks",
     );
-    let image = Arg::new(alloc, "image")
-        .value_name("IMAGE")
-        .help("The D64 image to work on; without it, a blank image");
-    let command = subcommand(alloc, "shell")
-        .arg(tracks)?
-        .arg(resume)?
-        .arg(image)?;
+    let command = with_argument(command, resume);
+    let command = with_argument(command, image_argument(alloc));
     with_script(alloc, command)
 }
 
 /// The subcommand with the words for a script: `[-c LINE]..` and `[-e]`.
-fn with_script<'a>(alloc: Global, command: Command<'a>) -> Result<Command<'a>, AllocError>
-    ensures app { IfOk result (λ with. app_of with ≡ with_script (app_of command.entry)) }
-    ensures local { IfOk result (λ with. (fields_of with).has_globals ≡ (fields_of command.entry).has_globals) }
+fn with_script<'a>(
+    alloc: Global,
+    command: Result<Command<'a>, AllocError>,
+) -> Result<Command<'a>, AllocError>
+    ensures { (app : App) → IsMade app command.entry → IsMade (with_script app) result }
 {
-    command.arg(line_option(alloc))?.arg(stop_flag(alloc))
+    let command = with_argument(command, line_option(alloc));
+    with_argument(command, stop_flag(alloc))
 }
 
 /// `petcat [-o FILE] [FILE]`.
 fn petcat<'a>(alloc: Global) -> Result<Command<'a>, AllocError>
-    ensures app { IfOk result (λ command. app_of command ≡ petcat) }
-    ensures local { IfOk result (λ command. (fields_of command).has_globals ≡ false) }
+    ensures { IsMade petcat result }
 {
     let output = output_option(alloc, "The text's file; without it, the standard output");
+    let command = with_argument(Ok(subcommand(alloc, "petcat")), output);
     let file = file_argument(alloc, "The program file; without it, the standard input");
-    subcommand(alloc, "petcat").arg(output)?.arg(file)
+    with_argument(command, file)
 }
 
 /// `crunch [--start HEX] [-o FILE] [FILE]`.
 fn crunch<'a>(alloc: Global) -> Result<Command<'a>, AllocError>
-    ensures app { IfOk result (λ command. app_of command ≡ crunch) }
-    ensures local { IfOk result (λ command. (fields_of command).has_globals ≡ false) }
+    ensures { IsMade crunch result }
 {
     let start = valued_option(
         alloc,
@@ -142,41 +167,36 @@ fn crunch<'a>(alloc: Global) -> Result<Command<'a>, AllocError>
         "HEX",
         "Load address: one to four hexadecimal digits; without it, 0801",
     );
+    let command = with_argument(Ok(subcommand(alloc, "crunch")), start);
     let output = output_option(alloc, "The program file; without it, the standard output");
+    let command = with_argument(command, output);
     let file = file_argument(alloc, "The text; without it, the standard input");
-    subcommand(alloc, "crunch")
-        .arg(start)?
-        .arg(output)?
-        .arg(file)
+    with_argument(command, file)
 }
 
 /// `check [--digest]` with the words of a survey.
 fn check<'a>(alloc: Global) -> Result<Command<'a>, AllocError>
-    ensures app { IfOk result (λ command. app_of command ≡ check) }
-    ensures local { IfOk result (λ command. (fields_of command).has_globals ≡ false) }
+    ensures { IsMade check result }
 {
     let digest = flag(
         alloc,
         "digest",
         "Add the SHA-256 digest of each file's bytes",
     );
-    let command = subcommand(alloc, "check").arg(digest)?;
+    let command = with_argument(Ok(subcommand(alloc, "check")), digest);
     survey(alloc, command)
 }
 
 /// `files` with the words of a survey.
 fn files<'a>(alloc: Global) -> Result<Command<'a>, AllocError>
-    ensures app { IfOk result (λ command. app_of command ≡ files) }
-    ensures local { IfOk result (λ command. (fields_of command).has_globals ≡ false) }
+    ensures { IsMade files result }
 {
-    let command = subcommand(alloc, "files");
-    survey(alloc, command)
+    survey(alloc, Ok(subcommand(alloc, "files")))
 }
 
 /// `extract [--into FOLDER] [--part] [--skip-existing]` with the words of a survey.
 fn extract<'a>(alloc: Global) -> Result<Command<'a>, AllocError>
-    ensures app { IfOk result (λ command. app_of command ≡ extract) }
-    ensures local { IfOk result (λ command. (fields_of command).has_globals ≡ false) }
+    ensures { IsMade extract result }
 {
     let into = valued_option(
         alloc,
@@ -184,27 +204,25 @@ fn extract<'a>(alloc: Global) -> Result<Command<'a>, AllocError>
         "FOLDER",
         "Put the images' folders into this one, which is there; without it, `.`",
     );
+    let command = with_argument(Ok(subcommand(alloc, "extract")), into);
     let part = flag(
         alloc,
         "part",
         "Also write what is left of files that have no content, as NAME.part",
     );
+    let command = with_argument(command, part);
     let skip = flag(
         alloc,
         "skip-existing",
         "Pass over images whose folders are there and complete",
     );
-    let command = subcommand(alloc, "extract")
-        .arg(into)?
-        .arg(part)?
-        .arg(skip)?;
+    let command = with_argument(command, skip);
     survey(alloc, command)
 }
 
 /// `map [--format FORMAT] FILE`.
 fn map<'a>(alloc: Global) -> Result<Command<'a>, AllocError>
-    ensures app { IfOk result (λ command. app_of command ≡ map) }
-    ensures local { IfOk result (λ command. (fields_of command).has_globals ≡ false) }
+    ensures { IsMade map result }
 {
     let format = valued_option(
         alloc,
@@ -212,14 +230,14 @@ fn map<'a>(alloc: Global) -> Result<Command<'a>, AllocError>
         "FORMAT",
         "Form of the map: text or svg; without it, text",
     );
+    let command = with_argument(Ok(subcommand(alloc, "map")), format);
     let file = required_argument(alloc, "file", "FILE", "The image to draw");
-    subcommand(alloc, "map").arg(format)?.arg(file)
+    with_argument(command, file)
 }
 
 /// `diff [--format FORMAT] OLD NEW`.
 fn diff<'a>(alloc: Global) -> Result<Command<'a>, AllocError>
-    ensures app { IfOk result (λ command. app_of command ≡ diff) }
-    ensures local { IfOk result (λ command. (fields_of command).has_globals ≡ false) }
+    ensures { IsMade diff result }
 {
     let format = valued_option(
         alloc,
@@ -227,25 +245,28 @@ fn diff<'a>(alloc: Global) -> Result<Command<'a>, AllocError>
         "FORMAT",
         "Form of the output: text or json; without it, text",
     );
+    let command = with_argument(Ok(subcommand(alloc, "diff")), format);
     let old = required_argument(alloc, "old", "OLD", "The image as it was");
+    let command = with_argument(command, old);
     let new = required_argument(alloc, "new", "NEW", "The image as it is now");
-    subcommand(alloc, "diff").arg(format)?.arg(old)?.arg(new)
+    with_argument(command, new)
 }
 
 /// `catalogue [--maps]` with the names of files.
 fn catalogue<'a>(alloc: Global) -> Result<Command<'a>, AllocError>
-    ensures app { IfOk result (λ command. app_of command ≡ catalogue) }
-    ensures local { IfOk result (λ command. (fields_of command).has_globals ≡ false) }
+    ensures { IsMade catalogue result }
 {
     let maps = flag(alloc, "maps", "Add a picture of the blocks of each image");
-    let command = subcommand(alloc, "catalogue").arg(maps)?;
+    let command = with_argument(Ok(subcommand(alloc, "catalogue")), maps);
     with_names(alloc, command)
 }
 
 /// The subcommand with the words of a survey: `[--format FORMAT]` and the names of files.
-fn survey<'a>(alloc: Global, command: Command<'a>) -> Result<Command<'a>, AllocError>
-    ensures app { IfOk result (λ with. app_of with ≡ survey (app_of command.entry)) }
-    ensures local { IfOk result (λ with. (fields_of with).has_globals ≡ (fields_of command.entry).has_globals) }
+fn survey<'a>(
+    alloc: Global,
+    command: Result<Command<'a>, AllocError>,
+) -> Result<Command<'a>, AllocError>
+    ensures { (app : App) → IsMade app command.entry → IsMade (survey app) result }
 {
     let format = valued_option(
         alloc,
@@ -253,13 +274,16 @@ fn survey<'a>(alloc: Global, command: Command<'a>) -> Result<Command<'a>, AllocE
         "FORMAT",
         "Form of the output: text, json or csv; without it, text",
     );
-    with_names(alloc, command.arg(format)?)
+    let command = with_argument(command, format);
+    with_names(alloc, command)
 }
 
 /// The subcommand with the names of files: `FILE..`, and `--files-from LIST [--null]` in its place.
-fn with_names<'a>(alloc: Global, command: Command<'a>) -> Result<Command<'a>, AllocError>
-    ensures app { IfOk result (λ with. app_of with ≡ with_names (app_of command.entry)) }
-    ensures local { IfOk result (λ with. (fields_of with).has_globals ≡ (fields_of command.entry).has_globals) }
+fn with_names<'a>(
+    alloc: Global,
+    command: Result<Command<'a>, AllocError>,
+) -> Result<Command<'a>, AllocError>
+    ensures { (app : App) → IsMade app command.entry → IsMade (with_names app) result }
 {
     let list = valued_option(
         alloc,
@@ -267,12 +291,24 @@ fn with_names<'a>(alloc: Global, command: Command<'a>) -> Result<Command<'a>, Al
         "LIST",
         "Take the names from the lines of a file; `-` is the standard input",
     );
+    let command = with_argument(command, list);
     let null = flag(
         alloc,
         "null",
         "Names in LIST end with NUL bytes, and not with line feeds",
     );
-    command.arg(list)?.arg(null)?.arg(files_argument(alloc))
+    let command = with_argument(command, null);
+    with_argument(command, files_argument(alloc))
+}
+
+/// `[IMAGE]`.
+fn image_argument<'a>(alloc: Global) -> Arg<'a>
+    ensures rule { rule_of result ≡ image_argument }
+    ensures local { result.global ≡ false }
+{
+    Arg::new(alloc, "image")
+        .value_name("IMAGE")
+        .help("The D64 image to work on; without it, a blank image")
 }
 
 /// `[FILE]..`.

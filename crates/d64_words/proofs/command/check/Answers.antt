@@ -1,17 +1,8 @@
-use Rattle.std.proofs.Common.{◌≡◌, false, rules, ap, ap₂, ◌∙◌}
-use Rattle.std.proofs.lemmas.Result.{IfOk-weaker}
-use Rattle.clap.specs.Words.{with_rule}
-use Rattle.clap.specs.declared.builder.command.Command.TheViews.{out-Command as fields_of}
-use Rattle.d64_words.specs.Commands.{survey}
+use Rattle.std.specs.Prelude.{codes}
+use Rattle.d64_words.specs.Commands.{flag}
 use Rattle.d64_words.proofs.command.check.Goals as goal
 
-pub returns-clause-app : goal.returns-clause-app
-returns-clause-app c =
-    let digest = c.in_ok-command.ensures.shape c.flag-digest.ensures.local ∙ ap₂ with_rule c.subcommand.ensures.app c.flag-digest.ensures.rule in
-    IfOk-weaker c.survey.result _ _ (λ command is. is ∙ ap survey digest) c.survey.ensures.app
-
-pub returns-clause-local : goal.returns-clause-local
-returns-clause-local c =
-    let local : (fields_of c.in_ok-command.command).has_globals ≡ false =
-    rw (c.in_ok-command.ensures.globals, c.flag-digest.ensures.local, c.subcommand.ensures.local) (search rules) in
-    IfOk-weaker c.survey.result _ _ (λ command same. same ∙ local) c.survey.ensures.local
+pub returns : goal.returns
+returns c =
+    let digest = c.with_argument-command.ensures _ (flag (codes "digest")) (c.subcommand.ensures.app, c.subcommand.ensures.local) (c.flag-digest.ensures.rule, c.flag-digest.ensures.local) in
+    c.survey.ensures _ digest
