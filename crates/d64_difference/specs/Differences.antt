@@ -1,5 +1,5 @@
 -- What is said of two dumps.
-use Rattle.std.specs.Prelude.{ℕ, ◌==◌, nat_eq, List, [], ◌∷◌, ◌++◌, length, Option, Some, None, is_some, if◌then◌else◌, codes}
+use Rattle.std.specs.Prelude.{ℕ, ◌==◌, nat_eq, List, [], ◌∷◌, ◌++◌, length, Option, Some, None, Result, Ok, Err, is_some, if◌then◌else◌, codes}
 use Rattle.std.specs.List.{flat_map}
 use Rattle.std.specs.Cmp.Lexicographic.{pointwise}
 use Rattle.d64_image.specs.Disk.{Bytes, Blocks}
@@ -9,12 +9,23 @@ use Rattle.d64_report.specs.DumpOf.{dump_of}
 use Rattle.d64_report.specs.Unanswered.{unread_object, wrong_length_object}
 use Rattle.d64_wording.specs.FaultLines.{unread_line, wrong_length_line}
 use Rattle.d64_collection.specs.Answers.{Answer}
+use Rattle.d64_collection.specs.Reasons.{with_known_reason}
+use Rattle.d64_collection.specs.declared.reason.Reason.{Reason}
 use Rattle.d64_collection.specs.declared.report.Verdict.TheVariants.{Clean, Amiss, Failed}
 use Rattle.d64_words.specs.declared.asked.DiffForm.{DiffForm}
 use Rattle.d64_words.specs.declared.asked.DiffForm.TheVariants.{Text, Json}
 use Rattle.d64_difference.specs.Changes.{Change, changes}
 use Rattle.d64_difference.specs.ChangeObject.{blocks_object, change_object}
 use Rattle.d64_difference.specs.ChangeText.{blocks_line, change_lines, heading}
+
+-- what is read of a file: its bytes, or why it cannot be read, if that is known
+abbrev pub Contents : Type 0
+Contents = Result Bytes (Option Reason)
+
+-- the same as the code has it, where this gives the bytes
+abbrev pub contents_by : {B : Type 0} → (B → Bytes) → Result B (Option Reason) → Contents
+contents_by bytes_of (Ok bytes) = Ok (bytes_of bytes)
+contents_by bytes_of (Err reason) = Err reason
 
 -- what is printed of a change
 abbrev pub printed_change : DiffForm → Change → List ℕ
@@ -46,20 +57,20 @@ abbrev pub printed_difference : DiffForm → Bytes → Bytes → DumpView → Du
 printed_difference Text old_name new_name old new = under_names old_name new_name (printed_changes Text (changes old new))
 printed_difference Json old_name new_name old new = printed_changes Json (changes old new)
 
--- the line on standard error of a file that isn't answered: it cannot be read, or no dump has its
--- length
-abbrev pub fault_line : Bytes → Option Bytes → List ℕ
-fault_line name None = unread_line name
-fault_line name (Some bytes) = if is_some (dump_of bytes) then [] else wrong_length_line name bytes
+-- the line on standard error of a file that isn't answered: it cannot be read, with the reason, or
+-- no dump has its length
+abbrev pub fault_line : Bytes → Contents → List ℕ
+fault_line name (Err reason) = with_known_reason reason (unread_line name)
+fault_line name (Ok bytes) = if is_some (dump_of bytes) then [] else wrong_length_line name bytes
 
 -- and what is printed of it
-abbrev pub printed_fault : DiffForm → Bytes → Option Bytes → List ℕ
-printed_fault Text name bytes = []
-printed_fault Json name None = line_of (unread_object name)
-printed_fault Json name (Some bytes) = if is_some (dump_of bytes) then [] else line_of (wrong_length_object name (length bytes))
+abbrev pub printed_fault : DiffForm → Bytes → Contents → List ℕ
+printed_fault Text name contents = []
+printed_fault Json name (Err reason) = line_of (unread_object name)
+printed_fault Json name (Ok bytes) = if is_some (dump_of bytes) then [] else line_of (wrong_length_object name (length bytes))
 
 -- what is answered where one of two files isn't, or neither
-abbrev pub unanswered_pair : DiffForm → Bytes → Option Bytes → Bytes → Option Bytes → Answer
+abbrev pub unanswered_pair : DiffForm → Bytes → Contents → Bytes → Contents → Answer
 unanswered_pair form old_name old new_name new =
     record { printed = printed_fault form old_name old ++ printed_fault form new_name new; complaint = fault_line old_name old ++ fault_line new_name new; verdict = Failed }
 
@@ -76,12 +87,12 @@ silence = record { printed = []; complaint = []; verdict = Clean }
 abbrev pub difference_by : DiffForm → Bytes → Bytes → Bytes → Bytes → Option DumpView → Option DumpView → Answer
 difference_by form old_name old new_name new (Some old_dump) (Some new_dump) =
     if pointwise nat_eq old new then silence else amiss_with (printed_difference form old_name new_name old_dump new_dump)
-difference_by form old_name old new_name new (Some old_dump) None = unanswered_pair form old_name (Some old) new_name (Some new)
-difference_by form old_name old new_name new None new_dump = unanswered_pair form old_name (Some old) new_name (Some new)
+difference_by form old_name old new_name new (Some old_dump) None = unanswered_pair form old_name (Ok old) new_name (Ok new)
+difference_by form old_name old new_name new None new_dump = unanswered_pair form old_name (Ok old) new_name (Ok new)
 
 -- what `diff` answers of an old file and a new one in a form: of their bytes, or that they cannot
 -- be read
-abbrev pub difference_rule : DiffForm → Bytes → Option Bytes → Bytes → Option Bytes → Answer
-difference_rule form old_name (Some old) new_name (Some new) = difference_by form old_name old new_name new (dump_of old) (dump_of new)
-difference_rule form old_name (Some old) new_name None = unanswered_pair form old_name (Some old) new_name None
-difference_rule form old_name None new_name new = unanswered_pair form old_name None new_name new
+abbrev pub difference_rule : DiffForm → Bytes → Contents → Bytes → Contents → Answer
+difference_rule form old_name (Ok old) new_name (Ok new) = difference_by form old_name old new_name new (dump_of old) (dump_of new)
+difference_rule form old_name (Ok old) new_name (Err reason) = unanswered_pair form old_name (Ok old) new_name (Err reason)
+difference_rule form old_name (Err reason) new_name new = unanswered_pair form old_name (Err reason) new_name new

@@ -1,5 +1,5 @@
 -- What follows from the definition of a difference.
-use Rattle.std.specs.Prelude.{◌≡◌, [], Some}
+use Rattle.std.specs.Prelude.{◌≡◌, [], Some, Ok}
 use Rattle.d64_image.specs.Disk.{Bytes}
 use Rattle.d64_survey.specs.Dump.{DumpView, IsDump}
 use Rattle.d64_report.specs.DumpOf.{dump_of}
@@ -13,7 +13,7 @@ NoChangeToItself = (dump : DumpView) → changes dump dump ≡ []
 
 -- of equal bytes of a dump nothing is said
 abbrev pub EqualBytesAreSilent : Type 0
-EqualBytesAreSilent = (form : DiffForm) (old_name new_name bytes : Bytes) (dump : DumpView) → dump_of bytes ≡ Some dump → difference_rule form old_name (Some bytes) new_name (Some bytes) ≡ silence
+EqualBytesAreSilent = (form : DiffForm) (old_name new_name bytes : Bytes) (dump : DumpView) → dump_of bytes ≡ Some dump → difference_rule form old_name (Ok bytes) new_name (Ok bytes) ≡ silence
 
 -- where no change is told, the images are equal: each byte of an image that differs is told
 abbrev pub EachByteOfImagesIsTold : Type 0

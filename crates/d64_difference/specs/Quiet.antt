@@ -1,12 +1,12 @@
 -- Why `diff` complains of no files that it calls clean.
-use Rattle.std.specs.Prelude.{◌≡◌, ℕ, nat_eq, Bool, true, false, if◌then◌else◌, List, [], Option, Some, None, refl}
+use Rattle.std.specs.Prelude.{◌≡◌, ℕ, nat_eq, Bool, true, false, if◌then◌else◌, List, [], Option, Some, None, Ok, Err, refl}
 use Rattle.std.specs.Cmp.Lexicographic.{pointwise}
 use Rattle.d64_image.specs.Disk.{Bytes}
 use Rattle.d64_survey.specs.Dump.{DumpView}
 use Rattle.d64_collection.specs.declared.report.Verdict.TheVariants.{Clean}
 use Rattle.d64_report.specs.DumpOf.{dump_of}
 use Rattle.d64_words.specs.declared.asked.DiffForm.{DiffForm}
-use Rattle.d64_difference.specs.Differences.{silence, amiss_with, difference_by, difference_rule}
+use Rattle.d64_difference.specs.Differences.{Contents, silence, amiss_with, difference_by, difference_rule}
 
 -- neither silence nor what is amiss has a complaint
 either-is_quiet : (equal : Bool) (printed : List ℕ) → (if equal then silence else amiss_with printed).complaint ≡ []
@@ -20,8 +20,8 @@ difference_by-is_quiet form old_name old new_name new (Some old_dump) None clean
 difference_by-is_quiet form old_name old new_name new None new_dump clean = cc
 
 -- a clean answer has no complaint
-pub difference_rule-is_quiet : (form : DiffForm) (old_name : Bytes) (old : Option Bytes) (new_name : Bytes) (new : Option Bytes)
+pub difference_rule-is_quiet : (form : DiffForm) (old_name : Bytes) (old : Contents) (new_name : Bytes) (new : Contents)
     → (difference_rule form old_name old new_name new).verdict ≡ Clean → (difference_rule form old_name old new_name new).complaint ≡ []
-difference_rule-is_quiet form old_name (Some old) new_name (Some new) clean = difference_by-is_quiet form old_name old new_name new (dump_of old) (dump_of new) clean
-difference_rule-is_quiet form old_name (Some old) new_name None clean = cc
-difference_rule-is_quiet form old_name None new_name new clean = cc
+difference_rule-is_quiet form old_name (Ok old) new_name (Ok new) clean = difference_by-is_quiet form old_name old new_name new (dump_of old) (dump_of new) clean
+difference_rule-is_quiet form old_name (Ok old) new_name (Err reason) clean = cc
+difference_rule-is_quiet form old_name (Err reason) new_name new clean = cc

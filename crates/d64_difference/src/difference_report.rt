@@ -1,13 +1,13 @@
 //! What `diff` says of two files.
-ghost use Rattle.std.specs.Prelude.{◌≡◌, ◌++◌, [], Some, None, option_map, IfOk, OnOk};
+ghost use Rattle.std.specs.Prelude.{◌≡◌, ◌++◌, [], Ok, IfOk, OnOk};
 ghost use Rattle.d64_collection.specs.Answers.{Answer};
-ghost use Rattle.d64_difference.specs.Differences.{printed_difference, unanswered_pair, difference_rule, difference_by};
+ghost use Rattle.d64_difference.specs.Differences.{contents_by, printed_difference, unanswered_pair, difference_rule, difference_by};
 
 use crate::drafts::Drafts;
 use crate::dump_room::DumpRoom;
 use crate::printing::{print_changes, push_difference};
-use crate::unanswered::{print_fault, push_fault_line};
-use d64_collection::{AnswerRoom, Verdict};
+use crate::unanswered::{print_fault, push_fault_lines};
+use d64_collection::{AnswerRoom, Reason, Verdict};
 use d64_report::Scratch;
 use d64_survey::Inspection;
 use d64_words::DiffForm;
@@ -77,26 +77,32 @@ impl DifferenceReport {
         }
     }
 
-    /// Says of two files, with these bytes or with none where one cannot be read, why they aren't
+    /// Says of two files, with these bytes or the reason why one cannot be read, why they aren't
     /// answered.
     fn tell_unanswered(
         &mut self,
         old_name: &[u8],
-        old: Option<&[u8]>,
+        old: Result<&[u8], Option<Reason>>,
         new_name: &[u8],
-        new: Option<&[u8]>,
+        new: Result<&[u8], Option<Reason>>,
         room: &mut AnswerRoom,
     ) -> Result<Verdict, AllocError>
         ensures form { self.new.form ≡ self.old.form }
         ensures answered { room.old.printed.items ≡ [] → room.old.complaint.items ≡ [] → IfOk result (λ verdict.
             record { printed = room.new.printed.items; complaint = room.new.complaint.items; verdict = verdict }
-            ≡ unanswered_pair self.old.form old_name.now (option_map (λ bytes. bytes.now) old.entry) new_name.now (option_map (λ bytes. bytes.now) new.entry)) }
+            ≡ unanswered_pair self.old.form old_name.now (contents_by (λ bytes. bytes.now) old.entry) new_name.now (contents_by (λ bytes. bytes.now) new.entry)) }
     {
         let out = mem::replace(&mut room.printed, Vec::new(self.alloc));
         let first = print_fault(self.form, &mut self.scratch, old_name, old, out)?;
         room.printed = print_fault(self.form, &mut self.scratch, new_name, new, first)?;
-        push_fault_line(&mut room.complaint, old_name, old)?;
-        push_fault_line(&mut room.complaint, new_name, new)?;
+        push_fault_lines(
+            self.alloc,
+            &mut room.complaint,
+            old_name,
+            old,
+            new_name,
+            new,
+        )?;
         Ok(Verdict::Failed)
     }
 
@@ -112,12 +118,12 @@ impl DifferenceReport {
         ensures form { self.new.form ≡ self.old.form }
         ensures answered { room.old.printed.items ≡ [] → room.old.complaint.items ≡ [] → IfOk result (λ verdict.
             record { printed = room.new.printed.items; complaint = room.new.complaint.items; verdict = verdict }
-            ≡ difference_rule self.old.form old_name.now (Some old.now) new_name.now (Some new.now)) }
+            ≡ difference_rule self.old.form old_name.now (Ok old.now) new_name.now (Ok new.now)) }
     {
         let is_old = self.earlier.refill(old)?;
         let is_new = self.later.refill(new)?;
         if !is_old || !is_new {
-            return self.tell_unanswered(old_name, Some(old), new_name, Some(new), room);
+            return self.tell_unanswered(old_name, Ok(old), new_name, Ok(new), room);
         }
         if old == new {
             return Ok(Verdict::Clean);
@@ -127,23 +133,23 @@ impl DifferenceReport {
     }
 
     /// Puts into the room, in the place of what that had, what is told of an old file and a new one
-    /// with these names and these bytes, or with none where one cannot be read. The answer is the
-    /// same whatever was answered before.
+    /// with these names and these bytes, or with the reason, if it is known, where one cannot be
+    /// read. The answer is the same whatever was answered before.
     pub fn answer(
         &mut self,
         old_name: &[u8],
-        old: Option<&[u8]>,
+        old: Result<&[u8], Option<Reason>>,
         new_name: &[u8],
-        new: Option<&[u8]>,
+        new: Result<&[u8], Option<Reason>>,
         room: &mut AnswerRoom,
     ) -> Result<Verdict, AllocError>
         ensures form { self.new.form ≡ self.old.form }
         ensures answered { IfOk result (λ verdict. record { printed = room.new.printed.items; complaint = room.new.complaint.items; verdict = verdict }
-            ≡ difference_rule self.old.form old_name.now (option_map (λ bytes. bytes.now) old.entry) new_name.now (option_map (λ bytes. bytes.now) new.entry)) }
+            ≡ difference_rule self.old.form old_name.now (contents_by (λ bytes. bytes.now) old.entry) new_name.now (contents_by (λ bytes. bytes.now) new.entry)) }
     {
         room.clear();
         match (old, new) {
-            (Some(old), Some(new)) => self.tell_bytes(old_name, old, new_name, new, room),
+            (Ok(old), Ok(new)) => self.tell_bytes(old_name, old, new_name, new, room),
             (old, new) => self.tell_unanswered(old_name, old, new_name, new, room),
         }
     }

@@ -1,13 +1,14 @@
 //! What is said of a file that isn't answered.
-ghost use Rattle.std.specs.Prelude.{◌≡◌, ◌++◌, Some, None, length, is_some, option_map, IfOk, OnOk};
+ghost use Rattle.std.specs.Prelude.{◌≡◌, ◌++◌, [], Ok, length, is_some, IfOk, OnOk};
 ghost use Rattle.d64_survey.specs.Dump.{image_bytes};
 ghost use Rattle.d64_report.specs.DumpOf.{dump_of};
-ghost use Rattle.d64_difference.specs.Differences.{fault_line, printed_fault};
+ghost use Rattle.d64_difference.specs.Differences.{contents_by, fault_line, printed_fault};
 
+use d64_collection::Reason;
 use d64_report::{Scratch, unread_json, wrong_length_json};
 use d64_wording::{unread_line, wrong_length_line};
 use d64_words::DiffForm;
-use std::alloc::AllocError;
+use std::alloc::{AllocError, Global};
 
 /// Whether these bytes are as many as a dump has.
 #[tactic(auto, unfolding(d64_report::specs::DumpOf::dump_of))]
@@ -17,21 +18,42 @@ fn is_dump(bytes: &[u8]) -> bool
     matches!(bytes.len(), 174_848 | 175_531 | 196_608 | 197_376)
 }
 
-/// Adds the line on standard error of a file that isn't answered.
-pub(crate) fn push_fault_line(
+/// Puts the line on standard error of a file that isn't answered into room that is empty: it has
+/// these bytes, or cannot be read, for a reason that may be known.
+fn push_fault_line(
     out: &mut Vec<u8>,
     name: &[u8],
-    bytes: Option<&[u8]>,
+    contents: Result<&[u8], Option<Reason>>,
 ) -> Result<(), AllocError>
-    ensures { OnOk result (out.new.items ≡ out.old.items ++ fault_line name.now (option_map (λ bytes. bytes.now) bytes.entry)) }
+    ensures { out.old.items ≡ [] → OnOk result (out.new.items ≡ fault_line name.now (contents_by (λ bytes. bytes.now) contents.entry)) }
 {
-    let Some(bytes) = bytes else {
-        return unread_line(out, name);
-    };
-    if is_dump(bytes) {
-        return Ok(());
+    match contents {
+        Ok(bytes) if is_dump(bytes) => Ok(()),
+        Ok(bytes) => wrong_length_line(out, name, bytes),
+        Err(None) => unread_line(out, name),
+        Err(Some(reason)) => {
+            unread_line(out, name)?;
+            reason.add_to(out)
+        }
     }
-    wrong_length_line(out, name, bytes)
+}
+
+/// Puts the lines on standard error of two files into room that is empty: of each that isn't
+/// answered.
+pub(crate) fn push_fault_lines(
+    alloc: Global,
+    out: &mut Vec<u8>,
+    old_name: &[u8],
+    old: Result<&[u8], Option<Reason>>,
+    new_name: &[u8],
+    new: Result<&[u8], Option<Reason>>,
+) -> Result<(), AllocError>
+    ensures { out.old.items ≡ [] → OnOk result (out.new.items ≡ fault_line old_name.now (contents_by (λ bytes. bytes.now) old.entry) ++ fault_line new_name.now (contents_by (λ bytes. bytes.now) new.entry)) }
+{
+    push_fault_line(out, old_name, old)?;
+    let mut line = Vec::new(alloc);
+    push_fault_line(&mut line, new_name, new)?;
+    out.extend_from_slice(line.as_slice())
 }
 
 /// Appends the object of a file with these bytes, where no dump has so many.
@@ -41,7 +63,7 @@ fn print_wrong_length(
     bytes: &[u8],
     out: Vec<u8>,
 ) -> Result<Vec<u8>, AllocError>
-    ensures { IfOk result (λ text. text.items ≡ out.items ++ printed_fault DiffForm.Json name.now (Some bytes.now)) }
+    ensures { IfOk result (λ text. text.items ≡ out.items ++ printed_fault DiffForm.Json name.now (Ok bytes.now)) }
 {
     if is_dump(bytes) {
         return Ok(out);
@@ -54,14 +76,14 @@ pub(crate) fn print_fault(
     form: DiffForm,
     scratch: &mut Scratch,
     name: &[u8],
-    bytes: Option<&[u8]>,
+    contents: Result<&[u8], Option<Reason>>,
     out: Vec<u8>,
 ) -> Result<Vec<u8>, AllocError>
-    ensures { IfOk result (λ text. text.items ≡ out.items ++ printed_fault form name.now (option_map (λ bytes. bytes.now) bytes.entry)) }
+    ensures { IfOk result (λ text. text.items ≡ out.items ++ printed_fault form name.now (contents_by (λ bytes. bytes.now) contents.entry)) }
 {
-    match (form, bytes) {
+    match (form, contents) {
         (DiffForm::Text, _) => Ok(out),
-        (DiffForm::Json, None) => unread_json(scratch, name, out),
-        (DiffForm::Json, Some(bytes)) => print_wrong_length(scratch, name, bytes, out),
+        (DiffForm::Json, Err(_)) => unread_json(scratch, name, out),
+        (DiffForm::Json, Ok(bytes)) => print_wrong_length(scratch, name, bytes, out),
     }
 }

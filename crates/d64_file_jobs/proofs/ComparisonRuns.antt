@@ -1,26 +1,26 @@
 -- What a comparison leaves, by what its steps leave.
-use Rattle.std.proofs.Common.{◌≡◌, ◌∙◌, ℕ, List, Option, Result, Err, inr, refl, sym, ap, subst}
+use Rattle.std.proofs.Common.{◌≡◌, ◌∙◌, ℕ, List, Result, Err, inr, refl, sym, ap, subst}
 use Rattle.d64_script.specs.Output.{Account}
 use Rattle.d64_host.specs.Files.{HostState}
-use Rattle.d64_collection.specs.Names.{File}
 use Rattle.d64_collection.specs.Answers.{Answer}
-use Rattle.d64_collection.specs.Runs.{IsCut, IsRead, IsTold, Stand, Told, stand_of}
-use Rattle.d64_file_jobs.specs.Comparisons.{AreCompared, Compares, PairRule}
+use Rattle.d64_collection.specs.Runs.{IsCut, IsTold, Stand, Told, stand_of}
+use Rattle.d64_difference.specs.Differences.{Contents}
+use Rattle.d64_file_jobs.specs.Comparisons.{AreCompared, Compares, IsReadAs, PairRule}
 use Rattle.d64_file_jobs.specs.JobEnds.{EndedComparison, TellsComparison, first_stand}
 use Rattle.d64_job.specs.Outside.{Outside}
 use Rattle.d64_file_jobs.specs.declared.difference_job.DifferenceFault.{DifferenceFault}
 use Rattle.d64_file_jobs.specs.declared.difference_job.DifferenceFault.TheVariants.{Memory, Write}
 
 -- a rule says the same of the same names and bytes
-pub same_answer : (rule : PairRule) (said : Answer) (old_name old_name' : List ℕ) (old old' : Option (List ℕ)) (new_name new_name' : List ℕ) (new new' : Option (List ℕ))
+pub same_answer : (rule : PairRule) (said : Answer) (old_name old_name' : List ℕ) (old old' : Contents) (new_name new_name' : List ℕ) (new new' : Contents)
     → said ≡ rule old_name old new_name new → old_name ≡ old_name' → old ≡ old' → new_name ≡ new_name' → new ≡ new' → said ≡ rule old_name' old' new_name' new'
 same_answer rule said old_name old_name' old old' new_name new_name' new new' is e1 e2 e3 e4 =
-    is ∙ ap (λ (n : List ℕ). rule n old new_name new) e1 ∙ ap (λ (o : Option (List ℕ)). rule old_name' o new_name new) e2
-    ∙ ap (λ (n : List ℕ). rule old_name' old' n new) e3 ∙ ap (λ (o : Option (List ℕ)). rule old_name' old' new_name' o) e4
+    is ∙ ap (λ (n : List ℕ). rule n old new_name new) e1 ∙ ap (λ (o : Contents). rule old_name' o new_name new) e2
+    ∙ ap (λ (n : List ℕ). rule old_name' old' n new) e3 ∙ ap (λ (o : Contents). rule old_name' old' new_name' o) e4
 
 -- both files were read, and there was no memory to tell of them
-pub wants_memory : (rule : PairRule) (old_name new_name : List ℕ) (first middle last : HostState) (told : Told) (old new : Option (List ℕ)) (result : Result (Unit {0}) DifferenceFault)
-    → IsRead (File old_name) first old middle → IsRead (File new_name) middle new last → result ≡ Err Memory
+pub wants_memory : (rule : PairRule) (old_name new_name : List ℕ) (first middle last : HostState) (told : Told) (old new : Contents) (result : Result (Unit {0}) DifferenceFault)
+    → IsReadAs old_name first old middle → IsReadAs new_name middle new last → result ≡ Err Memory
     → Compares rule old_name new_name (stand_of first told) (stand_of last told) result
 wants_memory rule old_name new_name first middle last told old new result old_read new_read is =
     let ended : Compares {A = Unit {0}} rule old_name new_name (stand_of first told) (stand_of last told) (Err Memory) =
@@ -28,8 +28,8 @@ wants_memory rule old_name new_name first middle last told old new result old_re
     subst (λ (r : Result (Unit {0}) DifferenceFault). Compares rule old_name new_name (stand_of first told) (stand_of last told) r) (sym is) ended
 
 -- both files were read, and the output failed while they were told of
-pub was_cut : (rule : PairRule) (old_name new_name : List ℕ) (first middle last : HostState) (before after : Told) (old new : Option (List ℕ)) (said : Answer) (result : Result (Unit {0}) DifferenceFault)
-    → IsRead (File old_name) first old middle → IsRead (File new_name) middle new last → said ≡ rule old_name old new_name new → IsCut said before after → result ≡ Err Write
+pub was_cut : (rule : PairRule) (old_name new_name : List ℕ) (first middle last : HostState) (before after : Told) (old new : Contents) (said : Answer) (result : Result (Unit {0}) DifferenceFault)
+    → IsReadAs old_name first old middle → IsReadAs new_name middle new last → said ≡ rule old_name old new_name new → IsCut said before after → result ≡ Err Write
     → Compares rule old_name new_name (stand_of first before) (stand_of last after) result
 was_cut rule old_name new_name first middle last before after old new said result old_read new_read same cut is =
     let ended : Compares {A = Unit {0}} rule old_name new_name (stand_of first before) (stand_of last after) (Err Write) = record {
@@ -41,8 +41,8 @@ was_cut rule old_name new_name first middle last before after old new said resul
     subst (λ (r : Result (Unit {0}) DifferenceFault). Compares rule old_name new_name (stand_of first before) (stand_of last after) r) (sym is) ended
 
 -- both files were read and told of
-pub compared : (rule : PairRule) (old_name new_name : List ℕ) (first middle last : HostState) (before after : Told) (old new : Option (List ℕ)) (said : Answer)
-    → IsRead (File old_name) first old middle → IsRead (File new_name) middle new last → said ≡ rule old_name old new_name new → IsTold said before after
+pub compared : (rule : PairRule) (old_name new_name : List ℕ) (first middle last : HostState) (before after : Told) (old new : Contents) (said : Answer)
+    → IsReadAs old_name first old middle → IsReadAs new_name middle new last → said ≡ rule old_name old new_name new → IsTold said before after
     → AreCompared rule old_name new_name (stand_of first before) (stand_of last after)
 compared rule old_name new_name first middle last before after old new said old_read new_read same told = record {
   old = old;

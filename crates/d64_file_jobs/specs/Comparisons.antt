@@ -1,34 +1,40 @@
 -- How a comparison of two files ends.
-use Rattle.std.specs.Prelude.{◌≡◌, ℕ, List, Option, Result, Ok, Err, ◌⊎◌}
+use Rattle.std.specs.Prelude.{◌≡◌, ℕ, List, None, Result, Ok, Err, ◌⊎◌}
 use Rattle.d64_host.specs.Files.{HostState}
 use Rattle.d64_collection.specs.Names.{File}
 use Rattle.d64_collection.specs.Answers.{Answer}
-use Rattle.d64_collection.specs.Runs.{IsCut, IsRead, IsTold, Stand}
+use Rattle.d64_collection.specs.Runs.{IsCut, IsFetched, IsTold, SaysWhy, Stand}
+use Rattle.d64_difference.specs.Differences.{Contents}
 use Rattle.d64_file_jobs.specs.declared.difference_job.DifferenceFault.{DifferenceFault}
 use Rattle.d64_file_jobs.specs.declared.difference_job.DifferenceFault.TheVariants.{Write, Memory}
 
--- what is answered of an old file and a new one: of the name of each, and of its bytes, or of none
--- where it cannot be read
+-- what is answered of an old file and a new one: of the name of each, and of its bytes, or why it
+-- cannot be read
 abbrev pub PairRule : Type 0
-PairRule = List ℕ → Option (List ℕ) → List ℕ → Option (List ℕ) → Answer
+PairRule = List ℕ → Contents → List ℕ → Contents → Answer
+
+-- this was read of a file: its bytes, or why it cannot be read, as far as the host can say
+abbrev pub IsReadAs : List ℕ → HostState → Contents → HostState → Type 0
+IsReadAs name old (Ok bytes) new = IsFetched name old (Ok bytes) new
+IsReadAs name old (Err reason) new = SaysWhy (File name) old None new reason
 
 -- both files were read, the old one first
-pub record AreRead (old_name new_name : List ℕ) (first : HostState) (old new : Option (List ℕ)) (last : HostState) : Type 0 where
+pub record AreRead (old_name new_name : List ℕ) (first : HostState) (old new : Contents) (last : HostState) : Type 0 where
   pub middle : HostState
-  pub old_read : IsRead (File old_name) first old middle
-  pub new_read : IsRead (File new_name) middle new last
+  pub old_read : IsReadAs old_name first old middle
+  pub new_read : IsReadAs new_name middle new last
 
 -- both files were read, and what the rule says of them was told
 pub record AreCompared (rule : PairRule) (old_name new_name : List ℕ) (first last : Stand) : Type 0 where
-  pub old : Option (List ℕ)
-  pub new : Option (List ℕ)
+  pub old : Contents
+  pub new : Contents
   pub read : AreRead old_name new_name first.host old new last.host
   pub told : IsTold (rule old_name old new_name new) first.told last.told
 
 -- both files were read, and the output failed while they were told of
 pub record AreCut (rule : PairRule) (old_name new_name : List ℕ) (first last : Stand) : Type 0 where
-  pub old : Option (List ℕ)
-  pub new : Option (List ℕ)
+  pub old : Contents
+  pub new : Contents
   pub read : AreRead old_name new_name first.host old new last.host
   pub told : IsCut (rule old_name old new_name new) first.told last.told
 
@@ -36,8 +42,8 @@ pub record AreCut (rule : PairRule) (old_name new_name : List ℕ) (first last :
 abbrev pub AreReadSoFar : List ℕ → List ℕ → HostState → HostState → Type 0
 AreReadSoFar old_name new_name first last =
     (last ≡ first)
-    ⊎ (((old : Option (List ℕ)) × IsRead (File old_name) first old last)
-    ⊎ ((old : Option (List ℕ)) × (new : Option (List ℕ)) × AreRead old_name new_name first old new last))
+    ⊎ (((old : Contents) × IsReadAs old_name first old last)
+    ⊎ ((old : Contents) × (new : Contents) × AreRead old_name new_name first old new last))
 
 -- how a comparison ends: both files are read and told of, unless the output failed, or there was no
 -- memory, and nothing was told

@@ -1,15 +1,14 @@
 //! The job that compares two files.
-ghost use Rattle.std.specs.Prelude.{◌≡◌, ◌≤◌, ℕ, List, Option, IfErr, IfOk, OnOk, option_map, true, false};
+ghost use Rattle.std.specs.Prelude.{◌≡◌, ◌≤◌, ℕ, List, Option, IfErr, IfOk, OnOk, true, false};
 ghost use Rattle.d64_script.specs.Input.{Reading};
-ghost use Rattle.d64_collection.specs.Names.{File};
-ghost use Rattle.d64_collection.specs.Runs.{IsRead, account_at, stand_at};
+ghost use Rattle.d64_collection.specs.Runs.{account_at, stand_at};
 ghost use Rattle.d64_collection.specs.declared.report.Verdict.TheVariants.{Clean};
-ghost use Rattle.d64_difference.specs.Differences.{difference_rule};
-ghost use Rattle.d64_file_jobs.specs.Comparisons.{Compares};
+ghost use Rattle.d64_difference.specs.Differences.{contents_by, difference_rule};
+ghost use Rattle.d64_file_jobs.specs.Comparisons.{Compares, IsReadAs};
 ghost use Rattle.d64_file_jobs.specs.JobEnds.{EndedComparison};
 ghost use Rattle.d64_job.specs.Outside.{outside_of};
 
-use d64_collection::{Desk, FILE_BYTES};
+use d64_collection::{Desk, FILE_BYTES, Reason, reason_of};
 use d64_difference::DifferenceReport;
 use d64_host::{Host, HostFault};
 use d64_job::ProgramFault;
@@ -128,26 +127,40 @@ impl<'n> DifferenceJob<'n> {
         let mut report = DifferenceReport::new(self.alloc, self.form)?;
         let verdict = report.answer(
             self.old.as_bytes(),
-            old.as_deref(),
+            lent(&old),
             self.new.as_bytes(),
-            new.as_deref(),
+            lent(&new),
             &mut desk.room,
         )?;
         desk.tell(verdict, output, faults)?;
         Ok(())
     }
 
-    /// The bytes of a file of the host, or nothing where it cannot be read.
-    fn read<H: Host>(&self, name: &str, host: &mut H) -> Result<Option<Vec<u8>>, DifferenceFault>
-        ensures read { IfOk result (λ bytes. IsRead (File name.now) (H.state host.old)
-            (option_map (λ bytes. bytes.items) bytes) (H.state host.new)) }
+    /// The bytes of a file of the host, or why it cannot be read, as far as the host can say.
+    fn read<H: Host>(
+        &self,
+        name: &str,
+        host: &mut H,
+    ) -> Result<Result<Vec<u8>, Option<Reason>>, DifferenceFault>
+        ensures read { IfOk result (λ contents. IsReadAs name.now (H.state host.old)
+            (contents_by (λ bytes. bytes.items) contents) (H.state host.new)) }
         ensures memory { IfErr result (λ fault. (fault ≡ DifferenceFault.Memory)
             × (H.state host.new ≡ H.state host.old)) }
     {
         match host.fetch(self.alloc, name, FILE_BYTES) {
-            Ok(bytes) => Ok(Some(bytes)),
-            Err(HostFault::Missing | HostFault::Device | HostFault::TooLong) => Ok(None),
+            Ok(bytes) => Ok(Ok(bytes)),
             Err(HostFault::Memory(_)) => Err(DifferenceFault::Memory),
+            Err(fault) => Ok(Err(reason_of(host, name, fault))),
         }
+    }
+}
+
+/// What was read of a file, as its owner lends it.
+fn lent(contents: &Result<Vec<u8>, Option<Reason>>) -> Result<&[u8], Option<Reason>>
+    ensures { contents_by (λ bytes. bytes.now) result ≡ contents_by (λ bytes. bytes.items) contents.now }
+{
+    match contents {
+        Ok(bytes) => Ok(bytes.as_slice()),
+        Err(reason) => Err(*reason),
     }
 }

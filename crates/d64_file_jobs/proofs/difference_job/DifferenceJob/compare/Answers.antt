@@ -1,6 +1,6 @@
-use Rattle.std.proofs.Common.{rules, ◌≡◌, ◌∙◌, ap, option_map}
+use Rattle.std.proofs.Common.{rules, ◌≡◌, ◌∙◌, ap}
 use Rattle.d64_collection.specs.Answers.{Answer}
-use Rattle.d64_difference.specs.Differences.{difference_rule}
+use Rattle.d64_difference.specs.Differences.{contents_by, difference_rule}
 use Rattle.d64_file_jobs.proofs.ComparisonRuns.{compared, same_answer, wants_memory, was_cut}
 use Rattle.d64_file_jobs.proofs.difference_job.DifferenceJob.compare.Goals as goal
 
@@ -18,8 +18,8 @@ returns-in_err-verdict-clause-compared g c =
 pub returns-in_err-tell-clause-compared : goal.returns-in_err-tell-clause-compared
 returns-in_err-tell-clause-compared g c =
     let said : Answer = record { printed = c.answer.new.room.printed.items; complaint = c.answer.new.room.complaint.items; verdict = c.in_ok-verdict.verdict } in
-    let old = option_map (λ bytes. bytes.items) c.in_ok-old.old in
-    let new = option_map (λ bytes. bytes.items) c.in_ok-new.new in
+    let old = contents_by (λ bytes. bytes.items) c.in_ok-old.old in
+    let new = contents_by (λ bytes. bytes.items) c.in_ok-new.new in
     let form : c.in_ok-report.report.form ≡ c.args.self.now.form = search rules in
     let same : said ≡ difference_rule c.in_ok-report.report.form c.args.self.now.old.now old c.args.self.now.new.now new =
     same_answer (difference_rule c.in_ok-report.report.form) said _ c.args.self.now.old.now _ old _ c.args.self.now.new.now _ new c.in_ok-verdict.ensures.answered
@@ -31,8 +31,8 @@ returns-in_err-tell-clause-compared g c =
 pub returns-clause-compared : goal.returns-clause-compared
 returns-clause-compared g c =
     let said : Answer = record { printed = c.answer.new.room.printed.items; complaint = c.answer.new.room.complaint.items; verdict = c.in_ok-verdict.verdict } in
-    let old = option_map (λ bytes. bytes.items) c.in_ok-old.old in
-    let new = option_map (λ bytes. bytes.items) c.in_ok-new.new in
+    let old = contents_by (λ bytes. bytes.items) c.in_ok-old.old in
+    let new = contents_by (λ bytes. bytes.items) c.in_ok-new.new in
     let form : c.in_ok-report.report.form ≡ c.args.self.now.form = search rules in
     let same : said ≡ difference_rule c.in_ok-report.report.form c.args.self.now.old.now old c.args.self.now.new.now new =
     same_answer (difference_rule c.in_ok-report.report.form) said _ c.args.self.now.old.now _ old _ c.args.self.now.new.now _ new c.in_ok-verdict.ensures.answered
