@@ -1,7 +1,7 @@
 -- What a host may answer to a look at a path, and to a call that makes something new there.
-use Rattle.std.specs.Prelude.{◌≡◌, ℕ, Bool, true, false, ◌||◌, if◌then◌else◌, List, [], ◌∷◌, ◌++◌, nat_eq, length, drop, Option, option_map, IfSome, Result, Ok, Err}
+use Rattle.std.specs.Prelude.{◌≡◌, ◌⊎◌, ℕ, Bool, true, false, ◌||◌, if◌then◌else◌, List, [], ◌∷◌, ◌++◌, nat_eq, length, take, drop, Option, option_map, unwrap_or, IfSome, Result, Ok, Err}
 use Rattle.std.specs.List.{fold, starts_with}
-use Rattle.std.specs.FinMap.{contains_key, empty, entries, insert}
+use Rattle.std.specs.FinMap.{contains_key, empty, entries, get, insert}
 use Rattle.d64_host.specs.Files.{Files}
 use Rattle.d64_host.specs.Host.{one_more_failure}
 use Rattle.d64_host.specs.declared.host.FolderFault.{FolderFault}
@@ -28,6 +28,10 @@ with_folder path files = insert files (folder_name path) []
 abbrev pub with_file : List ℕ → List ℕ → Files → Files
 with_file path bytes files = insert files path bytes
 
+-- the files with more bytes at the end of one
+abbrev pub with_more : List ℕ → List ℕ → Files → Files
+with_more path bytes files = insert files path (unwrap_or (get files path) [] ++ bytes)
+
 -- the name of a file once what began with the one text begins with the other
 abbrev pub moved_name : List ℕ → List ℕ → List ℕ → List ℕ
 moved_name from to name = if starts_with nat_eq name from then to ++ drop (length from) name else name
@@ -44,6 +48,17 @@ abbrev pub Makes : {A : Type 0} → (Files → Files) → Option Files → List 
 Makes change files path (Ok done) after = IfSome files (λ all. is_at all path ≡ false) × (after ≡ option_map change files)
 Makes change files path (Err Exists) after = IfSome files (λ all. is_at all path ≡ true) × (after ≡ files)
 Makes change files path (Err Device) after = after ≡ files
+
+-- what a host may answer to a call that adds bytes to a file, and the files then, where it tells
+-- them: accepted, the file was there, and has the bytes at its end; refused, by the device alone,
+-- they are as before, or the file was there, and has a first part of the bytes
+abbrev pub Extends : {A : Type 0} → List ℕ → List ℕ → Option Files → Result A FolderFault → Option Files → Type 0
+Extends path bytes files (Ok done) after =
+    IfSome files (λ all. contains_key all path ≡ true) × (after ≡ option_map (with_more path bytes) files)
+Extends path bytes files (Err Device) after =
+    (after ≡ files)
+    ⊎ (IfSome files (λ all. contains_key all path ≡ true) × ((count : ℕ) × (after ≡ option_map (with_more path (take count bytes)) files)))
+Extends path bytes files (Err Exists) after = ⊥
 
 -- the count of failures after such a call
 abbrev pub failures_after_making : {A : Type 0} → ℕ → Result A FolderFault → ℕ

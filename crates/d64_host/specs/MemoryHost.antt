@@ -61,6 +61,12 @@ open_refusal host name =
 abbrev pub store_refusal : MemoryFiles → Option HostFault
 store_refusal host = if host.countdown == 1 then Some Device else None
 
+-- why adding bytes to the file at a path is refused, want of memory aside: the call that was to
+-- fail, or there is no file
+abbrev pub extending_refusal : MemoryFiles → List ℕ → Option FolderFault
+extending_refusal host path =
+    if host.countdown == 1 then Some making.Device else if contains_key host.files path then None else Some making.Device
+
 -- why making something at a path is refused, want of memory aside: the call that was to fail, or
 -- something is there
 abbrev pub making_refusal : MemoryFiles → List ℕ → Option FolderFault

@@ -4,11 +4,11 @@ ghost use Rattle.std.specs.Prelude.{◌≡◌, ◌≢◌, ◌+◌, ◌<◌, ◌�
 ghost use Rattle.d64_host.specs.Folders.{failures_after_making};
 ghost use Rattle.d64_host.specs.Host.{failures_after};
 
-use crate::host::{FolderFault, Host, HostFault, Obstacle};
+use crate::host::{FolderFault, Host, HostFault, Obstacle, WriteObstacle};
 use crate::retrying::Retrying;
-use crate::size_limit::SizeLimit;
 use crate::standard_streams::StandardStreams;
 use crate::whole_store::store_file;
+use crate::writes::Writes;
 use crate::{look, new_entry};
 use std::alloc::{AllocError, Global};
 use std::fs::{self, File};
@@ -33,7 +33,7 @@ pub struct FolderHost<R> {
     /// Through what files are read, once the first one was. It is kept, so that it is cleared once
     /// and not for each file.
     buffer: Option<Box<[u8; READ_BYTES]>>,
-    size_limit: SizeLimit,
+    writes: Writes,
     /// What is open as the standard streams, once the first file was to be stored.
     streams: Option<StandardStreams>,
     failures: u64,
@@ -55,7 +55,7 @@ impl<R: Files + Drop> FolderHost<R> {
         FolderHost {
             rt,
             buffer: None,
-            size_limit: SizeLimit::default(),
+            writes: Writes::default(),
             streams: None,
             failures: 0,
         }
@@ -101,11 +101,12 @@ where
     }
 
     fn store(&mut self, alloc: Global, name: &str, bytes: &[u8]) -> Result<(), HostFault> {
+        self.writes.begin();
         let rt = &self.rt;
         let streams = self
             .streams
             .get_or_insert_with(|| StandardStreams::of_process(rt));
-        let outcome = store_file(rt, alloc, &self.size_limit, streams, name, bytes);
+        let outcome = store_file(rt, alloc, &self.writes, streams, name, bytes);
         count_failure(&mut self.failures, &outcome);
         outcome
     }
@@ -118,21 +119,38 @@ where
         look::obstacle(&self.rt, path)
     }
 
+    fn write_obstacle(&self, path: &str) -> Option<WriteObstacle> {
+        match self.writes.obstacle() {
+            Some(seen) => Some(seen),
+            None => look::write_obstacle(&self.rt, path),
+        }
+    }
+
     fn make_folder(&mut self, path: &str) -> Result<(), FolderFault> {
-        let outcome = new_entry::make_folder(&self.rt, path);
+        self.writes.begin();
+        let outcome = new_entry::make_folder(&self.rt, &self.writes, path);
         count_refusal(&mut self.failures, &outcome);
         outcome
     }
 
     fn make_file(&mut self, path: &str, bytes: &[u8]) -> Result<(), FolderFault> {
+        self.writes.begin();
         let path = Path::new(path);
-        let outcome = new_entry::make_file(&self.rt, &self.size_limit, path, bytes);
+        let outcome = new_entry::make_file(&self.rt, &self.writes, path, bytes);
+        count_refusal(&mut self.failures, &outcome);
+        outcome
+    }
+
+    fn extend_file(&mut self, path: &str, bytes: &[u8]) -> Result<(), FolderFault> {
+        self.writes.begin();
+        let outcome = new_entry::extend_file(&self.rt, &self.writes, path, bytes);
         count_refusal(&mut self.failures, &outcome);
         outcome
     }
 
     fn rename_folder(&mut self, from: &str, to: &str) -> Result<(), FolderFault> {
-        let outcome = new_entry::rename_folder(&self.rt, from, to);
+        self.writes.begin();
+        let outcome = new_entry::rename_folder(&self.rt, &self.writes, from, to);
         count_refusal(&mut self.failures, &outcome);
         outcome
     }

@@ -3,8 +3,8 @@
 ghost use Rattle.std.specs.Prelude.{◌≡◌, true, IfSome, OnOk};
 ghost use Rattle.std.specs.FinMap.{contains_key};
 ghost use Rattle.d64_host.specs.Files.{HostState};
-ghost use Rattle.d64_host.specs.Folders.{folder_name, with_folder, with_file, with_moved, Looks, Makes, CountsMaking};
-ghost use Rattle.d64_host.specs.Obstacles.{LooksFor};
+ghost use Rattle.d64_host.specs.Folders.{folder_name, with_folder, with_file, with_moved, Looks, Makes, Extends, CountsMaking};
+ghost use Rattle.d64_host.specs.Obstacles.{LooksFor, LooksToWrite};
 ghost use Rattle.d64_host.specs.Host.{fault_number, fetched_bytes, filled_bytes, opened_bytes, Fetches, Opens, Stores, CountsDevice, one_more_failure};
 
 use std::alloc::{AllocError, Global};
@@ -52,6 +52,25 @@ pub enum Obstacle {
     Folder,
     /// The system does not let this process read what is there.
     NoPermission,
+}
+
+/// What keeps a file or a folder from being written, as far as a host can say.
+#[derive(Clone, Copy, Debug, PartialEq, Eq)]
+pub enum WriteObstacle {
+    /// The folder that it is to lie in is not there.
+    NoFolder,
+    /// What it is to lie in is no folder.
+    NotFolder,
+    /// A folder is at its path.
+    Folder,
+    /// The system does not let this process write there.
+    NoPermission,
+    /// Its name is longer than the system lets one be.
+    LongName,
+    /// The disk can only be read.
+    ReadOnly,
+    /// The disk has no room left.
+    Full,
 }
 
 /// Why a host makes no new file or folder.
@@ -123,6 +142,11 @@ pub trait Host {
     fn obstacle(&self, path: &str) -> Option<Obstacle>
         ensures obstacle { LooksFor (state self.now).files path.now result };
 
+    /// What keeps the file or the folder at this path from being written, as far as the host can
+    /// say. It is for the reason of the call that was refused last, and changes nothing.
+    fn write_obstacle(&self, path: &str) -> Option<WriteObstacle>
+        ensures obstacle { LooksToWrite (state self.now).files result };
+
     /// Makes a folder. It is refused where something is at the path already, and by the device, as
     /// where the folder around it is missing.
     fn make_folder(&mut self, path: &str) -> Result<(), FolderFault>
@@ -133,6 +157,12 @@ pub trait Host {
     /// is taken away again, as far as the system lets it.
     fn make_file(&mut self, path: &str, bytes: &[u8]) -> Result<(), FolderFault>
         ensures made { Makes (with_file path.now bytes.now) (state self.old).files path.now result (state self.new).files }
+        ensures counted { CountsMaking (state self.old).failures (state self.new).failures result };
+
+    /// Adds these bytes at the end of a file that is there. It is refused by the device alone, as
+    /// where there is no such file, or a disk is full; the file then may have a first part of them.
+    fn extend_file(&mut self, path: &str, bytes: &[u8]) -> Result<(), FolderFault>
+        ensures extended { Extends path.now bytes.now (state self.old).files result (state self.new).files }
         ensures counted { CountsMaking (state self.old).failures (state self.new).failures result };
 
     /// Gives a folder, with all that is in it, another path, in one step. It is refused as

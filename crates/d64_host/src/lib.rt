@@ -16,10 +16,11 @@ mod retrying;
 mod size_limit;
 mod standard_streams;
 mod whole_store;
+mod writes;
 
 pub use draft::{Draft, replace_by};
 pub use folder_host::FolderHost;
-pub use host::{FolderFault, Host, HostFault, Obstacle};
+pub use host::{FolderFault, Host, HostFault, Obstacle, WriteObstacle};
 pub use memory_host::MemoryHost;
 pub use retrying::Retrying;
 pub use size_limit::SizeLimit;

@@ -2,8 +2,8 @@
 
 ghost use Rattle.std.specs.Prelude.{◌≡◌, ◌≢◌, ◌⊎◌, ◌↔◌, Some};
 
-use crate::host::Obstacle;
-use std::fs::{self, File};
+use crate::host::{Obstacle, WriteObstacle};
+use std::fs::{self, File, OpenOptions};
 use std::io::ErrorKind;
 use std::rt::Files;
 
@@ -35,6 +35,48 @@ fn obstacle_of(kind: ErrorKind) -> Option<Obstacle>
     match kind {
         ErrorKind::NotFound | ErrorKind::NotADirectory => Some(Obstacle::Nothing),
         ErrorKind::PermissionDenied => Some(Obstacle::NoPermission),
+        _ => None,
+    }
+}
+
+/// What keeps the file at this path from being written, as far as the system says it of what is
+/// there. Nothing but a plain file is opened, and none is changed.
+pub fn write_obstacle<R: Files>(rt: &R, path: &str) -> Option<WriteObstacle> {
+    let found = match fs::metadata(rt, path) {
+        Ok(found) => found,
+        Err(error) if error.kind() == ErrorKind::NotFound => return None,
+        Err(error) => return write_obstacle_of(error.kind()),
+    };
+    if found.is_dir() {
+        return Some(WriteObstacle::Folder);
+    }
+    if !found.is_file() {
+        return None;
+    }
+    match OpenOptions::new().append(true).open(rt, path) {
+        Ok(_) => None,
+        Err(error) => write_obstacle_of(error.kind()),
+    }
+}
+
+/// What an error of the system says of a path that was to be written.
+pub fn write_obstacle_of(kind: ErrorKind) -> Option<WriteObstacle>
+    ensures no_folder { (result ≡ Some WriteObstacle.NoFolder) ↔ (kind ≡ ErrorKind.NotFound) }
+    ensures not_folder { (result ≡ Some WriteObstacle.NotFolder) ↔ (kind ≡ ErrorKind.NotADirectory) }
+    ensures folder { (result ≡ Some WriteObstacle.Folder) ↔ (kind ≡ ErrorKind.IsADirectory) }
+    ensures permission { (result ≡ Some WriteObstacle.NoPermission) ↔ (kind ≡ ErrorKind.PermissionDenied) }
+    ensures long_name { (result ≡ Some WriteObstacle.LongName) ↔ (kind ≡ ErrorKind.InvalidFilename) }
+    ensures read_only { (result ≡ Some WriteObstacle.ReadOnly) ↔ (kind ≡ ErrorKind.ReadOnlyFilesystem) }
+    ensures full { (result ≡ Some WriteObstacle.Full) ↔ ((kind ≡ ErrorKind.StorageFull) ⊎ (kind ≡ ErrorKind.QuotaExceeded)) }
+{
+    match kind {
+        ErrorKind::NotFound => Some(WriteObstacle::NoFolder),
+        ErrorKind::NotADirectory => Some(WriteObstacle::NotFolder),
+        ErrorKind::IsADirectory => Some(WriteObstacle::Folder),
+        ErrorKind::PermissionDenied => Some(WriteObstacle::NoPermission),
+        ErrorKind::InvalidFilename => Some(WriteObstacle::LongName),
+        ErrorKind::ReadOnlyFilesystem => Some(WriteObstacle::ReadOnly),
+        ErrorKind::StorageFull | ErrorKind::QuotaExceeded => Some(WriteObstacle::Full),
         _ => None,
     }
 }

@@ -1,13 +1,13 @@
 //! A host in memory, for tests and for what needs no disk.
 
-ghost use Rattle.std.specs.Prelude.{◌≡◌, ℕ, ◌+◌, ◌-◌, ◌↔◌, Some, Ok, Err, MatchOption, true, OnOk, OnErr, IfOk, IfErr, IfSome, IsTrue, option_copied, string_bytes};
+ghost use Rattle.std.specs.Prelude.{◌≡◌, ℕ, ◌+◌, ◌-◌, ◌↔◌, ◌++◌, [], None, Some, Ok, Err, MatchOption, true, OnOk, OnErr, IfOk, IfErr, IfSome, IsTrue, option_copied, unwrap_or, string_bytes};
 ghost use Rattle.std.specs.FinMap.{contains_key, empty, get, insert};
-ghost use Rattle.d64_host.specs.Folders.{folder_name, is_at, moved_name, with_file, with_folder, with_moved, Looks, Makes, CountsMaking};
+ghost use Rattle.d64_host.specs.Folders.{folder_name, is_at, moved_name, with_file, with_folder, with_more, with_moved, Looks, Makes, Extends, CountsMaking};
 ghost use Rattle.d64_host.specs.Host.{fetched_bytes, filled_bytes, opened_bytes, Fetches, Opens, Stores, CountsDevice, answered_fault, one_more_failure};
-ghost use Rattle.d64_host.specs.Obstacles.{LooksFor, obstacle_at};
-ghost use Rattle.d64_host.specs.MemoryHost.{after_call, countdown_after, fetch_refusal, files_of, making_refusal, open_refusal, store_refusal};
+ghost use Rattle.d64_host.specs.Obstacles.{LooksFor, LooksToWrite, obstacle_at};
+ghost use Rattle.d64_host.specs.MemoryHost.{after_call, countdown_after, extending_refusal, fetch_refusal, files_of, making_refusal, open_refusal, store_refusal};
 
-use crate::host::{FolderFault, Host, HostFault, Obstacle};
+use crate::host::{FolderFault, Host, HostFault, Obstacle, WriteObstacle};
 use std::alloc::{AllocError, Global};
 use std::collections::{BTreeMap, VecDeque};
 use std::marker::Model;
@@ -106,8 +106,8 @@ impl MemoryHost {
         Ok(())
     }
 
-    /// Puts a file that is new. Want of memory is the device's fault, as a full disk is.
-    fn put_new(&mut self, name: &str, bytes: &[u8]) -> Result<(), FolderFault>
+    /// Puts a file. Want of memory is the device's fault, as a full disk is.
+    fn put_or_refuse(&mut self, name: &str, bytes: &[u8]) -> Result<(), FolderFault>
         ensures countdown { self.new.countdown ≡ self.old.countdown }
         ensures accepted { OnOk result (self.new.files ≡ with_file name.now bytes.now self.old.files) }
         ensures refused { OnErr result (self.new.files ≡ self.old.files) }
@@ -118,6 +118,17 @@ impl MemoryHost {
             Ok(()) => Ok(()),
             Err(AllocError) => Err(self.refuse()),
         }
+    }
+
+    /// The bytes of the named file with these behind them, or None where there is no such file, or
+    /// no memory.
+    fn longer(&self, name: &str, bytes: &[u8]) -> Option<Vec<u8>>
+        ensures { IfSome result (λ longer. contains_key self.now.files name.now ≡ true × longer.items ≡ unwrap_or (get self.now.files name.now) [] ++ bytes.now) }
+    {
+        let file = self.file(name)?;
+        let mut longer = Vec::from_slice(self.alloc, file).ok()?;
+        longer.extend_from_slice(bytes).ok()?;
+        Some(longer)
     }
 
     /// Counts a failure of the device.
@@ -283,6 +294,12 @@ impl Host for MemoryHost {
         }
     }
 
+    fn write_obstacle(&self, _path: &str) -> Option<WriteObstacle>
+        ensures obstacle { LooksToWrite (Some self.now.files) result }
+    {
+        None
+    }
+
     fn make_folder(&mut self, path: &str) -> Result<(), FolderFault>
         ensures due { self.old.countdown ≡ 1 → result ≡ Err FolderFault.Device }
         ensures exists { making_refusal self.old path.now ≡ Some FolderFault.Exists → result ≡ Err FolderFault.Exists }
@@ -292,7 +309,7 @@ impl Host for MemoryHost {
     {
         self.begin_making(path)?;
         match folder_name(self.alloc, path) {
-            Ok(name) => self.put_new(name.as_str(), &[]),
+            Ok(name) => self.put_or_refuse(name.as_str(), &[]),
             Err(AllocError) => Err(self.refuse()),
         }
     }
@@ -305,7 +322,23 @@ impl Host for MemoryHost {
         ensures counted { CountsMaking self.old.failures self.new.failures result }
     {
         self.begin_making(path)?;
-        self.put_new(path, bytes)
+        self.put_or_refuse(path, bytes)
+    }
+
+    fn extend_file(&mut self, path: &str, bytes: &[u8]) -> Result<(), FolderFault>
+        ensures due { extending_refusal self.old path.now ≡ Some FolderFault.Device → result ≡ Err FolderFault.Device }
+        ensures kept { OnErr result (self.new.files ≡ self.old.files) }
+        ensures countdown { self.new.countdown ≡ self.old.countdown - 1 }
+        ensures extended { Extends path.now bytes.now (Some self.old.files) result (Some self.new.files) }
+        ensures counted { CountsMaking self.old.failures self.new.failures result }
+    {
+        if self.count_call() {
+            return Err(FolderFault::Device);
+        }
+        match self.longer(path, bytes) {
+            Some(longer) => self.put_or_refuse(path, longer.as_slice()),
+            None => Err(self.refuse()),
+        }
     }
 
     fn rename_folder(&mut self, from: &str, to: &str) -> Result<(), FolderFault>

@@ -1,12 +1,13 @@
-//! New files and folders of the system, which take no other's place.
+//! New files and folders of the system, which take no other's place, and files that grow.
 
-ghost use Rattle.std.specs.Prelude.{◌≡◌, ◌≢◌, ◌↔◌};
+ghost use Rattle.std.specs.Prelude.{◌≡◌, ◌≢◌, ◌↔◌, Err};
 
 use crate::host::FolderFault;
 use crate::new_file::write_to_end;
-use crate::size_limit::SizeLimit;
-use std::fs::{self, File};
-use std::io::ErrorKind;
+use crate::standard_streams::is_same_file;
+use crate::writes::Writes;
+use std::fs::{self, File, OpenFile, OpenOptions};
+use std::io::{self, ErrorKind};
 use std::path::Path;
 use std::rt::Files;
 
@@ -16,23 +17,24 @@ pub fn is_there<R: Files>(rt: &R, path: &str) -> bool {
 }
 
 /// Makes a folder.
-pub fn make_folder<R: Files>(rt: &R, path: &str) -> Result<(), FolderFault> {
-    fs::create_dir(rt, path).map_err(|error| entry_fault(error.kind()))
+pub fn make_folder<R: Files>(rt: &R, writes: &Writes, path: &str) -> Result<(), FolderFault> {
+    fs::create_dir(rt, path).map_err(|error| refused(writes, error.kind()))
 }
 
 /// Makes a file of these bytes, where the limit lets a file have so many, or takes it away again
 /// where its writing fails. It waits for no disk.
 pub fn make_file<R: Files>(
     rt: &R,
-    limit: &SizeLimit,
+    writes: &Writes,
     path: Path<'_>,
     bytes: &[u8],
 ) -> Result<(), FolderFault> {
-    if !limit.holds(rt, bytes.len()) {
+    if !writes.limit.holds(rt, bytes.len() as u64) {
         return Err(FolderFault::Device);
     }
-    let mut file = File::create_new(rt, path).map_err(|error| entry_fault(error.kind()))?;
-    if write_to_end(&mut file, bytes).is_err() {
+    let mut file = File::create_new(rt, path).map_err(|error| refused(writes, error.kind()))?;
+    if let Err(error) = write_to_end(&mut file, bytes) {
+        writes.keep(error.kind());
         // The call is refused already, and no more can be done where the file cannot be removed.
         let _ = fs::remove_file(rt, path);
         return Err(FolderFault::Device);
@@ -40,13 +42,65 @@ pub fn make_file<R: Files>(
     Ok(())
 }
 
+/// Adds these bytes at the end of the plain file at this path, where the limit lets it have them. It
+/// waits for no disk. Where the writing fails, a first part of them may be there.
+pub fn extend_file<R: Files>(
+    rt: &R,
+    writes: &Writes,
+    path: &str,
+    bytes: &[u8],
+) -> Result<(), FolderFault>
+    ensures { result ≢ Err FolderFault.Exists }
+{
+    match try_extend(rt, writes, path, bytes) {
+        Ok(()) => Ok(()),
+        Err(error) => {
+            writes.keep(error.kind());
+            Err(FolderFault::Device)
+        }
+    }
+}
+
+/// Adds these bytes at the end of the plain file at this path. What a link leads to, or what came to
+/// the path meanwhile, is left as it is.
+fn try_extend<R: Files>(rt: &R, writes: &Writes, path: &str, bytes: &[u8]) -> io::Result<()> {
+    let found = fs::symlink_metadata(rt, path)?;
+    if !found.is_file() {
+        return Err(io::Error::from(ErrorKind::InvalidInput));
+    }
+    let mut file = OpenOptions::new().append(true).open(rt, path)?;
+    let opened = file.metadata()?;
+    if !is_same_file(&opened, &found) {
+        return Err(io::Error::from(ErrorKind::InvalidInput));
+    }
+    let length = opened.len().saturating_add(bytes.len() as u64);
+    if !writes.limit.holds(rt, length) {
+        return Err(io::Error::from(ErrorKind::FileTooLarge));
+    }
+    write_to_end(&mut file, bytes)
+}
+
 /// Gives a folder another path, where nothing is at that. The system itself would put it in the
 /// place of an empty folder.
-pub fn rename_folder<R: Files>(rt: &R, from: &str, to: &str) -> Result<(), FolderFault> {
+pub fn rename_folder<R: Files>(
+    rt: &R,
+    writes: &Writes,
+    from: &str,
+    to: &str,
+) -> Result<(), FolderFault> {
     if is_there(rt, to) {
         return Err(FolderFault::Exists);
     }
-    fs::rename(rt, from, to).map_err(|error| entry_fault(error.kind()))
+    fs::rename(rt, from, to).map_err(|error| refused(writes, error.kind()))
+}
+
+/// Why nothing was made, where what the system says of it is kept.
+fn refused(writes: &Writes, kind: ErrorKind) -> FolderFault
+    ensures exists { (result ≡ FolderFault.Exists) ↔ (kind ≡ ErrorKind.AlreadyExists) }
+    ensures device { kind ≢ ErrorKind.AlreadyExists → result ≡ FolderFault.Device }
+{
+    writes.keep(kind);
+    entry_fault(kind)
 }
 
 /// Why nothing was made: the system says of a path that something is there, or has another fault.

@@ -65,7 +65,7 @@ where
 
     fn fill(&mut self, bytes: &[u8]) -> Result<(), HostFault> {
         keep_access(&self.old, &self.new).map_err(|_| HostFault::Device)?;
-        write_to_end(&mut self.new, bytes)
+        write_to_end(&mut self.new, bytes).map_err(|_| HostFault::Device)
     }
 
     fn sync(&mut self) -> Result<(), HostFault> {
@@ -85,14 +85,11 @@ where
 }
 
 /// Writes these bytes to a file, and what it holds back of them.
-pub fn write_to_end<F: Write>(file: &mut F, bytes: &[u8]) -> Result<(), HostFault>
-    ensures written { OnOk result (Appends (F.contents file.old) (F.contents file.new) bytes.now) }
-    ensures refused { IfErr result (λ fault. fault ≡ HostFault.Device) }
+pub fn write_to_end<F: Write>(file: &mut F, bytes: &[u8]) -> io::Result<()>
+    ensures { OnOk result (Appends (F.contents file.old) (F.contents file.new) bytes.now) }
 {
-    if file.write_all(bytes).is_err() {
-        return Err(HostFault::Device);
-    }
-    file.flush().map_err(|_| HostFault::Device)
+    file.write_all(bytes)?;
+    file.flush()
 }
 
 /// The path of a new file in the folder of this one.

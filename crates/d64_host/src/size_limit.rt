@@ -23,8 +23,8 @@ impl SizeLimit {
     }
 
     /// Whether a file may have so many bytes.
-    pub fn holds<R: Files>(&self, rt: &R, length: usize) -> bool {
-        length as u64 <= self.bytes(rt)
+    pub fn holds<R: Files>(&self, rt: &R, length: u64) -> bool {
+        length <= self.bytes(rt)
     }
 
     /// Whether a standard stream goes to a file that has all the bytes that it may have: a write to

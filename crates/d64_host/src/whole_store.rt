@@ -11,8 +11,8 @@ use crate::host::{FolderFault, HostFault};
 use crate::new_entry::make_file;
 use crate::new_file::{NewFile, write_to_end};
 use crate::process_status::device_of_processes;
-use crate::size_limit::SizeLimit;
 use crate::standard_streams::{StandardStreams, is_same_file};
+use crate::writes::Writes;
 use std::alloc::{AllocError, Global};
 use std::fs::{self, Metadata, OpenFile, OpenOptions};
 use std::io::{ErrorKind, Write};
@@ -53,7 +53,7 @@ enum Way {
 pub fn store_file<R: Files>(
     rt: &R,
     alloc: Global,
-    limit: &SizeLimit,
+    writes: &Writes,
     streams: &StandardStreams,
     name: &str,
     bytes: &[u8],
@@ -63,7 +63,7 @@ where
     ensures { IfErr result IsOfDeviceOrMemory }
 {
     for _ in 0..MOST_TRIES {
-        if try_store(rt, alloc, limit, streams, name, bytes)? {
+        if try_store(rt, alloc, writes, streams, name, bytes)? {
             return Ok(());
         }
     }
@@ -75,7 +75,7 @@ where
 fn try_store<R: Files>(
     rt: &R,
     alloc: Global,
-    limit: &SizeLimit,
+    writes: &Writes,
     streams: &StandardStreams,
     name: &str,
     bytes: &[u8],
@@ -91,10 +91,10 @@ where
     let opened = OpenOptions::new().write(true).open(rt, name);
     let end = end_of_links(rt, alloc, name)?;
     match opened {
-        Ok(old) => store_over(rt, alloc, limit, old, &end, bytes),
+        Ok(old) => store_over(rt, alloc, writes, old, &end, bytes),
         Err(error) if error.kind() != ErrorKind::NotFound => Err(HostFault::Device),
         Err(_) if end.found.is_some() => Ok(false),
-        Err(_) => match make_file(rt, limit, end.path.as_path(), bytes) {
+        Err(_) => match make_file(rt, writes, end.path.as_path(), bytes) {
             Ok(()) => Ok(true),
             Err(FolderFault::Exists) => Ok(false),
             Err(FolderFault::Device) => Err(HostFault::Device),
@@ -107,7 +107,7 @@ where
 fn store_over<R: Files>(
     rt: &R,
     alloc: Global,
-    limit: &SizeLimit,
+    writes: &Writes,
     old: R::File,
     end: &End,
     bytes: &[u8],
@@ -120,7 +120,7 @@ where
         return Err(HostFault::Device);
     };
     let is_file = opened.is_file();
-    if is_file && !limit.holds(rt, bytes.len()) {
+    if is_file && !writes.limit.holds(rt, bytes.len() as u64) {
         return Err(HostFault::Device);
     }
     match way_of(is_file, end.is_link(), end.has(&opened)) {
@@ -187,7 +187,7 @@ fn write_in_place<F: OpenFile + Write + Drop>(
     if is_file && old.set_len(0).is_err() {
         return Err(HostFault::Device);
     }
-    write_to_end(&mut old, bytes)
+    write_to_end(&mut old, bytes).map_err(|_| HostFault::Device)
 }
 
 /// Follows the links from a name to what they lead to, but for one of the system's own.

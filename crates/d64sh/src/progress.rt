@@ -4,7 +4,7 @@
 ghost use Rattle.std.specs.Io.{WritesAtMost};
 ghost use Rattle.std.specs.Io.KnownBytes.{WriteAppends, Keeps};
 
-use d64_host::{FolderFault, Host, HostFault, Obstacle};
+use d64_host::{FolderFault, Host, HostFault, Obstacle, WriteObstacle};
 use std::alloc::Global;
 use std::cell::Cell;
 use std::io::{self, Eprint, Write};
@@ -124,12 +124,20 @@ impl<'a, R: Clock + Eprint, H: Host> Host for WatchedHost<'a, R, H> {
         self.host.obstacle(path)
     }
 
+    fn write_obstacle(&self, path: &str) -> Option<WriteObstacle> {
+        self.host.write_obstacle(path)
+    }
+
     fn make_folder(&mut self, path: &str) -> Result<(), FolderFault> {
         self.host.make_folder(path)
     }
 
     fn make_file(&mut self, path: &str, bytes: &[u8]) -> Result<(), FolderFault> {
         self.host.make_file(path, bytes)
+    }
+
+    fn extend_file(&mut self, path: &str, bytes: &[u8]) -> Result<(), FolderFault> {
+        self.host.extend_file(path, bytes)
     }
 
     fn rename_folder(&mut self, from: &str, to: &str) -> Result<(), FolderFault> {

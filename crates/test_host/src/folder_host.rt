@@ -1,6 +1,6 @@
 //! A host over the files of the system.
 
-use d64_host::{FolderFault, FolderHost, Host, HostFault};
+use d64_host::{FolderFault, FolderHost, Host, HostFault, WriteObstacle};
 use std::fs;
 use std::io::Read;
 use std::os::unix::fs::{MetadataExt, symlink};
@@ -134,6 +134,75 @@ fn opens_files_of_the_system(rt: HostRuntime) -> Result<(), Fail> {
     host.count_failed_read();
     assert_eq!(rt; host.failures(), 2);
     fs::remove_file(&rt, name)?;
+    fs::remove_dir(&rt, folder)?;
+    Ok(())
+}
+
+#[test]
+fn extends_plain_files_of_the_system(rt: HostRuntime) -> Result<(), Fail> {
+    let file = "d64-shell-extended-file-test";
+    let link = "d64-shell-link-to-an-extended-file-test";
+    let folder = "d64-shell-extended-folder-test";
+    let mut host = FolderHost::new(rt.clone()?);
+    assert!(rt; host.extend_file(file, &[1]) == Err(FolderFault::Device));
+    assert!(rt; !host.is_there(file));
+    host.make_file(file, &[1, 2])?;
+    host.extend_file(file, &[3])?;
+    assert_eq!(rt;
+        host.fetch(rt.alloc(), file, 9)?.as_slice(),
+        [1, 2, 3].as_slice()
+    );
+    symlink(&rt, file, link)?;
+    host.make_folder(folder)?;
+    assert!(rt; host.extend_file(link, &[4]) == Err(FolderFault::Device));
+    assert!(rt; host.extend_file(folder, &[4]) == Err(FolderFault::Device));
+    assert_eq!(rt; fs::metadata(&rt, file)?.len(), 3);
+    assert_eq!(rt; host.failures(), 3);
+    fs::remove_file(&rt, link)?;
+    fs::remove_file(&rt, file)?;
+    fs::remove_dir(&rt, folder)?;
+    Ok(())
+}
+
+#[test]
+fn says_what_keeps_a_path_from_being_written(rt: HostRuntime) -> Result<(), Fail> {
+    let file = "d64-shell-unwritten-test";
+    let folder = "d64-shell-unwritten-folder-test";
+    let long = "n".repeat(rt.alloc(), 256)?;
+    let mut host = FolderHost::new(rt.clone()?);
+    assert!(rt; host.write_obstacle(file).is_none());
+    assert!(rt; host.make_folder("d64-shell-unwritten-test/one").is_err());
+    assert_eq!(rt;
+        host.write_obstacle("d64-shell-unwritten-test/one"),
+        Some(WriteObstacle::NoFolder)
+    );
+    assert!(rt; host.make_file(long.as_str(), &[1]).is_err());
+    assert_eq!(rt;
+        host.write_obstacle(long.as_str()),
+        Some(WriteObstacle::LongName)
+    );
+    host.make_file(file, &[1])?;
+    host.make_folder(folder)?;
+    assert!(rt; host.write_obstacle(file).is_none());
+    assert!(rt;
+        host.make_file("d64-shell-unwritten-test/one", &[1])
+            .is_err()
+    );
+    assert_eq!(rt;
+        host.write_obstacle("d64-shell-unwritten-test/one"),
+        Some(WriteObstacle::NotFolder)
+    );
+    assert!(rt; host.store(rt.alloc(), folder, &[1]).is_err());
+    assert_eq!(rt; host.write_obstacle(folder), Some(WriteObstacle::Folder));
+    assert!(rt;
+        host.store(rt.alloc(), "d64-shell-gone-test/one", &[1])
+            .is_err()
+    );
+    assert_eq!(rt;
+        host.write_obstacle("d64-shell-gone-test/one"),
+        Some(WriteObstacle::NoFolder)
+    );
+    fs::remove_file(&rt, file)?;
     fs::remove_dir(&rt, folder)?;
     Ok(())
 }

@@ -83,3 +83,21 @@ fn opens_files_as_they_are(rt: HostRuntime) -> Result<(), Fail> {
     assert_eq!(rt; host.failures(), 2);
     Ok(())
 }
+
+#[test]
+fn extends_files_that_are_there(rt: HostRuntime) -> Result<(), Fail> {
+    let mut host = MemoryHost::new(rt.alloc());
+    host.make_file("one", &[1, 2])?;
+    host.extend_file("one", &[3])?;
+    host.extend_file("one", &[])?;
+    assert_eq!(rt; host.file("one"), Some([1, 2, 3].as_slice()));
+    assert_eq!(rt; host.failures(), 0);
+    assert!(rt; host.extend_file("two", &[4]) == Err(FolderFault::Device));
+    assert!(rt; !host.is_there("two"));
+    host.fail_at(1);
+    assert!(rt; host.extend_file("one", &[4]) == Err(FolderFault::Device));
+    assert_eq!(rt; host.file("one"), Some([1, 2, 3].as_slice()));
+    assert_eq!(rt; host.failures(), 2);
+    assert!(rt; host.write_obstacle("one").is_none());
+    Ok(())
+}
