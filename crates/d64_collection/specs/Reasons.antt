@@ -1,13 +1,15 @@
 -- Why a file could not be read or written, for people.
 use Rattle.std.specs.Prelude.{◌≡◌, ◌==◌, if◌then◌else◌, ℕ, ◌-◌, List, [], ◌++◌, length, take, codes, Option, Some, None, option_map}
 use Rattle.d64_host.specs.Files.{Files}
-use Rattle.d64_host.specs.Obstacles.{LooksFor}
+use Rattle.d64_host.specs.Obstacles.{LooksFor, LooksToWrite}
 use Rattle.d64_host.specs.declared.host.HostFault.{HostFault}
 use Rattle.d64_host.specs.declared.host.HostFault.TheVariants as faults
 use Rattle.d64_host.specs.declared.host.Obstacle.{Obstacle}
 use Rattle.d64_host.specs.declared.host.Obstacle.TheVariants as obstacles
+use Rattle.d64_host.specs.declared.host.WriteObstacle.{WriteObstacle}
+use Rattle.d64_host.specs.declared.host.WriteObstacle.TheVariants as write_obstacles
 use Rattle.d64_collection.specs.declared.reason.Reason.{Reason}
-use Rattle.d64_collection.specs.declared.reason.Reason.TheVariants.{NoSuchFile, Folder, NoPermission, TooLong, NotUtf8, LongName}
+use Rattle.d64_collection.specs.declared.reason.Reason.TheVariants.{NoSuchFile, Folder, NoPermission, TooLong, NotUtf8, LongName, NoFolder, NotFolder, FolderThere, NameTooLong, ReadOnly, Full}
 
 -- a reason in plain words
 abbrev pub reason_text : Reason → List ℕ
@@ -17,6 +19,12 @@ reason_text NoPermission = codes "no permission"
 reason_text TooLong = codes "longer than 16 MiB"
 reason_text NotUtf8 = codes "its name is not UTF-8"
 reason_text LongName = codes "its name has more than 4096 bytes"
+reason_text NoFolder = codes "no such folder"
+reason_text NotFolder = codes "not a folder"
+reason_text FolderThere = codes "a folder is there"
+reason_text NameTooLong = codes "its name is too long"
+reason_text ReadOnly = codes "the disk is read-only"
+reason_text Full = codes "the disk is full"
 
 -- what can be done, where that is not plain from the reason
 abbrev pub hint_of : Reason → List ℕ
@@ -37,6 +45,21 @@ IsReason files name faults.TooLong reason = reason ≡ Some TooLong
 IsReason files name faults.Device reason =
     (seen : Option Obstacle) × LooksFor files name seen × (reason ≡ option_map reason_of_obstacle seen)
 IsReason files name (faults.Memory error) reason = reason ≡ None
+
+-- the reason that a host gives for what keeps a path from being written
+abbrev pub reason_of_write_obstacle : WriteObstacle → Reason
+reason_of_write_obstacle write_obstacles.NoFolder = NoFolder
+reason_of_write_obstacle write_obstacles.NotFolder = NotFolder
+reason_of_write_obstacle write_obstacles.Folder = FolderThere
+reason_of_write_obstacle write_obstacles.NoPermission = NoPermission
+reason_of_write_obstacle write_obstacles.LongName = NameTooLong
+reason_of_write_obstacle write_obstacles.ReadOnly = ReadOnly
+reason_of_write_obstacle write_obstacles.Full = Full
+
+-- why a write was refused, as far as a host of these files can say
+abbrev pub IsWriteReason : Option Files → Option Reason → Type 0
+IsWriteReason files reason =
+    (seen : Option WriteObstacle) × LooksToWrite files seen × (reason ≡ option_map reason_of_write_obstacle seen)
 
 -- a line with a reason in brackets before its line feed; no line stays none
 abbrev pub with_reason : Reason → List ℕ → List ℕ

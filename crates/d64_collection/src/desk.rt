@@ -5,7 +5,7 @@ ghost use Rattle.d64_collection.specs.Answers.{KeepsQuiet, answer_of};
 ghost use Rattle.d64_collection.specs.Runs.{Begins, EndsAt, EndsServing, EndsUnread, Runs, Tells, account_at, stand_at, told_at};
 
 use crate::clerk::Clerk;
-use crate::reason::{Reason, reason_of};
+use crate::reason::{Reason, push_known_reason, reason_of};
 use crate::report::{AnswerRoom, Verdict};
 use d64_host::{Host, HostFault};
 use d64_script::output::{OutputStream, WriteFault};
@@ -172,9 +172,7 @@ impl Desk {
             (answer_of self.new.room.printed.items self.new.room.complaint.items) result }
     {
         let verdict = clerk.answer(name, None, host, &mut self.room)?;
-        if let Some(reason) = reason {
-            reason.add_to(&mut self.room.complaint)?;
-        }
+        push_known_reason(&mut self.room.complaint, reason)?;
         Ok(verdict)
     }
 

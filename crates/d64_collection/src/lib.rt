@@ -14,5 +14,5 @@ mod report;
 pub use clerk::Clerk;
 pub use desk::{Desk, FILE_BYTES, RunFault};
 pub use list_desk::ListDesk;
-pub use reason::{Reason, reason_of};
+pub use reason::{Reason, push_known_reason, reason_of, reason_unwritten};
 pub use report::{AnswerRoom, Report, Verdict};

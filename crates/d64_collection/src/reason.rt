@@ -1,8 +1,8 @@
 //! Why a file could not be read or written, for people.
 ghost use Rattle.std.specs.Prelude.{◌≡◌, OnOk};
-ghost use Rattle.d64_collection.specs.Reasons.{IsReason, hint_of, reason_of_obstacle, reason_text, with_reason};
+ghost use Rattle.d64_collection.specs.Reasons.{IsReason, IsWriteReason, hint_of, reason_of_obstacle, reason_of_write_obstacle, reason_text, with_known_reason, with_reason};
 
-use d64_host::{Host, HostFault, Obstacle};
+use d64_host::{Host, HostFault, Obstacle, WriteObstacle};
 use std::alloc::AllocError;
 
 /// Why a file could not be read or written.
@@ -12,7 +12,7 @@ pub enum Reason {
     NoSuchFile,
     /// A folder is at its path.
     Folder,
-    /// The system does not let this process read what is there.
+    /// The system does not let this process read what is there, or write there.
     NoPermission,
     /// It has more bytes than any file that is read here.
     TooLong,
@@ -20,6 +20,18 @@ pub enum Reason {
     NotUtf8,
     /// Its name in a list has more than 4,096 bytes.
     LongName,
+    /// The folder that it is to be written to is not there.
+    NoFolder,
+    /// What it is to be written to is no folder.
+    NotFolder,
+    /// A folder is there where it is to be written.
+    FolderThere,
+    /// Its name is longer than the system lets one be.
+    NameTooLong,
+    /// The disk can only be read.
+    ReadOnly,
+    /// The disk has no room left.
+    Full,
 }
 
 impl Reason {
@@ -34,6 +46,12 @@ impl Reason {
             Reason::TooLong => b"longer than 16 MiB",
             Reason::NotUtf8 => b"its name is not UTF-8",
             Reason::LongName => b"its name has more than 4096 bytes",
+            Reason::NoFolder => b"no such folder",
+            Reason::NotFolder => b"not a folder",
+            Reason::FolderThere => b"a folder is there",
+            Reason::NameTooLong => b"its name is too long",
+            Reason::ReadOnly => b"the disk is read-only",
+            Reason::Full => b"the disk is full",
         }
     }
 
@@ -88,5 +106,43 @@ pub fn reason_of<H: Host>(host: &H, name: &str, fault: HostFault) -> Option<Reas
             None => None,
         },
         HostFault::Memory(_) => None,
+    }
+}
+
+impl From<WriteObstacle> for Reason {
+    ghost from_gives = { λ seen reason. reason ≡ reason_of_write_obstacle seen };
+
+    fn from(seen: WriteObstacle) -> Reason {
+        match seen {
+            WriteObstacle::NoFolder => Reason::NoFolder,
+            WriteObstacle::NotFolder => Reason::NotFolder,
+            WriteObstacle::Folder => Reason::FolderThere,
+            WriteObstacle::NoPermission => Reason::NoPermission,
+            WriteObstacle::LongName => Reason::NameTooLong,
+            WriteObstacle::ReadOnly => Reason::ReadOnly,
+            WriteObstacle::Full => Reason::Full,
+        }
+    }
+}
+
+/// Why the last write, which was refused, could not be done at this path, as far as its host can
+/// say.
+pub fn reason_unwritten<H: Host>(host: &H, path: &str) -> Option<Reason>
+    ensures { IsWriteReason (H.state host.now).files result }
+{
+    match host.write_obstacle(path) {
+        Some(seen) => Some(Reason::from(seen)),
+        None => None,
+    }
+}
+
+/// Puts a reason, if one is known, and what can be done in brackets behind a line, before its line
+/// feed.
+pub fn push_known_reason(line: &mut Vec<u8>, reason: Option<Reason>) -> Result<(), AllocError>
+    ensures { OnOk result (line.new.items ≡ with_known_reason reason line.old.items) }
+{
+    match reason {
+        Some(reason) => reason.add_to(line),
+        None => Ok(()),
     }
 }
