@@ -68,7 +68,7 @@ impl Reason {
     }
 
     /// Puts the reason, and what can be done, in brackets behind a line, before its line feed.
-    pub fn add_to(self, line: &mut Vec<u8>) -> Result<(), AllocError>
+    pub(crate) fn add_to(self, line: &mut Vec<u8>) -> Result<(), AllocError>
         ensures { OnOk result (line.new.items ≡ with_reason self line.old.items) }
     {
         if line.is_empty() {

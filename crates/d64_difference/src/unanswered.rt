@@ -4,7 +4,7 @@ ghost use Rattle.d64_survey.specs.Dump.{image_bytes};
 ghost use Rattle.d64_report.specs.DumpOf.{dump_of};
 ghost use Rattle.d64_difference.specs.Differences.{contents_by, fault_line, printed_fault};
 
-use d64_collection::Reason;
+use d64_collection::{Reason, push_known_reason};
 use d64_report::{Scratch, unread_json, wrong_length_json};
 use d64_wording::{unread_line, wrong_length_line};
 use d64_words::DiffForm;
@@ -30,10 +30,9 @@ fn push_fault_line(
     match contents {
         Ok(bytes) if is_dump(bytes) => Ok(()),
         Ok(bytes) => wrong_length_line(out, name, bytes),
-        Err(None) => unread_line(out, name),
-        Err(Some(reason)) => {
+        Err(reason) => {
             unread_line(out, name)?;
-            reason.add_to(out)
+            push_known_reason(out, reason)
         }
     }
 }
