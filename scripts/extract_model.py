@@ -111,15 +111,16 @@ def extracted(name, data, into=b".", in_part=False, refuses=lambda name, content
 
 def lines(form, name, rows):
     """What is printed of an image in JSON or CSV."""
-    image = name.decode(errors="replace")
+    told = told_in(form)
     if form == "json":
-        return "".join(model.json_line({"image": image, **file, "file": told_path(path)}) for file, path in rows)
-    return "".join(model.csv_line([*({"image": image, **file, "why": " ".join(file["why"]), "conditions": " ".join(map(str, file["conditions"])),
-                                      "file": told_path(path)}[column] for column in COLUMNS), None]) for file, path in rows)
+        return "".join(model.json_line({"image": told(name), **file, "file": path and told(path)}) for file, path in rows)
+    return "".join(model.csv_line([*({"image": told(name), **file, "why": " ".join(file["why"]), "conditions": " ".join(map(str, file["conditions"])),
+                                      "file": path and told(path)}[column] for column in COLUMNS), None]) for file, path in rows)
 
 
-def told_path(path):
-    return None if path is None else path.decode(errors="replace")
+def told_in(form):
+    """How names of the host stand in a form."""
+    return model.in_json if form == "json" else model.in_csv
 
 
 def header(form):
@@ -128,7 +129,7 @@ def header(form):
 
 def error_lines(form, name, error, length=None):
     """What is printed of an image that isn't answered, for this error."""
-    image = name.decode(errors="replace")
+    image = told_in(form)(name)
     if form == "csv":
         return model.csv_line([image, *[None] * (len(COLUMNS) - 1), error])
     return model.json_line({"image": image, "error": error, **({"length": length} if length is not None else {})}) if form == "json" else ""

@@ -28,6 +28,8 @@ COLUMNS_OF_FILES = ("image", "slot", "name", "field", "kind", "type", "closed", 
                     "whole", "why", "conditions", "read_errors")
 KIND_WORDS = ("del", "seq", "prg", "usr", "rel")
 MARKS_OF_DIRECTION = {0x61C, 0x200E, 0x200F, *range(0x202A, 0x202F), *range(0x2066, 0x206A)}
+# The characters that no name shows as they are, but for CSV.
+HIDDEN = re.compile(f"[{re.escape(''.join(map(chr, sorted({*range(0x20), *range(0x7F, 0xA0), *MARKS_OF_DIRECTION}))))}]")
 
 # The most bytes of a picture, its elements, and what the title of a block says by the character that the map has for it.
 MOST_OF_PICTURE, SVG = 204_800, "{http://www.w3.org/2000/svg}"
@@ -293,15 +295,29 @@ def shown_character(character):
     code = ord(character)
     if 0xDC80 <= code <= 0xDCFF:
         return f"\\x{code - 0xDC00:02x}"
-    if code < 0x20 or 0x7F <= code < 0xA0 or code in MARKS_OF_DIRECTION:
+    if HIDDEN.match(character):
         return f"\\u{{{code:x}}}"
     return "\\\\" if character == "\\" else character
+
+
+def in_json(name):
+    """A host name as the value of a member, of which `json_line` escapes what is hidden."""
+    return name.decode(errors="replace")
+
+
+def in_csv(name):
+    """A host name as a field: one that isn't UTF-8 is as in text."""
+    try:
+        return name.decode()
+    except UnicodeDecodeError:
+        return shown(name)
 
 
 # Lines
 
 def json_line(members):
-    return json.dumps(members, ensure_ascii=False, separators=(",", ":")) + "\n"
+    """An object: JSON escapes controls below a space by itself, and the rest of what is hidden stands in names of the host alone."""
+    return HIDDEN.sub(lambda it: f"\\u{ord(it[0]):04x}", json.dumps(members, ensure_ascii=False, separators=(",", ":"))) + "\n"
 
 
 def csv_line(fields):
@@ -335,7 +351,7 @@ def survey_of(data):
 
 def check_json(name, data, digest=False):
     """The line of a file in JSON."""
-    head, error = {"image": name.decode(errors="replace")}, error_of(data)
+    head, error = {"image": in_json(name)}, error_of(data)
     if error:
         return json_line({**head, "error": error, **({"length": len(data)} if error == "wrong length" else {})})
     survey, digests = survey_of(data), {"sha256": hashlib.sha256(data).hexdigest()} if digest else {}
@@ -344,7 +360,7 @@ def check_json(name, data, digest=False):
 
 def check_csv(name, data, digest=False):
     """The row of a file."""
-    name, error = name.decode(errors="replace"), error_of(data)
+    name, error = in_csv(name), error_of(data)
     if error:
         return csv_line([name, *[None] * (len(COLUMNS) + digest), error])
     told = survey_of(data).told()
@@ -355,20 +371,20 @@ def check_csv(name, data, digest=False):
 def error_json(name, data):
     """The line in JSON of a file that isn't answered."""
     error = error_of(data)
-    return json_line({"image": name.decode(errors="replace"), "error": error, **({"length": len(data)} if error == "wrong length" else {})})
+    return json_line({"image": in_json(name), "error": error, **({"length": len(data)} if error == "wrong length" else {})})
 
 
 def files_json(name, data):
     """The lines of the files of a dump in JSON."""
     if error_of(data):
         return error_json(name, data)
-    image = {"image": name.decode(errors="replace")}
+    image = {"image": in_json(name)}
     return "".join(json_line({**image, **file}) for file in survey_of(data).files)
 
 
 def files_csv(name, data):
     """The rows of the files of a dump."""
-    name, error = name.decode(errors="replace"), error_of(data)
+    name, error = in_csv(name), error_of(data)
     if error:
         return csv_line([name, *[None] * (len(COLUMNS_OF_FILES) - 1), error])
     rows = ({"image": name, **file, "why": " ".join(file["why"]), "conditions": " ".join(map(str, file["conditions"]))} for file in survey_of(data).files)

@@ -99,9 +99,10 @@ pub(crate) fn disk_line_json(
 ) -> Result<Vec<u8>, AllocError>
     ensures { IfOk result (λ text. text.items ≡ out.items ++ line_of (disk_object all.now)) }
 {
+    let start = out.len();
     let mut writer = Writer::new(out);
     put_disk(scratch, &mut writer, all)?;
-    into_line(writer)
+    into_line(writer, start)
 }
 
 /// Adds a line to a text: what is told of a file.
@@ -112,9 +113,10 @@ pub(crate) fn entry_line_json(
 ) -> Result<Vec<u8>, AllocError>
     ensures { IfOk result (λ text. text.items ≡ out.items ++ line_of (entry_object row.now)) }
 {
+    let start = out.len();
     let mut writer = Writer::new(out);
     put_entry(scratch, &mut writer, row)?;
-    into_line(writer)
+    into_line(writer, start)
 }
 
 /// The text of a block's track and sector, as `17/3`.
@@ -159,12 +161,13 @@ pub(crate) fn blocks_json(
 ) -> Result<Vec<u8>, AllocError>
     ensures { IfOk result (λ text. text.items ≡ out.items ++ line_of (blocks_object word.now blocks.now)) }
 {
+    let start = out.len();
     let mut writer = Writer::new(out);
     writer.begin_object()?;
     put_text(&mut writer, "change", word)?;
     put_block_list(&mut writer, blocks)?;
     writer.end_object()?;
-    let text = into_line(writer)?;
+    let text = into_line(writer, start)?;
     Ok(text)
 }
 
@@ -193,12 +196,13 @@ pub(crate) fn disks_json(
 ) -> Result<Vec<u8>, AllocError>
     ensures { IfOk result (λ text. text.items ≡ out.items ++ line_of (change_object (DiskChanged old.now new.now))) }
 {
+    let start = out.len();
     let mut writer = Writer::new(out);
     writer.begin_object()?;
     put_text(&mut writer, "change", "disk")?;
     put_disks(scratch, &mut writer, old, new)?;
     writer.end_object()?;
-    let text = into_line(writer)?;
+    let text = into_line(writer, start)?;
     Ok(text)
 }
 
@@ -237,11 +241,12 @@ pub(crate) fn slot_json(
 ) -> Result<Vec<u8>, AllocError>
     ensures { IfOk result (λ text. text.items ≡ out.items ++ line_of (slot_object slot word.now (option_map (λ row. row.now) old.entry) (option_map (λ row. row.now) new.entry))) }
 {
+    let start = out.len();
     let mut writer = Writer::new(out);
     writer.begin_object()?;
     put_slot(&mut writer, slot, word)?;
     put_files(scratch, &mut writer, old, new)?;
     writer.end_object()?;
-    let text = into_line(writer)?;
+    let text = into_line(writer, start)?;
     Ok(text)
 }

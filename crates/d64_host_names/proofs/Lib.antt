@@ -11,3 +11,6 @@ pub mod SafeNames
 pub mod ManyNames
 pub mod Folders
 pub mod Reserved
+pub mod ShownNames
+pub mod PrintedNames
+pub mod PlainTexts

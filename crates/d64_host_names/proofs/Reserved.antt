@@ -1,6 +1,6 @@
 -- No name of a file is that of a device.
 use Rattle.std.proofs.Common.{◌≡◌, ◌≢◌, ℕ, suc, ◌+◌, Bool, true, false, not, ◌⊎◌, List, [], ◌∷◌, ◌++◌, length, take, get_or, refl, sym, ap, ◌∙◌, inl, inr, append-nil, append_assoc, arith}
-use Rattle.std.specs.Prelude.{◌==◌, ◌&&◌, ◌||◌, if◌then◌else◌, codes, decimal}
+use Rattle.std.specs.Prelude.{◌==◌, ◌&&◌, if◌then◌else◌, codes, decimal}
 use Rattle.std.specs.Char.{to_ascii_lowercase}
 use Rattle.std.specs.Int.{is_in_range}
 use Rattle.std.specs.List.{list_any, list_all, position_or_len}
@@ -10,7 +10,7 @@ use Rattle.std.proofs.lemmas.List.{map-append, length-append}
 use Rattle.std.proofs.lemmas.List.Folds.{list_all-append}
 use Rattle.d64_host_names.specs.declared.ending.Ending.{Ending}
 use Rattle.d64_host_names.specs.declared.ending.Ending.TheVariants.{Del, Seq, Prg, Usr, Rel}
-use Rattle.d64_host_names.specs.HostName.{full_stop, underscore, is_same_name, before_dot, device_name, without_last_spaces, devices, ports, is_port, is_reserved, allowed_name, shown_name, closed_name, filled_name, unreserved_name, stem, ending_text, part_text, tail, mark, numbered_name}
+use Rattle.d64_host_names.specs.HostName.{full_stop, underscore, is_same_name, before_dot, device_name, without_last_spaces, devices, ports, is_port, is_reserved, allowed_name, unhidden_name, closed_name, filled_name, unreserved_name, stem, ending_text, part_text, tail, mark, numbered_name}
 use Rattle.d64_host_names.specs.TakenNames.{first_free, next_name}
 use Rattle.d64_host_names.proofs.SameNames.{lower_from_same}
 use Rattle.d64_host_names.proofs.Numbers.{first_mark, other_mark}
@@ -139,7 +139,7 @@ unreserved_free name = by_test (is_reserved (device_name name)) refl
 
 stem_free : (text : List ℕ) → is_reserved (device_name (stem text)) ≡ false
 unfolding stem
-stem_free text = unreserved_free (filled_name (closed_name (shown_name (allowed_name text))))
+stem_free text = unreserved_free (filled_name (closed_name (unhidden_name (allowed_name text))))
 
 -- a bracket after a space is no part of a device's name
 bracketed_free : (front rest : List ℕ) → is_device (front ++ 32 ∷ 40 ∷ rest) ≡ false

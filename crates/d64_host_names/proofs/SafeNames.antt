@@ -6,7 +6,7 @@ use Rattle.std.proofs.lemmas.Bool.{cases_eq, and_parts, both_ways, ltb-true, leb
 use Rattle.std.proofs.lemmas.List.{length-append}
 use Rattle.std.proofs.lemmas.List.Elements.{All-nil, All-cons, All-append, All-set, All-map, All-weaker}
 use Rattle.d64_host_names.specs.declared.ending.Ending.{Ending}
-use Rattle.d64_host_names.specs.HostName.{slash, underscore, full_stop, forbidden_characters, is_forbidden, allowed_name, shown_name, is_loose, closed_name, filled_name, is_reserved, device_name, stem, ending_text, part_text, tail, mark, numbered_name}
+use Rattle.d64_host_names.specs.HostName.{slash, underscore, full_stop, forbidden_characters, is_forbidden, allowed_name, unhidden_name, is_loose, closed_name, filled_name, is_reserved, device_name, stem, ending_text, part_text, tail, mark, numbered_name}
 use Rattle.d64_host_names.specs.TakenNames.{first_free, next_name}
 use Rattle.d64_host_names.specs.Laws.{AreCounted, StaysInFolder, IsPrinted, EndsWith}
 use Rattle.d64_host_names.proofs.Numbers.{IsDigit, digits, first_mark, other_mark}
@@ -30,7 +30,7 @@ stem_all : (P : ℕ → Type 0) (text : List ℕ) → P underscore → All P (al
 unfolding stem
 stem_all P text here all =
     let first = allowed_name text in
-    let second = shown_name first in
+    let second = unhidden_name first in
     let third = closed_name second in
     let fourth = filled_name third in
     let second_all : All P second = either P (get_or first 0 0 == full_stop) (set first 0 underscore) first (All-set P first 0 underscore here all) all in

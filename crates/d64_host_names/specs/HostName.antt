@@ -32,8 +32,8 @@ unfoldable pub allowed_name : List ℕ → List ℕ
 allowed_name name = map (λ byte. if is_forbidden byte then underscore else byte) name
 
 -- a name whose first byte, where it was a `.`, became `_`
-abbrev pub shown_name : List ℕ → List ℕ
-shown_name name = if slice_index name 0 == full_stop then slice_set name 0 underscore else name
+abbrev pub unhidden_name : List ℕ → List ℕ
+unhidden_name name = if slice_index name 0 == full_stop then slice_set name 0 underscore else name
 
 -- a byte with which no name ends on some host: `.` or a space
 abbrev pub is_loose : ℕ → Bool
@@ -93,7 +93,7 @@ unreserved_name name = if is_reserved (device_name name) then underscore ∷ nam
 -- what the host name of a file begins with whose name is this text: the rules are applied one after
 -- another
 unfoldable pub stem : List ℕ → List ℕ
-stem text = unreserved_name (filled_name (closed_name (shown_name (allowed_name text))))
+stem text = unreserved_name (filled_name (closed_name (unhidden_name (allowed_name text))))
 
 -- the ending by the kind of a file
 unfoldable pub ending_text : Ending → List ℕ

@@ -1,3 +1,4 @@
+pub mod Shown
 pub mod HostName
 pub mod TakenNames
 pub mod ImagePlace

@@ -1,5 +1,6 @@
 //! Laws of names and folders: empty functions, whose contracts are the laws.
 ghost use Rattle.d64_host_names.specs.Laws.{NamesStayInTheirFolder, NamesAreTakenByHosts, NamesArePrinted, NamesKeepTheirEnding, NamesAreFree, NoTwoNamesAreTheSame, FoldersLeadDown, ImagesStayInTheirFolder};
+ghost use Rattle.d64_host_names.specs.Shown.{NoNameMakesALine};
 
 /// Each name of a file names something in the folder that it stands in, and each host takes it. It
 /// is printed ASCII where the text is that it is made of, as each text form is.
@@ -28,4 +29,11 @@ pub fn no_two_names_are_the_same()
 pub fn folders_stay_below()
     ensures folders { FoldersLeadDown }
     ensures image { ImagesStayInTheirFolder }
+{}
+
+/// No name of the host shows a control byte, and no line of JSON does: none commands a terminal, and
+/// none makes a line.
+#[inline]
+pub fn no_name_makes_a_line()
+    ensures { NoNameMakesALine }
 {}

@@ -1,12 +1,17 @@
-//! The names that the files of images get on a host, and the folders that they lie in.
+//! The names that the files of images get on a host, the folders that they lie in, and how names of
+//! the host are shown.
 #![tactic(auto)]
 
 mod ending;
+mod hexadecimal;
 mod image_place;
 pub mod laws;
+mod medium;
+mod shown;
 mod stem;
 mod taken_names;
 
 pub use ending::Ending;
 pub use image_place::ImagePlace;
+pub use shown::{hide_in_json, push_shown};
 pub use taken_names::TakenNames;

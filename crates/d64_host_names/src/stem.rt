@@ -1,7 +1,7 @@
 //! What a host name begins with.
 ghost use Rattle.std.specs.Prelude.{◌≡◌, OnOk, OnErr, if◌then◌else◌, slice_index, slice_set, ◌-◌, ◌==◌, length, position};
 ghost use Rattle.std.specs.List.{list_any};
-ghost use Rattle.d64_host_names.specs.HostName.{is_forbidden, allowed_name, shown_name, closed_name, filled_name, is_loose, is_same_name, before_dot, without_last_spaces, device_name, full_stop, ports, is_port, is_reserved, unreserved_name, stem};
+ghost use Rattle.d64_host_names.specs.HostName.{is_forbidden, allowed_name, unhidden_name, closed_name, filled_name, is_loose, is_same_name, before_dot, without_last_spaces, device_name, full_stop, ports, is_port, is_reserved, unreserved_name, stem};
 
 use std::alloc::AllocError;
 
@@ -30,7 +30,7 @@ fn put_allowed(name: &mut Vec<u8>, text: &[u8]) -> Result<(), AllocError>
 
 /// Makes a first `.` a `_`.
 fn show(name: &mut [u8])
-    ensures { name.new ≡ shown_name name.old }
+    ensures { name.new ≡ unhidden_name name.old }
 {
     if let Some(first) = name.first_mut() {
         if *first == b'.' {

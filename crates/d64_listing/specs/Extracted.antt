@@ -1,9 +1,10 @@
 -- What is printed of a used slot and the host file that it was written to, in each form.
-use Rattle.std.specs.Prelude.{ℕ, List, [], ◌∷◌, ◌++◌, unwrap_or, Option, Some, None, codes}
+use Rattle.std.specs.Prelude.{ℕ, List, [], ◌∷◌, ◌++◌, Option, Some, None, codes}
 use Rattle.std.specs.Option.{option_map_or}
 use Rattle.json.specs.Json.{Json, null}
 use Rattle.d64_image.specs.Disk.{Bytes}
 use Rattle.d64_inventory.specs.Rows.{RowView}
+use Rattle.d64_report.specs.Rows.{host_field}
 use Rattle.d64_report.specs.Values.{Field, object_of}
 use Rattle.d64_report.specs.Unanswered.{host_value}
 use Rattle.d64_wording.specs.Shown.{shown_name}
@@ -19,9 +20,13 @@ path_member path = (codes "file", option_map_or host_value path null)
 unfoldable pub extracted_object : Bytes → RowView → Option Bytes → Json
 extracted_object name row path = object_of (place_members name row ++ (file_members row ++ path_member path ∷ []))
 
+-- the field with the path of the host file; empty where none was written
+abbrev pub path_field : Option Bytes → List ℕ
+path_field path = option_map_or host_field path []
+
 -- the row of it: the path stands before the error, which it has not
 unfoldable pub extracted_row : Bytes → RowView → Option Bytes → List ℕ
-extracted_row name row path = row_with (row_fields name row ++ unwrap_or path [] ∷ []) []
+extracted_row name row path = row_with (row_fields name row ++ path_field path ∷ []) []
 
 -- where it was written, at the end of a line for people
 abbrev pub path_text : Option Bytes → List ℕ

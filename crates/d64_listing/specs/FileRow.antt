@@ -10,7 +10,7 @@ use Rattle.d64_files.specs.Name.{name_in}
 use Rattle.d64_inventory.specs.Rows.{RowView}
 use Rattle.d64_inventory.specs.declared.row.Content.{Content}
 use Rattle.d64_report.specs.Pairs.{pair_text}
-use Rattle.d64_report.specs.Rows.{truth_text}
+use Rattle.d64_report.specs.Rows.{truth_text, host_field}
 use Rattle.d64_wording.specs.FileText.{kind_letters}
 use Rattle.d64_listing.specs.FlawWords.{flaw_word}
 
@@ -73,7 +73,7 @@ row_with fields error = row_text default_writer (fields ++ error ∷ [])
 
 -- what is told of a used slot of an image with this host name
 abbrev pub row_fields : Bytes → RowView → List (List ℕ)
-row_fields name row = name ∷ decimal row.slot ∷ file_fields row
+row_fields name row = host_field name ∷ decimal row.slot ∷ file_fields row
 
 -- the row of a used slot of an image with this host name; it has no error
 unfoldable pub file_row : Bytes → RowView → List ℕ
@@ -85,7 +85,7 @@ header_row = row_with columns (codes "error")
 
 -- a name, and nothing in each other column
 abbrev pub name_alone : Bytes → List (List ℕ)
-name_alone name = name ∷ [] ∷ [] ∷ [] ∷ [] ∷ [] ∷ [] ∷ [] ∷ [] ∷ [] ∷ [] ∷ [] ∷ [] ∷ [] ∷ [] ∷ [] ∷ [] ∷ [] ∷ [] ∷ []
+name_alone name = host_field name ∷ [] ∷ [] ∷ [] ∷ [] ∷ [] ∷ [] ∷ [] ∷ [] ∷ [] ∷ [] ∷ [] ∷ [] ∷ [] ∷ [] ∷ [] ∷ [] ∷ [] ∷ [] ∷ []
 
 -- a row with a name and an error alone
 unfoldable pub unanswered_row : Bytes → List ℕ → List ℕ

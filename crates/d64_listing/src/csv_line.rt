@@ -11,7 +11,7 @@ use d64_files::{Kind, name_in};
 use d64_inventory::FileRow;
 use d64_report::{
     Scratch, UNREAD, WRONG_LENGTH, end_row, push_boolean, push_field, push_fields,
-    push_hexadecimal, push_name, push_number, push_pair,
+    push_hexadecimal, push_host_name, push_name, push_number, push_pair,
 };
 use d64_wording::kind_letters;
 use std::alloc::AllocError;
@@ -199,7 +199,7 @@ pub(crate) fn begin_file_row(
     ensures whole { OnOk result (partial_of scratch.new.row ≡ []) }
 {
     scratch.row.clear();
-    push_field(&mut scratch.row, name)?;
+    push_host_name(&mut scratch.text, &mut scratch.row, name)?;
     push_number(&mut scratch.row, row.slot as u64)?;
     push_file_fields(&mut scratch.text, &mut scratch.row, row)
 }
@@ -241,7 +241,7 @@ pub(crate) fn begin_name_alone(scratch: &mut Scratch, name: &[u8]) -> Result<(),
     ensures whole { OnOk result (partial_of scratch.new.row ≡ []) }
 {
     scratch.row.clear();
-    push_field(&mut scratch.row, name)?;
+    push_host_name(&mut scratch.text, &mut scratch.row, name)?;
     push_fields(&mut scratch.row, &EMPTY)
 }
 

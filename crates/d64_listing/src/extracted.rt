@@ -1,15 +1,19 @@
 //! What is printed of a file that is written to the host: what `files` prints, and the path of the
 //! host file.
 ghost use Rattle.std.specs.Prelude.{◌≡◌, [], ◌∷◌, ◌++◌, option_map, OnOk, IfOk};
+ghost use Rattle.csv.specs.Records.{fields_of, partial_of};
 ghost use Rattle.d64_report.specs.Values.{line_of, member_tokens};
-ghost use Rattle.d64_listing.specs.Extracted.{path_member, path_text, extracted_object, extracted_row, extracted_line, extracted_header, unextracted_row};
+ghost use Rattle.d64_listing.specs.Extracted.{path_member, path_field, path_text, extracted_object, extracted_row, extracted_line, extracted_header, unextracted_row};
 
 use crate::csv_line::{begin_file_row, begin_header, begin_name_alone};
 use crate::file_member::put_file_members;
 use crate::json_line::put_place;
 use crate::table::push_file_text;
+use csv::ByteRecord;
 use d64_inventory::FileRow;
-use d64_report::{Scratch, end_row, into_line, push_field, put_host_name, put_null};
+use d64_report::{
+    Scratch, end_row, into_line, push_field, push_host_name, put_host_name, put_null,
+};
 use d64_wording::push_shown;
 use json::Writer;
 use std::alloc::AllocError;
@@ -40,14 +44,31 @@ pub(crate) fn extracted_json(
 ) -> Result<Vec<u8>, AllocError>
     ensures { IfOk result (λ text. text.items ≡ out.items ++ line_of (extracted_object name.now row.now (option_map (λ p. p.now) path.entry))) }
 {
+    let start = out.len();
     let mut writer = Writer::new(out);
     writer.begin_object()?;
     put_place(&mut scratch.text, &mut writer, name, row)?;
     put_file_members(&mut scratch.text, &mut writer, row)?;
     put_path(&mut scratch.text, &mut writer, path)?;
     writer.end_object()?;
-    let text = into_line(writer)?;
+    let text = into_line(writer, start)?;
     Ok(text)
+}
+
+/// Adds the path of a host file to a row, or nothing in its place.
+fn push_path_field(
+    scratch: &mut Vec<u8>,
+    row: &mut ByteRecord,
+    path: Option<&[u8]>,
+) -> Result<(), AllocError>
+    requires { partial_of row.old ≡ [] }
+    ensures fields { OnOk result (fields_of row.new ≡ fields_of row.old ++ path_field (option_map (λ p. p.now) path.entry) ∷ []) }
+    ensures whole { OnOk result (partial_of row.new ≡ []) }
+{
+    match path {
+        Some(path) => push_host_name(scratch, row, path),
+        None => push_field(row, b""),
+    }
 }
 
 /// Adds the row of a file to a text, with the path of the host file.
@@ -61,7 +82,7 @@ pub(crate) fn extracted_csv(
     ensures { IfOk result (λ text. text.items ≡ out.items ++ extracted_row name.now row.now (option_map (λ p. p.now) path.entry)) }
 {
     begin_file_row(scratch, name, row)?;
-    push_field(&mut scratch.row, path.unwrap_or(b""))?;
+    push_path_field(&mut scratch.text, &mut scratch.row, path)?;
     end_row(&mut scratch.row, b"", out)
 }
 

@@ -33,11 +33,12 @@ pub fn file_json(
 ) -> Result<Vec<u8>, AllocError>
     ensures { IfOk result (λ text. text.items ≡ out.items ++ line_of (file_object name.now row.now)) }
 {
+    let start = out.len();
     let mut writer = Writer::new(out);
     writer.begin_object()?;
     put_place(&mut scratch.text, &mut writer, name, row)?;
     put_file_members(&mut scratch.text, &mut writer, row)?;
     writer.end_object()?;
-    let text = into_line(writer)?;
+    let text = into_line(writer, start)?;
     Ok(text)
 }

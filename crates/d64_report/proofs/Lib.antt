@@ -3,3 +3,4 @@ pub mod Arrays
 pub mod Objects
 pub mod EndedRows
 pub mod Dumps
+pub mod HostFields

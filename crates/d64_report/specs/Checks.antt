@@ -20,7 +20,7 @@ use Rattle.d64_report.specs.Names.{name_value}
 use Rattle.d64_report.specs.Findings.{fault_object, read_error_object}
 use Rattle.d64_report.specs.Doubts.{doubt_value, doubts_text}
 use Rattle.d64_report.specs.Unanswered.{image_member}
-use Rattle.d64_report.specs.Rows.{truth_text, row_of}
+use Rattle.d64_report.specs.Rows.{truth_text, host_field, row_of}
 
 -- the file, the number of tracks, and whether there are read codes
 abbrev pub dump_members : DumpView → Bytes → List Field
@@ -71,7 +71,7 @@ check_object dump name digest =
 
 -- the file, the number of tracks, and whether there are read codes
 abbrev pub dump_fields : DumpView → Bytes → List (List ℕ)
-dump_fields dump name = name ∷ decimal (tracks_of (length dump.image)) ∷ truth_text (is_some dump.codes) ∷ []
+dump_fields dump name = host_field name ∷ decimal (tracks_of (length dump.image)) ∷ truth_text (is_some dump.codes) ∷ []
 
 -- the disk's name, its id, and its DOS version, in text form
 abbrev pub label_fields : Disk → List (List ℕ)

@@ -1,7 +1,9 @@
 -- Rows of CSV: the columns, and the rows of files that aren't answered.
 use Rattle.std.specs.Prelude.{ℕ, Bool, if◌then◌else◌, List, [], ◌∷◌, ◌++◌, Option, Some, None, codes}
 use Rattle.std.specs.Option.{option_map_or}
+use Rattle.std.specs.Str.{is_utf8}
 use Rattle.csv.specs.Writing.{row_text, default_writer}
+use Rattle.d64_host_names.specs.Shown.{shown_name}
 
 -- the columns that each row has: those before the digest
 abbrev pub columns : List (List ℕ)
@@ -12,6 +14,10 @@ columns =
 -- `true` or `false`
 abbrev pub truth_text : Bool → List ℕ
 truth_text value = if value then codes "true" else codes "false"
+
+-- a name of the host; one that isn't UTF-8 as it is shown in text
+abbrev pub host_field : List ℕ → List ℕ
+host_field name = if is_utf8 name then name else shown_name name
 
 -- a field, where there is one
 abbrev pub field_where : Option (List ℕ) → List (List ℕ)
@@ -33,4 +39,4 @@ header_row has_digest = row_of columns (in_digest has_digest (codes "sha256")) (
 -- a row with a name and an error alone
 unfoldable pub unanswered_row : List ℕ → Bool → List ℕ → List ℕ
 unanswered_row name has_digest error =
-    row_of (name ∷ [] ∷ [] ∷ [] ∷ [] ∷ [] ∷ [] ∷ [] ∷ [] ∷ [] ∷ [] ∷ [] ∷ [] ∷ [] ∷ []) (in_digest has_digest []) [] error
+    row_of (host_field name ∷ [] ∷ [] ∷ [] ∷ [] ∷ [] ∷ [] ∷ [] ∷ [] ∷ [] ∷ [] ∷ [] ∷ [] ∷ [] ∷ []) (in_digest has_digest []) [] error

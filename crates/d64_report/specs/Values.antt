@@ -6,6 +6,7 @@ use Rattle.json.specs.Token.{Token, key}
 use Rattle.json.specs.Json.{Json, null, number, array, object, Items, no_items, item, Members, no_members, member}
 use Rattle.json.specs.Print.{print}
 use Rattle.json.specs.Tree.{json_tokens}
+use Rattle.d64_host_names.specs.Shown.{shown_json}
 
 -- a member of an object: its key and its value
 abbrev pub Field : Type 0
@@ -37,9 +38,14 @@ numeral n = number (decimal n)
 abbrev pub numeral_or_null : Option ℕ → Json
 numeral_or_null n = option_map_or numeral n null
 
--- a value on a line of its own: no space but in strings, and a line feed at the end
+-- tokens on a line of their own: no space but in strings, control characters and the marks of
+-- direction by their numbers, and a line feed at the end
+abbrev pub printed_line : List Token → List ℕ
+printed_line tokens = shown_json (print tokens) ++ 10 ∷ []
+
+-- a value on a line of its own
 abbrev pub line_of : Json → List ℕ
-line_of value = print (json_tokens value) ++ 10 ∷ []
+line_of value = printed_line (json_tokens value)
 
 -- the tokens of members
 abbrev pub member_tokens : List Field → List Token

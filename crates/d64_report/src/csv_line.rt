@@ -6,7 +6,7 @@ ghost use Rattle.d64_report.specs.Rows.{field_where};
 ghost use Rattle.d64_report.specs.Checks.{dump_fields, label_fields, count_fields, state_fields, check_fields, check_row};
 
 use crate::doubt::push_doubts;
-use crate::field::{push_boolean, push_field, push_hexadecimal, push_name, push_number};
+use crate::field::{push_boolean, push_hexadecimal, push_host_name, push_name, push_number};
 use crate::row::end_row;
 use crate::scratch::Scratch;
 use csv::ByteRecord;
@@ -17,12 +17,17 @@ use d64_survey::Inspection;
 use std::alloc::AllocError;
 
 /// Adds the file, the number of tracks, and whether there are read codes, to a row.
-fn push_dump(row: &mut ByteRecord, inspection: &Inspection, name: &[u8]) -> Result<(), AllocError>
+fn push_dump(
+    scratch: &mut Vec<u8>,
+    row: &mut ByteRecord,
+    inspection: &Inspection,
+    name: &[u8],
+) -> Result<(), AllocError>
     requires { partial_of row.old ≡ [] }
     ensures fields { OnOk result (fields_of row.new ≡ fields_of row.old ++ dump_fields inspection.now name.now) }
     ensures whole { OnOk result (partial_of row.new ≡ []) }
 {
-    push_field(row, name)?;
+    push_host_name(scratch, row, name)?;
     push_number(row, u64::from(inspection.image().tracks()))?;
     push_boolean(row, inspection.codes().is_some())
 }
@@ -74,7 +79,7 @@ fn put_dump_row(
     ensures whole { OnOk result (partial_of scratch.new.row ≡ []) }
 {
     scratch.row.clear();
-    push_dump(&mut scratch.row, inspection, name)?;
+    push_dump(&mut scratch.text, &mut scratch.row, inspection, name)?;
     push_label(&mut scratch.text, &mut scratch.row, inspection.image())?;
     push_counts(&mut scratch.row, inspection)?;
     push_state(&mut scratch.row, inspection)

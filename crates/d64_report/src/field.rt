@@ -4,14 +4,16 @@ ghost use Rattle.csv.specs.Records.{fields_of, partial_of};
 ghost use Rattle.hex.specs.Hex.{encode_lower};
 ghost use Rattle.petscii.specs.Spelling.{spelling};
 ghost use Rattle.d64_report.specs.Pairs.{pair_text as pair_text_of};
-ghost use Rattle.d64_report.specs.Rows.{truth_text as truth_text_of};
+ghost use Rattle.d64_report.specs.Rows.{truth_text as truth_text_of, host_field};
 
 use crate::hexadecimal::spell_hexadecimal;
 use crate::name::spell;
 use crate::pair_text::pair_text;
 use csv::ByteRecord;
+use d64_host_names::push_shown;
 use itoa::Buffer;
 use std::alloc::AllocError;
+use std::str;
 
 /// Adds a field to a row.
 pub fn push_field(row: &mut ByteRecord, field: &[u8]) -> Result<(), AllocError>
@@ -68,6 +70,26 @@ pub fn push_name(scratch: &mut Vec<u8>, row: &mut ByteRecord, name: &[u8]) -> Re
 {
     spell(scratch, name)?;
     push_field(row, scratch.as_slice())
+}
+
+/// Adds a name of the host to a row; one that isn't UTF-8 as it is shown in text.
+pub fn push_host_name(
+    scratch: &mut Vec<u8>,
+    row: &mut ByteRecord,
+    name: &[u8],
+) -> Result<(), AllocError>
+    requires { partial_of row.old ≡ [] }
+    ensures fields { OnOk result (fields_of row.new ≡ fields_of row.old ++ host_field name.now ∷ []) }
+    ensures whole { OnOk result (partial_of row.new ≡ []) }
+{
+    match str::from_utf8(name) {
+        Ok(_) => push_field(row, name),
+        Err(_) => {
+            scratch.clear();
+            push_shown(scratch, name)?;
+            push_field(row, scratch.as_slice())
+        }
+    }
 }
 
 /// Adds bytes in hexadecimal digits to a row.

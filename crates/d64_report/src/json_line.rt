@@ -133,6 +133,7 @@ pub fn check_json(
 ) -> Result<Vec<u8>, AllocError>
     ensures { IfOk result (λ text. text.items ≡ out.items ++ line_of (check_object inspection.now name.now (option_map (λ d. d.now) digest.entry))) }
 {
+    let start = out.len();
     let mut writer = Writer::new(out);
     writer.begin_object()?;
     put_dump(&mut scratch.text, &mut writer, inspection, name)?;
@@ -143,6 +144,6 @@ pub fn check_json(
     put_digest(&mut scratch.text, &mut writer, digest)?;
     put_doubts(&mut writer, inspection.doubts())?;
     writer.end_object()?;
-    let text = into_line(writer)?;
+    let text = into_line(writer, start)?;
     Ok(text)
 }

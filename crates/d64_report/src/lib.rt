@@ -17,7 +17,8 @@ mod unanswered;
 
 pub use csv_line::check_csv;
 pub use field::{
-    push_boolean, push_field, push_fields, push_hexadecimal, push_name, push_number, push_pair,
+    push_boolean, push_field, push_fields, push_hexadecimal, push_host_name, push_name,
+    push_number, push_pair,
 };
 pub use json_line::check_json;
 pub use member::{put_boolean, put_hexadecimal, put_null, put_number, put_pair, put_text};

@@ -4,7 +4,7 @@ ghost use Rattle.csv.specs.Records.{fields_of, partial_of};
 ghost use Rattle.csv.specs.Writing.{row_text, default_writer};
 ghost use Rattle.d64_report.specs.Rows.{in_digest, field_where, header_row, unanswered_row};
 
-use crate::field::{push_field, push_fields};
+use crate::field::{push_field, push_fields, push_host_name};
 use crate::scratch::Scratch;
 use crate::unanswered::{UNREAD, WRONG_LENGTH};
 use csv::{ByteRecord, Writer};
@@ -93,7 +93,7 @@ fn push_unanswered(
     ensures { IfOk result (λ text. text.items ≡ out.items ++ unanswered_row name.now has_digest error.now) }
 {
     scratch.row.clear();
-    push_field(&mut scratch.row, name)?;
+    push_host_name(&mut scratch.text, &mut scratch.row, name)?;
     push_fields(&mut scratch.row, &EMPTY)?;
     push_in_digest(&mut scratch.row, has_digest, b"")?;
     push_field(&mut scratch.row, b"")?;

@@ -1,11 +1,11 @@
 //! What is printed of a file that isn't answered.
-ghost use Rattle.std.specs.Prelude.{◌≡◌, [], ◌∷◌, ◌++◌, OnOk, IfOk};
-ghost use Rattle.json.specs.Print.{print};
-ghost use Rattle.d64_report.specs.Values.{line_of, member_tokens};
+ghost use Rattle.std.specs.Prelude.{◌≡◌, [], ◌∷◌, ◌++◌, length, OnOk, IfOk};
+ghost use Rattle.d64_report.specs.Values.{line_of, member_tokens, printed_line};
 ghost use Rattle.d64_report.specs.Unanswered.{host_value, image_member, unanswered_object, unread_object, wrong_length_object};
 
 use crate::member::{put_number, put_text};
 use crate::scratch::Scratch;
+use d64_host_names::hide_in_json;
 use json::Writer;
 use std::alloc::AllocError;
 use std::str;
@@ -47,11 +47,14 @@ pub fn put_image(scratch: &mut Vec<u8>, writer: &mut Writer, name: &[u8]) -> Res
     put_host_name(scratch, writer, "image", name)
 }
 
-/// What a writer holds, with a line feed after it.
-pub fn into_line(writer: Writer) -> Result<Vec<u8>, AllocError>
-    ensures { IfOk result (λ text. text.items ≡ writer.before ++ (print writer.tokens ++ 10 ∷ [])) }
+/// What a writer holds, with a line feed after it: a text of so many bytes, and what was written after
+/// it, with control characters and the marks of direction by their numbers.
+pub fn into_line(writer: Writer, start: usize) -> Result<Vec<u8>, AllocError>
+    requires { start ≡ length writer.before }
+    ensures { IfOk result (λ text. text.items ≡ writer.before ++ printed_line writer.tokens) }
 {
     let mut text = writer.into_inner();
+    hide_in_json(&mut text, start)?;
     text.push(b'\n')?;
     Ok(text)
 }
@@ -65,12 +68,13 @@ pub fn unanswered_json(
 ) -> Result<Vec<u8>, AllocError>
     ensures { IfOk result (λ text. text.items ≡ out.items ++ line_of (unanswered_object name.now error.now)) }
 {
+    let start = out.len();
     let mut writer = Writer::new(out);
     writer.begin_object()?;
     put_image(&mut scratch.text, &mut writer, name)?;
     put_text(&mut writer, "error", error)?;
     writer.end_object()?;
-    let text = into_line(writer)?;
+    let text = into_line(writer, start)?;
     Ok(text)
 }
 
@@ -90,12 +94,13 @@ pub fn wrong_length_json(
 ) -> Result<Vec<u8>, AllocError>
     ensures { IfOk result (λ text. text.items ≡ out.items ++ line_of (wrong_length_object name.now length)) }
 {
+    let start = out.len();
     let mut writer = Writer::new(out);
     writer.begin_object()?;
     put_image(&mut scratch.text, &mut writer, name)?;
     put_text(&mut writer, "error", WRONG_LENGTH)?;
     put_number(&mut writer, "length", length as u64)?;
     writer.end_object()?;
-    let text = into_line(writer)?;
+    let text = into_line(writer, start)?;
     Ok(text)
 }

@@ -1,5 +1,3 @@
-pub mod ShownNames
-pub mod PrintedNames
 pub mod OwnerTexts
 pub mod Joins
 pub mod FileTexts

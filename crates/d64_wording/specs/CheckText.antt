@@ -14,7 +14,7 @@ use Rattle.d64_survey.specs.ReadErrors.{read_errors}
 use Rattle.d64_survey.specs.declared.fault.Fault.{Fault}
 use Rattle.d64_survey.specs.declared.read_error.ReadError.{ReadError}
 use Rattle.petscii.specs.Spelling.{spelling}
-use Rattle.d64_wording.specs.Shown.{shown_name}
+use Rattle.d64_host_names.specs.Shown.{shown_name}
 use Rattle.d64_names.specs.Names.{disk_name}
 use Rattle.d64_wording.specs.Names.{quoted_name}
 use Rattle.d64_wording.specs.Words.{count_of, line_below}

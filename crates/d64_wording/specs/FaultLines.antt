@@ -2,7 +2,7 @@
 -- shown of a file that is no dump.
 use Rattle.std.specs.Prelude.{ℕ, List, [], ◌++◌, length, codes, decimal}
 use Rattle.std.specs.Option.{option_map_or}
-use Rattle.d64_wording.specs.Shown.{shown_name}
+use Rattle.d64_host_names.specs.Shown.{shown_name}
 use Rattle.d64_wording.specs.Guesses.{guess_of, guess_text}
 use Rattle.d64_wording.specs.Words.{count_of}
 use Rattle.d64_wording.specs.declared.guess.Guess.{Guess}

@@ -1,4 +1,4 @@
-pub mod Shown
+pub use Rattle.d64_host_names.specs.Shown
 pub mod Guesses
 pub mod FaultLines
 pub mod Names

@@ -2,14 +2,14 @@
 //! catalogue says of a file that is no dump.
 ghost use Rattle.std.specs.Prelude.{◌≡◌, ◌++◌, [], codes, OnOk};
 ghost use Rattle.std.specs.Option.{option_map_or};
-ghost use Rattle.d64_wording.specs.Shown.{shown_name};
+ghost use Rattle.d64_host_names.specs.Shown.{shown_name};
 ghost use Rattle.d64_wording.specs.Guesses.{guess_of as guess_by_all};
 ghost use Rattle.d64_wording.specs.FaultLines.{line_about, unread_line, unwritten_line, present_line, skipped_line, too_much_line, in_brackets, seeming_text, no_dump_text, wrong_length_text, wrong_length_line};
 
 use crate::guess::{guess_of, guess_text};
 use crate::number::push_number;
-use crate::shown::push_shown;
 use crate::words::push_count;
+use d64_host_names::push_shown;
 use std::alloc::AllocError;
 
 /// Adds what a line of the program about a file begins with.

@@ -7,14 +7,12 @@ mod fault_line;
 mod fault_text;
 mod file_text;
 mod guess;
-mod hexadecimal;
 mod image_text;
-pub mod laws;
 mod number;
 mod owner_text;
-mod shown;
 mod words;
 
+pub use d64_host_names::push_shown;
 pub use fault_line::{
     present_line, push_no_dump, skipped_line, too_much_line, unread_line, unwritten_line,
     wrong_length_line,
@@ -26,5 +24,4 @@ pub use image_text::{check_text, push_contents, push_label, push_state};
 pub use number::push_number;
 pub use owner_text::push_owners;
 pub use petscii::push_spelling;
-pub use shown::push_shown;
 pub use words::{push_block, push_count, push_quoted};

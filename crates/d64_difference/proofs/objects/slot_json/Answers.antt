@@ -1,8 +1,7 @@
 use Rattle.std.proofs.Common.{◌≡◌, ◌∙◌, List, [], ◌∷◌, ◌++◌, ap₂, rules}
 use Rattle.std.specs.Prelude.{option_map}
 use Rattle.json.specs.Token.{Token, begin_object, end_object}
-use Rattle.json.specs.Print.{print}
-use Rattle.d64_report.specs.Values.{Field}
+use Rattle.d64_report.specs.Values.{Field, printed_line}
 use Rattle.d64_report.proofs.Objects.{members_written, object_written}
 use Rattle.d64_difference.specs.ChangeObject.{slot_members, entry_members}
 use Rattle.d64_difference.proofs.objects.slot_json.Goals as goal
@@ -20,4 +19,4 @@ returns c =
     let all = members_written opened placed last first second c.in_ok-put_slot.ensures.tokens c.in_ok-put_files.ensures.tokens in
     let object = object_written [] opened last closed (first ++ second) opens all closes in
     let before : c.end_object.new.self.before ≡ c.args.out.items = search rules in
-    c.in_ok-text.ensures ∙ ap₂ (λ (b : List _) (ts : List Token). b ++ (print ts ++ 10 ∷ [])) before object
+    c.in_ok-text.ensures ∙ ap₂ (λ (b : List _) (ts : List Token). b ++ printed_line ts) before object

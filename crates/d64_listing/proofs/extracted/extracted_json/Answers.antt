@@ -1,7 +1,6 @@
 use Rattle.std.proofs.Common.{◌≡◌, ◌∙◌, ℕ, List, [], ◌∷◌, ◌++◌, option_map, ap₂, rules}
 use Rattle.json.specs.Token.{Token, begin_object, end_object}
-use Rattle.json.specs.Print.{print}
-use Rattle.d64_report.specs.Values.{Field, member_tokens}
+use Rattle.d64_report.specs.Values.{Field, member_tokens, printed_line}
 use Rattle.d64_report.proofs.Objects.{members_written, object_written}
 use Rattle.d64_listing.specs.FileObject.{place_members, file_members}
 use Rattle.d64_listing.specs.Extracted.{path_member, extracted_object}
@@ -25,4 +24,4 @@ returns c =
     let all = members_written opened placed last (place_members name row) (file_members row ++ path) c.in_ok-put_place.ensures.tokens most in
     let object = object_written [] opened last closed (place_members name row ++ (file_members row ++ path)) opens all closes in
     let before : c.end_object.new.self.before ≡ c.args.out.items = search rules in
-    c.in_ok-text.ensures ∙ ap₂ (λ (b : List ℕ) (ts : List Token). b ++ (print ts ++ 10 ∷ [])) before object
+    c.in_ok-text.ensures ∙ ap₂ (λ (b : List ℕ) (ts : List Token). b ++ printed_line ts) before object

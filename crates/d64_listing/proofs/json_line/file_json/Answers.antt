@@ -1,6 +1,6 @@
 use Rattle.std.proofs.Common.{◌≡◌, ◌∙◌, ℕ, List, [], ◌∷◌, ◌++◌, ap₂, rules}
 use Rattle.json.specs.Token.{Token, begin_object, end_object}
-use Rattle.json.specs.Print.{print}
+use Rattle.d64_report.specs.Values.{printed_line}
 use Rattle.d64_report.proofs.Objects.{members_written, object_written}
 use Rattle.d64_listing.specs.FileObject.{place_members, file_members, file_object}
 use Rattle.d64_listing.proofs.json_line.file_json.Goals as goal
@@ -19,4 +19,4 @@ returns c =
     let all = members_written opened placed last (place_members name row) (file_members row) c.in_ok-put_place.ensures.tokens c.in_ok-put_file_members.ensures.tokens in
     let object = object_written [] opened last closed (place_members name row ++ file_members row) opens all closes in
     let before : c.end_object.new.self.before ≡ c.args.out.items = search rules in
-    c.in_ok-text.ensures ∙ ap₂ (λ (b : List ℕ) (ts : List Token). b ++ (print ts ++ 10 ∷ [])) before object
+    c.in_ok-text.ensures ∙ ap₂ (λ (b : List ℕ) (ts : List Token). b ++ printed_line ts) before object

@@ -1,9 +1,8 @@
 use Rattle.std.proofs.Common.{◌≡◌, ◌∙◌, ℕ, List, [], ◌∷◌, ◌++◌, map, codes, option_map, ap, ap₂, rules}
 use Rattle.json.specs.Token.{Token, begin_object, end_object}
-use Rattle.json.specs.Print.{print}
 use Rattle.d64_image.specs.Disk.{Disk}
 use Rattle.d64_survey.specs.declared.doubt.Doubt.{Doubt}
-use Rattle.d64_report.specs.Values.{Field, array_of, member_tokens}
+use Rattle.d64_report.specs.Values.{Field, array_of, member_tokens, printed_line}
 use Rattle.d64_report.specs.Doubts.{doubt_value}
 use Rattle.d64_report.specs.Checks.{dump_members, label_members, count_members, state_members, finding_members, digest_members, doubt_members, check_object}
 use Rattle.d64_report.proofs.Objects.{members_written, object_written}
@@ -48,4 +47,4 @@ returns c =
     let all = members_written opened with_dump with_doubts (dump_members dump name) labels dumped early in
     let object = object_written [] opened with_doubts closed (dump_members dump name ++ labels) opens all closes in
     let before : c.end_object.new.self.before ≡ c.args.out.items = search rules in
-    c.in_ok-text.ensures ∙ ap₂ (λ (b : List ℕ) (ts : List Token). b ++ (print ts ++ 10 ∷ [])) before object
+    c.in_ok-text.ensures ∙ ap₂ (λ (b : List ℕ) (ts : List Token). b ++ printed_line ts) before object

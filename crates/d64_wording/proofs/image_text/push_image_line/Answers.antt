@@ -1,6 +1,6 @@
 use Rattle.std.proofs.Common.{List, ℕ, ◌++◌, ap, ◌∙◌}
 use Rattle.std.specs.Prelude.{codes}
-use Rattle.d64_wording.specs.Shown.{shown_name}
+use Rattle.d64_host_names.specs.Shown.{shown_name}
 use Rattle.d64_wording.specs.CheckText.{label_text, contents_text, state_text, image_line}
 use Rattle.d64_wording.proofs.Joins.{join4, join5}
 use Rattle.d64_wording.proofs.image_text.push_image_line.Goals as goal

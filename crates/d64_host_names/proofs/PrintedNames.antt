@@ -1,14 +1,16 @@
--- No name shows a control byte.
+-- No name shows a control byte, in text or in JSON.
 use Rattle.std.proofs.Common.{◌≡◌, ℕ, zero, suc, ◌/◌, ◌%◌, ◌<◌, ◌≤◌, Bool, true, false, List, [], ◌∷◌, ◌++◌, take, All, ◌⊎◌, inl, inr, refl, sym, subst, arith}
 use Rattle.std.specs.Prelude.{nat_lt, nat_le, ◌==◌, ◌&&◌, ◌||◌, not, if◌then◌else◌, unwrap_or, Option, Some, None, slice_index, codes}
 use Rattle.std.specs.Option.{option_map_or}
 use Rattle.std.specs.Int.{is_in_range}
 use Rattle.std.specs.Str.Lossy.{second_byte_min, second_byte_max}
-use Rattle.std.proofs.lemmas.Bool.{agree_below_at, ltb-true, leb-true}
+use Rattle.std.proofs.lemmas.Bool.{agree_below_at, ltb-true, ltb-false, leb-true}
 use Rattle.std.proofs.lemmas.List.Elements.{All-nil, All-cons, All-append, All-from_get_or}
 use Rattle.std.proofs.lemmas.List.{get_or-take, length-take}
 use Rattle.petscii.specs.Spelling.{hex_digit}
-use Rattle.d64_wording.specs.Shown.{following_count, continues_at, is_second, character_number, is_hidden, digit_at, digit_from, hexadecimal, shown_character, shown_byte, shown_first, shown_after, IsPrinted, backslash}
+use Rattle.d64_host_names.specs.Shown.{following_count, continues_at, is_second, character_number, is_hidden, digit_at, digit_from, hexadecimal, four_digits, is_doubled, hidden_text, shown_character, shown_byte, shown_first, shown_after, shown_name, shown_json, IsPrinted, backslash}
+use Rattle.d64_host_names.specs.declared.medium.Medium.{Medium}
+use Rattle.d64_host_names.specs.declared.medium.Medium.TheVariants.{Text, Json}
 
 -- both sides of a test that passes
 and_left : (a b : Bool) → (a && b) ≡ true → a ≡ true
@@ -66,29 +68,45 @@ hexadecimal_is_printed number =
     (All-append IsPrinted (digit_from 256 number) (digit_from 16 number ++ digit_at 1 number ∷ []) (digit_from_is_printed 256 number)
     (All-append IsPrinted (digit_from 16 number) (digit_at 1 number ∷ []) (digit_from_is_printed 16 number) (one (digit_at 1 number) (digit_at_is_printed 1 number))))
 
--- a byte by its number
-byte_is_printed : (byte : ℕ) → All IsPrinted (shown_byte byte)
-unfolding shown_byte
-byte_is_printed byte =
-    All-append IsPrinted (codes "\\x") (digit_at 16 byte ∷ digit_at 1 byte ∷ []) (from_test (codes "\\x") refl)
-    (All-cons IsPrinted (digit_at 16 byte) (digit_at 1 byte ∷ []) (digit_at_is_printed 16 byte) (one (digit_at 1 byte) (digit_at_is_printed 1 byte)))
+-- a number in four digits
+four_digits_are_printed : (number : ℕ) → All IsPrinted (four_digits number)
+unfolding four_digits
+four_digits_are_printed number =
+    All-cons IsPrinted (digit_at 4096 number) (digit_at 256 number ∷ digit_at 16 number ∷ digit_at 1 number ∷ []) (digit_at_is_printed 4096 number)
+    (All-cons IsPrinted (digit_at 256 number) (digit_at 16 number ∷ digit_at 1 number ∷ []) (digit_at_is_printed 256 number)
+    (All-cons IsPrinted (digit_at 16 number) (digit_at 1 number ∷ []) (digit_at_is_printed 16 number) (one (digit_at 1 number) (digit_at_is_printed 1 number))))
+
+-- a hidden character by its number
+hidden_text_is_printed : (medium : Medium) (number : ℕ) → All IsPrinted (hidden_text medium number)
+unfolding hidden_text
+hidden_text_is_printed Text number =
+    All-append IsPrinted (codes "\\u{") (hexadecimal number ++ codes "}") (from_test (codes "\\u{") refl)
+    (All-append IsPrinted (hexadecimal number) (codes "}") (hexadecimal_is_printed number) (from_test (codes "}") refl))
+hidden_text_is_printed Json number = All-append IsPrinted (codes "\\u") (four_digits number) (from_test (codes "\\u") refl) (four_digits_are_printed number)
 
 -- a character is printed where its bytes are, unless it is hidden
-character_is_printed : (number : ℕ) (bytes : List ℕ) → (is_hidden number ≡ false → All IsPrinted bytes) → All IsPrinted (shown_character number bytes)
+character_is_printed : (medium : Medium) (number : ℕ) (bytes : List ℕ) → (is_hidden number ≡ false → All IsPrinted bytes)
+    → All IsPrinted (shown_character medium number bytes)
 unfolding shown_character
-character_is_printed number bytes plain = by_test (number == backslash) (is_hidden number) plain
+character_is_printed medium number bytes plain = by_test (is_doubled medium number) (is_hidden number) plain
   where
-    by_test : (is_backslash hidden : Bool) → (hidden ≡ false → All IsPrinted bytes)
-        → All IsPrinted (if is_backslash then backslash ∷ backslash ∷ [] else (if hidden then codes "\\u{" ++ (hexadecimal number ++ codes "}") else bytes))
+    by_test : (doubled hidden : Bool) → (hidden ≡ false → All IsPrinted bytes)
+        → All IsPrinted (if doubled then backslash ∷ backslash ∷ [] else (if hidden then hidden_text medium number else bytes))
     by_test true hidden plain = from_test (backslash ∷ backslash ∷ []) refl
-    by_test false true plain =
-        All-append IsPrinted (codes "\\u{") (hexadecimal number ++ codes "}") (from_test (codes "\\u{") refl)
-        (All-append IsPrinted (hexadecimal number) (codes "}") (hexadecimal_is_printed number) (from_test (codes "}") refl))
+    by_test false true plain = hidden_text_is_printed medium number
     by_test false false plain = plain refl
 
 -- a byte that isn't below this is printed
 high_is_printed : (byte : ℕ) → 128 ≤ byte → IsPrinted byte
 high_is_printed byte high = (omega arith, λ is. omega arith)
+
+-- a byte that begins no character
+byte_is_printed : (medium : Medium) (byte : ℕ) → 128 ≤ byte → All IsPrinted (shown_byte medium byte)
+unfolding shown_byte
+byte_is_printed Text byte high =
+    All-append IsPrinted (codes "\\x") (digit_at 16 byte ∷ digit_at 1 byte ∷ []) (from_test (codes "\\x") refl)
+    (All-cons IsPrinted (digit_at 16 byte) (digit_at 1 byte ∷ []) (digit_at_is_printed 16 byte) (one (digit_at 1 byte) (digit_at_is_printed 1 byte)))
+byte_is_printed Json byte high = one byte (high_is_printed byte high)
 
 -- bytes that aren't below 128 are printed
 high_are_printed : (bytes : List ℕ) → All (λ byte. 128 ≤ byte) bytes → All IsPrinted bytes
@@ -201,24 +219,42 @@ bytes_are_printed first rest count (inl low) plain =
 bytes_are_printed first rest count (inr high) plain =
     All-cons IsPrinted first (take count rest) (high_is_printed first high.0) (high_are_printed (take count rest) high.1)
 
+-- a character of one byte
+abbrev alone : Option ℕ
+alone = Some 0
+
+-- a byte that begins no character isn't below 128
+none_is_high : (first : ℕ) (rest : List ℕ) → following_count first rest ≡ None → 128 ≤ first
+unfolding following_count
+none_is_high first rest none = by_test (nat_lt first 0x80) _ refl none
+  where
+    by_test : (below : Bool) (longer : Option ℕ) → nat_lt first 0x80 ≡ below → (if below then alone else longer) ≡ None → 128 ≤ first
+    by_test true longer is none = absurd (cc)
+    by_test false longer is none = ltb-false first 0x80 is
+
 -- ---- names
 
 -- the first character, or byte
-first_is_printed : (first : ℕ) (rest : List ℕ) → All IsPrinted (shown_first first rest)
-first_is_printed first rest = by_count (following_count first rest) refl
+first_is_printed : (medium : Medium) (first : ℕ) (rest : List ℕ) → All IsPrinted (shown_first medium first rest)
+first_is_printed medium first rest = by_count (following_count first rest) refl
   where
     by_count : (found : Option ℕ) → following_count first rest ≡ found
-        → All IsPrinted (option_map_or (λ count. shown_character (character_number first count rest) (first ∷ take count rest)) found (shown_byte first))
-    by_count None is = byte_is_printed first
+        → All IsPrinted (option_map_or (λ count. shown_character medium (character_number first count rest) (first ∷ take count rest)) found (shown_byte medium first))
+    by_count None is = byte_is_printed medium first (none_is_high first rest is)
     by_count (Some count) is =
-        character_is_printed (character_number first count rest) (first ∷ take count rest) (bytes_are_printed first rest count (character_bytes first rest count is))
+        character_is_printed medium (character_number first count rest) (first ∷ take count rest) (bytes_are_printed first rest count (character_bytes first rest count is))
 
 -- a name, of which so many bytes are shown already
-pub name_is_printed : (count : ℕ) (name : List ℕ) → All IsPrinted (shown_after count name)
+name_is_printed : (medium : Medium) (count : ℕ) (name : List ℕ) → All IsPrinted (shown_after medium count name)
 unfolding shown_after
-name_is_printed zero [] = All-nil IsPrinted
-name_is_printed (suc count) [] = All-nil IsPrinted
-name_is_printed (suc count) (byte ∷ rest) = name_is_printed count rest
-name_is_printed zero (byte ∷ rest) =
-    All-append IsPrinted (shown_first byte rest) (shown_after (unwrap_or (following_count byte rest) 0) rest) (first_is_printed byte rest)
-    (name_is_printed (unwrap_or (following_count byte rest) 0) rest)
+name_is_printed medium zero [] = All-nil IsPrinted
+name_is_printed medium (suc count) [] = All-nil IsPrinted
+name_is_printed medium (suc count) (byte ∷ rest) = name_is_printed medium count rest
+name_is_printed medium zero (byte ∷ rest) =
+    All-append IsPrinted (shown_first medium byte rest) (shown_after medium (unwrap_or (following_count byte rest) 0) rest) (first_is_printed medium byte rest)
+    (name_is_printed medium (unwrap_or (following_count byte rest) 0) rest)
+
+-- a name in text and in JSON
+pub names_are_printed : (name : List ℕ) → All IsPrinted (shown_name name) × All IsPrinted (shown_json name)
+unfolding shown_name shown_json
+names_are_printed name = (name_is_printed Text 0 name, name_is_printed Json 0 name)

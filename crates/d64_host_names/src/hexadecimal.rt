@@ -1,6 +1,6 @@
 //! Hexadecimal digits.
 ghost use Rattle.std.specs.Prelude.{◌≡◌, ◌<◌, [], ◌∷◌, ◌++◌, OnOk};
-ghost use Rattle.d64_wording.specs.Shown.{digit_at, digit_from, hexadecimal};
+ghost use Rattle.d64_host_names.specs.Shown.{digit_at, digit_from, hexadecimal, four_digits};
 
 use std::alloc::AllocError;
 
@@ -35,4 +35,17 @@ pub(crate) fn push_hexadecimal(out: &mut Vec<u8>, number: u32) -> Result<(), All
     push_digit(out, 16, number)?;
     out.push(digit_at(1, number))?;
     Ok(())
+}
+
+/// Adds a number below 65536 in four digits.
+#[tactic(auto, unfolding(crate::specs::Shown::four_digits))]
+pub(crate) fn push_four_digits(out: &mut Vec<u8>, number: u32) -> Result<(), AllocError>
+    ensures { OnOk result (out.new.items ≡ out.old.items ++ four_digits number) }
+{
+    out.extend_from_slice(&[
+        digit_at(4096, number),
+        digit_at(256, number),
+        digit_at(16, number),
+        digit_at(1, number),
+    ])
 }
