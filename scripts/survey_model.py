@@ -31,6 +31,9 @@ MARKS_OF_DIRECTION = {0x61C, 0x200E, 0x200F, *range(0x202A, 0x202F), *range(0x20
 # The characters that no name shows as they are, but for CSV.
 HIDDEN = re.compile(f"[{re.escape(''.join(map(chr, sorted({*range(0x20), *range(0x7F, 0xA0), *MARKS_OF_DIRECTION}))))}]")
 
+# How many faults of one number have a line each in text.
+MOST_OF_A_NUMBER = 10
+
 # The most bytes of a picture, its elements, and what the title of a block says by the character that the map has for it.
 MOST_OF_PICTURE, SVG = 204_800, "{http://www.w3.org/2000/svg}"
 WORDS_OF_MARKS = {"-": lambda text: text == "free", "#": lambda text: text.startswith('belongs to ') and '"' in text,
@@ -450,7 +453,25 @@ def status_of(all_data, command="check"):
 def text_lines(data):
     """How many lines tell of a dump, beside one of the blocks that are marked used and belong to nobody."""
     survey = survey_of(data)
-    return 1 + len(survey.faults) + len(survey.errors) + survey.not_whole
+    return 1 + len(lines_of_faults(survey)) + len(survey.errors) + survey.not_whole
+
+
+def lines_of_faults(survey):
+    """For each line of faults its fault, or of the faults of a number beyond the tenth the line itself, which says how many they are."""
+    lines = []
+    for number in range(1, 7):
+        faults = [fault for fault in survey.faults if fault["condition"] == number]
+        more = len(faults) - MOST_OF_A_NUMBER
+        lines += [*faults[:MOST_OF_A_NUMBER], *[f"  and {more} more of these"] * (more > 0)]
+    return lines
+
+
+def is_fault_line(line, told):
+    """Whether a line may tell of a fault: it has the track, the name or the block. Of the faults beyond the tenth it is their line."""
+    if isinstance(told, str):
+        return line == told
+    what = {1: f'track {told.get("track")}:', 2: "the directory", 3: f'"{told.get("name")}"', 4: f'"{told.get("name")}"'}.get(told["condition"])
+    return line.startswith(f"  {what or told['block'] + ' '}") or told["condition"] == 4 and line.startswith(f"  the side sectors of {what}")
 
 
 def is_of_unowned(line, data):

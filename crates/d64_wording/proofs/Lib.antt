@@ -2,3 +2,4 @@ pub mod OwnerTexts
 pub mod Joins
 pub mod FileTexts
 pub mod FaultTexts
+pub mod FaultCounts

@@ -1,13 +1,13 @@
 -- What is told of an image for people: its line, and below it a line each fault, read error and
--- file that isn't whole.
-use Rattle.std.specs.Prelude.{ℕ, ◌==◌, ◌&&◌, if◌then◌else◌, Bool, List, [], ◌++◌, length, codes}
-use Rattle.std.specs.List.{flat_map, list_any}
+-- file that isn't whole. Of many faults of one number the first have a line each.
+use Rattle.std.specs.Prelude.{ℕ, ◌-◌, ◌==◌, ◌&&◌, nat_lt, if◌then◌else◌, Bool, List, [], ◌++◌, filter, length, take, codes, decimal}
+use Rattle.std.specs.List.{flat_map, list_any, range_with_len}
 use Rattle.d64_image.specs.Disk.{Disk}
 use Rattle.d64_map.specs.Map.{blocks_free}
 use Rattle.d64_effects.specs.View.{disk_id}
 use Rattle.d64_survey.specs.Dump.{DumpView}
 use Rattle.d64_survey.specs.Doubts.{doubts}
-use Rattle.d64_survey.specs.Faults.{faults}
+use Rattle.d64_survey.specs.Faults.{faults, number}
 use Rattle.d64_survey.specs.Inspection.{entry_count, unwhole_count, is_amiss, is_sound}
 use Rattle.d64_survey.specs.Owners.{way_slots, unowned_count}
 use Rattle.d64_survey.specs.ReadErrors.{read_errors}
@@ -63,9 +63,33 @@ unfoldable pub image_line : List ℕ → DumpView → List ℕ
 image_line name dump =
     shown_name name ++ (codes ": " ++ (label_text dump.image ++ (codes ", " ++ (contents_text dump.image ++ (codes ": " ++ (state_text dump ++ codes "\n"))))))
 
--- a line each fault
+-- the line of a fault
+abbrev pub fault_line : Disk → Fault → List ℕ
+fault_line image fault = line_below (fault_text image fault)
+
+-- how many faults of one number have a line each
+abbrev pub most_lines : ℕ
+most_lines = 10
+
+-- how many more there are
+unfoldable pub more_text : ℕ → List ℕ
+more_text count = codes "and " ++ (decimal count ++ codes " more of these")
+
+-- a line of how many more there are than have one each, where there are more
+unfoldable pub more_line : ℕ → List ℕ
+more_line count = if nat_lt most_lines count then line_below (more_text (count - most_lines)) else []
+
+-- a line each of the first faults of a list, and one of the others
+abbrev pub first_lines : Disk → List Fault → List ℕ
+first_lines image list = flat_map (fault_line image) (take most_lines list) ++ more_line (length list)
+
+-- those of the faults that have this number
+abbrev pub faults_of : List Fault → ℕ → List Fault
+faults_of list condition = filter (λ fault. number fault == condition) list
+
+-- the lines of all faults, by their numbers, from 1 to 6
 unfoldable pub fault_lines : Disk → List Fault → List ℕ
-fault_lines image list = flat_map (λ fault. line_below (fault_text image fault)) list
+fault_lines image list = flat_map (λ condition. first_lines image (faults_of list condition)) (range_with_len 1 6)
 
 -- a line each read error
 unfoldable pub read_error_lines : Disk → List ReadError → List ℕ

@@ -1,12 +1,13 @@
 //! What is told of an image for people.
-ghost use Rattle.std.specs.Prelude.{◌≡◌, ◌++◌, OnOk};
-ghost use Rattle.d64_wording.specs.CheckText.{label_text, contents_text, faults_text, joining, and_so_many, is_read_sound, is_clean, state_text, image_line, fault_lines, read_error_lines, unowned_by, unowned_line, check_text as check_text_of};
-ghost use Rattle.d64_wording.specs.FaultText.{fault_text, read_error_text};
+ghost use Rattle.std.specs.Prelude.{◌≡◌, ◌++◌, nat_lt, if◌then◌else◌, [], OnOk};
+ghost use Rattle.d64_wording.specs.CheckText.{label_text, contents_text, faults_text, joining, and_so_many, is_read_sound, is_clean, state_text, image_line, fault_line, most_lines, more_text, more_line, first_lines, faults_of, fault_lines, read_error_lines, unowned_by, unowned_line, check_text as check_text_of};
+ghost use Rattle.d64_wording.specs.FaultText.{read_error_text};
 ghost use Rattle.d64_wording.specs.Words.{line_below};
 
 use crate::doubt_text::{any_of_unowned, push_doubts, push_unowned_text};
 use crate::fault_text::{push_fault, push_read_error};
 use crate::file_text::push_file_lines;
+use crate::number::push_number;
 use crate::words::{LINE_END, LINE_START, push_count, push_quoted};
 use d64_host_names::push_shown;
 use d64_image::Image;
@@ -15,6 +16,12 @@ use d64_names::{disk_id, disk_name};
 use d64_survey::{Fault, Inspection, ReadError, Survey};
 use petscii::push_spelling;
 use std::alloc::AllocError;
+
+/// The conditions of a sound image are numbered from 1 up to this.
+const CONDITIONS: u8 = 6;
+
+/// How many faults of one number have a line each.
+const MOST_LINES: usize = 10;
 
 /// Adds the disk's name and its id.
 #[tactic(auto, unfolding(crate::specs::CheckText::label_text))]
@@ -130,20 +137,79 @@ fn push_image_line(
 /// Adds the line of a fault.
 #[tactic(auto, unfolding(crate::specs::Words::line_below))]
 fn push_fault_line(out: &mut Vec<u8>, survey: &Survey, fault: &Fault) -> Result<(), AllocError>
-    ensures { OnOk result (out.new.items ≡ out.old.items ++ line_below (fault_text survey.now fault.now)) }
+    ensures { OnOk result (out.new.items ≡ out.old.items ++ fault_line survey.now fault.now) }
 {
     out.extend_from_slice(LINE_START)?;
     push_fault(out, survey, *fault)?;
     out.extend_from_slice(LINE_END)
 }
 
-/// Adds a line each fault.
+/// Adds the line of a fault before which there are so many of its number, unless it is one too many.
+fn push_first_line(
+    out: &mut Vec<u8>,
+    survey: &Survey,
+    fault: &Fault,
+    place: usize,
+) -> Result<(), AllocError>
+    ensures { OnOk result (out.new.items ≡ out.old.items ++ (if nat_lt place most_lines then fault_line survey.now fault.now else [])) }
+{
+    if place < MOST_LINES {
+        return push_fault_line(out, survey, fault);
+    }
+    Ok(())
+}
+
+/// Adds how many more faults of a number there are.
+#[tactic(auto, unfolding(crate::specs::CheckText::more_text))]
+fn push_more(out: &mut Vec<u8>, count: usize) -> Result<(), AllocError>
+    ensures { OnOk result (out.new.items ≡ out.old.items ++ more_text count) }
+{
+    out.extend_from_slice(b"and ")?;
+    push_number(out, count)?;
+    out.extend_from_slice(b" more of these")?;
+    Ok(())
+}
+
+/// Adds a line of how many more faults of a number there are than have one each, where there are
+/// more.
+#[tactic(auto, unfolding(crate::specs::CheckText::more_line, crate::specs::Words::line_below))]
+fn push_more_line(out: &mut Vec<u8>, count: usize) -> Result<(), AllocError>
+    ensures { OnOk result (out.new.items ≡ out.old.items ++ more_line count) }
+{
+    if count <= MOST_LINES {
+        return Ok(());
+    }
+    out.extend_from_slice(LINE_START)?;
+    push_more(out, count - MOST_LINES)?;
+    out.extend_from_slice(LINE_END)
+}
+
+/// Adds a line each of the first ten faults of a number, and one of the others.
+fn push_lines_of(
+    out: &mut Vec<u8>,
+    survey: &Survey,
+    list: &[Fault],
+    number: u8,
+) -> Result<(), AllocError>
+    ensures { OnOk result (out.new.items ≡ out.old.items ++ first_lines survey.now (faults_of list.now number)) }
+{
+    let mut count = 0;
+    for fault in list {
+        if fault.number() == number {
+            push_first_line(out, survey, fault, count)?;
+            count += 1;
+        }
+    }
+    push_more_line(out, count)
+}
+
+/// Adds the lines of faults, by their numbers.
 #[tactic(auto, unfolding(crate::specs::CheckText::fault_lines))]
 fn push_fault_lines(out: &mut Vec<u8>, survey: &Survey, list: &[Fault]) -> Result<(), AllocError>
     ensures { OnOk result (out.new.items ≡ out.old.items ++ fault_lines survey.now list.now) }
 {
-    for fault in list {
-        push_fault_line(out, survey, fault)?;
+    for number in 1..CONDITIONS + 1 {
+        push_lines_of(out, survey, list, number)?;
     }
     Ok(())
 }
@@ -203,7 +269,8 @@ fn push_unowned_line(out: &mut Vec<u8>, inspection: &Inspection) -> Result<(), A
 
 /// Adds the text of an image for people: its line, a line each fault, read error and file that
 /// isn't whole, and one of the blocks that are marked used and belong to no file, where something
-/// is amiss and the image's line doesn't say it.
+/// is amiss and the image's line doesn't say it. Of more than ten faults of one number one line
+/// says how many more there are.
 #[tactic(auto, unfolding(crate::specs::CheckText::check_text))]
 pub fn check_text(name: &[u8], inspection: &Inspection, out: &mut Vec<u8>) -> Result<(), AllocError>
     ensures { OnOk result (out.new.items ≡ out.old.items ++ check_text_of name.now inspection.now) }
