@@ -1,18 +1,17 @@
 -- session files: what a session holds is what the file of its history says
-use Rattle.std.proofs.Common.{◌≡◌, ℕ, ◌+◌, ◌-◌, ◌<◌, ◌≤◌, ◌^◌, Bool, cond, nat_lt, true, false, List, [], ◌∷◌, ◌++◌, length, map, reverse, take, drop, get_or, set, refl, sym, ap, ap₂, ◌∙◌, subst, inl, inr, arith}
-use Rattle.std.specs.Int.{w64, to_le_bytes}
-use Rattle.std.specs.List.{All, flat_map, range_with_len}
+use Rattle.std.proofs.Common.{◌≡◌, ℕ, ◌+◌, ◌-◌, ◌<◌, ◌≤◌, ◌^◌, Bool, cond, nat_lt, true, false, List, [], ◌∷◌, length, map, reverse, take, drop, get_or, set, refl, sym, ap, ap₂, ◌∙◌, subst, inl, inr, arith}
+use Rattle.std.specs.List.{All, range_with_len}
 use Rattle.std.proofs.lemmas.Bool.{cases_lt}
 use Rattle.std.proofs.lemmas.Bool.Decides.{nat_tests}
 use Rattle.std.proofs.lemmas.List.{ext_get_or, length-set}
 use Rattle.std.proofs.lemmas.List.Elements.{All-nil, All-cons, All-head, All-tail, All-append, All-take, All-drop, All-set}
 use Rattle.std.proofs.lemmas.List.FromFn.{length-map-range_with_len, get_or-map-range_with_len}
-use Rattle.d64_image.specs.Image.{IsBlock, IsSize, IsImage, tracks_of, bytes_of}
+use Rattle.d64_image.specs.Image.{IsBlock, IsSize, IsImage}
 use Rattle.d64_image.specs.Patch.{Kept, restored_image, changed_blocks, HaveBlocks}
 use Rattle.d64_image.proofs.Patches.{length-restored_image}
 use Rattle.d64_undo.specs.History.{History, present_image, record_blocks}
 use Rattle.d64_undo.specs.Records.{images_along, images_of, AreRecords}
-use Rattle.d64_undo.specs.SessionFile.{magic, record_file, records_of, file_with, file_of, IsSession}
+use Rattle.d64_undo.specs.SessionFile.{records_of, file_with, file_of, IsSession}
 use Rattle.d64_undo.proofs.Leads.{All-turned}
 use Rattle.d64_undo.proofs.Records.{length-images, record-done, record-undone}
 use Rattle.d64_undo.proofs.Sessions.{history_of, Holds, present_is, stands, image_count}
@@ -48,14 +47,6 @@ records-held records image done within leads =
     let lt : k < length records = omega arith in
     get_or-map-range_with_len (record_blocks history) 0 (length records) k k [] lt (omega arith)
     ∙ record_blocks-held records image done k within lt leads)
-
--- the parts of a file, added one after another
-pub added-parts : (image : List (List ℕ)) (tracks done : ℕ) (records : List Kept) → tracks ≡ tracks_of (length image)
-    → ((((magic ++ tracks ∷ []) ++ bytes_of image) ++ to_le_bytes w64 done) ++ to_le_bytes w64 (length records)) ++ flat_map record_file records
-    ≡ file_with image done records
-unfolding file_with
-added-parts image tracks done records same =
-    ap (λ (t : ℕ). magic ++ t ∷ bytes_of image ++ to_le_bytes w64 done ++ to_le_bytes w64 (length records) ++ flat_map record_file records) same
 
 -- the file of what a session holds is that of its history
 pub file-held : {records : List Kept} {image : List (List ℕ)} {done : ℕ} {history : History} → Holds records image done history

@@ -1,5 +1,5 @@
 //! Sessions are resumed from readers.
-ghost use Rattle.std.specs.Prelude.{◌≡◌, ◌+◌, ◌<◌, ◌≤◌, length, take, OnOk, IfOk, IfErr};
+ghost use Rattle.std.specs.Prelude.{◌≡◌, ◌+◌, ◌<◌, ◌≤◌, [], length, take, OnOk, IfOk, IfErr};
 ghost use Rattle.std.specs.Io.KnownBytes.{Consumes, IsAtEnd};
 ghost use Rattle.d64_effects.specs.Laws.{AreBytes};
 ghost use Rattle.d64_image.specs.Disk.{Bytes};
@@ -78,6 +78,31 @@ fn read_past<R: Read>(
     unreachable!()
 }
 
+/// Reads all that is left, at most so many bytes, and gives them to a session file of which none
+/// were given. A read that fails, or a byte too many, comes before what is wrong with the bytes.
+fn read_all<R: Read>(file: &mut Resuming, reader: &mut R, limit: u32) -> Result<(), ReadFault>
+    requires { file.old ≡ [] }
+    ensures read { OnOk result (Consumes (R.remaining reader.old) (R.remaining reader.new) file.new
+        × IsAtEnd (R.remaining reader.new)
+        × AreBytes file.new
+        × (length file.new ≤ limit)) }
+    ensures fault { IfErr result (λ fault. IsReadFault (R.remaining reader.old) limit fault) }
+{
+    let mut buffer = [0; PIECE_BYTES];
+    let mut left = limit;
+    for _ in 0..u64::MAX {
+        let count = read_piece(reader, &mut buffer, &mut left)?;
+        if count == 0 {
+            return Ok(());
+        }
+        if let Err(fault) = file.push(&buffer[..count]) {
+            read_past(reader, &mut buffer, left)?;
+            return Err(ReadFault::Resume(fault));
+        }
+    }
+    unreachable!()
+}
+
 /// The session of the file that a reader gives, of at most `limit` bytes. It is read to its end, so
 /// that a read that fails, or a byte too many, comes before what is wrong with the bytes. Takes
 /// memory for what the session holds.
@@ -86,17 +111,6 @@ pub fn resume_from<R: Read>(alloc: Global, reader: &mut R, limit: u32) -> Result
     ensures fault { IfErr result (λ fault. IsReadFault (R.remaining reader.old) limit fault) }
 {
     let mut file = Resuming::new(alloc);
-    let mut buffer = [0; PIECE_BYTES];
-    let mut left = limit;
-    for _ in 0..u64::MAX {
-        let count = read_piece(reader, &mut buffer, &mut left)?;
-        if count == 0 {
-            return file.finish().map_err(ReadFault::Resume);
-        }
-        if let Err(fault) = file.push(&buffer[..count]) {
-            read_past(reader, &mut buffer, left)?;
-            return Err(ReadFault::Resume(fault));
-        }
-    }
-    unreachable!()
+    read_all(&mut file, reader, limit)?;
+    file.finish().map_err(ReadFault::Resume)
 }

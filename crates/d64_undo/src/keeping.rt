@@ -5,6 +5,7 @@ ghost use Rattle.std.specs.List.{flat_map};
 ghost use Rattle.std.specs.Io.Iter.{u64_saturate};
 ghost use Rattle.d64_image.specs.Image.{IsImage};
 ghost use Rattle.d64_image.specs.Patch.{HaveBlocks, IsPatch};
+ghost use Rattle.d64_undo.specs.Resuming.{start_file};
 ghost use Rattle.d64_undo.specs.SessionFile.{block_file, record_file, file_with};
 
 use d64_image::{BLOCK_BYTES, BlockNo, Image, PatchList};
@@ -61,8 +62,21 @@ fn put_records(file: &mut Vec<u8>, records: &PatchList) -> Result<(), AllocError
     Ok(())
 }
 
+/// Adds to the file what stands before its records: its beginning, the image, how many records are
+/// done, and how many there are.
+fn put_start(file: &mut Vec<u8>, image: &Image, done: usize, count: usize) -> Result<(), AllocError>
+    ensures { OnOk result (file.new.items ≡ file.old.items ++ start_file image.now done count) }
+{
+    file.extend_from_slice(&MAGIC)?;
+    file.extend_from_slice(&[image.tracks()])?;
+    file.extend_from_slice(image.bytes())?;
+    file.extend_from_slice(&(done as u64).to_le_bytes())?;
+    file.extend_from_slice(&(count as u64).to_le_bytes())
+}
+
 /// The session file of a present image, of how many records are done, and of all records, the
 /// oldest first.
+#[tactic(auto, unfolding(crate::specs::SessionFile::file_with))]
 pub(crate) fn session_file(
     alloc: Global,
     image: &Image,
@@ -78,11 +92,7 @@ pub(crate) fn session_file(
     records.known_patches();
     let count = records.len();
     let mut file = Vec::with_capacity(alloc, file_len(image, records))?;
-    file.extend_from_slice(&MAGIC)?;
-    file.extend_from_slice(&[image.tracks()])?;
-    file.extend_from_slice(image.bytes())?;
-    file.extend_from_slice(&(done as u64).to_le_bytes())?;
-    file.extend_from_slice(&(count as u64).to_le_bytes())?;
+    put_start(&mut file, image, done, count)?;
     put_records(&mut file, records)?;
     Ok(file)
 }

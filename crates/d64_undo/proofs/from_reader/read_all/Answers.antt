@@ -4,7 +4,7 @@ use Rattle.std.proofs.KnownBytes.{Consumes-trans, Consumes-whole}
 use Rattle.std.proofs.lemmas.List.{length-append, length-take-le}
 use Rattle.d64_effects.specs.Laws.{AreBytes}
 use Rattle.d64_undo.proofs.Readers.{bytes_append, bytes_more}
-use Rattle.d64_undo.proofs.from_reader.resume_from.Goals as goal
+use Rattle.d64_undo.proofs.from_reader.read_all.Goals as goal
 
 -- a fault was met before the end
 pub returns-in-Err-clause-fault : goal.returns-in-Err-clause-fault

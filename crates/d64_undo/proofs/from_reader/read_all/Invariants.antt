@@ -1,7 +1,7 @@
 use Rattle.std.proofs.Common.{◌≡◌, ◌+◌, ◌≤◌, length}
 use Rattle.std.specs.Io.KnownBytes.{Consumes}
 use Rattle.d64_effects.specs.Laws.{AreBytes}
-use Rattle.d64_undo.proofs.from_reader.resume_from.Given as goal
+use Rattle.d64_undo.proofs.from_reader.read_all.Given as goal
 
 -- what was given so far is what was read, of as many bytes as reads were made or more
 abbrev pub invariant-loop : goal.invariant-loop
