@@ -1,6 +1,7 @@
 -- Faulty lines of texts, one after another.
-use Rattle.std.proofs.Common.{◌≡◌, ℕ, ◌+◌, ◌<◌, ◌≤◌, ◌⊎◌, List, [], ◌∷◌, ◌++◌, length, take, true, false, refl, sym, ◌∙◌, ap, subst, inl, inr, append_assoc, append-nil, arith, rules}
-use Rattle.std.specs.Prelude.{All, IfErr, IfOk, Result, Ok, Err, suc, zero}
+use Rattle.std.proofs.Common.{◌≡◌, ℕ, ◌+◌, ◌<◌, ◌≤◌, ◌⊎◌, List, [], ◌∷◌, ◌++◌, length, take, true, false, refl, sym, ◌∙◌, ap, subst, inl, inr, append_assoc, append-nil, length-append, arith, rules}
+use Rattle.std.specs.Prelude.{All, Bool, IfErr, IfOk, Result, Ok, Err, is_err, suc, zero}
+use Rattle.std.specs.Int.{from_bool}
 use Rattle.std.proofs.lemmas.List.{length-take}
 use Rattle.std.proofs.lemmas.List.Elements.{All-append, All-cons, All-take}
 use Rattle.d64_script.specs.RawLines.{lines_of, text_of, is_skipped}
@@ -16,12 +17,14 @@ use Rattle.cbm_text.proofs.TextPrograms.{tells_line}
 
 -- the faulty lines that were found in a text, of which the first ones are kept, and the raw
 -- lines that are left: with the faulty ones of these they are those of the text
-pub record FaultySoFar (start at place most : ℕ) (text : List ℕ) (kept : List FaultyLine) (raws : List (List ℕ)) : Type 0 where
+pub record FaultySoFar (start at place most count : ℕ) (text : List ℕ) (kept : List FaultyLine) (raws : List (List ℕ)) : Type 0 where
   pub found : List FaultyLine
   pub gives : (more : List FaultyLine) → AreFaulty at (place + 1) raws more → AreFaultyIn start text (found ++ more)
   pub first : kept ≡ take most found
   pub places : All (λ (line : FaultyLine). TellsLine text line.fault) kept
   pub few : place + length raws ≡ length (lines_of text)
+  pub counted : count ≡ length found
+  pub within : count ≤ place
 
 skipped_gives : (at number : ℕ) (raw : List ℕ) (raws : List (List ℕ)) (more : List FaultyLine) → is_skipped (text_of raw) ≡ true → AreFaulty at (number + 1) raws more → AreFaulty at number (raw ∷ raws) more
 unfolding AreFaulty
@@ -37,14 +40,21 @@ fault_gives : (at number : ℕ) (raw : List ℕ) (raws : List (List ℕ)) (first
 unfolding AreFaulty
 fault_gives at number raw raws first more kept faulty given = inr (kept, inr (first, more, refl, faulty, given))
 
+-- a line that is counted or not
+pub at_most_one : (is_counted : Bool) → from_bool is_counted ≤ 1
+at_most_one true = omega arith
+at_most_one false = omega arith
+
 -- before the first line
-pub so_far_none : (start most : ℕ) (text : List ℕ) (kept : List FaultyLine) → kept ≡ [] → FaultySoFar start start 0 most text kept (lines_of text)
+pub so_far_none : (start most : ℕ) (text : List ℕ) (kept : List FaultyLine) → kept ≡ [] → FaultySoFar start start 0 most 0 text kept (lines_of text)
 so_far_none start most text kept none = record {
   found = [];
   gives = λ more given. given;
   first = none ∙ sym (take_nothing most);
   places = subst (λ (l : List FaultyLine). All (λ (line : FaultyLine). TellsLine text line.fault) l) (sym none) (λ k d within. absurd (no_element k within));
   few = omega arith;
+  counted = refl;
+  within = omega arith;
 }
   where
     take_nothing : (n : ℕ) → take {A = FaultyLine} n [] ≡ []
@@ -55,20 +65,22 @@ so_far_none start most text kept none = record {
     no_element k within = omega (arith, within)
 
 -- a line that is skipped
-pub so_far_skipped : (start at place most : ℕ) (text raw : List ℕ) (kept : List FaultyLine) (old raws : List (List ℕ)) → FaultySoFar start at place most text kept old → old ≡ raw ∷ raws → is_skipped (text_of raw) ≡ true
-    → FaultySoFar start at (place + 1) most text kept raws
-so_far_skipped start at place most text raw kept old raws so_far cut skipped = record {
+pub so_far_skipped : (start at place most count : ℕ) (text raw : List ℕ) (kept : List FaultyLine) (old raws : List (List ℕ)) → FaultySoFar start at place most count text kept old → old ≡ raw ∷ raws → is_skipped (text_of raw) ≡ true
+    → FaultySoFar start at (place + 1) most count text kept raws
+so_far_skipped start at place most count text raw kept old raws so_far cut skipped = record {
   found = so_far.found;
   gives = λ more given. so_far.gives more (subst (λ (w : List (List ℕ)). AreFaulty at (place + 1) w more) (sym cut) (skipped_gives at (place + 1) raw raws more skipped given));
   first = so_far.first;
   places = so_far.places;
   few = omega (arith, so_far.few, ap length cut);
+  counted = so_far.counted;
+  within = omega (arith, so_far.within);
 }
 
 -- a line of the program
-pub so_far_line : (start at next place most : ℕ) (text raw : List ℕ) (kept : List FaultyLine) (old raws : List (List ℕ)) (line : Line) → FaultySoFar start at place most text kept old → old ≡ raw ∷ raws
-    → is_skipped (text_of raw) ≡ false → IsLine at (text_of raw) line → next ≡ address_behind at line.bytes → FaultySoFar start next (place + 1) most text kept raws
-so_far_line start at next place most text raw kept old raws line so_far cut unskipped is_line behind = record {
+pub so_far_line : (start at next place most count : ℕ) (text raw : List ℕ) (kept : List FaultyLine) (old raws : List (List ℕ)) (line : Line) → FaultySoFar start at place most count text kept old → old ≡ raw ∷ raws
+    → is_skipped (text_of raw) ≡ false → IsLine at (text_of raw) line → next ≡ address_behind at line.bytes → FaultySoFar start next (place + 1) most count text kept raws
+so_far_line start at next place most count text raw kept old raws line so_far cut unskipped is_line behind = record {
   found = so_far.found;
   gives = λ more given.
       let there = subst (λ (n : ℕ). AreFaulty n (place + 1 + 1) raws more) behind given in
@@ -76,6 +88,8 @@ so_far_line start at next place most text raw kept old raws line so_far cut unsk
   first = so_far.first;
   places = so_far.places;
   few = omega (arith, so_far.few, ap length cut);
+  counted = so_far.counted;
+  within = omega (arith, so_far.within);
 }
 
 -- a fault that has a cause is the line's, since there was memory
@@ -109,9 +123,9 @@ abbrev is_placed : List ℕ → FaultyLine → Type 0
 is_placed text faulty = TellsLine text faulty.fault
 
 -- a faulty line
-pub so_far_fault : (start at place most : ℕ) (text raw : List ℕ) (kept new : List FaultyLine) (old raws : List (List ℕ)) (line : FaultyLine) → FaultySoFar start at place most text kept old → old ≡ raw ∷ raws
-    → is_skipped (text_of raw) ≡ false → IsFaulty at (place + 1) (text_of raw) line → TellsLine text line.fault → new ≡ take most (kept ++ line ∷ []) → FaultySoFar start at (place + 1) most text new raws
-so_far_fault start at place most text raw kept new old raws line so_far cut unskipped faulty placed is = record {
+pub so_far_fault : (start at place most count : ℕ) (text raw : List ℕ) (kept new : List FaultyLine) (old raws : List (List ℕ)) (line : FaultyLine) → FaultySoFar start at place most count text kept old → old ≡ raw ∷ raws
+    → is_skipped (text_of raw) ≡ false → IsFaulty at (place + 1) (text_of raw) line → TellsLine text line.fault → new ≡ take most (kept ++ line ∷ []) → FaultySoFar start at (place + 1) most (count + 1) text new raws
+so_far_fault start at place most count text raw kept new old raws line so_far cut unskipped faulty placed is = record {
   found = so_far.found ++ line ∷ [];
   gives = λ more given.
       subst (AreFaultyIn start text) (sym (append_assoc so_far.found (line ∷ []) more))
@@ -119,23 +133,30 @@ so_far_fault start at place most text raw kept new old raws line so_far cut unsk
   first = is ∙ ap (λ (l : List FaultyLine). take most (l ++ line ∷ [])) so_far.first ∙ take_kept most so_far.found (line ∷ []);
   places = subst (All (is_placed text)) (sym is) (All-take (is_placed text) most (kept ++ line ∷ []) (All-append (is_placed text) kept (line ∷ []) so_far.places (All-cons (is_placed text) line [] placed (λ k d within. absurd (no_element k within)))));
   few = omega (arith, so_far.few, ap length cut);
+  counted = omega (arith, so_far.counted, length-append so_far.found (line ∷ []));
+  within = omega (arith, so_far.within);
 }
   where
     no_element : (k : ℕ) → k < 0 → ⊥
     no_element k within = omega (arith, within)
 
 -- no more are kept
-pub short_kept : (start at place most : ℕ) (text : List ℕ) (kept : List FaultyLine) (old : List (List ℕ)) → FaultySoFar start at place most text kept old → length kept ≤ most
-short_kept start at place most text kept old so_far = omega (arith, ap length so_far.first, length-take most so_far.found)
+pub short_kept : (start at place most count : ℕ) (text : List ℕ) (kept : List FaultyLine) (old : List (List ℕ)) → FaultySoFar start at place most count text kept old → length kept ≤ most
+short_kept start at place most count text kept old so_far = omega (arith, ap length so_far.first, length-take most so_far.found)
 
 -- a line, by what was made of it
-pub so_far_noted : (start at next place most : ℕ) (text raw : List ℕ) (kept new : List FaultyLine) (old raws : List (List ℕ)) (outcome : Result ℕ BasicFault) → FaultySoFar start at place most text kept old → old ≡ raw ∷ raws
+pub so_far_noted : (start at next place most count more : ℕ) (text raw : List ℕ) (kept new : List FaultyLine) (old raws : List (List ℕ)) (outcome : Result ℕ BasicFault) → FaultySoFar start at place most count text kept old → old ≡ raw ∷ raws
     → is_skipped (text_of raw) ≡ false → IfOk outcome (λ behind. (line : Line) × IsLine at (text_of raw) line × (behind ≡ address_behind at line.bytes))
-    → IfErr outcome (λ fault. IsOfMemory fault ⊎ HasFault at (place + 1) (text_of raw) fault) → IsNoted at (text_of raw) most outcome kept next new → FaultySoFar start next (place + 1) most text new raws
-so_far_noted start at next place most text raw kept new old raws (Ok behind) so_far cut unskipped made failed noted =
-    subst (λ (l : List FaultyLine). FaultySoFar start next (place + 1) most text l raws) (sym noted.1)
-    (so_far_line start at next place most text raw kept old raws made.0 so_far cut unskipped made.1 (noted.0 ∙ made.2))
-so_far_noted start at next place most text raw kept new old raws (Err fault) so_far cut unskipped made failed noted =
+    → IfErr outcome (λ fault. IsOfMemory fault ⊎ HasFault at (place + 1) (text_of raw) fault) → IsNoted at (text_of raw) most outcome kept next new
+    → more ≡ count + from_bool (is_err outcome) → FaultySoFar start next (place + 1) most more text new raws
+so_far_noted start at next place most count more text raw kept new old raws (Ok behind) so_far cut unskipped made failed noted added =
+    let same : more ≡ count + 0 = added in
+    let kept_count : count ≡ more = omega (arith, same) in
+    subst (λ (n : ℕ). FaultySoFar start next (place + 1) most n text new raws) kept_count
+    (subst (λ (l : List FaultyLine). FaultySoFar start next (place + 1) most count text l raws) (sym noted.1)
+    (so_far_line start at next place most count text raw kept old raws made.0 so_far cut unskipped made.1 (noted.0 ∙ made.2)))
+so_far_noted start at next place most count more text raw kept new old raws (Err fault) so_far cut unskipped made failed noted added =
+    let one_more : more ≡ count + 1 = added in
     let (is_at, line, same, cause, shown, is) = noted in
     let here : HasFault at (place + 1) (text_of raw) fault = fault_is_of_line at (place + 1) (text_of raw) fault line.cause failed cause in
     let faulty : IsFaulty at (place + 1) (text_of raw) line = record {
@@ -145,15 +166,16 @@ so_far_noted start at next place most text raw kept new old raws (Err fault) so_
     } in
     let within : place + 1 ≤ length (lines_of text) = omega (arith, so_far.few, ap length cut) in
     let placed : TellsLine text line.fault = tells_line at (place + 1) text (text_of raw) line.fault (omega arith) within (inr faulty.fault) in
-    subst (λ (n : ℕ). FaultySoFar start n (place + 1) most text new raws) (sym is_at)
-    (so_far_fault start at place most text raw kept new old raws line so_far cut unskipped faulty placed is)
+    subst (λ (n : ℕ). FaultySoFar start next (place + 1) most n text new raws) (sym one_more)
+    (subst (λ (n : ℕ). FaultySoFar start n (place + 1) most (count + 1) text new raws) (sym is_at)
+    (so_far_fault start at place most count text raw kept new old raws line so_far cut unskipped faulty placed is))
 
 -- behind the last line
 no_lines : (at number : ℕ) → AreFaulty at number [] []
 unfolding AreFaulty
 no_lines at number = refl
 
-pub so_far_all : (start at place most : ℕ) (text : List ℕ) (kept : List FaultyLine) (old : List (List ℕ)) (so_far : FaultySoFar start at place most text kept old) → old ≡ [] → AreFaultyIn start text so_far.found
-so_far_all start at place most text kept old so_far none =
+pub so_far_all : (start at place most count : ℕ) (text : List ℕ) (kept : List FaultyLine) (old : List (List ℕ)) (so_far : FaultySoFar start at place most count text kept old) → old ≡ [] → AreFaultyIn start text so_far.found
+so_far_all start at place most count text kept old so_far none =
     subst (AreFaultyIn start text) (append-nil so_far.found)
     (so_far.gives [] (subst (λ (w : List (List ℕ)). AreFaulty at (place + 1) w []) (sym none) (no_lines at (place + 1))))

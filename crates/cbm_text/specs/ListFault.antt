@@ -1,5 +1,5 @@
 -- Why bytes list as no program.
-use Rattle.std.specs.Prelude.{ℕ, ◌<◌, ◌≤◌, List, length}
+use Rattle.std.specs.Prelude.{ℕ, ◌<◌, ◌≤◌, List, length, codes}
 use Rattle.cbm_text.specs.declared.fault.ListFault.{ListFault}
 use Rattle.cbm_text.specs.declared.fault.ListFault.TheVariants.{NoAddress, Truncated, Memory}
 use Rattle.cbm_text.specs.Program.{Program, Reads}
@@ -16,3 +16,9 @@ abbrev pub list_fault_number : ListFault → ℕ
 list_fault_number NoAddress = 1
 list_fault_number Truncated = 2
 list_fault_number (Memory error) = 3
+
+-- The faults in plain words.
+abbrev pub list_fault_text : ListFault → List ℕ
+list_fault_text NoAddress = codes "a program begins with a load address of two bytes"
+list_fault_text Truncated = codes "the program is cut short"
+list_fault_text (Memory error) = codes "out of memory"

@@ -75,7 +75,7 @@ impl Cause {
     }
 
     /// The plain words of the cause, up to the byte that they end with, if they have one.
-    fn words(self) -> &'static [u8]
+    pub fn words(self) -> &'static [u8]
         ensures { result.now ≡ cause_words self }
     {
         match self {

@@ -4,7 +4,7 @@ ghost use Rattle.std.specs.Prelude.{◌≡◌, alloc_error};
 ghost use Rattle.cbm_text.specs.declared.fault.BasicFault.TheVariants.{Memory};
 ghost use Rattle.cbm_text.specs.declared.fault.ListFault.TheVariants as list_faults;
 ghost use Rattle.cbm_text.specs.BasicText.{fault_number, fault_line};
-ghost use Rattle.cbm_text.specs.ListFault.{list_fault_number};
+ghost use Rattle.cbm_text.specs.ListFault.{list_fault_number, list_fault_text};
 
 use petscii::TextFault;
 use std::alloc::{AllocError, AllocFailed};
@@ -71,15 +71,13 @@ impl BasicFault {
 
 /// Why bytes list as no program.
 #[derive(Clone, Copy, Debug, PartialEq, Eq, Error)]
+#[error("{}", self.text())]
 pub enum ListFault {
     /// There are fewer than the two bytes of a load address.
-    #[error("a program begins with a load address of two bytes")]
     NoAddress,
     /// The bytes end before a whole link, number, line or end mark.
-    #[error("the program is cut short")]
     Truncated,
     /// There is no memory for the text.
-    #[error("out of memory")]
     Memory(AllocError),
 }
 
@@ -92,6 +90,17 @@ impl ListFault {
             ListFault::NoAddress => 1,
             ListFault::Truncated => 2,
             ListFault::Memory(_) => 3,
+        }
+    }
+
+    /// The fault in plain words.
+    pub fn text(&self) -> &'static str
+        ensures { result.now ≡ list_fault_text self.now }
+    {
+        match self {
+            ListFault::NoAddress => "a program begins with a load address of two bytes",
+            ListFault::Truncated => "the program is cut short",
+            ListFault::Memory(_) => "out of memory",
         }
     }
 }

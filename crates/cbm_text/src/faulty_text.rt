@@ -20,20 +20,28 @@ pub struct FaultyLine<'t> {
     pub text: &'t [u8],
 }
 
-/// The faulty lines of a BASIC text whose program is loaded at `start`, the first `most` of them. A
-/// faulty line gives nothing to the program, so that those behind it begin where it would have
-/// begun.
+/// The first faulty lines of a BASIC text, and how many it has.
+#[derive(Debug, Drop)]
+pub struct FaultyLines<'t> {
+    pub lines: Vec<FaultyLine<'t>>,
+    pub count: usize,
+}
+
+/// The faulty lines of a BASIC text whose program is loaded at `start`: the first `most` of them,
+/// and how many there are. A faulty line gives nothing to the program, so that those behind it
+/// begin where it would have begun.
 pub fn faulty_lines<'t>(
     alloc: Global,
     start: u16,
     text: &'t [u8],
     most: usize,
-) -> Result<Vec<FaultyLine<'t>>, AllocError>
-    ensures faulty { IfOk result (λ lines. (all : List FaultyLine) × AreFaultyIn start text.now all × (lines.items ≡ take most all)) }
-    ensures places { IfOk result (λ lines. All (λ line. TellsLine text.now line.fault) lines.items) }
+) -> Result<FaultyLines<'t>, AllocError>
+    ensures faulty { IfOk result (λ found. (all : List FaultyLine) × AreFaultyIn start text.now all × (found.lines.items ≡ take most all) × (found.count ≡ length all)) }
+    ensures places { IfOk result (λ found. All (λ line. TellsLine text.now line.fault) found.lines.items) }
 {
     let mut file = Vec::new(alloc);
     let mut lines = Vec::new(alloc);
+    let mut count = 0;
     let mut at = start;
     let mut place = 0;
     for raw in RawLines(text) {
@@ -43,9 +51,10 @@ pub fn faulty_lines<'t>(
             continue;
         }
         let outcome = push_text_line(alloc, &mut file, at, line, place);
+        count += usize::from(outcome.is_err());
         at = noted(alloc, &mut lines, most, at, line, outcome)?;
     }
-    Ok(lines)
+    Ok(FaultyLines { lines, count })
 }
 
 /// The address behind a line: that of the program's line, or the same one where the line is faulty,

@@ -1,6 +1,6 @@
 //! Programs as the machine keeps them, and their texts.
 
-use cbm_text::{BasicFault, ListFault, TextFault, crunch, list};
+use cbm_text::{BasicFault, Cause, ListFault, TextFault, crunch, faulty_lines, list};
 use std::alloc::{AllocError, Global};
 use std::test::Fail;
 
@@ -13,6 +13,22 @@ fn crunches_and_lists(alloc: Global, text: &str, file: &[u8], listing: &str) -> 
     let crunched = crunch(alloc, 0x0801, text.as_bytes())?;
     let listed = list(alloc, file)?;
     Ok(crunched.as_slice() == file && listed.as_slice() == listing.as_bytes())
+}
+
+#[test]
+fn finds_faulty_lines(rt: HostRuntime) -> Result<(), Fail> {
+    let text = b"10 PRINT\n20 end\nend\n\n30 end\t\n";
+    let found = faulty_lines(rt.alloc(), 0x0801, text, 2)?;
+    assert_eq!(rt; found.count, 3);
+    let [first, second] = found.lines.as_slice() else {
+        return Err(Fail::new("not two lines"));
+    };
+    assert_eq!(rt; first.fault, BasicFault::TokenByte { line: 1 });
+    assert_eq!(rt; first.cause, Cause::Capital);
+    assert_eq!(rt; first.text, b"10 PRINT".as_slice());
+    assert_eq!(rt; second.fault, BasicFault::NoNumber { line: 3 });
+    assert_eq!(rt; second.cause, Cause::NoNumber);
+    Ok(())
 }
 
 #[test]
