@@ -1,3 +1,4 @@
+mod FirstCharacters
 pub mod OwnerTexts
 pub mod Joins
 pub mod FileTexts

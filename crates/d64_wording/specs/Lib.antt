@@ -1,4 +1,5 @@
 pub use Rattle.d64_host_names.specs.Shown
+pub mod ShownStart
 pub mod Guesses
 pub mod FaultLines
 pub mod Names

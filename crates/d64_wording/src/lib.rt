@@ -6,6 +6,7 @@ mod doubt_text;
 mod fault_line;
 mod fault_text;
 mod file_text;
+mod first_characters;
 mod guess;
 mod image_text;
 mod number;
@@ -19,6 +20,7 @@ pub use fault_line::{
 };
 pub use fault_text::{push_fault, push_read_error, push_status};
 pub use file_text::{blocks_there, kind_letters, push_flaws};
+pub use first_characters::shown_start;
 pub use guess::{Guess, guess_of};
 pub use image_text::{check_text, push_contents, push_label, push_state};
 pub use number::push_number;
