@@ -1,70 +1,49 @@
 -- Runs of tools that store their results, by what their steps leave.
-use Rattle.std.proofs.Common.{◌≡◌, ℕ, ◌<◌, ◌≤◌, ◌^◌, List, length, Option, None, Some, IfSome, MatchOption, Result, Ok, Err, inl, inr, refl, arith}
-use Rattle.cbm_text.specs.BasicText.{IsOfMemory, fault_line}
-use Rattle.d64_script.specs.RawLines.{lines_of}
-use Rattle.d64_script.specs.Script.{script_limit}
+use Rattle.std.proofs.Common.{◌≡◌, ℕ, List, [], ◌++◌, length, take, Option, None, Result, Ok, Err, inl, inr, refl, sym, ap, ◌∙◌, ◌-◌, nat_le, cond, false, codes, append_assoc}
+use Rattle.std.specs.List.{flat_map}
+use Rattle.cbm_text.specs.declared.faulty_text.FaultyLine.{FaultyLine}
+use Rattle.d64_script.specs.Input.{IsUnreadable}
+use Rattle.d64_script.specs.Output.{Account}
+use Rattle.d64_host.specs.Files.{HostState}
 use Rattle.d64_host.specs.declared.host.HostFault.{HostFault}
 use Rattle.d64_host.specs.declared.host.HostFault.TheVariants as files
-use Rattle.d64_line.specs.Act.{StoresFile}
 use Rattle.d64_job.specs.Outside.{Outside}
-use Rattle.d64_tool_job.specs.ToolRuns.{RanToolTo, TakesInput}
-use Rattle.d64_tool_job.specs.Tools.{Makes, Refuses, TellsSmallLine, answer_of_store, fault_of_store}
+use Rattle.d64_wording.specs.Words.{count_of}
+use Rattle.d64_tool_job.specs.RefusedText.{faulty_line, more_lines, most_lines, refused_text}
+use Rattle.d64_tool_job.specs.ToolRuns.{EndedToolTo, ReportsStored, TakesInput}
+use Rattle.d64_tool_job.specs.Tools.{HasStored, Refuses, answer_of_store, fault_of_store}
 use Rattle.d64_tool_job.specs.declared.tools.Tool.{Tool}
 use Rattle.d64_tool_job.specs.declared.tools.Tool.TheVariants.{Petcat, Crunch}
 use Rattle.d64_tool_job.specs.declared.tools.ToolFault.{ToolFault}
 use Rattle.d64_tool_job.specs.declared.tools.ToolFault.TheVariants.{Read, Write, Memory, Text, NotBasic}
 
 -- a tool has not had its input, and stored nothing
-pub without_input : (tool : Tool) (name : Option (List ℕ)) (target : List ℕ) (old new : Outside) (fault : ToolFault) (answer : Result (Unit {0}) ToolFault)
-    → TakesInput name old new (Err fault) → new.output ≡ old.output → answer ≡ Err fault → RanToolTo tool name target old new answer
-without_input tool name target old new fault answer takes output is = record {
-  taken = Err fault;
-  middle = new;
-  takes = takes;
-  stores = (is, refl);
-  reader = refl;
-  output = output;
-}
+pub ended_without_input : (tool : Tool) (name : Option (List ℕ)) (target : List ℕ) (old new : Outside) (faults told : Account) (status : ℕ) (fault : ToolFault) (answer : Result (Unit {0}) ToolFault)
+    → answer ≡ Err fault → TakesInput name old new (Err fault) → new.output ≡ old.output → (name ≡ None → fault ≡ Read → IsUnreadable new.reading)
+    → ReportsStored tool name [] target answer faults told status → EndedToolTo tool name target old new faults told status
+ended_without_input tool name target old new faults told status fault answer is takes output due reports = (
+  Err fault,
+  answer,
+  record { middle = new; takes = takes; stores = (is, refl); reader = refl; output = output },
+  (λ none unread. due none (same_fault answer fault Read is unread)),
+  reports,
+)
+  where
+    same_fault : (answer : Result (Unit {0}) ToolFault) (a b : ToolFault) → answer ≡ Err a → answer ≡ Err b → a ≡ b
+    same_fault answer a b is other = cc
 
--- it has refused its input, and stored nothing
-pub refused : (tool : Tool) (name : Option (List ℕ)) (target : List ℕ) (old new : Outside) (bytes : List ℕ) (fault : ToolFault) (answer : Result (Unit {0}) ToolFault)
-    → TakesInput name old new (Ok bytes) → Refuses tool bytes fault → new.output ≡ old.output → answer ≡ Err fault → RanToolTo tool name target old new answer
-refused tool name target old new bytes fault answer takes refuses output is = record {
-  taken = Ok bytes;
-  middle = new;
-  takes = takes;
-  stores = inr (fault, refuses, is, refl);
-  reader = refl;
-  output = output;
-}
-
--- what it made was stored, or not, as the host answered
-pub was_stored : (tool : Tool) (name : Option (List ℕ)) (target : List ℕ) (old middle new : Outside) (bytes made : List ℕ) (stored : Result (Unit {0}) HostFault) (answer : Result (Unit {0}) ToolFault)
-    → TakesInput name old middle (Ok bytes) → Makes tool bytes made → StoresFile middle.host target made stored new.host → answer ≡ answer_of_store stored
-    → new.reader ≡ middle.reader → new.output ≡ old.output → RanToolTo tool name target old new answer
-was_stored tool name target old middle new bytes made stored answer takes makes stores is reader output = record {
-  taken = Ok bytes;
-  middle = middle;
-  takes = takes;
-  stores = inl (made, makes, stored, stores, is);
-  reader = reader;
-  output = output;
-}
-
--- the line of a fault lies in the text
-within_text : (line : Option ℕ) (text : List ℕ) (P : Type 0) → MatchOption line P (λ number. (1 ≤ number) × (number ≤ length (lines_of text)) × (number ≤ length text))
-    → length text ≤ script_limit → IfSome line (λ number. number < 2 ^ 32)
-within_text None text P tells few = tt
-within_text (Some number) text P tells few = omega (arith, tells.2, few)
-
--- so a fault of an input that is no longer than a script tells a line of 32 bits
-pub small_line : (tool : Tool) (input : List ℕ) (fault : ToolFault) → Refuses tool input fault → length input ≤ script_limit → TellsSmallLine fault
-small_line tool input Read refuses few = tt
-small_line tool input Write refuses few = tt
-small_line tool input (Memory error) refuses few = tt
-small_line tool input (NotBasic fault) refuses few = tt
-small_line Petcat input (Text fault) refuses few = absurd refuses
-small_line (Crunch start) input (Text fault) refuses few = within_text (fault_line fault) input (IsOfMemory fault) refuses.1 few
+-- it has had its input, and stored what it made of it, or not
+pub ended_with_input : (tool : Tool) (name : Option (List ℕ)) (target : List ℕ) (old middle new : Outside) (faults told : Account) (status : ℕ) (bytes : List ℕ) (answer : Result (Unit {0}) ToolFault)
+    → TakesInput name old middle (Ok bytes) → HasStored tool bytes target middle.host new.host answer → (answer ≡ Err Read → ⊥)
+    → new.reader ≡ middle.reader → new.output ≡ old.output → ReportsStored tool name bytes target answer faults told status
+    → EndedToolTo tool name target old new faults told status
+ended_with_input tool name target old middle new faults told status bytes answer takes stored unread reader output reports = (
+  Ok bytes,
+  answer,
+  record { middle = middle; takes = takes; stores = stored; reader = reader; output = output },
+  (λ none is. absurd (unread is)),
+  reports,
+)
 
 -- no tool refuses its input by a fault of reading
 pub refuses_not_read : (tool : Tool) (input : List ℕ) (fault : ToolFault) → Refuses tool input fault → fault ≡ Read → ⊥
@@ -81,3 +60,32 @@ store_not_read (files.Memory error) is = cc
 store_not_read files.Missing is = cc
 store_not_read files.Device is = cc
 store_not_read files.TooLong is = cc
+
+-- nor does a run that had its input
+pub stored_not_read : (tool : Tool) (input target : List ℕ) (old new : HostState) (answer : Result (Unit {0}) ToolFault) → HasStored tool input target old new answer → answer ≡ Err Read → ⊥
+stored_not_read tool input target old new answer (inl (output, makes, stored, stores, is)) read = not_read stored (sym is ∙ read)
+  where
+    not_read : (stored : Result (Unit {0}) HostFault) → answer_of_store stored ≡ Err Read → ⊥
+    not_read (Ok done) is = cc
+    not_read (Err fault) is = store_not_read fault cc
+stored_not_read tool input target old new answer (inr (fault, refuses, is, kept)) read = refuses_not_read tool input fault refuses cc
+
+-- what is printed of faulty lines, part by part
+pub refused_parts : (name : Option (List ℕ)) (all kept : List FaultyLine) (count : ℕ) (none lines out : List ℕ) → none ≡ [] → lines ≡ none ++ flat_map (faulty_line name) kept
+    → out ≡ lines ++ more_lines count → kept ≡ take most_lines all → count ≡ length all → out ≡ refused_text name all
+unfolding refused_text
+refused_parts name all kept count none lines out empty added more first counted =
+    more
+    ∙ ap (λ (l : List ℕ). l ++ more_lines count) (added ∙ ap (λ (o : List ℕ). o ++ flat_map (faulty_line name) kept) empty ∙ ap (λ (ls : List FaultyLine). flat_map (faulty_line name) ls) first)
+    ∙ ap (λ (n : ℕ). flat_map (faulty_line name) (take most_lines all) ++ more_lines n) counted
+
+-- how many are not printed, part by part
+pub more_parts : (count : ℕ) (old first second out : List ℕ) → nat_le count most_lines ≡ false → first ≡ old ++ codes "    and "
+    → second ≡ first ++ count_of (count - most_lines) (codes "more faulty line") → out ≡ second ++ codes "\n" → out ≡ old ++ more_lines count
+unfolding more_lines
+more_parts count old first second out many begun counted ended =
+    let number = count_of (count - most_lines) (codes "more faulty line") in
+    ended ∙ ap (λ (o : List ℕ). o ++ codes "\n") (counted ∙ ap (λ (o : List ℕ). o ++ number) begun)
+    ∙ append_assoc (old ++ codes "    and ") number (codes "\n")
+    ∙ append_assoc old (codes "    and ") (number ++ codes "\n")
+    ∙ ap (λ t. old ++ cond t [] (codes "    and " ++ (number ++ codes "\n"))) (sym many)

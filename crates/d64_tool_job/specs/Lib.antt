@@ -1,3 +1,4 @@
 pub mod Tools
 pub mod RefusalLine
+pub mod RefusedText
 pub mod ToolRuns

@@ -1,5 +1,5 @@
 -- How a tool that is run as a job ends, and how that is told.
-use Rattle.std.specs.Prelude.{◌≡◌, ℕ, List, Option, Some, None, Result, Ok, Err, ◌⊎◌}
+use Rattle.std.specs.Prelude.{◌≡◌, ℕ, List, [], Option, Some, None, Result, Ok, Err, ◌⊎◌}
 use Rattle.std.specs.Io.KnownBytes.{Keeps}
 use Rattle.d64_script.specs.Input.{IsUnreadable}
 use Rattle.d64_script.specs.Output.{Account, Writes}
@@ -10,10 +10,13 @@ use Rattle.d64_host.specs.declared.host.HostFault.TheVariants as files
 use Rattle.d64_line.specs.Act.{FetchesFile}
 use Rattle.d64_line.specs.BasicFiles.{status_of_basic, status_of_listing}
 use Rattle.d64_wording.specs.FaultLines.{unwritten_line}
-use Rattle.cbm_text.specs.BasicText.{fault_line as fault_line_of}
-use Rattle.d64_script.specs.declared.status.Status.{Status}
+use Rattle.cbm_text.specs.FaultyLines.{AreFaultyIn}
+use Rattle.cbm_text.specs.ListFault.{list_fault_text}
+use Rattle.cbm_text.specs.declared.fault.ListFault.{ListFault}
+use Rattle.cbm_text.specs.declared.faulty_text.FaultyLine.{FaultyLine}
 use Rattle.d64_tool_job.specs.RefusalLine.{refusal_line}
-use Rattle.d64_tool_job.specs.Tools.{HasRead, HasStored, HasWritten, RanTool, ReadsNot, ReadsWith, WritesWith}
+use Rattle.d64_tool_job.specs.RefusedText.{refused_text}
+use Rattle.d64_tool_job.specs.Tools.{HasRead, HasStored, HasWritten, RanTool, ReadsNot, ReadsWith, WritesWith, start_of}
 use Rattle.d64_tool_job.specs.declared.tools.Tool.{Tool}
 use Rattle.d64_tool_job.specs.declared.tools.ToolFault.{ToolFault}
 use Rattle.d64_tool_job.specs.declared.tools.ToolFault.TheVariants as tool_faults
@@ -68,40 +71,50 @@ abbrev pub StoresTaken : Tool → Result (List ℕ) ToolFault → List ℕ → H
 StoresTaken tool (Ok bytes) target old new answer = HasStored tool bytes target old new answer
 StoresTaken tool (Err fault) target old new answer = (answer ≡ Err fault) × (new ≡ old)
 
--- a tool has run on the input, or on the host file of this name, to the host file of a second name;
--- nothing was written
-pub record RanToolTo (tool : Tool) (name : Option (List ℕ)) (target : List ℕ) (old new : Outside) (answer : Result (Unit {0}) ToolFault) : Type 0 where
-  pub taken : Result (List ℕ) ToolFault
+-- the bytes that a tool has had, if it has had them
+abbrev pub bytes_of : Result (List ℕ) ToolFault → List ℕ
+bytes_of (Ok bytes) = bytes
+bytes_of (Err fault) = []
+
+-- a tool that has had these bytes has run on the input, or on the host file of this name, to the
+-- host file of a second name; nothing was written
+pub record RanToolTo (tool : Tool) (name : Option (List ℕ)) (target : List ℕ) (taken : Result (List ℕ) ToolFault) (old new : Outside) (answer : Result (Unit {0}) ToolFault) : Type 0 where
   pub middle : Outside
   pub takes : TakesInput name old middle taken
   pub stores : StoresTaken tool taken target middle.host new.host answer
   pub reader : new.reader ≡ middle.reader
   pub output : new.output ≡ old.output
 
--- a refusal is told in the form of compilers, with status 1; or there is no memory for that
-abbrev pub TellsRefusal : Option (List ℕ) → Option ℕ → Status → Account → Account → ℕ → Type 0
-TellsRefusal name line refusal faults told status =
-    ((status ≡ 1) × (words : List ℕ) × Writes faults told (refusal_line name line refusal words)) ⊎ Reports Memory faults told status
+-- the faulty lines of a text whose program is loaded at an address are reported, with status 1; or
+-- there is no memory for that
+abbrev pub ReportsText : Option (List ℕ) → ℕ → List ℕ → Account → Account → ℕ → Type 0
+ReportsText name start text faults told status =
+    ((status ≡ 1) × (lines : List FaultyLine) × AreFaultyIn start text lines × Writes faults told (refused_text name lines)) ⊎ Reports Memory faults told status
 
--- a result that cannot be stored is told with status 2; or there is no memory for that
-abbrev pub TellsUnwritten : List ℕ → Account → Account → ℕ → Type 0
-TellsUnwritten target faults told status = ((status ≡ 2) × Writes faults told (unwritten_line target)) ⊎ Reports Memory faults told status
+-- why an input is no program is reported, with status 1; or there is no memory for that
+abbrev pub ReportsProgram : Option (List ℕ) → ListFault → Account → Account → ℕ → Type 0
+ReportsProgram name fault faults told status =
+    ((status ≡ 1) × Writes faults told (refusal_line name None (status_of_listing fault) (list_fault_text fault))) ⊎ Reports Memory faults told status
 
--- how the answer is told of a tool that stores its result
-abbrev pub TellsStored : {A : Type 0} → Option (List ℕ) → List ℕ → Result A ToolFault → Account → Account → ℕ → Type 0
-TellsStored name target (Ok done) faults told status = (status ≡ 0) × (told ≡ faults)
-TellsStored name target (Err (tool_faults.Text fault)) faults told status = TellsRefusal name (fault_line_of fault) (status_of_basic fault) faults told status
-TellsStored name target (Err (tool_faults.NotBasic fault)) faults told status = TellsRefusal name None (status_of_listing fault) faults told status
-TellsStored name target (Err tool_faults.Read) faults told status = Reports Read faults told status
-TellsStored name target (Err tool_faults.Write) faults told status = TellsUnwritten target faults told status
-TellsStored name target (Err (tool_faults.Memory error)) faults told status = Reports Memory faults told status
+-- that a result cannot be stored is reported, with status 2; or there is no memory for that
+abbrev pub ReportsUnwritten : List ℕ → Account → Account → ℕ → Type 0
+ReportsUnwritten target faults told status = ((status ≡ 2) × Writes faults told (unwritten_line target)) ⊎ Reports Memory faults told status
 
--- how a tool ended that stores its result; it tells a fault of reading its input where that cannot
--- be read to its end
+-- how a tool is reported that had these bytes and stores its result
+abbrev pub ReportsStored : {A : Type 0} → Tool → Option (List ℕ) → List ℕ → List ℕ → Result A ToolFault → Account → Account → ℕ → Type 0
+ReportsStored tool name bytes target (Ok done) faults told status = (status ≡ 0) × (told ≡ faults)
+ReportsStored tool name bytes target (Err (tool_faults.Text fault)) faults told status = ReportsText name (start_of tool) bytes faults told status
+ReportsStored tool name bytes target (Err (tool_faults.NotBasic fault)) faults told status = ReportsProgram name fault faults told status
+ReportsStored tool name bytes target (Err tool_faults.Read) faults told status = Reports Read faults told status
+ReportsStored tool name bytes target (Err tool_faults.Write) faults told status = ReportsUnwritten target faults told status
+ReportsStored tool name bytes target (Err (tool_faults.Memory error)) faults told status = Reports Memory faults told status
+
+-- how a tool ended that stores its result; it reports a fault of reading its input only if that
+-- cannot be read to its end
 abbrev pub EndedToolTo : Tool → Option (List ℕ) → List ℕ → Outside → Outside → Account → Account → ℕ → Type 0
 EndedToolTo tool name target old new faults told status =
-    (answer : Result (Unit {0}) ToolFault) × RanToolTo tool name target old new answer
-    × (name ≡ None → answer ≡ Err tool_faults.Read → IsUnreadable new.reading) × TellsStored name target answer faults told status
+    (taken : Result (List ℕ) ToolFault) × (answer : Result (Unit {0}) ToolFault) × RanToolTo tool name target taken old new answer
+    × (name ≡ None → answer ≡ Err tool_faults.Read → IsUnreadable new.reading) × ReportsStored tool name (bytes_of taken) target answer faults told status
 
 -- how a tool ended that writes its result; it tells a fault of reading its input, or of writing,
 -- where the input cannot be read to its end, or a write or a flush has failed

@@ -23,6 +23,11 @@ abbrev pub Makes : Tool → List ℕ → List ℕ → Type 0
 Makes Petcat input output = Lists input output
 Makes (Crunch start) input output = IsFileOf start input output
 
+-- the address at which a program is loaded that the tool makes; petcat makes none
+abbrev pub start_of : Tool → ℕ
+start_of Petcat = 0
+start_of (Crunch start) = start
+
 -- why bytes are no program; want of memory is no such reason
 abbrev pub IsNoProgram : List ℕ → ListFault → Type 0
 IsNoProgram input list_faults.NoAddress = ListsNot input list_faults.NoAddress

@@ -2,6 +2,8 @@
 //! or the input to a file or the output.
 #![tactic(auto)]
 
+mod refusal_line;
+mod refused_text;
 mod stored_tool;
 mod tool_job;
 mod tools;

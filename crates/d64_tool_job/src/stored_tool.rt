@@ -1,25 +1,24 @@
 //! The tools' job where the result goes to a host file: it is stored whole or not at all, and a
-//! refused input is told in the form of compilers.
-ghost use Rattle.std.specs.Prelude.{◌≡◌, ◌-◌, ◌≤◌, ◌⊎◌, ◌++◌, IfErr, IfOk, OnOk, Ok, Err, None, [], length, codes, decimal, Option, option_copied};
-ghost use Rattle.std.specs.Option.{option_map_or};
+//! refused input is reported in the form of compilers.
+ghost use Rattle.std.specs.Prelude.{◌≡◌, ◌≤◌, ◌⊎◌, IfErr, IfOk, Ok, Err, None, length, option_copied};
 ghost use Rattle.d64_script.specs.Input.{IsUnread, IsUnreadable, reading_of};
 ghost use Rattle.d64_script.specs.Output.{Account};
-ghost use Rattle.d64_collection.specs.Runs.{account_at};
-ghost use Rattle.d64_tool_job.specs.ToolRuns.{RanToolTo, TakesInput, TellsRefusal, TellsStored, TellsUnwritten};
-ghost use Rattle.d64_job.specs.Outside.{outside_of};
-ghost use Rattle.d64_tool_job.specs.RefusalLine.{refusal_line};
 ghost use Rattle.d64_script.specs.Script.{script_limit};
-ghost use Rattle.d64_tool_job.specs.Tools.{TellsSmallLine, fault_of_store};
+ghost use Rattle.d64_collection.specs.Runs.{account_at};
+ghost use Rattle.d64_job.specs.Outside.{outside_of};
+ghost use Rattle.d64_tool_job.specs.ToolRuns.{EndedToolTo, ReportsProgram, ReportsText, ReportsStored, ReportsUnwritten, TakesInput};
+ghost use Rattle.d64_tool_job.specs.Tools.{HasStored, fault_of_store, start_of};
 
+use crate::refusal_line::push_refusal_line;
+use crate::refused_text::refused_text;
 use crate::tools::{Tool, ToolFault, whole_input};
-use cbm_text::BasicFault;
+use cbm_text::ListFault;
 use d64_host::{Host, HostFault};
 use d64_job::{ALL_ACCEPTED, NOT_RUN, ProgramFault, SOME_REFUSED, fetch_file};
-use d64_line::status_from::{of_basic_fault, of_list_fault};
+use d64_line::status_from::of_list_fault;
 use d64_script::input::InputStream;
 use d64_script::output::OutputStream;
-use d64_script::status::Status;
-use d64_wording::{push_number, push_shown, unwritten_line};
+use d64_wording::unwritten_line;
 use std::alloc::{AllocError, Global};
 use std::io::{Read, Write};
 
@@ -34,28 +33,32 @@ pub(crate) struct StoredTool<'n> {
 }
 
 impl<'n> StoredTool<'n> {
-    /// Stores what the tool makes of its file, or of the input: all of it, or nothing where it
-    /// refuses the input, the input cannot be read, memory is wanting, or the store is refused,
-    /// which it answers as `Write`.
-    pub(crate) fn run<R: Read, H: Host>(
+    /// Stores what the tool makes of its file, or of the input: all of it, or nothing if it refuses
+    /// the input, the input cannot be read, memory is out, or the store is refused; and returns the
+    /// exit status.
+    pub(crate) fn run<R: Read, F: Write, H: Host>(
         self,
         alloc: Global,
         input: &mut InputStream<'_, R>,
+        faults: &mut OutputStream<'_, F>,
         host: &mut H,
-    ) -> Result<(), ToolFault>
+    ) -> u8
         requires unread { IsUnread (reading_of input.old.reads input.old.came input.old.has_failed) }
         ensures input { input.new.reader.ghost_name ≡ input.old.reader.ghost_name }
-        ensures ran { (output : Account) → RanToolTo self.entry.tool (option_copied self.entry.file) self.entry.target.now
+        ensures faults { faults.new.writer.ghost_name ≡ faults.old.writer.ghost_name }
+        ensures ended { (output : Account) → EndedToolTo self.entry.tool (option_copied self.entry.file) self.entry.target.now
             (outside_of (R.remaining input.old.reader.now) (reading_of input.old.reads input.old.came input.old.has_failed) output (H.state host.old))
-            (outside_of (R.remaining input.new.reader.now) (reading_of input.new.reads input.new.came input.new.has_failed) output (H.state host.new)) result }
-        ensures line { IfErr result TellsSmallLine }
-        ensures reads { option_copied self.entry.file ≡ None → result ≡ Err ToolFault.Read → IsUnreadable (reading_of input.new.reads input.new.came input.new.has_failed) }
+            (outside_of (R.remaining input.new.reader.now) (reading_of input.new.reads input.new.came input.new.has_failed) output (H.state host.new))
+            (account_at F.contents faults.old) (account_at F.contents faults.new) result }
+        ensures status { result ≤ 2 }
+        ensures silent { result ≡ 0 → faults.new ≡ faults.old }
     {
-        let bytes = self.taken(alloc, input, host)?;
-        let made = self.tool.output(alloc, &bytes)?;
-        match host.store(alloc, self.target, &made) {
-            Ok(()) => Ok(()),
-            Err(fault) => Err(fault_of_store(fault)),
+        match self.taken(alloc, input, host) {
+            Ok(bytes) => {
+                let answer = self.store(alloc, bytes.as_slice(), host);
+                self.report(alloc, bytes.as_slice(), answer, faults)
+            }
+            Err(fault) => self.report(alloc, b"", Err(fault), faults),
         }
     }
 
@@ -75,7 +78,6 @@ impl<'n> StoredTool<'n> {
             (outside_of (R.remaining input.old.reader.now) (reading_of input.old.reads input.old.came input.old.has_failed) output (H.state host.old))
             (outside_of (R.remaining input.new.reader.now) (reading_of input.new.reads input.new.came input.new.has_failed) output (H.state host.new)) (Err fault)) }
         ensures within { IfOk result (λ bytes. length bytes.items ≤ script_limit) }
-        ensures line { IfErr result TellsSmallLine }
         ensures reads { option_copied self.entry.file ≡ None → result ≡ Err ToolFault.Read → IsUnreadable (reading_of input.new.reads input.new.came input.new.has_failed) }
     {
         let Some(name) = self.file else {
@@ -90,64 +92,93 @@ impl<'n> StoredTool<'n> {
         }
     }
 
-    /// Tells the tool's answer, and answers the exit status.
-    pub(crate) fn tell<F: Write>(
+    /// Stores what the tool makes of bytes. A store that is refused is returned as `Write`; `Read` is
+    /// not returned.
+    fn store<H: Host>(self, alloc: Global, bytes: &[u8], host: &mut H) -> Result<(), ToolFault>
+        ensures stored { HasStored self.entry.tool bytes.now self.entry.target.now (H.state host.old) (H.state host.new) result }
+    {
+        let made = match self.tool.output(alloc, bytes) {
+            Ok(made) => made,
+            Err(fault) => return Err(fault),
+        };
+        match host.store(alloc, self.target, made.as_slice()) {
+            Ok(()) => Ok(()),
+            Err(fault) => Err(fault_of_store(fault)),
+        }
+    }
+
+    /// Reports how the tool ended that had these bytes, and returns the exit status.
+    fn report<F: Write>(
         self,
         alloc: Global,
+        bytes: &[u8],
         answer: Result<(), ToolFault>,
         faults: &mut OutputStream<'_, F>,
     ) -> u8
-        requires { IfErr answer TellsSmallLine }
+        requires { length bytes.now ≤ script_limit }
         ensures faults { faults.new.writer.ghost_name ≡ faults.old.writer.ghost_name }
         ensures status { result ≤ 2 }
-        ensures told { TellsStored (option_copied self.entry.file) self.entry.target.now answer (account_at F.contents faults.old) (account_at F.contents faults.new) result }
+        ensures reported { ReportsStored self.entry.tool (option_copied self.entry.file) bytes.now self.entry.target.now answer (account_at F.contents faults.old) (account_at F.contents faults.new) result }
         ensures silent { result ≡ 0 → faults.new ≡ faults.old }
     {
         match answer {
             Ok(()) => ALL_ACCEPTED,
-            Err(ToolFault::Text(fault)) => {
-                let words = words_of(alloc, &fault);
-                self.tell_refusal(alloc, words, fault.line(), of_basic_fault(fault), faults)
-            }
-            Err(ToolFault::NotBasic(fault)) => {
-                let words = format!(in alloc; "{fault}");
-                self.tell_refusal(alloc, words, None, of_list_fault(fault), faults)
-            }
+            Err(ToolFault::Text(_)) => self.report_text(alloc, bytes, faults),
+            Err(ToolFault::NotBasic(fault)) => self.report_program(alloc, fault, faults),
             Err(ToolFault::Read) => ProgramFault::Read.report_on(faults),
-            Err(ToolFault::Write) => self.tell_unwritten(alloc, faults),
+            Err(ToolFault::Write) => self.report_unwritten(alloc, faults),
             Err(ToolFault::Memory(_)) => ProgramFault::Memory.report_on(faults),
         }
     }
 
-    /// Tells a refusal of the input in these words, where there was memory for them, and answers
-    /// the exit status.
-    fn tell_refusal<F: Write>(
+    /// Reports the faulty lines of a text, and returns the exit status.
+    fn report_text<F: Write>(
         self,
         alloc: Global,
-        words: Result<String, AllocError>,
-        line: Option<usize>,
-        status: Status,
+        text: &[u8],
+        faults: &mut OutputStream<'_, F>,
+    ) -> u8
+        requires { length text.now ≤ script_limit }
+        ensures faults { faults.new.writer.ghost_name ≡ faults.old.writer.ghost_name }
+        ensures status { (result ≡ 1) ⊎ (result ≡ 2) }
+        ensures reported { ReportsText (option_copied self.entry.file) (start_of self.entry.tool) text.now (account_at F.contents faults.old) (account_at F.contents faults.new) result }
+    {
+        match refused_text(alloc, self.file, self.tool.start(), text) {
+            Ok(lines) => {
+                let _ = faults.write(lines.as_slice());
+                SOME_REFUSED
+            }
+            Err(_) => ProgramFault::Memory.report_on(faults),
+        }
+    }
+
+    /// Reports why the input is no program, and returns the exit status.
+    fn report_program<F: Write>(
+        self,
+        alloc: Global,
+        fault: ListFault,
         faults: &mut OutputStream<'_, F>,
     ) -> u8
         ensures faults { faults.new.writer.ghost_name ≡ faults.old.writer.ghost_name }
         ensures status { (result ≡ 1) ⊎ (result ≡ 2) }
-        ensures told { TellsRefusal (option_copied self.entry.file) line status (account_at F.contents faults.old) (account_at F.contents faults.new) result }
+        ensures reported { ReportsProgram (option_copied self.entry.file) fault (account_at F.contents faults.old) (account_at F.contents faults.new) result }
     {
-        let Ok(words) = words else {
-            return ProgramFault::Memory.report_on(faults);
-        };
-        let Ok(told) = refusal_line(alloc, self.file, line, status, words.as_str()) else {
-            return ProgramFault::Memory.report_on(faults);
-        };
-        let _ = faults.write(told.as_slice());
-        SOME_REFUSED
+        let mut line = Vec::new(alloc);
+        let text = fault.text().as_bytes();
+        match push_refusal_line(&mut line, self.file, None, of_list_fault(fault), text) {
+            Ok(()) => {
+                let _ = faults.write(line.as_slice());
+                SOME_REFUSED
+            }
+            Err(_) => ProgramFault::Memory.report_on(faults),
+        }
     }
 
-    /// Tells that the result cannot be written, and answers the exit status.
-    fn tell_unwritten<F: Write>(self, alloc: Global, faults: &mut OutputStream<'_, F>) -> u8
+    /// Reports that the result cannot be written, and returns the exit status.
+    fn report_unwritten<F: Write>(self, alloc: Global, faults: &mut OutputStream<'_, F>) -> u8
         ensures faults { faults.new.writer.ghost_name ≡ faults.old.writer.ghost_name }
         ensures status { result ≡ 2 }
-        ensures told { TellsUnwritten self.entry.target.now (account_at F.contents faults.old) (account_at F.contents faults.new) result }
+        ensures reported { ReportsUnwritten self.entry.target.now (account_at F.contents faults.old) (account_at F.contents faults.new) result }
     {
         let mut line = Vec::new(alloc);
         match unwritten_line(&mut line, self.target.as_bytes()) {
@@ -160,56 +191,12 @@ impl<'n> StoredTool<'n> {
     }
 }
 
-/// How the fault of a store is told.
+/// The fault of a store as the tool's.
 fn fault_of_store(fault: HostFault) -> ToolFault
-    ensures fault { result ≡ fault_of_store fault }
-    ensures line { TellsSmallLine result }
+    ensures { result ≡ fault_of_store fault }
 {
     match fault {
         HostFault::Memory(error) => ToolFault::Memory(error),
         HostFault::Missing | HostFault::Device | HostFault::TooLong => ToolFault::Write,
-    }
-}
-
-/// The line of a refusal.
-fn refusal_line(
-    alloc: Global,
-    name: Option<&str>,
-    line: Option<usize>,
-    status: Status,
-    words: &str,
-) -> Result<Vec<u8>, AllocError>
-    ensures { IfOk result (λ told. told.items ≡ refusal_line (option_copied name.entry) line status words.now) }
-{
-    let status = status.line();
-    let text = &status.as_slice()[..status.len().saturating_sub(1)];
-    let mut told = Vec::new(alloc);
-    push_shown(&mut told, name.unwrap_or("-").as_bytes())?;
-    push_line_number(&mut told, line)?;
-    told.extend_from_slice(b": ")?;
-    told.extend_from_slice(text)?;
-    told.extend_from_slice(b": ")?;
-    told.extend_from_slice(words.as_bytes())?;
-    told.extend_from_slice(b"\n")?;
-    Ok(told)
-}
-
-/// Adds the number of a line after a colon, where there is one.
-fn push_line_number(told: &mut Vec<u8>, line: Option<usize>) -> Result<(), AllocError>
-    ensures { OnOk result (told.new.items ≡ told.old.items ++ option_map_or (λ number. codes ":" ++ decimal number) line []) }
-{
-    let Some(line) = line else {
-        return Ok(());
-    };
-    told.extend_from_slice(b":")?;
-    push_number(told, line)
-}
-
-/// What is wrong with a text, in words: those of the fault behind the number of the line.
-fn words_of(alloc: Global, fault: &BasicFault) -> Result<String, AllocError> {
-    let text = format!(in alloc; "{fault}")?;
-    match text.as_str().split_once(": ") {
-        Some((_, words)) => String::from_str(alloc, words),
-        None => Ok(text),
     }
 }

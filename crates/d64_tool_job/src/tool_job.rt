@@ -62,8 +62,7 @@ impl<'n> ToolJob<'n> {
             file: self.file,
             target,
         };
-        let answer = job.run(alloc, input, host);
-        job.tell(alloc, answer, faults)
+        job.run(alloc, input, faults, host)
     }
 }
 

@@ -5,7 +5,7 @@ ghost use Rattle.std.specs.Prelude.{◌≡◌, ◌≤◌, false, length, IfOk, I
 ghost use Rattle.d64_script.specs.Input.{IsUnread, IsUnreadable, reading_of};
 ghost use Rattle.d64_script.specs.Script.{script_limit};
 ghost use Rattle.d64_tool_job.specs.declared.tools.ToolFault.TheVariants.{Read};
-ghost use Rattle.d64_tool_job.specs.Tools.{Makes, Refuses, HasRead, ReadsNot, HasWritten, ReadsWith, RanTool, TellsSmallLine, WritesWith};
+ghost use Rattle.d64_tool_job.specs.Tools.{Makes, Refuses, HasRead, ReadsNot, HasWritten, ReadsWith, RanTool, TellsSmallLine, WritesWith, start_of};
 
 use cbm_text::{BasicFault, ListFault, crunch, list};
 use d64_script::input::InputStream;
@@ -109,6 +109,16 @@ impl Tool {
         match output.write(&made) {
             Ok(()) => Ok(()),
             Err(_) => Err(ToolFault::Write),
+        }
+    }
+
+    /// The address at which a program is loaded that the tool makes; `petcat` makes none.
+    pub(crate) fn start(self) -> u16
+        ensures { result ≡ start_of self }
+    {
+        match self {
+            Tool::Petcat => 0,
+            Tool::Crunch { start } => start,
         }
     }
 
