@@ -2,6 +2,7 @@ pub mod Acts
 pub mod BasicActs
 pub mod TextArguments
 pub mod LastParts
+mod LoneCommands
 pub mod AsciiTexts
 pub mod FoundFiles
 pub mod HeldAnswers

@@ -1,5 +1,5 @@
 -- What each line of a script asks for.
-use Rattle.std.specs.Prelude.{◌≡◌, ℕ, nat_lt, List, [], ◌∷◌, length, true, ◌+◌, ◌==◌, if◌then◌else◌, Option, None, Some, MatchOption, ok_or, find, codes}
+use Rattle.std.specs.Prelude.{◌≡◌, ℕ, nat_lt, List, [], ◌∷◌, ◌++◌, map, length, true, ◌+◌, ◌==◌, if◌then◌else◌, Option, None, Some, MatchOption, ok_or, find, codes}
 use Rattle.d64_image.specs.Disk.{Bytes}
 use Rattle.std.specs.Option.{option_map_or}
 use Rattle.std.specs.Str.{bytes_eq}
@@ -230,34 +230,66 @@ write_act history (host, word) = do
   bytes ← ask (Fetch source host_file_limit)
   run history (changes.Write name file.1 bytes)
 
--- the commands: of each its word, how many words follow it, and what they ask for
-abbrev pub commands : Bytes → History → List Bytes → List (Bytes × Act Ending)
-commands home history words =
+-- the commands that take no arguments: of each its name, and what it asks for
+abbrev pub lone_commands : History → List (Bytes × Act Ending)
+lone_commands history =
+    (codes "history", history_act history)
+    ∷ (codes "list", list_act history)
+    ∷ (codes "quit", quit_act history)
+    ∷ (codes "redo", redo_act history)
+    ∷ (codes "undo", undo_act history)
+    ∷ (codes "validate", validate_act history)
+    ∷ []
+
+-- an act of a command that takes no arguments
+abbrev pub after_no_word : List Bytes → Act Ending → Act Ending
+after_no_word words act = no_word words >> act
+
+-- the others that have no use for the host: of each its name, how many arguments follow it, and
+-- what they ask for
+abbrev pub disk_commands : History → List Bytes → List (Bytes × Act Ending)
+disk_commands history words =
     (codes "block", word_and one_word words >>= block_act history)
-    ∷ (codes "bread", word_and (word_and one_word) words >>= block_read_act history)
-    ∷ (codes "bwrite", word_and (word_and one_word) words >>= block_write_act history)
-    ∷ (codes "crunch", word_and at_most_one words >>= crunch_act history)
     ∷ (codes "delete", some_words words >>= delete_act history)
     ∷ (codes "format", one_word words >>= format_act history)
-    ∷ (codes "history", no_word words >> history_act history)
-    ∷ (codes "keep", one_word words >>= keep_act history)
-    ∷ (codes "list", no_word words >> list_act history)
     ∷ (codes "petcat", one_word words >>= petcat_act history)
-    ∷ (codes "quit", no_word words >> quit_act history)
-    ∷ (codes "read", word_and at_most_one words >>= read_act history)
-    ∷ (codes "redo", no_word words >> redo_act history)
     ∷ (codes "rename", word_and one_word words >>= rename_act history)
-    ∷ (codes "save", at_most_one words >>= save_act home history)
-    ∷ (codes "undo", no_word words >> undo_act history)
-    ∷ (codes "validate", no_word words >> validate_act history)
+    ∷ []
+
+-- those that take a file from the host to the disk or back
+abbrev pub file_commands : History → List Bytes → List (Bytes × Act Ending)
+file_commands history words =
+    (codes "crunch", word_and at_most_one words >>= crunch_act history)
+    ∷ (codes "read", word_and at_most_one words >>= read_act history)
     ∷ (codes "write", word_and at_most_one words >>= write_act history)
     ∷ []
+
+-- those that fetch or store a block, the image or the session
+abbrev pub host_commands : Bytes → History → List Bytes → List (Bytes × Act Ending)
+host_commands home history words =
+    (codes "bread", word_and (word_and one_word) words >>= block_read_act history)
+    ∷ (codes "bwrite", word_and (word_and one_word) words >>= block_write_act history)
+    ∷ (codes "keep", one_word words >>= keep_act history)
+    ∷ (codes "save", at_most_one words >>= save_act home history)
+    ∷ []
+
+-- all commands
+abbrev pub commands : Bytes → History → List Bytes → List (Bytes × Act Ending)
+commands home history words =
+    map (λ row. (row.0, after_no_word words row.1)) (lone_commands history) ++ disk_commands history words ++ file_commands history words ++ host_commands home history words
+
+-- the row of a command in a table
+abbrev pub row_of : Bytes → List (Bytes × Act Ending) → Option (Bytes × Act Ending)
+row_of command rows = find (λ row. bytes_eq command row.0) rows
+
+-- what a command of a table asks for
+abbrev pub act_in : List (Bytes × Act Ending) → Bytes → Act Ending
+act_in rows command = option_map_or (λ row. row.1) (row_of command rows) (Refuse UnknownCommand)
 
 -- what a line's words ask for
 abbrev pub act_of_words : Bytes → History → List Bytes → Act Ending
 act_of_words home history [] = Refuse UnknownCommand
-act_of_words home history (first ∷ words) =
-    option_map_or (λ row. row.1) (find (λ row. bytes_eq first row.0) (commands home history words)) (Refuse UnknownCommand)
+act_of_words home history (first ∷ words) = act_in (commands home history words) first
 
 -- what the text of a line asks for
 abbrev pub act_of_text : Bytes → History → Bytes → Act Ending

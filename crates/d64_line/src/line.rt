@@ -1,9 +1,10 @@
 //! A line of a script as a value, made from its words.
-ghost use Rattle.std.specs.Prelude.{◌≡◌, map, option_map};
+ghost use Rattle.std.specs.Prelude.{◌≡◌, ◌++◌, map, option_map};
 ghost use Rattle.d64_image.specs.Disk.{Bytes};
 ghost use Rattle.d64_undo.specs.History.{History};
-ghost use Rattle.d64_line.specs.LineValue.{words_or_refusal};
-ghost use Rattle.d64_line.specs.WordCounts.{no_word, one_word, at_most_one, word_and, some_words};
+ghost use Rattle.d64_line.specs.Line.{act_in, row_of, after_no_word, lone_commands, disk_commands, file_commands, host_commands};
+ghost use Rattle.d64_line.specs.LineValue.{act_of, act_of_result, words_or_refusal};
+ghost use Rattle.d64_line.specs.WordCounts.{one_word, at_most_one, word_and, some_words};
 
 use d64_script::status::Status;
 use d64_script::words::MAX_WORDS;
@@ -84,7 +85,6 @@ pub(crate) enum Line<'a> {
 
 impl<'a> Line<'a> {
     ghost use Rattle.d64_line.specs.Line.{act_of_words};
-    ghost use Rattle.d64_line.specs.LineValue.{act_of_result};
 
     /// What the words of a line ask for. The first stands for a command, in small letters, and then
     /// so many follow as that takes.
@@ -94,45 +94,119 @@ impl<'a> Line<'a> {
         let Some((command, words)) = words.split_first() else {
             return Err(Status::UnknownCommand);
         };
-        match *command {
-            "block" => two_words(words).map(|(track, sector)| Line::Block { track, sector }),
-            "bread" => three_words(words).map(|(host, track, sector)| Line::BlockRead {
-                host,
-                track,
-                sector,
-            }),
-            "bwrite" => three_words(words).map(|(host, track, sector)| Line::BlockWrite {
-                host,
-                track,
-                sector,
-            }),
-            "crunch" => one_or_two(words).map(|(host, name)| Line::Crunch { host, name }),
-            "delete" => some_words(words).map(|patterns| Line::Delete { patterns }),
-            "format" => one_word(words).map(|name_and_id| Line::Format { name_and_id }),
-            "history" => no_word(words).map(|()| Line::ListHistory),
-            "keep" => one_word(words).map(|host| Line::Keep { host }),
-            "list" => no_word(words).map(|()| Line::ListDirectory),
-            "petcat" => one_word(words).map(|name| Line::Petcat { name }),
-            "quit" => no_word(words).map(|()| Line::Quit),
-            "read" => one_or_two(words).map(|(name, host)| Line::Read { name, host }),
-            "redo" => no_word(words).map(|()| Line::Redo),
-            "rename" => two_words(words).map(|(old, new)| Line::Rename { old, new }),
-            "save" => at_most_one(words).map(|host| Line::Save { host }),
-            "undo" => no_word(words).map(|()| Line::Undo),
-            "validate" => no_word(words).map(|()| Line::Validate),
-            "write" => one_or_two(words).map(|(host, name)| Line::Write { host, name }),
-            _ => Err(Status::UnknownCommand),
+        match alone(command) {
+            Some(line) => with_no_word(line, words),
+            None => on_the_disk(command, words),
         }
     }
 }
 
-/// No word.
-fn no_word(words: &[&str]) -> Result<(), Status>
-    ensures { words_or_refusal (λ _. tt) result ≡ no_word (map (λ word. word.now) words.now) }
+/// What a command asks for that takes no arguments.
+fn alone<'a>(command: &str) -> Option<Line<'a>>
+    ensures { (home : Bytes) (history : History) → option_map (act_of home history) result ≡ option_map (λ row. row.1) (row_of command.now (lone_commands history)) }
+{
+    match command {
+        "history" => Some(Line::ListHistory),
+        "list" => Some(Line::ListDirectory),
+        "quit" => Some(Line::Quit),
+        "redo" => Some(Line::Redo),
+        "undo" => Some(Line::Undo),
+        "validate" => Some(Line::Validate),
+        _ => None,
+    }
+}
+
+/// A line whose command takes no arguments.
+fn with_no_word<'a>(line: Line<'a>, words: &[&str]) -> Result<Line<'a>, Status>
+    ensures { (home : Bytes) (history : History) → act_of_result home history result ≡ after_no_word (map (λ word. word.now) words.now) (act_of home history line.entry) }
 {
     match words {
-        [] => Ok(()),
+        [] => Ok(line),
         _ => Err(Status::SyntaxError),
+    }
+}
+
+/// What a command with arguments asks for that has no use for the host, or else one of those below.
+fn on_the_disk<'a>(command: &str, words: &'a [&'a str]) -> Result<Line<'a>, Status>
+    ensures { (home : Bytes) (history : History) → act_of_result home history result ≡ act_in (disk_commands history (map (λ word. word.now) words.now) ++ file_commands history (map (λ word. word.now) words.now) ++ host_commands home history (map (λ word. word.now) words.now)) command.now }
+{
+    match command {
+        "block" => match two_words(words) {
+            Ok((track, sector)) => Ok(Line::Block { track, sector }),
+            Err(status) => Err(status),
+        },
+        "delete" => match some_words(words) {
+            Ok(patterns) => Ok(Line::Delete { patterns }),
+            Err(status) => Err(status),
+        },
+        "format" => match one_word(words) {
+            Ok(name_and_id) => Ok(Line::Format { name_and_id }),
+            Err(status) => Err(status),
+        },
+        "petcat" => match one_word(words) {
+            Ok(name) => Ok(Line::Petcat { name }),
+            Err(status) => Err(status),
+        },
+        "rename" => match two_words(words) {
+            Ok((old, new)) => Ok(Line::Rename { old, new }),
+            Err(status) => Err(status),
+        },
+        _ => with_a_file(command, words),
+    }
+}
+
+/// What a command asks for that takes a file from the host to the disk or back, or else one of
+/// those below.
+fn with_a_file<'a>(command: &str, words: &[&'a str]) -> Result<Line<'a>, Status>
+    ensures { (home : Bytes) (history : History) → act_of_result home history result ≡ act_in (file_commands history (map (λ word. word.now) words.now) ++ host_commands home history (map (λ word. word.now) words.now)) command.now }
+{
+    match command {
+        "crunch" => match one_or_two(words) {
+            Ok((host, name)) => Ok(Line::Crunch { host, name }),
+            Err(status) => Err(status),
+        },
+        "read" => match one_or_two(words) {
+            Ok((name, host)) => Ok(Line::Read { name, host }),
+            Err(status) => Err(status),
+        },
+        "write" => match one_or_two(words) {
+            Ok((host, name)) => Ok(Line::Write { host, name }),
+            Err(status) => Err(status),
+        },
+        _ => with_the_host(command, words),
+    }
+}
+
+/// What a command asks for that fetches or stores a block, the image or the session.
+fn with_the_host<'a>(command: &str, words: &[&'a str]) -> Result<Line<'a>, Status>
+    ensures { (home : Bytes) (history : History) → act_of_result home history result ≡ act_in (host_commands home history (map (λ word. word.now) words.now)) command.now }
+{
+    match command {
+        "bread" => match three_words(words) {
+            Ok((host, track, sector)) => Ok(Line::BlockRead {
+                host,
+                track,
+                sector,
+            }),
+            Err(status) => Err(status),
+        },
+        "bwrite" => match three_words(words) {
+            Ok((host, track, sector)) => Ok(Line::BlockWrite {
+                host,
+                track,
+                sector,
+            }),
+            Err(status) => Err(status),
+        },
+        "keep" => match one_word(words) {
+            Ok(host) => Ok(Line::Keep { host }),
+            Err(status) => Err(status),
+        },
+        "save" => match at_most_one(words) {
+            Ok(host) => Ok(Line::Save { host }),
+            Err(status) => Err(status),
+        },
+        _ => Err(Status::UnknownCommand),
     }
 }
 

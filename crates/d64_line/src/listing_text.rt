@@ -45,16 +45,28 @@ fn push_header(alloc: Global, text: &mut Vec<u8>, listing: &Listing) -> Result<(
     ensures { OnOk result (text.new.items ≡ text.old.items ++ header_line (shown_listing listing.now)) }
 {
     text.extend_from_slice(b"0 \"")?;
-    push_padded(
-        text,
-        to_text(alloc, listing.name.as_slice())?.as_slice(),
-        DISK_NAME_PLACES,
-    )?;
+    push_disk_name(alloc, text, listing.name.as_slice())?;
     text.extend_from_slice(b"\" ")?;
-    text.extend_from_slice(to_text(alloc, listing.id.as_slice())?.as_slice())?;
+    push_text_form(alloc, text, listing.id.as_slice())?;
     text.extend_from_slice(b" ")?;
-    text.extend_from_slice(to_text(alloc, listing.dos.as_slice())?.as_slice())?;
+    push_text_form(alloc, text, listing.dos.as_slice())?;
     text.extend_from_slice(b"\n")
+}
+
+/// Adds the text form of the disk's name, filled up to its places.
+fn push_disk_name(alloc: Global, text: &mut Vec<u8>, name: &[u8]) -> Result<(), AllocError>
+    ensures { OnOk result (text.new.items ≡ text.old.items ++ padded_text 16 (spelling name.now)) }
+{
+    let name = to_text(alloc, name)?;
+    push_padded(text, name.as_slice(), DISK_NAME_PLACES)
+}
+
+/// Adds the text form of bytes.
+fn push_text_form(alloc: Global, text: &mut Vec<u8>, bytes: &[u8]) -> Result<(), AllocError>
+    ensures { OnOk result (text.new.items ≡ text.old.items ++ spelling bytes.now) }
+{
+    let form = to_text(alloc, bytes)?;
+    text.extend_from_slice(form.as_slice())
 }
 
 /// Adds the line of a file.
@@ -64,15 +76,19 @@ fn push_row(alloc: Global, text: &mut Vec<u8>, row: &Row) -> Result<(), AllocErr
 {
     push_size(text, row.blocks)?;
     text.extend_from_slice(b" ")?;
-    push_padded(
-        text,
-        quoted(alloc, row.name.as_slice())?.as_slice(),
-        FILE_NAME_PLACES,
-    )?;
+    push_file_name(alloc, text, row.name.as_slice())?;
     text.extend_from_slice(closed_mark(row.closed))?;
     text.extend_from_slice(kind_text(row.kind))?;
     text.extend_from_slice(lock_mark(row.locked))?;
     text.extend_from_slice(b"\n")
+}
+
+/// Adds a file's name in text form, between quotes, filled up to its places.
+fn push_file_name(alloc: Global, text: &mut Vec<u8>, name: &[u8]) -> Result<(), AllocError>
+    ensures { OnOk result (text.new.items ≡ text.old.items ++ padded_text 18 (codes "\"" ++ spelling name.now ++ codes "\"")) }
+{
+    let quoted = quoted(alloc, name)?;
+    push_padded(text, quoted.as_slice(), FILE_NAME_PLACES)
 }
 
 /// The text form of a name, between quotes.
@@ -80,7 +96,7 @@ fn quoted(alloc: Global, name: &[u8]) -> Result<Vec<u8>, AllocError>
     ensures { IfOk result (λ text. text.items ≡ codes "\"" ++ spelling name.now ++ codes "\"") }
 {
     let mut text = Vec::from_slice(alloc, b"\"")?;
-    text.extend_from_slice(to_text(alloc, name)?.as_slice())?;
+    push_text_form(alloc, &mut text, name)?;
     text.extend_from_slice(b"\"")?;
     Ok(text)
 }

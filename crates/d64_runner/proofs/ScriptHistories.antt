@@ -183,8 +183,35 @@ commands-lead : (IsOne : Asked → Type 0) (home : List ℕ) (history : History)
     → ((request : Asked) → KeepsDisksSound request → IsOne request) → (first ≡ codes "bwrite" → (request : Asked) → IsOne request)
     → EachLeads IsOne history first (commands home history words)
 commands-lead IsOne home history first words keeps writes =
-    (λ block. after_any IsOne history (word_and one_word words) _
+    (λ list_history. after_any IsOne history (no_word words) _ (λ _ bytes known. inl refl))
+    ⨾ (λ list. after_any IsOne history (no_word words) _
+    (λ _. after_any IsOne history (refuse_by (directory_refusal (present_image history))) _ (λ _ bytes known. inl refl)))
+    ⨾ (λ quit. after_any IsOne history (no_word words) _ (λ _. inl refl))
+    ⨾ (λ redo. after_any IsOne history (no_word words) _ (λ _. redo-leads IsOne history (keeps _ tt)))
+    ⨾ (λ undo. after_any IsOne history (no_word words) _ (λ _. undo-leads IsOne history (keeps _ tt)))
+    ⨾ (λ validate. after_any IsOne history (no_word words) _ (λ _. run-leads IsOne history changes.Validate (keeps _ (refl, tt))))
+    ⨾ (λ block. after_any IsOne history (word_and one_word words) _
     (λ place. after_any IsOne history (value_or_refusal (block_in (present_image history) place.0 place.1)) _ (λ at. inl refl)))
+    ⨾ (λ delete. after_any IsOne history (some_words words) _
+    (λ w. after_any IsOne history (each_text is_pattern w) _
+    (λ patterns. run-leads IsOne history (changes.Delete patterns) (keeps _ (refl, tt)))))
+    ⨾ (λ format. after_any IsOne history (one_word words) _
+    (λ w. after_any IsOne history (value_or_refusal (ok_or (at_comma w) _)) _
+    (λ parts name named id known. run-leads IsOne history (changes.Format name id) (keeps _ (refl, (name-made name named, id-made id known))))))
+    ⨾ (λ petcat. after_any IsOne history (one_word words) _
+    (λ w pattern known. after_any IsOne history (refuse_by (read_refusal (present_image history) pattern)) _ (λ _ listing given. inl refl)))
+    ⨾ (λ rename. after_any IsOne history (word_and one_word words) _
+    (λ w old named new renamed. run-leads IsOne history (changes.Rename old new) (keeps _ (refl, (name-made old named, name-made new renamed)))))
+    ⨾ (λ crunch. after_any IsOne history (word_and at_most_one words) _
+    (λ w. after_any IsOne history (value_or_refusal (host_in w.0)) _
+    (λ source name named text fetched file crunched.
+    run-leads IsOne history (changes.Write name Prg file) (keeps _ (refl, (name-made name named, crunched))))))
+    ⨾ (λ read. after_any IsOne history (word_and at_most_one words) _ (λ w pattern known. read-leads IsOne history pattern w.1))
+    ⨾ (λ write. after_any IsOne history (word_and at_most_one words) _
+    (λ w. after_any IsOne history (value_or_refusal (host_in w.0)) _
+    (λ source. after_any IsOne history (value_or_refusal (name_and_kind_of w.0 w.1)) _
+    (λ file name named bytes fetched.
+    run-leads IsOne history (changes.Write name file.1 bytes) (keeps _ (refl, (name-made name named, fetched)))))))
     ⨾ (λ bread. after_any IsOne history (word_and (word_and one_word) words) _
     (λ w. after_any IsOne history (value_or_refusal (host_in w.0)) _
     (λ name. after_any IsOne history (value_or_refusal (block_in (present_image history) w.1.0 w.1.1)) _ (λ at stored known. inl refl))))
@@ -193,36 +220,9 @@ commands-lead IsOne home history first words keeps writes =
     (λ name. after_any IsOne history (value_or_refusal (block_in (present_image history) w.1.0 w.1.1)) _
     (λ at bytes known. after_any IsOne history (need (length bytes == 256) _) _
     (λ _. run-leads IsOne history (changes.BlockWrite at bytes) (writes bwrite _))))))
-    ⨾ (λ crunch. after_any IsOne history (word_and at_most_one words) _
-    (λ w. after_any IsOne history (value_or_refusal (host_in w.0)) _
-    (λ source name named text fetched file crunched.
-    run-leads IsOne history (changes.Write name Prg file) (keeps _ (refl, (name-made name named, crunched))))))
-    ⨾ (λ delete. after_any IsOne history (some_words words) _
-    (λ w. after_any IsOne history (each_text is_pattern w) _
-    (λ patterns. run-leads IsOne history (changes.Delete patterns) (keeps _ (refl, tt)))))
-    ⨾ (λ format. after_any IsOne history (one_word words) _
-    (λ w. after_any IsOne history (value_or_refusal (ok_or (at_comma w) _)) _
-    (λ parts name named id known. run-leads IsOne history (changes.Format name id) (keeps _ (refl, (name-made name named, id-made id known))))))
-    ⨾ (λ list_history. after_any IsOne history (no_word words) _ (λ _ bytes known. inl refl))
     ⨾ (λ keep. after_any IsOne history (one_word words) _
     (λ w. after_any IsOne history (value_or_refusal (host_in w)) _ (λ name made known stored kept. inl refl)))
-    ⨾ (λ list. after_any IsOne history (no_word words) _
-    (λ _. after_any IsOne history (refuse_by (directory_refusal (present_image history))) _ (λ _ bytes known. inl refl)))
-    ⨾ (λ petcat. after_any IsOne history (one_word words) _
-    (λ w pattern known. after_any IsOne history (refuse_by (read_refusal (present_image history) pattern)) _ (λ _ listing given. inl refl)))
-    ⨾ (λ quit. after_any IsOne history (no_word words) _ (λ _. inl refl))
-    ⨾ (λ read. after_any IsOne history (word_and at_most_one words) _ (λ w pattern known. read-leads IsOne history pattern w.1))
-    ⨾ (λ redo. after_any IsOne history (no_word words) _ (λ _. redo-leads IsOne history (keeps _ tt)))
-    ⨾ (λ rename. after_any IsOne history (word_and one_word words) _
-    (λ w old named new renamed. run-leads IsOne history (changes.Rename old new) (keeps _ (refl, (name-made old named, name-made new renamed)))))
     ⨾ (λ save. after_any IsOne history (at_most_one words) _ (λ w. save-leads IsOne home history w))
-    ⨾ (λ undo. after_any IsOne history (no_word words) _ (λ _. undo-leads IsOne history (keeps _ tt)))
-    ⨾ (λ validate. after_any IsOne history (no_word words) _ (λ _. run-leads IsOne history changes.Validate (keeps _ (refl, tt))))
-    ⨾ (λ write. after_any IsOne history (word_and at_most_one words) _
-    (λ w. after_any IsOne history (value_or_refusal (host_in w.0)) _
-    (λ source. after_any IsOne history (value_or_refusal (name_and_kind_of w.0 w.1)) _
-    (λ file name named bytes fetched.
-    run-leads IsOne history (changes.Write name file.1 bytes) (keeps _ (refl, (name-made name named, fetched)))))))
     ⨾ tt
 
 -- a row that has the word, or what comes of those after it
