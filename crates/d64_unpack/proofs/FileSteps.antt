@@ -1,5 +1,7 @@
 -- The files of an image, step by step.
 use Rattle.std.proofs.Common.{◌≡◌, ℕ, Bool, true, false, not, cond, List, [], ◌∷◌, ◌++◌, Option, Some, None, Result, Ok, Err, refl, sym, ap, ap₂, ◌∙◌, subst, append-nil}
+use Rattle.d64_collection.specs.Reasons.{IsWriteReason}
+use Rattle.d64_collection.specs.declared.reason.Reason.{Reason}
 use Rattle.std.specs.Prelude.{is_some, OnOk}
 use Rattle.std.specs.Str.{is_utf8}
 use Rattle.d64_host.specs.Files.{HostState}
@@ -13,10 +15,11 @@ use Rattle.d64_listing.specs.Files.{after_rows}
 use Rattle.d64_listing.specs.Extracts.{printed_file}
 use Rattle.d64_unpack.specs.Setup.{TaskView}
 use Rattle.d64_unpack.specs.Paths.{path_in}
-use Rattle.d64_unpack.specs.Progress.{Progress, portion_of, host_name, told_progress, spent_progress, named_progress, tried_progress}
+use Rattle.d64_unpack.specs.Progress.{Progress, portion_of, host_name, told_progress, spent_progress, named_progress, written_progress, unwritten_progress}
+use Rattle.d64_unpack.specs.declared.list_state.ListState.{ListState}
 use Rattle.d64_unpack.specs.Work.{Work, NewFile, SaysFile, LeadsTo}
-use Rattle.d64_unpack.specs.Unpacking.{closed_progress, write_work, file_work, files_work, list_work}
-use Rattle.d64_unpack.proofs.Steps.{asked}
+use Rattle.d64_unpack.specs.Unpacking.{closed_progress, after_writing, write_work, file_work, wait_work, files_work, list_work}
+use Rattle.d64_unpack.proofs.Steps.{asked, explained, nothing_yet}
 
 -- a test of whether none is there
 is_some_by : (t : Bool) (over : Bool) → over ≡ not t → over ≡ true → t ≡ false
@@ -46,21 +49,32 @@ closed_within task p printed over is_printed is_over is_false =
 -- a file was written, or wasn't
 pub wrote : (task : TaskView) (row : RowView) (file bytes path given : List ℕ) (p : Progress) (rest : Progress → Work) (old now : HostState) (said : Bool)
     → path ≡ path_in task.partial file → given ≡ bytes → SaysFile (is_utf8 path) path given old said now
-    → LeadsTo (write_work task row file bytes p rest) old (rest (tried_progress task row file said p)) now
+    → LeadsTo (write_work task row file bytes p rest) old (after_writing task row file p rest said) now
 wrote task row file bytes path given p rest old now said path_is given_is says =
-    asked (NewFile (path_in task.partial file) bytes) (λ is_written. rest (tried_progress task row file is_written p)) old now said
+    asked (NewFile (path_in task.partial file) bytes) (after_writing task row file p rest) old now said
     (subst (λ (b : List ℕ). SaysFile (is_utf8 (path_in task.partial file)) (path_in task.partial file) b old said now) given_is
     (subst (λ (q : List ℕ). SaysFile (is_utf8 q) q given old said now) path_is says))
 
+pub was_written : (task : TaskView) (row : RowView) (file : List ℕ) (p : Progress) (rest : Progress → Work) (host : HostState) (said : Bool) → said ≡ true
+    → LeadsTo (after_writing task row file p rest said) host (rest (written_progress task row file p)) host
+was_written task row file p rest host said is =
+    subst (λ (s : Bool). LeadsTo (after_writing task row file p rest s) host (rest (written_progress task row file p)) host) (sym is) (nothing_yet (rest (written_progress task row file p)) host)
+
+pub was_not : (task : TaskView) (row : RowView) (file : List ℕ) (p : Progress) (rest : Progress → Work) (host : HostState) (said : Bool) (reason : Option Reason) → said ≡ false → IsWriteReason host.files reason
+    → LeadsTo (after_writing task row file p rest said) host (rest (unwritten_progress task row file reason p)) host
+was_not task row file p rest host said reason is says =
+    subst (λ (s : Bool). LeadsTo (after_writing task row file p rest s) host (rest (unwritten_progress task row file reason p)) host) (sym is)
+    (explained (λ (r : Option Reason). rest (unwritten_progress task row file r p)) host reason says)
+
 -- nothing was written of a file, and that was told
-pub told_none : {A E : Type 0} (result : Result A E) (task : TaskView) (row : RowView) (p : Progress) (left : Option ℕ) (printed lines complaint : List ℕ) (failed : Bool)
+pub told_none : {A E : Type 0} (result : Result A E) (task : TaskView) (row : RowView) (p : Progress) (left : Option ℕ) (printed lines complaint : List ℕ) (list : ListState) (failed : Bool)
     → left ≡ left_after p.left (portion_of task row) → OnOk result (printed ≡ p.printed ++ printed_file task.setup.form task.name row None)
-    → OnOk result (lines ≡ p.lines ++ printed_file Json task.name row None) → complaint ≡ p.complaint → failed ≡ p.has_failed
-    → OnOk result (◌≡◌ {A = Progress} (record { left = left; taken = p.taken; printed = printed; lines = lines; complaint = complaint; has_failed = failed }) (told_progress task row None (spent_progress task row p)))
+    → OnOk result (lines ≡ p.lines ++ printed_file Json task.name row None) → complaint ≡ p.complaint → list ≡ p.list → failed ≡ p.has_failed
+    → OnOk result (◌≡◌ {A = Progress} (record { left = left; taken = p.taken; printed = printed; lines = lines; list = list; complaint = complaint; has_failed = failed }) (told_progress task row None (spent_progress task row p)))
 unfolding told_progress
-told_none (Ok done) task row p left printed lines complaint failed l pr li co fa =
-    λ i. record { left = l i; taken = p.taken; printed = pr i; lines = li i; complaint = co i; has_failed = fa i }
-told_none (Err fault) task row p left printed lines complaint failed l pr li co fa = tt
+told_none (Ok done) task row p left printed lines complaint list failed l pr li co st fa =
+    λ i. record { left = l i; taken = p.taken; printed = pr i; lines = li i; list = st i; complaint = co i; has_failed = fa i }
+told_none (Err fault) task row p left printed lines complaint list failed l pr li co st fa = tt
 
 -- what there is to write is what is written, where this is found of it
 pub file_none : (task : TaskView) (row : RowView) (p : Progress) (portion : Option Portion) (rest : Progress → Work) → None ≡ portion
@@ -86,11 +100,11 @@ portion_same task row with_parts image slot is_parts is_image is_slot =
 
 -- one more file
 pub next_file : (task : TaskView) (row : RowView) (later all : List RowView) (p : Progress) → all ≡ row ∷ later
-    → file_work task row (spent_progress task row p) (portion_within p.left (portion_of task row)) (files_work task later) ≡ files_work task all p
+    → file_work task row (spent_progress task row p) (portion_within p.left (portion_of task row)) (λ (q : Progress). wait_work task q (files_work task later)) ≡ files_work task all p
 unfolding files_work
 next_file task row later all p is = sym (ap (λ (rs : List RowView). files_work task rs p) is)
 
 -- the list of the files has come
-pub all_listed : (task : TaskView) (p q : Progress) → q ≡ closed_progress task p → list_work task q ≡ files_work task [] p
+pub listed_after : (task : TaskView) (p q : Progress) (host : HostState) → q ≡ closed_progress task p → LeadsTo (files_work task [] p) host (list_work task q) host
 unfolding files_work
-all_listed task p q is = ap (list_work task) is
+listed_after task p q host is = subst (λ (r : Progress). LeadsTo (files_work task [] p) host (list_work task r) host) (sym is) (nothing_yet (files_work task [] p) host)

@@ -1,53 +1,79 @@
 -- The folder of an image, step by step.
-use Rattle.std.proofs.Common.{◌≡◌, ℕ, Bool, true, false, not, ◌&&◌, cond, List, sym, ap, subst}
-use Rattle.std.specs.Str.{is_utf8}
+use Rattle.std.proofs.Common.{◌≡◌, ℕ, Bool, true, false, cond, List, Option, sym, ap, subst}
+use Rattle.d64_collection.specs.Reasons.{IsWriteReason}
+use Rattle.d64_collection.specs.declared.reason.Reason.{Reason}
 use Rattle.d64_host.specs.Files.{HostState}
 use Rattle.d64_inventory.specs.Rows.{rows}
 use Rattle.d64_unpack.specs.Setup.{TaskView}
-use Rattle.d64_unpack.specs.Paths.{path_inside}
+use Rattle.d64_unpack.specs.Paths.{path_inside, list_in}
 use Rattle.d64_unpack.specs.Progress.{Progress, first_progress}
-use Rattle.d64_unpack.specs.Work.{Work, Done, Then, Look, NewFolder, NewFile, Rename, Says, SaysFile, LeadsTo}
-use Rattle.d64_unpack.specs.Unpacking.{list_in, list_path, unfinished_answer, finished_answer, unnamed_answer, unmade_answer, present_answer, skipped_answer, name_work, list_work, files_work, folder_work, folders_work, folder_after, present_work, task_work_with}
-use Rattle.d64_unpack.proofs.Steps.{asked}
+use Rattle.d64_unpack.specs.Work.{Work, Done, Then, Why, Look, NewFolder, Rename, Says, LeadsTo}
+use Rattle.d64_unpack.specs.Unpacking.{unfinished_answer, finished_answer, unnamed_answer, unmade_answer, present_answer, skipped_answer, after_naming, name_work, unmade_work, files_work, folder_work, folders_work, folder_after, present_work, task_work_with}
+use Rattle.d64_unpack.proofs.Steps.{asked, explained, further, nothing_yet}
 
 -- something wasn't written, and nothing more is done
-pub not_named : (task : TaskView) (p : Progress) (is_listed : Bool) → (is_listed && not p.has_failed) ≡ false → Done (unfinished_answer task p is_listed) ≡ name_work task p is_listed
+pub not_named : (task : TaskView) (p : Progress) → p.has_failed ≡ true → Done (unfinished_answer p) ≡ name_work task p
 unfolding name_work
-not_named task p is_listed test =
-    sym (ap (λ (t : Bool). cond t (Then (Rename task.partial task.done) (λ is_named. Done (cond is_named (finished_answer task p) (unnamed_answer task p)))) (Done (unfinished_answer task p is_listed))) test)
+not_named task p failed = sym (ap (λ (t : Bool). cond t (Done (unfinished_answer p)) (Then (Rename task.partial task.done) (after_naming task p))) failed)
 
 -- the folder is given its name
-pub renamed : (task : TaskView) (p : Progress) (is_listed : Bool) (old now : HostState) (said : Bool) → (is_listed && not p.has_failed) ≡ true → Says (Rename task.partial task.done) old said now
-    → LeadsTo (name_work task p is_listed) old (Done (cond said (finished_answer task p) (unnamed_answer task p))) now
+pub renamed : (task : TaskView) (p : Progress) (old now : HostState) (said : Bool) → p.has_failed ≡ false → Says (Rename task.partial task.done) old said now
+    → LeadsTo (name_work task p) old (after_naming task p said) now
 unfolding name_work
-renamed task p is_listed old now said test says =
-    subst (λ (t : Bool). LeadsTo (cond t (Then (Rename task.partial task.done) (λ is_named. Done (cond is_named (finished_answer task p) (unnamed_answer task p)))) (Done (unfinished_answer task p is_listed))) old
-    (Done (cond said (finished_answer task p) (unnamed_answer task p))) now) (sym test)
-    (asked (Rename task.partial task.done) (λ is_named. Done (cond is_named (finished_answer task p) (unnamed_answer task p))) old now said says)
+renamed task p old now said unfailed says =
+    subst (λ (t : Bool). LeadsTo (cond t (Done (unfinished_answer p)) (Then (Rename task.partial task.done) (after_naming task p))) old (after_naming task p said) now) (sym unfailed)
+    (asked (Rename task.partial task.done) (after_naming task p) old now said says)
 
--- the list of the files was written, or wasn't
-pub listed : (task : TaskView) (p : Progress) (path lines : List ℕ) (old now : HostState) (said : Bool) → path ≡ list_path task → lines ≡ p.lines → SaysFile (is_utf8 path) path lines old said now
-    → LeadsTo (list_work task p) old (name_work task p said) now
-unfolding list_work
-listed task p path lines old now said is_path is_lines says =
-    asked (NewFile (list_path task) p.lines) (name_work task p) old now said
-    (subst (λ (b : List ℕ). SaysFile (is_utf8 (list_path task)) (list_path task) b old said now) is_lines
-    (subst (λ (q : List ℕ). SaysFile (is_utf8 q) q lines old said now) is_path says))
+-- it has it
+pub named : (task : TaskView) (p : Progress) (host : HostState) (said : Bool) → said ≡ true → LeadsTo (after_naming task p said) host (Done (finished_answer task p)) host
+named task p host said is =
+    subst (λ (s : Bool). LeadsTo (after_naming task p s) host (Done (finished_answer task p)) host) (sym is) (nothing_yet (Done (finished_answer task p)) host)
+
+-- or hasn't
+pub unnamed : (task : TaskView) (p : Progress) (host : HostState) (said : Bool) (reason : Option Reason) → said ≡ false → IsWriteReason host.files reason
+    → LeadsTo (after_naming task p said) host (Done (unnamed_answer task p reason)) host
+unnamed task p host said reason is says =
+    subst (λ (s : Bool). LeadsTo (after_naming task p s) host (Done (unnamed_answer task p reason)) host) (sym is)
+    (explained (λ (r : Option Reason). Done (unnamed_answer task p r)) host reason says)
+
+-- what a folder that cannot be made is called
+abbrev named_folder : TaskView → List ℕ → Bool → List ℕ
+named_folder task path is_there = cond is_there path task.setup.into
+
+-- a folder cannot be made, and it was asked why
+unmade : (task : TaskView) (path into : List ℕ) (host : HostState) (said : Bool) (reason : Option Reason) → into ≡ task.setup.into → Says (Look into) host said host → IsWriteReason host.files reason
+    → LeadsTo (unmade_work task path) host (Done (unmade_answer task (named_folder task path said) reason)) host
+unfolding unmade_work
+unmade task path into host said reason is_into says why =
+    further _ (Why (λ (r : Option Reason). Done (unmade_answer task (named_folder task path said) r))) _ host host host
+    (asked (Look task.setup.into) (λ is_there. Why (λ reason. Done (unmade_answer task (named_folder task path is_there) reason))) host host said
+    (subst (λ (q : List ℕ). Says (Look q) host said host) is_into says))
+    (explained (λ (r : Option Reason). Done (unmade_answer task (named_folder task path said) r)) host reason why)
+
+pub unmade_at : (task : TaskView) (path into : List ℕ) (host : HostState) (said : Bool) (reason : Option Reason) → into ≡ task.setup.into → Says (Look into) host said host → IsWriteReason host.files reason → said ≡ true
+    → LeadsTo (unmade_work task path) host (Done (unmade_answer task path reason)) host
+unmade_at task path into host said reason is_into says why is =
+    subst (λ (s : Bool). LeadsTo (unmade_work task path) host (Done (unmade_answer task (named_folder task path s) reason)) host) is (unmade task path into host said reason is_into says why)
+
+pub unmade_below : (task : TaskView) (path into : List ℕ) (host : HostState) (said : Bool) (reason : Option Reason) → into ≡ task.setup.into → Says (Look into) host said host → IsWriteReason host.files reason → said ≡ false
+    → LeadsTo (unmade_work task path) host (Done (unmade_answer task task.setup.into reason)) host
+unmade_below task path into host said reason is_into says why is =
+    subst (λ (s : Bool). LeadsTo (unmade_work task path) host (Done (unmade_answer task (named_folder task path s) reason)) host) is (unmade task path into host said reason is_into says why)
 
 -- the image's folder was made
 pub made : (task : TaskView) (path : List ℕ) (old now : HostState) (said : Bool) → path ≡ task.partial → Says (NewFolder path) old said now → said ≡ true
     → LeadsTo (folder_work task) old (files_work task (rows task.dump) (first_progress task)) now
 unfolding folder_work
 made task path old now said is_path says is_said =
-    asked (NewFolder task.partial) (λ is_made. cond is_made (files_work task (rows task.dump) (first_progress task)) (Done (unmade_answer task task.partial))) old now true
+    asked (NewFolder task.partial) (λ is_made. cond is_made (files_work task (rows task.dump) (first_progress task)) (unmade_work task task.partial)) old now true
     (subst (λ (s : Bool). Says (NewFolder task.partial) old s now) is_said (subst (λ (q : List ℕ). Says (NewFolder q) old said now) is_path says))
 
 -- or wasn't
 pub not_made : (task : TaskView) (path : List ℕ) (old now : HostState) (said : Bool) → path ≡ task.partial → Says (NewFolder path) old said now → said ≡ false
-    → LeadsTo (folder_work task) old (Done (unmade_answer task task.partial)) now
+    → LeadsTo (folder_work task) old (unmade_work task task.partial) now
 unfolding folder_work
 not_made task path old now said is_path says is_said =
-    asked (NewFolder task.partial) (λ is_made. cond is_made (files_work task (rows task.dump) (first_progress task)) (Done (unmade_answer task task.partial))) old now false
+    asked (NewFolder task.partial) (λ is_made. cond is_made (files_work task (rows task.dump) (first_progress task)) (unmade_work task task.partial)) old now false
     (subst (λ (s : Bool). Says (NewFolder task.partial) old s now) is_said (subst (λ (q : List ℕ). Says (NewFolder q) old said now) is_path says))
 
 -- what comes after the look at the folder that isn't there

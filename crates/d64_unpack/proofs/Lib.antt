@@ -1,7 +1,9 @@
 pub mod Steps
 pub mod FileSteps
+pub mod ListSteps
 pub mod FolderSteps
 pub mod Refusing
 pub mod FolderWork
 pub mod GivenFiles
 pub mod QuietWork
+pub mod WholeList

@@ -1,6 +1,6 @@
 -- Nothing is complained of an image on which the verdict is clean.
-use Rattle.std.proofs.Common.{◌≡◌, ℕ, Bool, true, false, not, cond, List, [], ◌∷◌, ◌++◌, Option, Some, None, refl, sym, ap, ◌∙◌, subst, inl, inr, append-nil}
-use Rattle.std.specs.Prelude.{is_some}
+use Rattle.std.proofs.Common.{◌≡◌, ℕ, Bool, true, false, cond, List, [], ◌∷◌, ◌++◌, Option, Some, None, refl, sym, ap, ◌∙◌, subst, inl, inr, append-nil}
+use Rattle.std.specs.Prelude.{is_some, nat_lt, length}
 use Rattle.std.specs.Str.{is_utf8}
 use Rattle.d64_host.specs.Files.{HostState}
 use Rattle.d64_survey.specs.Dump.{DumpView}
@@ -14,16 +14,20 @@ use Rattle.d64_collection.specs.declared.report.Verdict.TheVariants.{Clean, Amis
 use Rattle.d64_host_names.specs.ImagePlace.{folders_of}
 use Rattle.d64_inventory.specs.ListingAmiss.{is_listing_amiss}
 use Rattle.d64_unpack.specs.Setup.{SetupView, TaskView}
-use Rattle.d64_unpack.specs.Paths.{path_inside, with_slash}
-use Rattle.d64_unpack.specs.Work.{Work, Done, Then, Look, Rename, Does}
-use Rattle.d64_unpack.specs.Progress.{Progress, first_progress, portion_of, host_name, told_progress, spent_progress, named_progress, tried_progress}
-use Rattle.d64_unpack.specs.Unpacking.{unread_answer, skipped_answer, present_answer, finished_answer, unnamed_answer, unfinished_answer, closed_progress, name_work, list_work, file_work, files_work, folder_work, folders_work, folder_after, list_in, present_work, task_work_with, task_of, dump_work, unpacking}
+use Rattle.d64_unpack.specs.Paths.{path_inside, with_slash, list_in, path_in}
+use Rattle.d64_unpack.specs.Work.{Work, Done, Then, Why, Look, Rename, Does}
+use Rattle.d64_unpack.specs.Progress.{Progress, waiting_limit, first_progress, portion_of, host_name, told_progress, spent_progress, named_progress, written_progress, unwritten_progress, failed_at, put_progress, unput_progress, dropped_progress}
+use Rattle.d64_unpack.specs.declared.list_state.ListState.{ListState}
+use Rattle.d64_unpack.specs.declared.list_state.ListState.TheVariants.{New, Begun, GivenUp}
+use Rattle.d64_collection.specs.declared.reason.Reason.{Reason}
+use Rattle.d64_unpack.specs.Unpacking.{unread_answer, skipped_answer, present_answer, unfinished_answer, verdict_on, closed_progress, after_naming, name_work, after_putting, put_work, wait_work, list_work, after_writing, file_work, files_work, unmade_work, folder_work, folders_work, folder_after, present_work, task_work_with, task_of, dump_work, unpacking}
 use Rattle.d64_unpack.specs.UnpackLaws.{CleanIsQuiet}
 
 -- whatever the host says, nothing is complained of where the verdict is clean
 unfoldable IsQuietWork : Work → Type 0
 IsQuietWork (Done answer) = answer.verdict ≡ Clean → answer.complaint ≡ []
 IsQuietWork (Then call next) = (said : Bool) → IsQuietWork (next said)
+IsQuietWork (Why next) = (reason : Option Reason) → IsQuietWork (next reason)
 
 -- then nothing is
 does_quietly : (work : Work) (old new : HostState) (answer : Answer) → IsQuietWork work → Does work old (Some answer) new → answer.verdict ≡ Clean → answer.complaint ≡ []
@@ -34,45 +38,70 @@ does_quietly (Done told) old new answer quiet (same, inl is) clean =
 does_quietly (Done told) old new answer quiet (same, inr is) clean = absurd (let e : Some answer ≡ None = is in cc)
 does_quietly (Then call next) old new answer quiet (inl (said, middle, says, done)) clean = does_quietly (next said) middle new answer (quiet said) done clean
 does_quietly (Then call next) old new answer quiet (inr (same, is)) clean = absurd (let e : Some answer ≡ None = is in cc)
+does_quietly (Why next) old new answer quiet (inl (reason, says, done)) clean = does_quietly (next reason) old new answer (quiet reason) done clean
+does_quietly (Why next) old new answer quiet (inr (same, is)) clean = absurd (let e : Some answer ≡ None = is in cc)
 
 -- nothing is complained of unless a write failed
 abbrev IsQuietSoFar : Progress → Type 0
 IsQuietSoFar p = p.has_failed ≡ false → p.complaint ≡ []
 
--- the folder has its name
-finished_quiet : (task : TaskView) (p : Progress) → p.has_failed ≡ false → IsQuietSoFar p → IsQuietWork (Done (finished_answer task (closed_progress task p)))
-unfolding IsQuietWork closed_progress
-finished_quiet task p unfailed quiet = by_left p.left (p.complaint) (quiet unfailed)
+-- nor then, once all files have come, where the verdict is clean
+abbrev IsQuietEnd : TaskView → Progress → Type 0
+IsQuietEnd task p = p.has_failed ≡ false → verdict_on task p ≡ Clean → p.complaint ≡ []
+
+closed_quiet : (task : TaskView) (p : Progress) → IsQuietSoFar p → IsQuietEnd task (closed_progress task p)
+unfolding closed_progress
+closed_quiet task p quiet = λ unfailed. by_left p.left (p.complaint) (quiet unfailed)
   where
     by_left : (left : Option ℕ) (complaint : List ℕ) → complaint ≡ []
         → (cond (is_some left) (cond (is_listing_amiss task.dump) Amiss Clean) Failed) ≡ Clean → complaint ++ cond (is_some left) [] (too_much_line task.name) ≡ []
     by_left (Some count) complaint none clean = append-nil complaint ∙ none
     by_left None complaint none clean = absurd (let e : Failed ≡ Clean = clean in cc)
 
-named_quiet : (task : TaskView) (p : Progress) (is_listed : Bool) → IsQuietSoFar p → IsQuietWork (name_work task (closed_progress task p) is_listed)
-unfolding name_work closed_progress IsQuietWork
-named_quiet task p false quiet = λ clean. absurd (let e : Failed ≡ Clean = clean in cc)
-named_quiet task p true quiet = by_failure p.has_failed refl
+named_quiet : (task : TaskView) (p : Progress) → IsQuietEnd task p → IsQuietWork (name_work task p)
+unfolding name_work IsQuietWork
+named_quiet task p quiet = by_failure p.has_failed refl
   where
-    by_failure : (failed : Bool) → failed ≡ p.has_failed → IsQuietWork (cond (not failed)
-        (Then (Rename task.partial task.done) (λ is_named. Done (cond is_named (finished_answer task (closed_progress task p)) (unnamed_answer task (closed_progress task p))))) (Done (unfinished_answer task (closed_progress task p) true)))
+    by_failure : (failed : Bool) → failed ≡ p.has_failed → IsQuietWork (cond failed (Done (unfinished_answer p)) (Then (Rename task.partial task.done) (after_naming task p)))
     by_failure true is = λ clean. absurd (let e : Failed ≡ Clean = clean in cc)
     by_failure false is = by_name
       where
-        by_name : (said : Bool) → IsQuietWork (Done (cond said (finished_answer task (closed_progress task p)) (unnamed_answer task (closed_progress task p))))
-        by_name true = finished_quiet task p (sym is) quiet
-        by_name false = λ clean. absurd (let e : Failed ≡ Clean = clean in cc)
+        by_name : (said : Bool) → IsQuietWork (after_naming task p said)
+        by_name true = quiet (sym is)
+        by_name false = λ reason clean. absurd (let e : Failed ≡ Clean = clean in cc)
 
-listed_quiet : (task : TaskView) (p : Progress) → IsQuietSoFar p → IsQuietWork (list_work task (closed_progress task p))
-unfolding list_work IsQuietWork
-listed_quiet task p quiet = λ is_listed. named_quiet task p is_listed quiet
+-- a piece of the list
+put_quiet : (task : TaskView) (state : ListState) (p : Progress) (rest : Progress → Work) → IsQuietWork (rest (put_progress p)) → ((reason : Option Reason) → IsQuietWork (rest (unput_progress task reason p)))
+    → IsQuietWork (rest (dropped_progress p)) → IsQuietWork (put_work state task p rest)
+unfolding put_work IsQuietWork
+put_quiet task New p rest put unput dropped = by_piece
+  where
+    by_piece : (said : Bool) → IsQuietWork (after_putting task p rest said)
+    by_piece true = put
+    by_piece false = unput
+put_quiet task Begun p rest put unput dropped = by_piece
+  where
+    by_piece : (said : Bool) → IsQuietWork (after_putting task p rest said)
+    by_piece true = put
+    by_piece false = unput
+put_quiet task GivenUp p rest put unput dropped = dropped
+
+wait_quiet : (task : TaskView) (p : Progress) (rest : Progress → Work) → IsQuietSoFar p → ((q : Progress) → IsQuietSoFar q → IsQuietWork (rest q)) → IsQuietWork (wait_work task p rest)
+unfolding wait_work
+wait_quiet task p rest quiet later = by_length (nat_lt waiting_limit (length p.lines))
+  where
+    by_length : (is_long : Bool) → IsQuietWork (cond is_long (put_work p.list task p rest) (rest p))
+    by_length true =
+        put_quiet task p.list p rest (later (put_progress p) quiet) (λ reason. later (unput_progress task reason p) (λ unfailed. absurd (let e : true ≡ false = unfailed in cc)))
+        (later (dropped_progress p) quiet)
+    by_length false = later p quiet
+
+listed_quiet : (task : TaskView) (p : Progress) → IsQuietEnd task p → IsQuietWork (list_work task p)
+listed_quiet task p quiet =
+    put_quiet task p.list p (name_work task) (named_quiet task (put_progress p) quiet)
+    (λ reason. named_quiet task (unput_progress task reason p) (λ unfailed. absurd (let e : true ≡ false = unfailed in cc))) (named_quiet task (dropped_progress p) quiet)
 
 -- one more file
-tried_quiet : (task : TaskView) (row : RowView) (file : List ℕ) (said : Bool) (p : Progress) → IsQuietSoFar p → IsQuietSoFar (tried_progress task row file said p)
-unfolding tried_progress told_progress
-tried_quiet task row file true p quiet = quiet
-tried_quiet task row file false p quiet = λ unfailed. absurd (let e : true ≡ false = unfailed in cc)
-
 told_quiet : (task : TaskView) (row : RowView) (path : Option (List ℕ)) (p : Progress) → IsQuietSoFar p → IsQuietSoFar (told_progress task row path p)
 unfolding told_progress
 told_quiet task row path p quiet = quiet
@@ -81,26 +110,39 @@ file_quiet : (task : TaskView) (row : RowView) (p : Progress) (portion : Option 
     → IsQuietWork (file_work task row p portion rest)
 unfolding file_work IsQuietWork
 file_quiet task row p None rest quiet later = later (told_progress task row None p) (told_quiet task row None p quiet)
-file_quiet task row p (Some portion) rest quiet later =
-    let file = host_name p.taken row portion.extent in
-    λ said. later (tried_progress task row file said (named_progress file p)) (tried_quiet task row file said (named_progress file p) quiet)
+file_quiet task row p (Some portion) rest quiet later = by_writing
+  where
+    file : List ℕ
+    file = host_name p.taken row portion.extent
+
+    named : Progress
+    named = named_progress file p
+
+    by_writing : (said : Bool) → IsQuietWork (after_writing task row file named rest said)
+    by_writing true = later (written_progress task row file named) (told_quiet task row (Some (path_in task.done file)) named quiet)
+    by_writing false = λ reason. later (unwritten_progress task row file reason named)
+        (told_quiet task row None (failed_at (path_in task.partial file) reason named) (λ unfailed. absurd (let e : true ≡ false = unfailed in cc)))
 
 files_quiet : (task : TaskView) (rows : List RowView) (p : Progress) → IsQuietSoFar p → IsQuietWork (files_work task rows p)
 unfolding files_work
-files_quiet task [] p quiet = listed_quiet task p quiet
+files_quiet task [] p quiet = listed_quiet task (closed_progress task p) (closed_quiet task p quiet)
 files_quiet task (row ∷ rows) p quiet =
-    file_quiet task row (spent_progress task row p) (portion_within p.left (portion_of task row)) (files_work task rows) quiet (λ q. files_quiet task rows q)
+    file_quiet task row (spent_progress task row p) (portion_within p.left (portion_of task row)) (λ (q : Progress). wait_work task q (files_work task rows)) quiet
+    (λ q is_quiet. wait_quiet task q (files_work task rows) is_quiet (λ r. files_quiet task rows r))
 
 -- the folders, and what is in them
+unmade_quiet : (task : TaskView) (path : List ℕ) → IsQuietWork (unmade_work task path)
+unfolding unmade_work IsQuietWork
+unmade_quiet task path = λ is_there reason clean. absurd (let e : Failed ≡ Clean = clean in cc)
+
 folder_quiet : (task : TaskView) → IsQuietWork (folder_work task)
 unfolding folder_work IsQuietWork
 folder_quiet task true = files_quiet task (rows task.dump) (first_progress task) (λ unfailed. refl)
-folder_quiet task false = λ clean. absurd (let e : Failed ≡ Clean = clean in cc)
+folder_quiet task false = unmade_quiet task task.partial
 
 after_quiet : (task : TaskView) (unmade : Option (List ℕ)) → IsQuietWork (folder_after task unmade)
-unfolding IsQuietWork
 after_quiet task None = folder_quiet task
-after_quiet task (Some path) = λ clean. absurd (let e : Failed ≡ Clean = clean in cc)
+after_quiet task (Some path) = unmade_quiet task path
 
 folders_quiet : (task : TaskView) (place : List ℕ) (folders : List (List ℕ)) → IsQuietWork (folders_work (folder_after task) place folders)
 unfolding folders_work IsQuietWork

@@ -1,11 +1,13 @@
 -- How a work is done, step by step.
-use Rattle.std.proofs.Common.{◌≡◌, Bool, true, false, Some, None, refl, sym, ap, subst, inl, inr, Result, Ok, Err}
+use Rattle.std.proofs.Common.{◌≡◌, Bool, true, false, Option, Some, None, refl, sym, ap, subst, inl, inr, Result, Ok, Err}
 use Rattle.std.specs.Prelude.{OnOk, IfOk, IsErr, MatchResult}
 use Rattle.d64_host.specs.Files.{HostState}
 use Rattle.d64_collection.specs.Answers.{Answer}
+use Rattle.d64_collection.specs.Reasons.{IsWriteReason}
+use Rattle.d64_collection.specs.declared.reason.Reason.{Reason}
 use Rattle.d64_collection.specs.declared.report.Verdict.{Verdict}
 use Rattle.d64_collection.specs.declared.report.AnswerRoom.{AnswerRoom}
-use Rattle.d64_unpack.specs.Work.{Work, Done, Then, Call, Says, Does, LeadsTo, Comes, Ends, answer_in}
+use Rattle.d64_unpack.specs.Work.{Work, Done, Then, Why, Call, Says, Does, LeadsTo, Comes, Ends, answer_in}
 use Rattle.d64_unpack.specs.Progress.{Progress}
 
 -- memory may be wanting before all
@@ -13,6 +15,7 @@ pub stops : (work : Work) (host : HostState) → Does work host None host
 unfolding Does
 stops (Done answer) host = (refl, inr refl)
 stops (Then call next) host = inr (refl, refl)
+stops (Why next) host = inr (refl, refl)
 
 -- what is done comes to its answer
 pub answers : (answer : Answer) (host : HostState) → Does (Done answer) host (Some answer) host
@@ -23,6 +26,11 @@ answers answer host = (refl, inl refl)
 pub asked : (call : Call) (next : Bool → Work) (old now : HostState) (said : Bool) → Says call old said now → LeadsTo (Then call next) old (next said) now
 unfolding Does
 asked call next old now said says = λ given new done. inl (said, now, says, done)
+
+-- it was asked why a call was refused
+pub explained : (next : Option Reason → Work) (host : HostState) (reason : Option Reason) → IsWriteReason host.files reason → LeadsTo (Why next) host (next reason) host
+unfolding Does
+explained next host reason says = λ given new done. inl (reason, says, done)
 
 -- one part of the way after another
 pub further : (work middle rest : Work) (old reached now : HostState) → LeadsTo work old middle reached → LeadsTo middle reached rest now → LeadsTo work old rest now

@@ -9,6 +9,7 @@ progress_of files = record {
   taken = files.taken;
   printed = files.told.printed.items;
   lines = files.told.lines.items;
+  list = files.told.list;
   complaint = files.told.complaint.items;
   has_failed = files.told.has_failed;
 }

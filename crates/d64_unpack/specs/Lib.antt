@@ -5,4 +5,5 @@ pub mod Progress
 pub mod Unpacking
 pub mod FilesNow
 pub mod Conduct
+pub mod ListedLines
 pub mod UnpackLaws

@@ -14,19 +14,29 @@ use Rattle.d64_host_names.specs.TakenNames.{next_name}
 use Rattle.d64_host_names.specs.declared.ending.Ending.{Ending}
 use Rattle.d64_host_names.specs.declared.ending.Ending.TheVariants as endings
 use Rattle.d64_words.specs.declared.asked.Format.TheVariants.{Json}
+use Rattle.d64_collection.specs.Reasons.{with_known_reason}
+use Rattle.d64_collection.specs.declared.reason.Reason.{Reason}
 use Rattle.d64_wording.specs.FaultLines.{unwritten_line}
 use Rattle.d64_listing.specs.Files.{before_rows}
 use Rattle.d64_listing.specs.Extracts.{printed_file}
 use Rattle.d64_unpack.specs.Setup.{TaskView}
-use Rattle.d64_unpack.specs.Paths.{path_in}
+use Rattle.d64_unpack.specs.Paths.{path_in, list_path}
+use Rattle.d64_unpack.specs.declared.list_state.ListState.{ListState}
+use Rattle.d64_unpack.specs.declared.list_state.ListState.TheVariants.{New, Begun, GivenUp}
+
+-- the most bytes of lines of the list of the files that wait to be written
+abbrev pub waiting_limit : ℕ
+waiting_limit = 65536
 
 -- how far it has come: how many bytes later files may have, the host names that are taken, what is
--- printed, the same in JSON, what is complained of, and whether a write failed
+-- printed, the lines of the list of the files that wait to be written, in JSON, how far that list is
+-- written, what is complained of, and whether a write failed
 pub record Progress : Type 0 where
   pub left : Option ℕ
   pub taken : List (List ℕ)
   pub printed : List ℕ
   pub lines : List ℕ
+  pub list : ListState
   pub complaint : List ℕ
   pub has_failed : Bool
 
@@ -37,6 +47,7 @@ first_progress task = record {
   taken = [];
   printed = before_rows task.setup.form task.name task.dump.image;
   lines = [];
+  list = New;
   complaint = [];
   has_failed = false;
 }
@@ -81,11 +92,27 @@ spent_progress task row progress = record progress { left = left_after progress.
 abbrev pub named_progress : List ℕ → Progress → Progress
 named_progress file progress = record progress { taken = progress.taken ++ file ∷ [] }
 
--- a write at a path failed
-abbrev pub failed_at : List ℕ → Progress → Progress
-failed_at path progress = record progress { complaint = progress.complaint ++ unwritten_line path; has_failed = true }
+-- a write at a path failed, for this reason, if one is known
+abbrev pub failed_at : List ℕ → Option Reason → Progress → Progress
+failed_at path reason progress =
+    record progress { complaint = with_known_reason reason (progress.complaint ++ unwritten_line path); has_failed = true }
 
--- a write was tried for the file of a row, whose host name is taken, and went well or not
-unfoldable pub tried_progress : TaskView → RowView → List ℕ → Bool → Progress → Progress
-tried_progress task row file true progress = told_progress task row (Some (path_in task.done file)) progress
-tried_progress task row file false progress = told_progress task row None (failed_at (path_in task.partial file) progress)
+-- the file of a row was written under a host name
+abbrev pub written_progress : TaskView → RowView → List ℕ → Progress → Progress
+written_progress task row file progress = told_progress task row (Some (path_in task.done file)) progress
+
+-- or it could not be
+abbrev pub unwritten_progress : TaskView → RowView → List ℕ → Option Reason → Progress → Progress
+unwritten_progress task row file reason progress = told_progress task row None (failed_at (path_in task.partial file) reason progress)
+
+-- the lines that waited are in the list
+abbrev pub put_progress : Progress → Progress
+put_progress progress = record progress { lines = []; list = Begun }
+
+-- or they could not be put there, and no more of the list is tried
+abbrev pub unput_progress : TaskView → Option Reason → Progress → Progress
+unput_progress task reason progress = record (failed_at (list_path task) reason progress) { lines = []; list = GivenUp }
+
+-- the lines that waited are dropped, since no more of the list is tried
+abbrev pub dropped_progress : Progress → Progress
+dropped_progress progress = record progress { lines = [] }

@@ -3,10 +3,12 @@ use Rattle.std.specs.Prelude.{◌≡◌, ◌⊎◌, ℕ, Bool, true, false, List
 use Rattle.std.specs.FinMap.{contains_key}
 use Rattle.std.specs.Str.{is_utf8}
 use Rattle.d64_host.specs.Files.{Files, HostState}
-use Rattle.d64_host.specs.Folders.{folder_name, with_folder, with_file, with_moved, Looks, Makes, CountsMaking}
+use Rattle.d64_host.specs.Folders.{folder_name, with_folder, with_file, with_moved, Looks, Makes, Extends, CountsMaking}
 use Rattle.d64_host.specs.declared.host.FolderFault.{FolderFault}
 use Rattle.d64_host.specs.declared.host.FolderFault.TheVariants.{Exists, Device}
 use Rattle.d64_collection.specs.Answers.{Answer}
+use Rattle.d64_collection.specs.Reasons.{IsWriteReason}
+use Rattle.d64_collection.specs.declared.reason.Reason.{Reason}
 use Rattle.d64_collection.specs.declared.report.Verdict.{Verdict}
 use Rattle.d64_collection.specs.declared.report.AnswerRoom.{AnswerRoom}
 
@@ -20,14 +22,17 @@ pub data Call : Type 0 where
   NewFolder : List ℕ → Call
   -- a file that is new, with these bytes
   NewFile : List ℕ → List ℕ → Call
+  -- these bytes at the end of a file that is there
+  MoreOfFile : List ℕ → List ℕ → Call
   -- another path for a folder
   Rename : List ℕ → List ℕ → Call
 
 -- what is done: nothing more, and this is answered; or a call comes first, and the rest goes by
--- what it says
+-- what it says; or it is asked why the last call was refused, and the rest goes by the reason
 pub data Work : Type 0 where
   Done : Answer → Work
   Then : Call → (Bool → Work) → Work
+  Why : (Option Reason → Work) → Work
 
 -- a call that makes something new at a path was answered so
 abbrev pub IsTried : (Files → Files) → HostState → List ℕ → Result (Unit {0}) FolderFault → HostState → Type 0
@@ -50,6 +55,13 @@ SaysFile true path bytes old said new =
     (answer : Result (Unit {0}) FolderFault) × IsTried (with_file path bytes) old path answer new × (said ≡ is_ok answer)
 SaysFile false path bytes old said new = (said ≡ false) × (new ≡ old)
 
+-- what is said of more bytes of such a file
+abbrev pub SaysMore : Bool → List ℕ → List ℕ → HostState → Bool → HostState → Type 0
+SaysMore true path bytes old said new =
+    (answer : Result (Unit {0}) FolderFault)
+    × Extends path bytes old.files answer new.files × CountsMaking old.failures new.failures answer × (said ≡ is_ok answer)
+SaysMore false path bytes old said new = (said ≡ false) × (new ≡ old)
+
 -- what a call may say, and what the host shows then
 abbrev pub Says : Call → HostState → Bool → HostState → Type 0
 Says (Look path) old said new = Looks old.files path said × (new ≡ old)
@@ -58,6 +70,7 @@ Says (Folder path) old said new =
 Says (NewFolder path) old said new =
     (answer : Result (Unit {0}) FolderFault) × IsTried (with_folder path) old path answer new × (said ≡ is_ok answer)
 Says (NewFile path bytes) old said new = SaysFile (is_utf8 path) path bytes old said new
+Says (MoreOfFile path bytes) old said new = SaysMore (is_utf8 path) path bytes old said new
 Says (Rename from to) old said new =
     (answer : Result (Unit {0}) FolderFault) × IsTried (with_moved from to) old to answer new × WasFolder old from answer × (said ≡ is_ok answer)
 
@@ -67,6 +80,9 @@ unfoldable pub Does : Work → HostState → Option Answer → HostState → Typ
 Does (Done answer) old given new = (new ≡ old) × ((given ≡ Some answer) ⊎ (given ≡ None))
 Does (Then call next) old given new =
     ((said : Bool) × (middle : HostState) × Says call old said middle × Does (next said) middle given new)
+    ⊎ ((new ≡ old) × (given ≡ None))
+Does (Why next) old given new =
+    ((reason : Option Reason) × IsWriteReason old.files reason × Does (next reason) old given new)
     ⊎ ((new ≡ old) × (given ≡ None))
 
 -- it has come from the begin of one work to that of another: whatever comes of that one from here

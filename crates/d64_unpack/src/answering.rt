@@ -1,14 +1,15 @@
 //! What is answered of an image.
-ghost use Rattle.std.specs.Prelude.{◌≡◌, [], IfOk, is_some, if◌then◌else◌};
+ghost use Rattle.std.specs.Prelude.{◌≡◌, ◌++◌, [], IfOk, OnOk, is_some, if◌then◌else◌};
+ghost use Rattle.d64_wording.specs.FaultLines.{unwritten_line};
 ghost use Rattle.d64_inventory.specs.ListingAmiss.{is_listing_amiss};
 ghost use Rattle.d64_unpack.specs.Work.{answer_in};
 ghost use Rattle.d64_unpack.specs.FilesNow.{progress_of};
+ghost use Rattle.d64_collection.specs.Reasons.{with_known_reason};
 ghost use Rattle.d64_unpack.specs.Unpacking.{refused_answer, unread_answer, wrong_length, present_answer, skipped_answer, unmade_answer, unnamed_answer, unfinished_answer, finished_answer};
 
 use crate::files::Files;
-use crate::paths::put_path;
 use crate::setup::{Setup, Task};
-use d64_collection::{AnswerRoom, Verdict};
+use d64_collection::{AnswerRoom, Reason, Verdict, push_known_reason};
 use d64_extract::Extraction;
 use d64_inventory::is_amiss;
 use d64_listing::{print_error, print_length};
@@ -16,9 +17,6 @@ use d64_report::{IS_THERE, Scratch, UNREAD, UNWRITTEN};
 use d64_wording::{present_line, skipped_line, unread_line, unwritten_line, wrong_length_line};
 use std::alloc::AllocError;
 use std::mem;
-
-/// The name of the list of an image's files, in its folder.
-pub(crate) const LIST_NAME: &[u8] = b"files.jsonl";
 
 /// Takes what is printed out of a room, and nothing of it.
 fn emptied(scratch: &Scratch, room: &mut AnswerRoom) -> Vec<u8>
@@ -99,30 +97,44 @@ pub(crate) fn tell_skipped(task: &Task, room: &mut AnswerRoom) -> Result<Verdict
     Ok(Verdict::Clean)
 }
 
-/// Answers that a folder cannot be made at a path.
+/// Adds the line of a path that cannot be written, with the reason behind it, if one is known.
+pub(crate) fn add_unwritten(
+    complaint: &mut Vec<u8>,
+    path: &[u8],
+    reason: Option<Reason>,
+) -> Result<(), AllocError>
+    ensures { OnOk result (complaint.new.items ≡ with_known_reason reason (complaint.old.items ++ unwritten_line path.now)) }
+{
+    unwritten_line(complaint, path)?;
+    push_known_reason(complaint, reason)
+}
+
+/// Answers that a folder cannot be made at a path, for this reason, if one is known.
 pub(crate) fn tell_unmade(
     task: &Task,
     scratch: &mut Scratch,
     path: &str,
+    reason: Option<Reason>,
     room: &mut AnswerRoom,
 ) -> Result<Verdict, AllocError>
-    ensures { IfOk result (λ verdict. answer_in room.new verdict ≡ unmade_answer task.now path.now) }
+    ensures { IfOk result (λ verdict. answer_in room.new verdict ≡ unmade_answer task.now path.now reason) }
 {
     room.complaint.clear();
-    unwritten_line(&mut room.complaint, path.as_bytes())?;
+    add_unwritten(&mut room.complaint, path.as_bytes(), reason)?;
     refuse(task.setup, scratch, task.name.as_bytes(), UNWRITTEN, room)
 }
 
-/// Answers that the folder of an image doesn't get its name, after what was complained of its
-/// files.
+/// Answers that the folder of an image doesn't get its name, for this reason, if one is known, after
+/// what was complained of its files.
 pub(crate) fn tell_unnamed(
     task: &Task,
+    reason: Option<Reason>,
     files: &mut Files,
     room: &mut AnswerRoom,
 ) -> Result<Verdict, AllocError>
-    ensures { IfOk result (λ verdict. answer_in room.new verdict ≡ unnamed_answer task.now (progress_of files.old)) }
+    ensures { IfOk result (λ verdict. answer_in room.new verdict ≡ unnamed_answer task.now (progress_of files.old) reason) }
 {
-    unwritten_line(&mut files.told.complaint, task.done.as_bytes())?;
+    add_unwritten(&mut files.told.complaint, task.done.as_bytes(), reason)?;
     mem::swap(&mut room.complaint, &mut files.told.complaint);
     refuse(
         task.setup,
@@ -167,18 +179,9 @@ pub(crate) fn tell_finished(task: &Task, files: &mut Files, room: &mut AnswerRoo
 
 /// Answers that the folder of an image keeps the name that it has, since something wasn't written:
 /// the list of its files, or a file.
-pub(crate) fn tell_unfinished(
-    task: &Task,
-    is_listed: bool,
-    files: &mut Files,
-    room: &mut AnswerRoom,
-) -> Result<Verdict, AllocError>
-    ensures { IfOk result (λ verdict. answer_in room.new verdict ≡ unfinished_answer task.now (progress_of files.old) is_listed) }
+pub(crate) fn tell_unfinished(files: &mut Files, room: &mut AnswerRoom) -> Verdict
+    ensures { answer_in room.new result ≡ unfinished_answer (progress_of files.old) }
 {
-    if !is_listed {
-        put_path(&mut files.path, &task.partial, LIST_NAME)?;
-        unwritten_line(&mut files.told.complaint, &files.path)?;
-    }
     tell_files(files, room);
-    Ok(Verdict::Failed)
+    Verdict::Failed
 }

@@ -1,7 +1,9 @@
 //! The calls that are made of the host.
 ghost use Rattle.std.specs.Prelude.{◌≡◌};
-ghost use Rattle.d64_unpack.specs.Work.{Says, Look, Folder, NewFolder, NewFile, Rename};
+ghost use Rattle.d64_collection.specs.Reasons.{IsWriteReason};
+ghost use Rattle.d64_unpack.specs.Work.{Says, Look, Folder, NewFolder, NewFile, MoreOfFile, Rename};
 
+use d64_collection::{Reason, reason_unwritten};
 use d64_host::{FolderFault, Host};
 
 /// Whether something is there at a path.
@@ -36,6 +38,26 @@ pub(crate) fn make_file<H: Host>(host: &mut H, path: &[u8], bytes: &[u8]) -> boo
     match str::from_utf8(path) {
         Ok(path) => host.make_file(path, bytes).is_ok(),
         Err(_) => false,
+    }
+}
+
+/// Adds these bytes at the end of a file that is there, and says whether they could be added.
+pub(crate) fn extend_file<H: Host>(host: &mut H, path: &[u8], bytes: &[u8]) -> bool
+    ensures { Says (MoreOfFile path.now bytes.now) (H.state host.old) result (H.state host.new) }
+{
+    match str::from_utf8(path) {
+        Ok(path) => host.extend_file(path, bytes).is_ok(),
+        Err(_) => false,
+    }
+}
+
+/// Why the last call, which was refused, could not be done at this path, as far as the host can say.
+pub(crate) fn reason_at<H: Host>(host: &H, path: &[u8]) -> Option<Reason>
+    ensures { IsWriteReason (H.state host.now).files result }
+{
+    match str::from_utf8(path) {
+        Ok(path) => reason_unwritten(host, path),
+        Err(_) => None,
     }
 }
 

@@ -1,18 +1,22 @@
 //! The files of an image, one after another.
-ghost use Rattle.std.specs.Prelude.{◌≡◌, ◌∷◌, [], ◌++◌, ℕ, List, Option, Some, None, OnOk};
+ghost use Rattle.std.specs.Prelude.{◌≡◌, ◌∷◌, [], ◌++◌, ℕ, List, Option, Some, None, OnOk, if◌then◌else◌};
 ghost use Rattle.petscii.specs.Spelling.{spelling};
 ghost use Rattle.d64_inventory.specs.Rows.{rows};
 ghost use Rattle.d64_extract.specs.Limits.{portion_within};
 ghost use Rattle.d64_unpack.specs.Work.{Work, Comes};
-ghost use Rattle.d64_unpack.specs.Progress.{Progress, first_progress, portion_of, host_name, spent_progress, tried_progress};
+ghost use Rattle.d64_unpack.specs.Progress.{Progress, waiting_limit, first_progress, portion_of, host_name, spent_progress, written_progress, unwritten_progress, put_progress};
 ghost use Rattle.d64_unpack.specs.FilesNow.{progress_of};
-ghost use Rattle.d64_unpack.specs.Unpacking.{write_work, file_work, files_work, list_work, closed_progress};
+ghost use Rattle.d64_unpack.specs.Setup.{TaskView};
+ghost use Rattle.d64_unpack.specs.Paths.{list_path};
+ghost use Rattle.d64_unpack.specs.Unpacking.{after_putting, write_work, file_work, files_work, wait_work, put_work, closed_progress};
 
-use crate::calls::make_file;
+use crate::calls::{extend_file, make_file, reason_at};
 use crate::ending::{ending_by, is_part};
+use crate::list_state::ListState;
 use crate::paths::put_path;
 use crate::setup::Task;
 use crate::telling::Told;
+use d64_collection::Reason;
 use d64_extract::{Extent, Extraction};
 use d64_files::{SlotNo, name_in};
 use d64_host::Host;
@@ -22,6 +26,12 @@ use d64_listing::print_after;
 use d64_wording::too_much_line;
 use petscii::push_spelling;
 use std::alloc::{AllocError, Global};
+
+/// The name of the list of an image's files, in its folder.
+const LIST_NAME: &[u8] = b"files.jsonl";
+
+/// The most bytes of lines of the list that wait to be written.
+const WAITING_BYTES: usize = 65_536;
 
 /// The files of an image that is unpacked, and what is told of them, in memory that is kept from
 /// image to image.
@@ -79,23 +89,26 @@ impl Files {
         self.told.begin(task)
     }
 
-    /// Tells of a file that was written, or wasn't, under the host name that it got.
-    fn tell_written(
+    /// Tells of a file that was written under the host name that it got.
+    fn tell_written(&mut self, task: &Task, row: &FileRow) -> Result<(), AllocError>
+        ensures { OnOk result (progress_of self.new ≡ written_progress task.now row.now self.old.name.items (progress_of self.old)) }
+    {
+        put_path(&mut self.path, &task.done, &self.name)?;
+        self.told.tell(task, row, Some(&self.path))
+    }
+
+    /// Tells of a file that could not be written under that name, for this reason, if one is known.
+    fn tell_unwritten(
         &mut self,
         task: &Task,
         row: &FileRow,
-        is_written: bool,
+        reason: Option<Reason>,
     ) -> Result<(), AllocError>
-        ensures { OnOk result (progress_of self.new ≡ tried_progress task.now row.now self.old.name.items is_written (progress_of self.old)) }
+        ensures { OnOk result (progress_of self.new ≡ unwritten_progress task.now row.now self.old.name.items reason (progress_of self.old)) }
     {
-        if is_written {
-            put_path(&mut self.path, &task.done, &self.name)?;
-            self.told.tell(task, row, Some(&self.path))
-        } else {
-            put_path(&mut self.path, &task.partial, &self.name)?;
-            self.told.tell_failure(&self.path)?;
-            self.told.tell(task, row, None)
-        }
+        put_path(&mut self.path, &task.partial, &self.name)?;
+        self.told.tell_failure(&self.path, reason)?;
+        self.told.tell(task, row, None)
     }
 
     /// Writes a file whose bytes and host name are known.
@@ -110,8 +123,12 @@ impl Files {
             (rest (progress_of self.new)) (H.state host.new) }
     {
         put_path(&mut self.path, &task.partial, &self.name)?;
-        let is_written = make_file(host, &self.path, &self.bytes);
-        self.tell_written(task, row, is_written)
+        if make_file(host, &self.path, &self.bytes) {
+            self.tell_written(task, row)
+        } else {
+            let reason = reason_at(host, &self.path);
+            self.tell_unwritten(task, row, reason)
+        }
     }
 
     /// Writes the file of a row, if there is something to write.
@@ -140,6 +157,72 @@ impl Files {
         }
     }
 
+    /// Ends a piece of the list that was to be written at the path, and was or wasn't.
+    fn end_piece<H: Host>(&mut self, is_put: bool, host: &H) -> Result<(), AllocError>
+        ensures { (task : TaskView) (rest : Progress → Work) → self.old.path.items ≡ list_path task → Comes result
+            (after_putting task (progress_of self.old) rest is_put) (H.state host.now)
+            (rest (progress_of self.new)) (H.state host.now) }
+    {
+        self.told.lines.clear();
+        if is_put {
+            self.told.list = ListState::Begun;
+            return Ok(());
+        }
+        self.told.list = ListState::GivenUp;
+        let reason = reason_at(host, &self.path);
+        self.told.tell_failure(&self.path, reason)
+    }
+
+    /// Puts the lines that wait into the list of the files, which is made for the first of them.
+    pub(crate) fn put_lines<H: Host>(&mut self, task: &Task, host: &mut H) -> Result<(), AllocError>
+        ensures { (rest : Progress → Work) → Comes result
+            (put_work self.old.told.list task.now (progress_of self.old) rest) (H.state host.old)
+            (rest (progress_of self.new)) (H.state host.new) }
+    {
+        put_path(&mut self.path, &task.partial, LIST_NAME)?;
+        match self.told.list {
+            ListState::New => {
+                let is_put = make_file(host, &self.path, &self.told.lines);
+                self.end_piece(is_put, host)
+            }
+            ListState::Begun => {
+                let is_put = extend_file(host, &self.path, &self.told.lines);
+                self.end_piece(is_put, host)
+            }
+            ListState::GivenUp => {
+                self.told.lines.clear();
+                Ok(())
+            }
+        }
+    }
+
+    /// Puts the lines that wait into the list, once they pass the limit.
+    fn put_long_lines<H: Host>(&mut self, task: &Task, host: &mut H) -> Result<(), AllocError>
+        ensures { (rest : Progress → Work) → Comes result
+            (wait_work task.now (progress_of self.old) rest) (H.state host.old)
+            (rest (progress_of self.new)) (H.state host.new) }
+    {
+        if self.told.lines.len() > WAITING_BYTES {
+            return self.put_lines(task, host);
+        }
+        Ok(())
+    }
+
+    /// Writes the file of a row, and its line, once enough of them wait.
+    fn unpack_row<H: Host>(
+        &mut self,
+        task: &Task,
+        row: &FileRow,
+        host: &mut H,
+    ) -> Result<(), AllocError>
+        ensures { (rest : Progress → Work) → Comes result
+            (file_work task.now row.now (spent_progress task.now row.now (progress_of self.old)) (portion_within self.old.extraction (portion_of task.now row.now)) (λ after. wait_work task.now after rest)) (H.state host.old)
+            (rest (progress_of self.new)) (H.state host.new) }
+    {
+        self.unpack_file(task, row, host)?;
+        self.put_long_lines(task, host)
+    }
+
     /// Writes the files of an image, one after another.
     pub(crate) fn unpack_files<H: Host>(
         &mut self,
@@ -152,7 +235,7 @@ impl Files {
     {
         self.begin(task)?;
         for row in Rows::of(task.all) {
-            self.unpack_file(task, &row, host)?;
+            self.unpack_row(task, &row, host)?;
         }
         Ok(())
     }

@@ -6,6 +6,7 @@ mod calls;
 mod ending;
 mod files;
 mod folders;
+mod list_state;
 mod paths;
 mod setup;
 mod task;

@@ -1,8 +1,7 @@
 //! The paths at which an image is unpacked.
 ghost use Rattle.std.specs.Prelude.{◌≡◌, ◌++◌, map, string_bytes, IfOk, OnOk};
 ghost use Rattle.d64_host_names.specs.ImagePlace.{finished_name, unfinished_name};
-ghost use Rattle.d64_unpack.specs.Paths.{ends_in_slash, path_inside, place_below, path_in};
-ghost use Rattle.d64_unpack.specs.Unpacking.{list_in};
+ghost use Rattle.d64_unpack.specs.Paths.{ends_in_slash, path_inside, place_below, path_in, list_in};
 
 use d64_host_names::ImagePlace;
 use std::alloc::{AllocError, Global};

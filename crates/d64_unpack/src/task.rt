@@ -4,16 +4,15 @@ ghost use Rattle.d64_inventory.specs.Rows.{rows};
 ghost use Rattle.d64_unpack.specs.Paths.{path_inside};
 ghost use Rattle.d64_unpack.specs.Work.{Ends};
 ghost use Rattle.d64_unpack.specs.FilesNow.{progress_of};
-ghost use Rattle.d64_unpack.specs.Unpacking.{name_work, list_work, closed_progress, files_work, folder_work, folders_work, folder_after, present_work, task_work_with};
+ghost use Rattle.d64_unpack.specs.Unpacking.{name_work, unmade_work, folder_work, folders_work, folder_after, present_work, task_work_with};
 
 use crate::answering::{
-    LIST_NAME, tell_finished, tell_present, tell_skipped, tell_unfinished, tell_unmade,
-    tell_unnamed,
+    tell_finished, tell_present, tell_skipped, tell_unfinished, tell_unmade, tell_unnamed,
 };
-use crate::calls::{is_there, make_file, make_folder, rename};
+use crate::calls::{is_there, make_folder, reason_at, rename};
 use crate::files::Files;
 use crate::folders::have_folders;
-use crate::paths::{inside, list_in, put_path};
+use crate::paths::{inside, list_in};
 use crate::setup::Task;
 use d64_collection::{AnswerRoom, Verdict};
 use d64_host::Host;
@@ -23,38 +22,43 @@ impl<'a, 'd> Task<'a, 'd> {
     /// Gives the image's folder its name, where all was written, and answers.
     fn name_folder<H: Host>(
         &self,
-        is_listed: bool,
         files: &mut Files,
         host: &mut H,
         room: &mut AnswerRoom,
     ) -> Result<Verdict, AllocError>
-        ensures { Ends result room.new (name_work self.now (progress_of files.old) is_listed) (H.state host.old) (H.state host.new) }
+        ensures { Ends result room.new (name_work self.now (progress_of files.old)) (H.state host.old) (H.state host.new) }
     {
-        if !is_listed {
-            return tell_unfinished(self, is_listed, files, room);
-        }
         if files.told.has_failed {
-            return tell_unfinished(self, is_listed, files, room);
+            return Ok(tell_unfinished(files, room));
         }
         if rename(host, &self.partial, &self.done) {
             Ok(tell_finished(self, files, room))
         } else {
-            tell_unnamed(self, files, room)
+            let reason = reason_at(host, self.done.as_bytes());
+            tell_unnamed(self, reason, files, room)
         }
     }
 
-    /// Writes the list of the image's files, and ends.
-    fn list_files<H: Host>(
+    /// Answers that a folder cannot be made at a path, or that the one is missing below which all
+    /// goes, and why.
+    fn end_unmade<H: Host>(
         &self,
+        path: &str,
         files: &mut Files,
-        host: &mut H,
+        host: &H,
         room: &mut AnswerRoom,
     ) -> Result<Verdict, AllocError>
-        ensures { Ends result room.new (list_work self.now (progress_of files.old)) (H.state host.old) (H.state host.new) }
+        ensures { Ends result room.new (unmade_work self.now path.now) (H.state host.now) (H.state host.now) }
     {
-        put_path(&mut files.path, &self.partial, LIST_NAME)?;
-        let is_listed = make_file(host, &files.path, &files.told.lines);
-        self.name_folder(is_listed, files, host, room)
+        let setup = self.setup;
+        let is_into_there = is_there(host, &setup.into);
+        let reason = reason_at(host, path.as_bytes());
+        let scratch = &mut files.told.scratch;
+        if is_into_there {
+            tell_unmade(self, scratch, path, reason, room)
+        } else {
+            tell_unmade(self, scratch, &setup.into, reason, room)
+        }
     }
 
     /// Makes the image's folder, and all that is in it.
@@ -67,11 +71,12 @@ impl<'a, 'd> Task<'a, 'd> {
         ensures { Ends result room.new (folder_work self.now) (H.state host.old) (H.state host.new) }
     {
         if !make_folder(host, &self.partial) {
-            return tell_unmade(self, &mut files.told.scratch, &self.partial, room);
+            return self.end_unmade(&self.partial, files, host, room);
         }
         files.unpack_files(self, host)?;
         files.close(self)?;
-        self.list_files(files, host, room)
+        files.put_lines(self, host)?;
+        self.name_folder(files, host, room)
     }
 
     /// Makes the folders in which the image's folder lies, and then that.
@@ -87,7 +92,7 @@ impl<'a, 'd> Task<'a, 'd> {
         let setup = self.setup;
         let start = inside(self.alloc, &setup.into)?;
         match have_folders(host, start, folders)? {
-            Some(path) => tell_unmade(self, &mut files.told.scratch, &path, room),
+            Some(path) => self.end_unmade(&path, files, host, room),
             None => self.unpack_folder(files, host, room),
         }
     }

@@ -4,12 +4,16 @@ ghost use Rattle.d64_listing.specs.Files.{before_rows, after_rows};
 ghost use Rattle.d64_listing.specs.Extracts.{printed_file};
 ghost use Rattle.d64_words.specs.declared.asked.Format.TheVariants.{Json as json_form};
 ghost use Rattle.d64_wording.specs.FaultLines.{unwritten_line};
+ghost use Rattle.d64_collection.specs.Reasons.{with_known_reason};
+ghost use Rattle.d64_unpack.specs.declared.list_state.ListState.TheVariants.{New as not_there};
 
+use crate::answering::add_unwritten;
+use crate::list_state::ListState;
 use crate::setup::Task;
+use d64_collection::Reason;
 use d64_inventory::FileRow;
 use d64_listing::{print_after, print_before, print_file};
 use d64_report::Scratch;
-use d64_wording::unwritten_line;
 use d64_words::Format;
 use std::alloc::{AllocError, Global};
 use std::mem;
@@ -22,8 +26,10 @@ pub(crate) struct Told {
     pub(crate) scratch: Scratch,
     /// What is printed, in the form that is asked for.
     pub(crate) printed: Vec<u8>,
-    /// The lines of the files in JSON.
+    /// The lines of the list of the files that wait to be written, in JSON.
     pub(crate) lines: Vec<u8>,
+    /// How far the list is written.
+    pub(crate) list: ListState,
     /// What goes to the standard error.
     pub(crate) complaint: Vec<u8>,
     /// Whether a write failed.
@@ -38,6 +44,7 @@ impl Told {
             scratch: Scratch::new(alloc),
             printed: Vec::new(alloc),
             lines: Vec::new(alloc),
+            list: ListState::New,
             complaint: Vec::new(alloc),
             has_failed: false,
         }
@@ -47,11 +54,13 @@ impl Told {
     pub(crate) fn begin(&mut self, task: &Task) -> Result<(), AllocError>
         ensures printed { OnOk result (self.new.printed.items ≡ before_rows task.now.setup.form task.now.name task.now.dump.image) }
         ensures lines { OnOk result (self.new.lines.items ≡ []) }
+        ensures list { OnOk result (self.new.list ≡ not_there) }
         ensures complaint { OnOk result (self.new.complaint.items ≡ []) }
         ensures unfailed { OnOk result (self.new.has_failed ≡ false) }
     {
         self.printed.clear();
         self.lines.clear();
+        self.list = ListState::New;
         self.complaint.clear();
         self.has_failed = false;
         let setup = task.setup;
@@ -72,6 +81,7 @@ impl Told {
     ) -> Result<(), AllocError>
         ensures printed { OnOk result (self.new.printed.items ≡ self.old.printed.items ++ printed_file task.now.setup.form task.now.name row.now (option_map (λ p. p.now) path.entry)) }
         ensures lines { OnOk result (self.new.lines.items ≡ self.old.lines.items ++ printed_file json_form task.now.name row.now (option_map (λ p. p.now) path.entry)) }
+        ensures list { self.new.list ≡ self.old.list }
         ensures complaint { self.new.complaint.items ≡ self.old.complaint.items }
         ensures failed { self.new.has_failed ≡ self.old.has_failed }
     {
@@ -85,14 +95,19 @@ impl Told {
         Ok(())
     }
 
-    /// Tells that a write at a path failed.
-    pub(crate) fn tell_failure(&mut self, path: &[u8]) -> Result<(), AllocError>
-        ensures complaint { OnOk result (self.new.complaint.items ≡ self.old.complaint.items ++ unwritten_line path.now) }
+    /// Tells that a write at a path failed, for this reason, if one is known.
+    pub(crate) fn tell_failure(
+        &mut self,
+        path: &[u8],
+        reason: Option<Reason>,
+    ) -> Result<(), AllocError>
+        ensures complaint { OnOk result (self.new.complaint.items ≡ with_known_reason reason (self.old.complaint.items ++ unwritten_line path.now)) }
         ensures failed { self.new.has_failed ≡ true }
         ensures printed { self.new.printed.items ≡ self.old.printed.items }
         ensures lines { self.new.lines.items ≡ self.old.lines.items }
+        ensures list { self.new.list ≡ self.old.list }
     {
         self.has_failed = true;
-        unwritten_line(&mut self.complaint, path)
+        add_unwritten(&mut self.complaint, path, reason)
     }
 }

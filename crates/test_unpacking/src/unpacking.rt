@@ -154,6 +154,7 @@ fn each_call_that_fails_is_told(rt: HostRuntime) -> Result<(), Fail> {
         (7, "out/disks/a/side1.d64.files"),
     ] {
         let mut host = MemoryHost::new(rt.alloc());
+        assert!(rt; host.make_folder("out").is_ok());
         host.fail_at(call);
         let verdict = unpacker.answer(NAME, Some(image.bytes()), &mut host, &mut room)?;
         assert!(rt; verdict == Verdict::Failed);
@@ -161,6 +162,75 @@ fn each_call_that_fails_is_told(rt: HostRuntime) -> Result<(), Fail> {
         assert_eq!(rt; room.complaint.as_slice(), told.as_bytes());
         assert!(rt; !host.is_there("out/disks/a/side1.d64.files"));
         assert!(rt; call < 4 || host.is_there("out/disks/a/side1.d64.files.partial"));
+    }
+    Ok(())
+}
+
+#[test]
+fn a_folder_that_is_missing_is_named(rt: HostRuntime) -> Result<(), Fail> {
+    let image = disk(&rt)?;
+    let mut host = MemoryHost::new(rt.alloc());
+    let mut room = AnswerRoom::new(rt.alloc());
+    host.fail_at(1);
+    let verdict = unpacker(&rt, false)?.answer(NAME, Some(image.bytes()), &mut host, &mut room)?;
+    assert!(rt; verdict == Verdict::Failed);
+    assert_eq!(rt;
+        room.complaint.as_slice(),
+        b"d64sh: out: cannot be written\n".as_slice()
+    );
+    Ok(())
+}
+
+/// How many files the disk has whose list is long.
+const MANY: usize = 30;
+
+/// A disk with many files of one byte.
+fn large_disk(rt: &HostRuntime) -> Result<Image, Fail> {
+    let mut image = Image::zeroed(rt.alloc())?;
+    run(rt, &mut image, &format()?)?;
+    for number in 0..MANY {
+        let name = format!(in rt.alloc(); "{number}")?;
+        run(rt, &mut image, &write(rt, name.as_bytes(), 1)?)?;
+    }
+    Ok(image)
+}
+
+/// How many lines the list of an image's files has in this folder, all of them whole.
+fn listed(host: &MemoryHost, folder: &str) -> usize {
+    match host.file(folder) {
+        Some(bytes) if bytes.last() == Some(&b'\n') => {
+            bytes.iter().filter(|byte| **byte == b'\n').count()
+        }
+        _ => 0,
+    }
+}
+
+#[test]
+fn a_long_list_is_written_piece_by_piece(rt: HostRuntime) -> Result<(), Fail> {
+    let image = large_disk(&rt)?;
+    let name = "n".repeat(rt.alloc(), 3_000)?;
+    let done = format!(in rt.alloc(); "out/{name}.files/files.jsonl")?;
+    let partial = format!(in rt.alloc(); "out/{name}.files.partial/files.jsonl")?;
+    let mut room = AnswerRoom::new(rt.alloc());
+    let mut unpacker = unpacker(&rt, false)?;
+    // Each line has the path twice, in more than 6,000 bytes and fewer than 6,500: eleven pass the
+    // limit. The calls are the folder, eleven files and their lines, eleven more and theirs, the
+    // last eight and theirs, and the folder's name.
+    for (call, lines) in [(0, MANY), (13, 0), (25, 11), (34, 22)] {
+        let mut host = MemoryHost::new(rt.alloc());
+        assert!(rt; host.make_folder("out").is_ok());
+        host.fail_at(call);
+        unpacker.answer(name.as_bytes(), Some(image.bytes()), &mut host, &mut room)?;
+        if call == 0 {
+            assert!(rt; room.complaint.is_empty());
+            assert_eq!(rt; listed(&host, done.as_str()), lines);
+        } else {
+            let told = format!(in rt.alloc(); "d64sh: {partial}: cannot be written\n")?;
+            assert_eq!(rt; room.complaint.as_slice(), told.as_bytes());
+            assert_eq!(rt; listed(&host, partial.as_str()), lines);
+            let last = format!(in rt.alloc(); "out/{name}.files.partial/29.prg")?;
+            assert!(rt; has_sevens(&host, last.as_str(), 1));
+        }
     }
     Ok(())
 }

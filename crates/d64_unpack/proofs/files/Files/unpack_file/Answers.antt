@@ -53,5 +53,5 @@ returns-in-None g c = λ rest.
     ap (option_map (λ (e : Extent). record { bytes = c.next.new.bytes.items; extent = e })) (sym c.in-None.is) ∙ c.in_ok-extent.ensures.written ∙ ap (portion_within left) same in
     let left_is : c.next.new.self ≡ left_after left (portion_of task row) = c.in_ok-extent.ensures.left ∙ ap (left_after left) same in
     comes_to c.tell.result (file_work task row (spent_progress task row p) (portion_within left (portion_of task row)) rest) rest host host _ (told_progress task row None (spent_progress task row p))
-    (told_none c.tell.result task row p c.next.new.self _ _ _ _ left_is c.tell.ensures.printed c.tell.ensures.lines c.tell.ensures.complaint c.tell.ensures.failed)
+    (told_none c.tell.result task row p c.next.new.self _ _ _ _ _ left_is c.tell.ensures.printed c.tell.ensures.lines c.tell.ensures.complaint c.tell.ensures.list c.tell.ensures.failed)
     (subst (λ (w : Work). LeadsTo w host (rest (told_progress task row None (spent_progress task row p))) host) (file_none task row (spent_progress task row p) (portion_within left (portion_of task row)) rest found) (nothing_yet _ host))

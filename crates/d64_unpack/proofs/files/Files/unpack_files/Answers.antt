@@ -16,16 +16,16 @@ loop-row-preserved g c =
     let later = c.next.new.self in
     let step : c.loop-row.row-iterator ≡ row ∷ later = search rules in
     further _ _ _ _ _ _ c.loop-row.invariant
-    (subst (λ (w : Work). LeadsTo w (g.H.Host.state c.loop-row.host) (files_work task later (progress_of c.unpack_file.new.self)) (g.H.Host.state c.unpack_file.new.host))
-    (next_file task row later c.loop-row.row-iterator (progress_of c.loop-row.self) step) (c.in_ok-unpack_file.ensures (files_work task later)))
+    (subst (λ (w : Work). LeadsTo w (g.H.Host.state c.loop-row.host) (files_work task later (progress_of c.unpack_row.new.self)) (g.H.Host.state c.unpack_row.new.host))
+    (next_file task row later c.loop-row.row-iterator (progress_of c.loop-row.self) step) (c.in_ok-unpack_row.ensures (files_work task later)))
 
-pub returns-in_err-unpack_file : goal.returns-in_err-unpack_file
-returns-in_err-unpack_file g c =
+pub returns-in_err-unpack_row : goal.returns-in_err-unpack_row
+returns-in_err-unpack_row g c =
     let task = c.args.task.now in
     let row = c.in-Some.row in
     let later = c.next.new.self in
     let step : c.loop-row.row-iterator ≡ row ∷ later = search rules in
-    comes_not c.from_residual-in_err-unpack_file.result _ _ _ _ c.from_residual-in_err-unpack_file.ensures.0
-    (c.loop-row.invariant None (g.H.Host.state c.unpack_file.new.host)
-    (subst (λ (w : Work). Does w (g.H.Host.state c.loop-row.host) None (g.H.Host.state c.unpack_file.new.host))
-    (next_file task row later c.loop-row.row-iterator (progress_of c.loop-row.self) step) (c.in_err-unpack_file.ensures (files_work task later))))
+    comes_not c.from_residual-in_err-unpack_row.result _ _ _ _ c.from_residual-in_err-unpack_row.ensures.0
+    (c.loop-row.invariant None (g.H.Host.state c.unpack_row.new.host)
+    (subst (λ (w : Work). Does w (g.H.Host.state c.loop-row.host) None (g.H.Host.state c.unpack_row.new.host))
+    (next_file task row later c.loop-row.row-iterator (progress_of c.loop-row.self) step) (c.in_err-unpack_row.ensures (files_work task later))))

@@ -3,7 +3,8 @@ use Rattle.std.specs.Prelude.{IfOk}
 use Rattle.d64_collection.specs.declared.report.Verdict.{Verdict}
 use Rattle.d64_unpack.specs.Setup.{TaskView}
 use Rattle.d64_unpack.specs.Work.{Work, Done, Ends, answer_in}
-use Rattle.d64_unpack.specs.Unpacking.{list_in, present_answer, skipped_answer, present_work}
+use Rattle.d64_unpack.specs.Paths.{list_in}
+use Rattle.d64_unpack.specs.Unpacking.{present_answer, skipped_answer, present_work}
 use Rattle.d64_unpack.proofs.Steps.{stops, ends_after, ends_with, ends_not}
 use Rattle.d64_unpack.proofs.FolderWork.{not_skipped, looked_into}
 use Rattle.d64_unpack.proofs.setup.Task.end_present.Goals as goal

@@ -1,10 +1,8 @@
 use Rattle.std.proofs.Common.{◌≡◌, List, ℕ, Option, ap, ◌∙◌, subst, string_bytes, String, Global}
-use Rattle.std.specs.Prelude.{IfOk}
-use Rattle.d64_collection.specs.declared.report.Verdict.{Verdict}
 use Rattle.d64_unpack.specs.Setup.{SetupView, TaskView}
-use Rattle.d64_unpack.specs.Work.{Done, LeadsTo, answer_in}
-use Rattle.d64_unpack.specs.Unpacking.{unmade_answer, folders_work, folder_after}
-use Rattle.d64_unpack.proofs.Steps.{stops, ends_after, ends_with, ends_not}
+use Rattle.d64_unpack.specs.Work.{Ends, LeadsTo}
+use Rattle.d64_unpack.specs.Unpacking.{unmade_work, folders_work, folder_after}
+use Rattle.d64_unpack.proofs.Steps.{stops, ends_after, ends_not}
 use Rattle.std.specs.Prelude.{option_map}
 use Rattle.d64_unpack.specs.Paths.{path_inside}
 use Rattle.d64_unpack.proofs.FolderSteps.{texts}
@@ -19,14 +17,13 @@ returns-in-Some g c =
     let folders = texts c.args.folders.now in
     let old = g.H.Host.state c.args.host.now in
     let now = g.H.Host.state c.have_folders.new.host in
-    let room = c.tell_unmade.new.room in
+    let room = c.end_unmade.new.room in
     let path = string_bytes c.in-Some.path in
     let start_is : string_bytes c.in_ok-start.start ≡ path_inside task.setup.into =
     c.in_ok-start.ensures
     ∙ ap path_inside (c.deref.ensures ∙ ap (λ (s : SetupView). s.into) c.setup.view_is ∙ ap (λ (t : TaskView). t.setup.into) c.self.view_is) in
-    ends_after c.tell_unmade.result room (folders_work (folder_after task) (path_inside task.setup.into) folders) (Done (unmade_answer task path)) old now now
-    (subst (λ (s : List ℕ). LeadsTo (folders_work (folder_after task) s folders) old (Done (unmade_answer task path)) now) start_is
+    ends_after c.end_unmade.result room (folders_work (folder_after task) (path_inside task.setup.into) folders) (unmade_work task path) old now now
+    (subst (λ (s : List ℕ). LeadsTo (folders_work (folder_after task) s folders) old (unmade_work task path) now) start_is
     (subst (λ (o : Option (String Global)). LeadsTo (folders_work (folder_after task) (string_bytes c.in_ok-start.start) folders) old (folder_after task (option_map string_bytes o)) now) c.in-Some.is
     (c.in_ok-path.ensures (folder_after task))))
-    (ends_with c.tell_unmade.result room (unmade_answer task path) now
-    (subst (λ (q : List ℕ). IfOk c.tell_unmade.result (λ (v : Verdict). answer_in room v ≡ unmade_answer task q)) c.deref-in-Some.ensures c.tell_unmade.ensures))
+    (subst (λ (q : List ℕ). Ends c.end_unmade.result room (unmade_work task q) now now) c.deref-in-Some.ensures c.end_unmade.ensures)

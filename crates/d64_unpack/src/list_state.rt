@@ -1,0 +1,12 @@
+//! How far the list of an image's files is written.
+
+/// How far the list of an image's files is written on the host.
+#[derive(Clone, Copy, Debug, PartialEq, Eq)]
+pub(crate) enum ListState {
+    /// It is not there yet.
+    New,
+    /// A first part of it is there.
+    Begun,
+    /// A part of it could not be written, and no more of it is tried.
+    GivenUp,
+}
