@@ -1,18 +1,21 @@
--- When refused lines are named by their numbers, and the name in the prompt where there is no memory
--- for another.
-use Rattle.std.specs.Prelude.{◌≡◌, ℕ, List, Bool, true, false, ◌⊎◌, Option, codes}
-use Rattle.std.specs.Option.{option_map_or}
+-- When refused lines are named by their numbers, and what comes before what is wrong with one.
+use Rattle.std.specs.Prelude.{◌≡◌, ℕ, Bool, true, false, if◌then◌else◌, ◌⊎◌, codes}
 use Rattle.d64_image.specs.Disk.{Bytes}
+use Rattle.d64_script.specs.RawLines.{is_too_long, text_of}
 use Rattle.d64_runner.specs.declared.manners.Refusals.{Refusals}
 use Rattle.d64_runner.specs.declared.manners.Refusals.TheVariants.{GoOn, Stop}
-use Rattle.d64_advice.specs.LineStart.{IsLineStart}
+use Rattle.d64_advice.specs.LineStart.{line_start}
 
 -- a refused line ends its script
 abbrev pub stops_at_refusal : Refusals → Bool
 stops_at_refusal GoOn = false
 stops_at_refusal Stop = true
 
--- what may come before the words on a line: the program's name alone, or also the line with its
--- number, where lines are named so
-abbrev pub MayStart : Bool → ℕ → Bytes → Type 0
-MayStart is_numbered number start = (start ≡ codes "d64sh: ") ⊎ ((is_numbered ≡ true) × IsLineStart number start)
+-- the text of a raw line that is shown: of one that is too long its first bytes
+abbrev pub named_text : Bytes → Bytes → Bytes
+named_text raw first = if is_too_long raw then first else text_of raw
+
+-- what may come before what is wrong with a line of this number and text: the program's name, or,
+-- where lines are named by their numbers, the line too; without memory for that it is left out
+abbrev pub MayStart : Bool → ℕ → Bytes → Bytes → Type 0
+MayStart is_numbered number text start = (start ≡ codes "d64sh: ") ⊎ ((is_numbered ≡ true) × (start ≡ line_start number text))

@@ -1,6 +1,10 @@
 -- What the numbers of faults stand for.
 use Rattle.std.specs.Prelude.{ℕ, ◌==◌, if◌then◌else◌, codes}
 use Rattle.d64_image.specs.Disk.{Bytes}
+use Rattle.cbm_text.specs.Causes.{cause_words}
+use Rattle.cbm_text.specs.declared.cause.Cause.TheVariants.{NoNumber, NumberTooLarge, TokenByte, ZeroByte, TooLong}
+use Rattle.cbm_text.specs.ListFault.{list_fault_text}
+use Rattle.cbm_text.specs.declared.fault.ListFault.TheVariants.{NoAddress, Truncated}
 
 -- what is wrong with a disk that fails the condition of a number
 abbrev pub condition_text : ℕ → Bytes
@@ -16,17 +20,17 @@ condition_text number =
 -- what is wrong with a BASIC text, by the number of its fault
 abbrev pub basic_fault : ℕ → Bytes
 basic_fault number =
-    if number == 1 then codes "a line begins with its number"
-    else if number == 2 then codes "a line's number is at most 65535"
+    if number == 1 then cause_words NoNumber
+    else if number == 2 then cause_words NumberTooLarge
     else if number == 3 then codes "what follows the number is no text of a program"
-    else if number == 4 then codes "a byte of $80 or more stands outside quotes"
-    else if number == 5 then codes "a line holds a byte $00"
-    else if number == 6 then codes "the line is too long, or the program ends above address 65535"
+    else if number == 4 then cause_words TokenByte
+    else if number == 5 then cause_words ZeroByte
+    else if number == 6 then cause_words TooLong
     else codes "the text is no program"
 
 -- what is wrong with a file that is no BASIC program, by the number of its fault
 abbrev pub list_fault : ℕ → Bytes
 list_fault number =
-    if number == 1 then codes "a program begins with a load address of two bytes"
-    else if number == 2 then codes "the program is cut short"
+    if number == 1 then list_fault_text NoAddress
+    else if number == 2 then list_fault_text Truncated
     else codes "the file is no program"

@@ -1,5 +1,5 @@
 -- What becomes of changes that are not saved where a session is left.
-use Rattle.std.specs.Prelude.{◌≡◌, ◌≢◌, ℕ, List, [], ◌++◌, false, option_map, codes}
+use Rattle.std.specs.Prelude.{◌≡◌, ◌≢◌, [], ◌++◌, false, option_map, codes}
 use Rattle.std.specs.FinMap.{insert}
 use Rattle.d64_image.specs.Disk.{Bytes}
 use Rattle.d64_host.specs.Files.{HostState}

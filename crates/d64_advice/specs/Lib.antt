@@ -3,6 +3,7 @@ pub mod Command
 pub mod Hint
 pub mod Faults
 pub mod Advice
+pub mod TextCause
 pub mod Kept
 pub mod LineStart
 pub mod Prompt

@@ -8,12 +8,13 @@ ghost use Rattle.d64_script.specs.Status.{is_accepted};
 ghost use Rattle.d64_undo.specs.History.{present_image};
 ghost use Rattle.d64_advice.specs.Advice.{advice, advice_words, pieces};
 ghost use Rattle.std.specs.Option.{option_map_or};
-ghost use Rattle.d64_advice.specs.LineStart.{IsLineStart};
-ghost use Rattle.d64_advice.specs.Ear.{MayStart, stops_at_refusal};
+ghost use Rattle.d64_advice.specs.LineStart.{line_start};
+ghost use Rattle.d64_advice.specs.Ear.{MayStart, named_text, stops_at_refusal};
 ghost use Rattle.d64_advice.specs.Kept.{effect_of, is_unsaved, kept_after, kept_in, unsaved_line};
 ghost use Rattle.d64_advice.specs.Leaving.{IsKeptUnder};
 ghost use Rattle.d64_advice.specs.Prompt.{name_in_prompt, prompt};
 ghost use Rattle.d64_advice.specs.Said.{said_by};
+ghost use Rattle.d64_advice.specs.TextCause.{MaySay};
 
 use crate::advice::Advice;
 use crate::command::Command;
@@ -27,6 +28,7 @@ use crate::more::more_about;
 use crate::past::Past;
 use crate::prompt::{prompt_name, write_prompt};
 use crate::said::Said;
+use crate::text_cause::text_line;
 use arrayvec::ArrayVec;
 use d64_host::Host;
 use d64_image::Image;
@@ -144,10 +146,13 @@ impl<'w, W: Write, H: Host> Advisor<'w, W, H> {
         ensures lines { self.new.lines ≡ self.old.lines }
         ensures kept { (raw : List ℕ) → Says line.now raw → self.old.is_typed ≡ true → is_accepted status.now ≡ true → (found : List ℕ) × (self.new.kept ≡ kept_after self.old.kept (effect_of home.now found (said_by raw)) image.now) }
         ensures held { is_accepted status.now ≡ false → self.new.kept ≡ self.old.kept }
-        ensures told { (raw : List ℕ) → Says line.now raw → is_accepted status.now ≡ false → (start : List ℕ) × MayStart self.old.is_numbered self.old.lines start × Writes
+        ensures told { (raw : List ℕ) → Says line.now raw → is_accepted status.now ≡ false → (start words : List ℕ)
+            × MayStart self.old.is_numbered self.old.lines (named_text raw self.old.first_bytes.items) start
+            × MaySay (H.state self.old.host) start (said_by raw) status.now words
+            × Writes
             (account_of (W.contents self.old.output.writer.now) self.old.output.has_failed)
             (account_of (W.contents self.new.output.writer.now) self.new.output.has_failed)
-            (start ++ advice_words (said_by raw) (advice (said_by raw) status.now)) }
+            words }
         ensures silent { is_accepted status.now ≡ true → self.new.output ≡ self.old.output }
     {
         let said = Said::of(line);
@@ -158,9 +163,11 @@ impl<'w, W: Write, H: Host> Advisor<'w, W, H> {
             }
         } else {
             let advice = Advice::of(&said, status);
-            let _ = match self.start_of(line) {
-                Some(start) => write_advice(&mut self.output, start.as_slice(), &said, advice),
-                None => write_advice(&mut self.output, b"d64sh: ", &said, advice),
+            let start = self.start_of(line);
+            let start = bytes_of(&start, b"d64sh: ");
+            let _ = match text_line(self.alloc, &mut self.host, start, said.first, status) {
+                Some(line) => self.output.write(line.as_slice()),
+                None => write_advice(&mut self.output, start, &said, advice),
             };
         }
     }
@@ -173,10 +180,11 @@ impl<'w, W: Write, H: Host> Advisor<'w, W, H> {
             .try_extend_from_slice(&bytes[..bytes.len().min(room)]);
     }
 
-    /// What stands before what is wrong with a line, where the line is named by its number. Of one
-    /// that is too long the first bytes are shown.
+    /// What comes before what is wrong with a line, if lines are named by their numbers. Of one that
+    /// is too long the first bytes are shown.
     fn start_of(&self, line: &HeldLine) -> Option<Vec<u8>>
-        ensures { IfSome result (λ start. (self.now.is_numbered ≡ true) × IsLineStart self.now.lines start.items) }
+        ensures { IfSome result (λ start. (self.now.is_numbered ≡ true)
+            × ((raw : List ℕ) → Says line.now raw → start.items ≡ line_start self.now.lines (named_text raw self.now.first_bytes.items))) }
     {
         if !self.is_numbered {
             return None;

@@ -2,6 +2,8 @@
 ghost use Rattle.std.specs.Prelude.{◌≡◌};
 ghost use Rattle.d64_advice.specs.Faults.{basic_fault, condition_text, list_fault};
 
+use cbm_text::{Cause, ListFault};
+
 /// What is wrong with a disk that fails the condition of this number.
 pub(crate) fn condition_text(number: u8) -> &'static [u8]
     ensures { result.now ≡ condition_text number }
@@ -22,12 +24,12 @@ pub(crate) fn basic_fault(number: u8) -> &'static [u8]
     ensures { result.now ≡ basic_fault number }
 {
     match number {
-        1 => b"a line begins with its number",
-        2 => b"a line's number is at most 65535",
+        1 => Cause::NoNumber.words(),
+        2 => Cause::NumberTooLarge.words(),
         3 => b"what follows the number is no text of a program",
-        4 => b"a byte of $80 or more stands outside quotes",
-        5 => b"a line holds a byte $00",
-        6 => b"the line is too long, or the program ends above address 65535",
+        4 => Cause::TokenByte.words(),
+        5 => Cause::ZeroByte.words(),
+        6 => Cause::TooLong.words(),
         _ => b"the text is no program",
     }
 }
@@ -37,8 +39,8 @@ pub(crate) fn list_fault(number: u8) -> &'static [u8]
     ensures { result.now ≡ list_fault number }
 {
     match number {
-        1 => b"a program begins with a load address of two bytes",
-        2 => b"the program is cut short",
+        1 => ListFault::NoAddress.text().as_bytes(),
+        2 => ListFault::Truncated.text().as_bytes(),
         _ => b"the file is no program",
     }
 }

@@ -17,5 +17,6 @@ mod near;
 mod past;
 mod prompt;
 mod said;
+mod text_cause;
 
 pub use advisor::Advisor;

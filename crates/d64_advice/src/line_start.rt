@@ -1,24 +1,23 @@
-//! What stands before the words on a refused line of a script: its number, and its first
+//! What comes before what is wrong with a refused line of a script: its number, and its first
 //! characters.
-ghost use Rattle.std.specs.Prelude.{◌≡◌, IfOk};
-ghost use Rattle.d64_advice.specs.LineStart.{IsLineStart, shown_line};
+ghost use Rattle.std.specs.Prelude.{◌≡◌, ◌++◌, codes, decimal, IfOk};
+ghost use Rattle.d64_wording.specs.ShownStart.{shown_start};
+ghost use Rattle.d64_advice.specs.LineStart.{line_start, shown_line};
 
-use d64_wording::{push_number, push_shown};
+use d64_wording::{push_number, push_shown, shown_start};
 use std::alloc::{AllocError, Global};
 
-/// How many characters of a line are shown.
-const SHOWN_CHARACTERS: usize = 200;
-
-/// What stands before the words on the line of this number and text.
+/// What comes before what is wrong with the line of this number and text.
+#[tactic(auto, unfolding(crate::specs::LineStart::line_start))]
 pub(crate) fn line_start(alloc: Global, number: usize, text: &[u8]) -> Result<Vec<u8>, AllocError>
-    ensures { IfOk result (λ start. IsLineStart number start.items) }
+    ensures { IfOk result (λ start. start.items ≡ line_start number text.now) }
 {
-    let shown = shown_line(alloc, text)?;
+    let shown = shown_start(alloc, text)?;
     let mut start = Vec::new(alloc);
     start.extend_from_slice(b"d64sh: line ")?;
     push_number(&mut start, number)?;
     start.extend_from_slice(b": ")?;
-    start.extend_from_slice(first_characters(shown.as_slice(), SHOWN_CHARACTERS))?;
+    start.extend_from_slice(shown.as_slice())?;
     start.extend_from_slice(b": ")?;
     Ok(start)
 }
@@ -30,23 +29,4 @@ pub(crate) fn shown_line(alloc: Global, text: &[u8]) -> Result<Vec<u8>, AllocErr
     let mut shown = Vec::new(alloc);
     push_shown(&mut shown, text)?;
     Ok(shown)
-}
-
-/// The first so many characters of a text.
-fn first_characters(text: &[u8], most: usize) -> &[u8] {
-    let mut left = most;
-    for (place, byte) in text.iter().enumerate() {
-        if begins_character(*byte) {
-            if left == 0 {
-                return &text[..place];
-            }
-            left -= 1;
-        }
-    }
-    text
-}
-
-/// Whether a character of UTF-8 begins with this byte.
-fn begins_character(byte: u8) -> bool {
-    byte < 128 || byte >= 192
 }

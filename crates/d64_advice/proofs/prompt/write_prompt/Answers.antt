@@ -1,4 +1,4 @@
-use Rattle.std.proofs.Common.{inr, ap}
+use Rattle.std.proofs.Common.{inr}
 use Rattle.d64_advice.specs.Prompt.{mark}
 use Rattle.d64_advice.proofs.Writings.{AppendsPart-more, Writes-after}
 use Rattle.d64_advice.proofs.prompt.write_prompt.Goals as goal
