@@ -1,11 +1,15 @@
-"""Reads a page of HTML as a tree, and says what is wrong with it: elements that aren't closed, closed twice or unknown, and whatever fetches or runs something."""
+"""Reads a page of HTML as a tree, and says what is wrong with it: elements that aren't closed, closed twice or unknown, whatever fetches or runs something, and
+links that aren't paths, seen from the page."""
+import re
 from html.parser import HTMLParser
 
 VOID, OPEN_AT_THE_END = {"meta", "input"}, ["html", "body"]
 OF_PICTURES = {"svg", "title", "style", "rect", "path", "g", "text", "circle", "use", "symbol", "desc"}
 ELEMENTS = {"html", "head", "title", "style", "script", "body", "header", "h1", "h2", "div", "button", "output", "details", "summary", "section", "span", "p",
-            "ul", "li", "table", "thead", "tbody", "tr", "th", "td"} | VOID | OF_PICTURES
+            "ul", "li", "table", "thead", "tbody", "tr", "th", "td", "a"} | VOID | OF_PICTURES
 FETCHING = ("src", "href", "srcset", "action", "formaction", "background", "poster", "ping", "srcdoc", "style", "xlink:href")
+# A link that is a path: no byte of it ends a scheme, a query or a path, and it begins no name of a host.
+PATH = re.compile("(?!//)[A-Za-z0-9._~/%-]+")
 
 
 class Element:
@@ -45,7 +49,8 @@ class Page(HTMLParser):
 
     def start(self, name, pairs):
         attributes = dict(pairs)
-        fetching = [key for key in attributes if key.startswith("on") or key in FETCHING or "url(" in (attributes[key] or "")]
+        is_path = name == "a" and list(attributes) == ["href"] and PATH.fullmatch(attributes["href"] or "")
+        fetching = [key for key in attributes if not is_path and (key.startswith("on") or key in FETCHING or "url(" in (attributes[key] or ""))]
         if name not in ELEMENTS or len(attributes) != len(pairs) or fetching:
             self.wrong.append(f"<{name}> with {pairs}")
         element = Element(name, attributes)

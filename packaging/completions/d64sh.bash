@@ -15,9 +15,9 @@ _d64sh() {
     case "$command $before" in
     "shell --tracks") mapfile -t COMPREPLY < <(compgen -W "35 40" -- "$word"); return ;;
     "shell --resume" | "petcat -o" | "petcat --output" | "crunch -o" | "crunch --output" | "check --files-from" | "files --files-from" | "extract --files-from" | "catalogue --files-from") _d64sh_take < <(compgen -f -- "$word"); return ;;
-    "shell -c" | "shell --command" | "crunch --start") :; return ;;
+    "shell -c" | "shell --command" | "crunch --start" | "catalogue --title") :; return ;;
     "check --format" | "files --format" | "extract --format") mapfile -t COMPREPLY < <(compgen -W "text json csv" -- "$word"); return ;;
-    "extract --into") _d64sh_take < <(compgen -d -- "$word"); return ;;
+    "extract --into" | "catalogue --links") _d64sh_take < <(compgen -d -- "$word"); return ;;
     "map --format") mapfile -t COMPREPLY < <(compgen -W "text svg" -- "$word"); return ;;
     "diff --format") mapfile -t COMPREPLY < <(compgen -W "text json" -- "$word"); return ;;
     "help "*) mapfile -t COMPREPLY < <(compgen -W "shell petcat crunch check files extract map diff catalogue help" -- "$word"); return ;;
@@ -31,7 +31,7 @@ _d64sh() {
     extract) options="--into --part --skip-existing --format --files-from --null -h --help" ;;
     map) options="--format -h --help" ;;
     diff) options="--format -h --help" ;;
-    catalogue) options="--maps --files-from --null -h --help" ;;
+    catalogue) options="--maps --title --links --files-from --null -h --help" ;;
     esac
     if [[ $word == -* && " ${COMP_WORDS[*]:0:COMP_CWORD} " != *" -- "* ]]; then
         mapfile -t COMPREPLY < <(compgen -W "$options" -- "$word")

@@ -51,6 +51,8 @@ complete -c d64sh -n '__fish_seen_subcommand_from diff' -l format -x -a 'text js
 complete -c d64sh -n '__fish_seen_subcommand_from diff' -s h -l help -d 'Print help'
 complete -c d64sh -n '__fish_seen_subcommand_from diff' -k -a '(__fish_complete_suffix .d64)'
 complete -c d64sh -n '__fish_seen_subcommand_from catalogue' -l maps -d 'Add a picture of the blocks of each image'
+complete -c d64sh -n '__fish_seen_subcommand_from catalogue' -l title -x -d 'Title and heading of the page; without it, Disks'
+complete -c d64sh -n '__fish_seen_subcommand_from catalogue' -l links -x -a '(__fish_complete_directories)' -d 'Make names links to the files that `extract --into FOLDER` wrote'
 complete -c d64sh -n '__fish_seen_subcommand_from catalogue' -l files-from -r -F -d 'Take the names from the lines of a file; `-` is the standard input'
 complete -c d64sh -n '__fish_seen_subcommand_from catalogue' -l null -d 'Names in LIST end with NUL bytes, and not with line feeds'
 complete -c d64sh -n '__fish_seen_subcommand_from catalogue' -s h -l help -d 'Print help'

@@ -1,8 +1,12 @@
 pub mod Elements
+pub mod Urls
+pub mod Links
+pub mod Namings
 pub mod Files
 pub mod Sections
 pub mod Style
 pub mod Script
+pub mod Title
 pub mod Head
 pub mod Catalogue
 pub mod Quiet

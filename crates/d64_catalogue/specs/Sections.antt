@@ -1,5 +1,5 @@
 -- The section of an image.
-use Rattle.std.specs.Prelude.{ℕ, if◌then◌else◌, Bool, List, [], ◌++◌, codes}
+use Rattle.std.specs.Prelude.{ℕ, if◌then◌else◌, Bool, List, [], ◌++◌, Option, codes}
 use Rattle.std.specs.List.{flat_map}
 use Rattle.d64_image.specs.Disk.{Disk, Bytes}
 use Rattle.d64_effects.specs.View.{disk_id}
@@ -71,9 +71,9 @@ wrongs dump = element (codes "ul") [] (fault_items dump.image (faults dump.image
 abbrev pub picture_where : Bool → Bytes → DumpView → List ℕ
 picture_where maps name dump = if maps then page_svg_of name dump else []
 
--- all that is in the section
-unfoldable pub content : Bool → Bytes → DumpView → List ℕ
-content maps name dump = codes "\n" ++ (summary name dump ++ (wrongs dump ++ (table dump ++ picture_where maps name dump)))
+-- all that is in the section, with links to host files in this folder, where there is one
+unfoldable pub content : Bool → Option (List ℕ) → Bytes → DumpView → List ℕ
+content maps folder name dump = codes "\n" ++ (summary name dump ++ (wrongs dump ++ (table folder dump ++ picture_where maps name dump)))
 
 -- the attributes that say whether anything is amiss, and how its sign looks: a warning where the
 -- disk is sound beside that
@@ -83,8 +83,9 @@ amiss_class sound amiss =
     else codes " class=\"sound\""
 
 -- the section of an image
-unfoldable pub section : Bool → Bytes → DumpView → List ℕ
-section maps name dump = element (codes "details") (amiss_class (is_sound dump.image) (is_amiss dump)) (content maps name dump) ++ codes "\n"
+unfoldable pub section : Bool → Option (List ℕ) → Bytes → DumpView → List ℕ
+section maps folder name dump =
+    element (codes "details") (amiss_class (is_sound dump.image) (is_amiss dump)) (content maps folder name dump) ++ codes "\n"
 
 -- the section of a file that is not answered, with what is wrong with it
 unfoldable pub unanswered_section : Bytes → List ℕ → List ℕ

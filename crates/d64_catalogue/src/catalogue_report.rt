@@ -4,47 +4,62 @@ ghost use Rattle.d64_catalogue.specs.Catalogue.{answer_of, catalogue_rule, catal
 ghost use Rattle.d64_catalogue.specs.Quiet.{catalogue_rule-is_quiet};
 
 use crate::head::push_head;
+use crate::host_files::{HostFiles, folder_of};
 use crate::section::{push_section, push_unanswered};
 use d64_collection::{AnswerRoom, Report, Verdict};
 use d64_image::Image;
 use d64_inventory::is_amiss;
 use d64_survey::{Dump, DumpFault, Fault, Inspection, ReadError};
 use d64_wording::{push_no_dump, unread_line, wrong_length_line};
+use d64_words::Page;
 use std::alloc::{AllocError, Global};
 
 /// The report of `catalogue`, with the memory that it keeps from file to file.
 #[derive(Drop)]
 pub struct CatalogueReport {
-    maps: bool,
+    alloc: Global,
+    page: Page,
     dump: Dump,
     faults: Vec<Fault>,
     errors: Vec<ReadError>,
+    files: HostFiles,
     text: Vec<u8>,
 }
 
 impl CatalogueReport {
-    /// A report with a picture of each disk's blocks, or without.
-    pub fn new(alloc: Global, maps: bool) -> Result<CatalogueReport, AllocError>
-        ensures { IfOk result (λ report. report.maps ≡ maps) }
+    /// A report on a page that is made so.
+    pub fn new(alloc: Global, page: Page) -> Result<CatalogueReport, AllocError>
+        ensures { IfOk result (λ report. report.page ≡ page) }
     {
         Ok(CatalogueReport {
-            maps,
+            alloc,
+            page,
             dump: Dump::from_image(alloc, Image::zeroed(alloc)?),
             faults: Vec::new(alloc),
             errors: Vec::new(alloc),
+            files: HostFiles::new(alloc),
             text: Vec::new(alloc),
         })
     }
 
     /// What is told of the dump that was read of a file, with these bytes.
     fn tell_dump(&mut self, name: &[u8], room: &mut AnswerRoom) -> Result<Verdict, AllocError>
-        ensures maps { self.new.maps ≡ self.old.maps }
+        ensures page { self.new.page ≡ self.old.page }
         ensures answered { room.old.printed.items ≡ [] → room.old.complaint.items ≡ [] → (bytes : List ℕ) → IfOk result (λ verdict.
             record { printed = room.new.printed.items; complaint = room.new.complaint.items; verdict = verdict }
-            ≡ answer_of self.old.maps name.now bytes (Some self.old.dump)) }
+            ≡ answer_of self.old.page name.now bytes (Some self.old.dump)) }
     {
         let all = Inspection::of(&self.dump, &mut self.faults, &mut self.errors)?;
-        push_section(&mut room.printed, self.maps, name, &all, &mut self.text)?;
+        let folder = folder_of(self.alloc, self.page.links.as_deref(), name)?;
+        push_section(
+            &mut room.printed,
+            self.page.maps,
+            name,
+            &all,
+            folder.as_deref(),
+            &mut self.files,
+            &mut self.text,
+        )?;
         if is_amiss(&all) {
             Ok(Verdict::Amiss)
         } else {
@@ -54,10 +69,10 @@ impl CatalogueReport {
 
     /// What is told of a file that cannot be read.
     fn tell_unread(&mut self, name: &[u8], room: &mut AnswerRoom) -> Result<Verdict, AllocError>
-        ensures maps { self.new.maps ≡ self.old.maps }
+        ensures page { self.new.page ≡ self.old.page }
         ensures answered { room.old.printed.items ≡ [] → room.old.complaint.items ≡ [] → IfOk result (λ verdict.
             record { printed = room.new.printed.items; complaint = room.new.complaint.items; verdict = verdict }
-            ≡ catalogue_rule self.old.maps name.now None) }
+            ≡ catalogue_rule self.old.page name.now None) }
     {
         push_unanswered(&mut room.printed, name, b"cannot be read")?;
         unread_line(&mut room.complaint, name)?;
@@ -71,10 +86,10 @@ impl CatalogueReport {
         bytes: &[u8],
         room: &mut AnswerRoom,
     ) -> Result<Verdict, AllocError>
-        ensures maps { self.new.maps ≡ self.old.maps }
+        ensures page { self.new.page ≡ self.old.page }
         ensures answered { room.old.printed.items ≡ [] → room.old.complaint.items ≡ [] → IfOk result (λ verdict.
             record { printed = room.new.printed.items; complaint = room.new.complaint.items; verdict = verdict }
-            ≡ answer_of self.old.maps name.now bytes.now None) }
+            ≡ answer_of self.old.page name.now bytes.now None) }
     {
         self.text.clear();
         push_no_dump(&mut self.text, bytes)?;
@@ -85,15 +100,19 @@ impl CatalogueReport {
 }
 
 impl Report for CatalogueReport {
-    ghost rule = { λ report. catalogue_rule report.maps };
+    ghost rule = { λ report. catalogue_rule report.page };
 
-    ghost heading = { λ report. catalogue_heading };
+    ghost heading = { λ report. catalogue_heading report.page };
 
-    ghost quiet = { λ report. catalogue_rule-is_quiet report.maps };
+    ghost quiet = { λ report. catalogue_rule-is_quiet report.page };
 
     fn head(&mut self, room: &mut AnswerRoom) -> Result<(), AllocError> {
         room.clear();
-        push_head(&mut room.printed)
+        push_head(
+            &mut room.printed,
+            self.page.title.as_deref(),
+            &mut self.text,
+        )
     }
 
     fn answer(

@@ -1,12 +1,16 @@
 //! The table of the files on a disk.
-ghost use Rattle.std.specs.Prelude.{◌≡◌, ◌≤◌, [], ◌++◌, length, codes, OnOk};
+ghost use Rattle.std.specs.Prelude.{◌≡◌, ◌≤◌, [], ◌++◌, length, codes, option_map, OnOk};
 ghost use Rattle.d64_survey.specs.Flaws.{wholeness_by};
 ghost use Rattle.d64_survey.specs.Owners.{way_slots};
 ghost use Rattle.d64_wording.specs.FileText.{letters_of};
-ghost use Rattle.d64_catalogue.specs.Files.{reasons, unknown_text, wholeness_text, locked_text, state_words, state_class, state_cell, size_cell, name_cell, kind_cell, file_cells, flawed_row, file_row, file_rows, table_head, table};
+ghost use Rattle.d64_catalogue.specs.Files.{reasons, unknown_text, wholeness_text, locked_text, state_words, state_class, state_cell, size_cell, name_cell, kind_cell, file_cells, flawed_row, used_row, file_row, file_rows, linked_rows, dump_rows, table_head, table};
+ghost use Rattle.d64_files.specs.Directory.{entries};
 ghost use Rattle.d64_markup.specs.Markup.{element};
+ghost use Rattle.d64_catalogue.specs.Links.{file_url, first_naming, naming_after};
+ghost use Rattle.d64_catalogue.specs.Namings.{naming_of};
 
-use crate::element::push_text_in;
+use crate::element::{push_linked_text_in, push_text_in};
+use crate::host_files::HostFiles;
 use d64_files::Entry;
 use d64_image::Image;
 use d64_survey::{Flaw, Inspection, wholeness};
@@ -137,14 +141,19 @@ fn push_size_cell(out: &mut Vec<u8>, entry: &Entry, text: &mut Vec<u8>) -> Resul
     push_text_in(out, b"td", b"", text.as_slice())
 }
 
-/// Adds the name.
+/// Adds the name, with a link to a URL, where there is one.
 #[tactic(auto, unfolding(crate::specs::Files::name_cell))]
-fn push_name_cell(out: &mut Vec<u8>, entry: &Entry, text: &mut Vec<u8>) -> Result<(), AllocError>
-    ensures { OnOk result (out.new.items ≡ out.old.items ++ name_cell entry.now.bytes) }
+fn push_name_cell(
+    out: &mut Vec<u8>,
+    link: Option<&[u8]>,
+    entry: &Entry,
+    text: &mut Vec<u8>,
+) -> Result<(), AllocError>
+    ensures { OnOk result (out.new.items ≡ out.old.items ++ name_cell (option_map (λ link. link.now) link.entry) entry.now.bytes) }
 {
     text.clear();
     push_spelling(text, entry.name())?;
-    push_text_in(out, b"th", b" scope=\"row\"", text.as_slice())
+    push_linked_text_in(out, b"th", b" scope=\"row\"", link, text.as_slice())
 }
 
 /// The letters of the kind of a slot's file.
@@ -170,16 +179,17 @@ fn push_kind_cell(out: &mut Vec<u8>, entry: &Entry) -> Result<(), AllocError>
 #[tactic(auto, unfolding(crate::specs::Files::file_cells))]
 fn push_file_cells(
     out: &mut Vec<u8>,
+    link: Option<&[u8]>,
     image: &Image,
     entry: &Entry,
     flaws: &[Flaw],
     text: &mut Vec<u8>,
 ) -> Result<(), AllocError>
     requires { length flaws.now ≤ 7 }
-    ensures { OnOk result (out.new.items ≡ out.old.items ++ file_cells image.now entry.now.bytes flaws.now) }
+    ensures { OnOk result (out.new.items ≡ out.old.items ++ file_cells (option_map (λ link. link.now) link.entry) image.now entry.now.bytes flaws.now) }
 {
     push_size_cell(out, entry, text)?;
-    push_name_cell(out, entry, text)?;
+    push_name_cell(out, link, entry, text)?;
     push_kind_cell(out, entry)?;
     push_state_cell(out, image, entry, flaws, text)
 }
@@ -188,17 +198,33 @@ fn push_file_cells(
 #[tactic(auto, unfolding(crate::specs::Files::flawed_row, d64_markup::specs::Markup::element, d64_markup::specs::Markup::tag))]
 fn push_flawed_row(
     out: &mut Vec<u8>,
+    link: Option<&[u8]>,
     image: &Image,
     entry: &Entry,
     flaws: &[Flaw],
     text: &mut Vec<u8>,
 ) -> Result<(), AllocError>
     requires { length flaws.now ≤ 7 }
-    ensures { OnOk result (out.new.items ≡ out.old.items ++ flawed_row image.now entry.now.bytes flaws.now) }
+    ensures { OnOk result (out.new.items ≡ out.old.items ++ flawed_row (option_map (λ link. link.now) link.entry) image.now entry.now.bytes flaws.now) }
 {
     out.extend_from_slice(b"<tr>")?;
-    push_file_cells(out, image, entry, flaws, text)?;
+    push_file_cells(out, link, image, entry, flaws, text)?;
     out.extend_from_slice(b"</tr>\n")
+}
+
+/// Adds the row of the file of a slot, with a link to a URL, where there is one.
+#[tactic(auto, unfolding(crate::specs::Files::used_row))]
+fn push_used_row(
+    out: &mut Vec<u8>,
+    link: Option<&[u8]>,
+    all: &Inspection,
+    entry: &Entry,
+    text: &mut Vec<u8>,
+) -> Result<(), AllocError>
+    ensures { OnOk result (out.new.items ≡ out.old.items ++ used_row (option_map (λ link. link.now) link.entry) all.now entry.now.bytes) }
+{
+    let flaws = all.why(entry);
+    push_flawed_row(out, link, all.image(), entry, flaws.as_slice(), text)
 }
 
 /// Adds the row of a slot, where it is used.
@@ -214,8 +240,7 @@ fn push_file_row(
     if !entry.used() {
         return Ok(());
     }
-    let flaws = all.why(entry);
-    push_flawed_row(out, all.image(), entry, flaws.as_slice(), text)
+    push_used_row(out, None, all, entry, text)
 }
 
 /// Adds the rows of all files.
@@ -229,17 +254,76 @@ fn push_file_rows(out: &mut Vec<u8>, all: &Inspection, text: &mut Vec<u8>) -> Re
     Ok(())
 }
 
+/// Adds the row of the next entry's file, with a link to its host file in a folder, where that is
+/// written.
+fn push_linked_row(
+    out: &mut Vec<u8>,
+    all: &Inspection,
+    entry: &Entry,
+    folder: &str,
+    files: &mut HostFiles,
+    text: &mut Vec<u8>,
+) -> Result<(), AllocError>
+    ensures row { OnOk result (out.new.items ≡ out.old.items ++ used_row (file_url folder.now all.now (naming_of files.old) entry.now) all.now entry.now.bytes) }
+    ensures naming { OnOk result (naming_of files.new ≡ naming_after all.now (naming_of files.old) entry.now) }
+{
+    let link = if files.find_next(all, entry, folder)? {
+        Some(files.url.as_slice())
+    } else {
+        None
+    };
+    push_used_row(out, link, all, entry, text)
+}
+
+/// Adds the rows of all files, with links to their host files in a folder.
+fn push_linked_rows(
+    out: &mut Vec<u8>,
+    all: &Inspection,
+    folder: &str,
+    files: &mut HostFiles,
+    text: &mut Vec<u8>,
+) -> Result<(), AllocError>
+    ensures { OnOk result (out.new.items ≡ out.old.items ++ linked_rows folder.now all.now first_naming (entries all.now.image (way_slots all.now.image))) }
+{
+    files.begin();
+    for entry in all.survey().slots() {
+        if entry.used() {
+            push_linked_row(out, all, &entry, folder, files, text)?;
+        }
+    }
+    Ok(())
+}
+
+/// Adds the rows of all files, with links to their host files in a folder, where there is one.
+#[tactic(auto, unfolding(crate::specs::Files::dump_rows))]
+fn push_dump_rows(
+    out: &mut Vec<u8>,
+    all: &Inspection,
+    folder: Option<&str>,
+    files: &mut HostFiles,
+    text: &mut Vec<u8>,
+) -> Result<(), AllocError>
+    ensures { OnOk result (out.new.items ≡ out.old.items ++ dump_rows (option_map (λ folder. folder.now) folder.entry) all.now) }
+{
+    match folder {
+        Some(folder) => push_linked_rows(out, all, folder, files, text),
+        None => push_file_rows(out, all, text),
+    }
+}
+
 /// Adds the body of the table.
 #[tactic(auto, unfolding(d64_markup::specs::Markup::element, d64_markup::specs::Markup::tag))]
 fn push_table_body(
     out: &mut Vec<u8>,
     all: &Inspection,
+    folder: Option<&str>,
+    files: &mut HostFiles,
     text: &mut Vec<u8>,
 ) -> Result<(), AllocError>
-    ensures { OnOk result (out.new.items ≡ out.old.items ++ element (codes "tbody") [] (codes "\n" ++ file_rows all.now (way_slots all.now.image))) }
+    ensures { OnOk result (out.new.items ≡ out.old.items ++ element (codes "tbody") [] (codes "\n" ++ dump_rows (option_map (λ folder. folder.now) folder.entry) all.now)) }
 {
     out.extend_from_slice(b"<tbody>\n")?;
-    push_file_rows(out, all, text)?;
+    push_dump_rows(out, all, folder, files, text)?;
     out.extend_from_slice(b"</tbody>")
 }
 
@@ -251,17 +335,19 @@ fn push_table_head(out: &mut Vec<u8>) -> Result<(), AllocError>
     out.extend_from_slice(TABLE_HEAD)
 }
 
-/// Adds the table of the files.
+/// Adds the table of the files, with links to their host files in a folder, where there is one.
 #[tactic(auto, unfolding(crate::specs::Files::table, d64_markup::specs::Markup::element, d64_markup::specs::Markup::tag))]
 pub(crate) fn push_table(
     out: &mut Vec<u8>,
     all: &Inspection,
+    folder: Option<&str>,
+    files: &mut HostFiles,
     text: &mut Vec<u8>,
 ) -> Result<(), AllocError>
-    ensures { OnOk result (out.new.items ≡ out.old.items ++ table all.now) }
+    ensures { OnOk result (out.new.items ≡ out.old.items ++ table (option_map (λ folder. folder.now) folder.entry) all.now) }
 {
     out.extend_from_slice(b"<table>\n")?;
     push_table_head(out)?;
-    push_table_body(out, all, text)?;
+    push_table_body(out, all, folder, files, text)?;
     out.extend_from_slice(b"</table>\n")
 }

@@ -6,8 +6,11 @@ mod catalogue_report;
 mod element;
 mod files;
 mod head;
+mod host_files;
 mod script;
 mod section;
 mod style;
+mod title;
+mod url;
 
 pub use catalogue_report::CatalogueReport;

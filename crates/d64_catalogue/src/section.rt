@@ -1,11 +1,12 @@
 //! The section of an image.
-ghost use Rattle.std.specs.Prelude.{◌≡◌, [], ◌++◌, codes, OnOk};
+ghost use Rattle.std.specs.Prelude.{◌≡◌, [], ◌++◌, codes, option_map, OnOk};
 ghost use Rattle.std.specs.List.{flat_map};
 ghost use Rattle.d64_catalogue.specs.Elements.{text_line};
 ghost use Rattle.d64_catalogue.specs.Sections.{disk_line, id_line, host_line, contents_line, state_line, label_lines, summary, fault_item, error_item, fault_items, error_items, wrongs, picture_where, content, amiss_class, section, unanswered_section};
 
 use crate::element::push_text_line;
 use crate::files::push_table;
+use crate::host_files::HostFiles;
 use d64_image::Image;
 use d64_markup::push_held;
 use d64_names::{disk_id, disk_name};
@@ -218,14 +219,16 @@ fn push_content(
     maps: bool,
     name: &[u8],
     all: &Inspection,
+    folder: Option<&str>,
+    files: &mut HostFiles,
     text: &mut Vec<u8>,
 ) -> Result<(), AllocError>
-    ensures { OnOk result (out.new.items ≡ out.old.items ++ content maps name.now all.now) }
+    ensures { OnOk result (out.new.items ≡ out.old.items ++ content maps (option_map (λ folder. folder.now) folder.entry) name.now all.now) }
 {
     out.extend_from_slice(b"\n")?;
     push_summary(out, name, all, text)?;
     push_wrongs(out, all, text)?;
-    push_table(out, all, text)?;
+    push_table(out, all, folder, files, text)?;
     push_picture_where(out, maps, name, all)
 }
 
@@ -240,21 +243,24 @@ fn amiss_class(is_sound: bool, is_amiss: bool) -> &'static [u8]
     }
 }
 
-/// Adds the section of an image. The text is room that is used again.
+/// Adds the section of an image, with links to its host files in a folder, where there is one. The
+/// text is room that is used again.
 #[tactic(auto, unfolding(crate::specs::Sections::section, d64_markup::specs::Markup::element, d64_markup::specs::Markup::tag))]
 pub(crate) fn push_section(
     out: &mut Vec<u8>,
     maps: bool,
     name: &[u8],
     all: &Inspection,
+    folder: Option<&str>,
+    files: &mut HostFiles,
     text: &mut Vec<u8>,
 ) -> Result<(), AllocError>
-    ensures { OnOk result (out.new.items ≡ out.old.items ++ section maps name.now all.now) }
+    ensures { OnOk result (out.new.items ≡ out.old.items ++ section maps (option_map (λ folder. folder.now) folder.entry) name.now all.now) }
 {
     out.extend_from_slice(b"<details")?;
     out.extend_from_slice(amiss_class(all.is_sound(), all.is_amiss()))?;
     out.extend_from_slice(b">")?;
-    push_content(out, maps, name, all, text)?;
+    push_content(out, maps, name, all, folder, files, text)?;
     out.extend_from_slice(b"</details>\n")
 }
 

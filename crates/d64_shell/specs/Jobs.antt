@@ -45,7 +45,7 @@ work_of (Check digest format names) = Survey (check_rule format digest) (check_h
 work_of (Files format names) = Survey (files_rule format) (files_heading format) (files_of names)
 work_of (Extract asked format names) = Extraction (setup_of asked format) (extract_heading format) (files_of names)
 work_of (Map format file) = Survey (map_rule format) [] (Named (string_bytes file ∷ []))
-work_of (Catalogue maps names) = Survey (catalogue_rule maps) catalogue_heading (files_of names)
+work_of (Catalogue page names) = Survey (catalogue_rule page) (catalogue_heading page) (files_of names)
 work_of (Diff format old new) = Comparison (difference_rule format) (string_bytes old) (string_bytes new)
 
 -- the work is a script, which tells nothing where it runs to its end

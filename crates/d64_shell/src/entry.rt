@@ -235,8 +235,8 @@ impl<'l, L: Listener> HeardProgram<'l, L> {
                     report, input, output, faults, host,
                 )
             }
-            Job::Catalogue { maps, names } => {
-                let report = CatalogueReport::new(alloc, maps);
+            Job::Catalogue { page, names } => {
+                let report = CatalogueReport::new(alloc, page);
                 SurveyJob::new(alloc, FileNames::of(&names)).run(
                     report, input, output, faults, host,
                 )

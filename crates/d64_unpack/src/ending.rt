@@ -7,7 +7,7 @@ use d64_files::Kind;
 use d64_host_names::Ending;
 
 /// The ending of the host name by the kind of a file. One that has no kind isn't written.
-pub(crate) fn ending_by(kind: Option<Kind>) -> Ending
+pub fn ending_by(kind: Option<Kind>) -> Ending
     ensures { result ≡ ending_by kind }
 {
     match kind {

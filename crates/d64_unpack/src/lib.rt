@@ -14,5 +14,7 @@ mod telling;
 pub mod unpack_laws;
 mod unpacker;
 
+pub use ending::ending_by;
+pub use paths::{done_path, put_path};
 pub use setup::Setup;
 pub use unpacker::Unpacker;

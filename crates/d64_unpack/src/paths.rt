@@ -50,7 +50,7 @@ fn place_of(alloc: Global, into: &str, place: &ImagePlace) -> Result<String, All
 }
 
 /// The path of the folder of the image in this place when all is in it.
-pub(crate) fn done_path(alloc: Global, into: &str, place: &ImagePlace) -> Result<String, AllocError>
+pub fn done_path(alloc: Global, into: &str, place: &ImagePlace) -> Result<String, AllocError>
     ensures { IfOk result (λ path. string_bytes path ≡ place_below (path_inside into.now) (map (λ folder. folder.now) place.now.folders.items) ++ finished_name place.now.last.now) }
 {
     let mut path = place_of(alloc, into, place)?;
@@ -82,7 +82,7 @@ pub(crate) fn list_in(alloc: Global, folder: &str) -> Result<String, AllocError>
 }
 
 /// Puts the path of a file in a folder in the place of what a list had.
-pub(crate) fn put_path(path: &mut Vec<u8>, folder: &str, file: &[u8]) -> Result<(), AllocError>
+pub fn put_path(path: &mut Vec<u8>, folder: &str, file: &[u8]) -> Result<(), AllocError>
     ensures { OnOk result (path.new.items ≡ path_in folder.now file.now) }
 {
     path.clear();

@@ -16,7 +16,7 @@ use Rattle.d64_words.specs.Commands.{d64sh}
 use Rattle.d64_words.specs.Asked.{IsFault, IsFaultOf, IsJob, IsJobOf, IsOneOf, IsToldAs, Met}
 use Rattle.d64_words.specs.declared.asked.Job.{Job}
 use Rattle.d64_words.specs.declared.asked.JobFault.{JobFault}
-use Rattle.d64_words.specs.declared.asked.JobFault.TheVariants.{Words, Start, Memory, Tracks, Both, Format, Names, Null, Picture, Difference, Folder}
+use Rattle.d64_words.specs.declared.asked.JobFault.TheVariants.{Words, Start, Memory, Tracks, Both, Format, Names, Null, Picture, Difference, Folder, Title, Links}
 
 pub simple_and_free : is_simple_and_free d64sh ≡ true
 unfolding clap_on_literals d64sh
@@ -97,6 +97,8 @@ told words error Null kind is = absurd is
 told words error Picture kind is = absurd is
 told words error Difference kind is = absurd is
 told words error Folder kind is = absurd is
+told words error Title kind is = absurd is
+told words error Links kind is = absurd is
 
 -- what the subcommand asks for is what the words ask for
 module _ (words : List Text) (met : Met) (none : fault_of d64sh words ≡ []) (is : subcommand_of d64sh words ≡ Some met) where
@@ -115,6 +117,8 @@ module _ (words : List Text) (met : Met) (none : fault_of d64sh words ≡ []) (i
   refused Picture asks = (none, subst (λ o. IsSomeAnd o (λ m. IsFaultOf m Picture)) (sym is) asks)
   refused Difference asks = (none, subst (λ o. IsSomeAnd o (λ m. IsFaultOf m Difference)) (sym is) asks)
   refused Folder asks = (none, subst (λ o. IsSomeAnd o (λ m. IsFaultOf m Folder)) (sym is) asks)
+  refused Title asks = (none, subst (λ o. IsSomeAnd o (λ m. IsFaultOf m Title)) (sym is) asks)
+  refused Links asks = (none, subst (λ o. IsSomeAnd o (λ m. IsFaultOf m Links)) (sym is) asks)
 
 pub error_told : {T : Type 0} (r : Result T JobFault) (P Q : JobFault → Type 0) → ((fault : JobFault) → P fault → Q fault) → IsErrAnd r P → IfErr r Q
 error_told (Ok job) P Q f is = tt

@@ -9,6 +9,7 @@ use Rattle.d64_words.specs.Tracks.{IsTracksBy, HasNoTracks}
 use Rattle.d64_words.specs.Extraction.{HasNoFolder, IsExtractionBy}
 use Rattle.d64_words.specs.Format.{diff_form_of, form_word, format_of, picture_form_of}
 use Rattle.d64_words.specs.Names.{HasNoNames, HasNullAlone, IsNamesBy}
+use Rattle.d64_words.specs.Page.{HasNamedPage, IsPageBy, IsPageFault}
 use Rattle.d64_words.specs.Values.{all_given, has_flag}
 use Rattle.d64_words.specs.declared.asked.DiffForm.{DiffForm}
 use Rattle.d64_words.specs.declared.asked.Format.{Format as OutputFormat}
@@ -16,7 +17,7 @@ use Rattle.d64_words.specs.declared.asked.PictureForm.{PictureForm}
 use Rattle.d64_words.specs.declared.asked.Job.{Job}
 use Rattle.d64_words.specs.declared.asked.Job.TheVariants.{Shell, Petcat, Crunch, Check, Files, Extract, Map, Diff, Catalogue}
 use Rattle.d64_words.specs.declared.asked.JobFault.{JobFault}
-use Rattle.d64_words.specs.declared.asked.JobFault.TheVariants.{Words, Start, Memory, Tracks, Both, Format, Names, Null, Picture, Difference, Folder}
+use Rattle.d64_words.specs.declared.asked.JobFault.TheVariants.{Words, Start, Memory, Tracks, Both, Format, Names, Null, Picture, Difference, Folder, Title, Links}
 
 -- a subcommand that the words name, and the values that they give to its arguments
 abbrev pub Met : Type 0
@@ -65,9 +66,9 @@ abbrev pub IsPlaceless : Met → Type 0
 IsPlaceless met = (met.0 ≡ codes "extract") × HasNoFolder (first_of (codes "into") met.1)
 
 -- the subcommand takes names of files: a survey, where it has a form of output, and a folder where
--- it wants one; or `catalogue`, which has one form alone
+-- it wants one; or `catalogue`, which has one form alone, where its page has its names
 abbrev pub TakesNames : Met → Type 0
-TakesNames met = (IsOneOf surveys met.0 × IsSome (format_given met) × (¬ IsPlaceless met)) ⊎ (met.0 ≡ codes "catalogue")
+TakesNames met = (IsOneOf surveys met.0 × IsSome (format_given met) × (¬ IsPlaceless met)) ⊎ ((met.0 ≡ codes "catalogue") × HasNamedPage met.1)
 
 -- the form of a picture that it gives
 abbrev pub picture_form_given : Met → Option PictureForm
@@ -97,13 +98,13 @@ IsJobOf met (Map format file) =
 IsJobOf met (Diff format old new) =
     (met.0 ≡ codes "diff") × (diff_form_given met ≡ Some format)
     × (first_of (codes "old") met.1 ≡ Some (string_bytes old)) × (first_of (codes "new") met.1 ≡ Some (string_bytes new))
-IsJobOf met (Catalogue maps names) =
-    (met.0 ≡ codes "catalogue") × (maps ≡ has_flag (codes "maps") met.1) × IsNamesBy met.1 names
+IsJobOf met (Catalogue page names) = (met.0 ≡ codes "catalogue") × IsPageBy met.1 page × IsNamesBy met.1 names
 
 -- it asks for no job, since its start is no address, or no disk has its number of tracks; or, where
 -- a disk has so many, since a session of a file has tracks of its own; or since its word for a form
 -- of output stands for none; or, where it has a form, since the name of its folder is empty; or
--- else since there are no names; or there is no memory
+-- since its page has an empty title, or else an empty folder of links; or else since there are no
+-- names; or there is no memory
 abbrev pub IsFaultOf : Met → JobFault → Type 0
 IsFaultOf met (Words error) = ⊥
 IsFaultOf met Start = (met.0 ≡ codes "crunch") × HasNoAddress (first_of (codes "start") met.1)
@@ -117,6 +118,8 @@ IsFaultOf met Null = TakesNames met × HasNullAlone met.1
 IsFaultOf met Picture = (met.0 ≡ codes "map") × (picture_form_given met ≡ None)
 IsFaultOf met Difference = (met.0 ≡ codes "diff") × (diff_form_given met ≡ None)
 IsFaultOf met Folder = IsPlaceless met × IsSome (format_given met)
+IsFaultOf met Title = (met.0 ≡ codes "catalogue") × IsPageFault met.1 Title
+IsFaultOf met Links = (met.0 ≡ codes "catalogue") × IsPageFault met.1 Links
 
 -- the words are the program's, and ask neither for help nor for the version; and of the subcommand
 -- that they name this holds

@@ -89,9 +89,11 @@ diff =
     let formed = with_rule (new_app (codes "diff")) (valued_option (codes "format")) in
     with_rule (with_rule formed (required_argument (codes "old"))) (required_argument (codes "new"))
 
--- `catalogue [--maps]` with the names of files
+-- `catalogue [--maps] [--title TEXT] [--links FOLDER]` with the names of files
 abbrev pub catalogue : App
-catalogue = with_names (with_rule (new_app (codes "catalogue")) (flag (codes "maps")))
+catalogue =
+    let drawn = with_rule (new_app (codes "catalogue")) (flag (codes "maps")) in
+    with_names (with_rule (with_rule drawn (valued_option (codes "title"))) (valued_option (codes "links")))
 
 -- the subcommands
 abbrev pub apps : List App

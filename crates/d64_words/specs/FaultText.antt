@@ -1,7 +1,7 @@
 -- How the faults of words are told.
 use Rattle.std.specs.Prelude.{List, ℕ, Option, None, Some, codes}
 use Rattle.d64_words.specs.declared.asked.JobFault.{JobFault}
-use Rattle.d64_words.specs.declared.asked.JobFault.TheVariants.{Words, Start, Memory, Tracks, Both, Format, Names, Null, Picture, Difference, Folder}
+use Rattle.d64_words.specs.declared.asked.JobFault.TheVariants.{Words, Start, Memory, Tracks, Both, Format, Names, Null, Picture, Difference, Folder, Title, Links}
 
 -- the text that tells a fault; none for an error of clap's, which has its own
 abbrev pub text_of : JobFault → Option (List ℕ)
@@ -16,3 +16,5 @@ text_of Null = Some (codes "usage: --null goes with --files-from")
 text_of Picture = Some (codes "usage: --format takes text or svg")
 text_of Difference = Some (codes "usage: --format takes text or json")
 text_of Folder = Some (codes "usage: --into takes the name of a folder")
+text_of Title = Some (codes "usage: --title takes a text")
+text_of Links = Some (codes "usage: --links takes the name of a folder")

@@ -5,6 +5,7 @@ pub mod FaultText
 pub mod Format
 pub mod Making
 pub mod Names
+pub mod Page
 pub mod Start
 pub mod Tracks
 pub mod Values

@@ -59,10 +59,9 @@ pub enum Job {
         format: PictureForm,
         file: String,
     },
-    /// Make one page of what is on dumps, with the picture of each one's blocks where `maps` is
-    /// set.
+    /// Make one page of what is on dumps.
     Catalogue {
-        maps: bool,
+        page: Page,
         names: Names,
     },
     /// Say what changed from one dump to another.
@@ -82,6 +81,18 @@ pub struct Extraction {
     pub part: bool,
     /// Whether an image whose folder is there is passed over.
     pub skip_existing: bool,
+}
+
+/// How one page of dumps is made.
+#[derive(Debug, Drop)]
+pub struct Page {
+    /// Whether it has the picture of each dump's blocks.
+    pub maps: bool,
+    /// Its title and heading, or None for the usual one. The text isn't empty.
+    pub title: Option<String>,
+    /// The folder of the extracted files to which their names on the page are links, or None
+    /// without links. The name isn't empty.
+    pub links: Option<String>,
 }
 
 /// The form of a survey's output.
@@ -157,6 +168,10 @@ pub enum JobFault {
     Difference,
     /// What follows `--into` is empty.
     Folder,
+    /// What follows `--title` is empty.
+    Title,
+    /// What follows `--links` is empty.
+    Links,
 }
 
 impl JobFault {
@@ -187,6 +202,8 @@ impl JobFault {
             JobFault::Picture => Some("usage: --format takes text or svg"),
             JobFault::Difference => Some("usage: --format takes text or json"),
             JobFault::Folder => Some("usage: --into takes the name of a folder"),
+            JobFault::Title => Some("usage: --title takes a text"),
+            JobFault::Links => Some("usage: --links takes the name of a folder"),
         }
     }
 }

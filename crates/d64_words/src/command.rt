@@ -252,12 +252,26 @@ fn diff<'a>(alloc: Global) -> Result<Command<'a>, AllocError>
     with_argument(command, new)
 }
 
-/// `catalogue [--maps]` with the names of files.
+/// `catalogue [--maps] [--title TEXT] [--links FOLDER]` with the names of files.
 fn catalogue<'a>(alloc: Global) -> Result<Command<'a>, AllocError>
     ensures { IsMade catalogue result }
 {
     let maps = flag(alloc, "maps", "Add a picture of the blocks of each image");
     let command = with_argument(Ok(subcommand(alloc, "catalogue")), maps);
+    let title = valued_option(
+        alloc,
+        "title",
+        "TEXT",
+        "Title and heading of the page; without it, Disks",
+    );
+    let command = with_argument(command, title);
+    let links = valued_option(
+        alloc,
+        "links",
+        "FOLDER",
+        "Make names links to the files that `extract --into FOLDER` wrote",
+    );
+    let command = with_argument(command, links);
     with_names(alloc, command)
 }
 

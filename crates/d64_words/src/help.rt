@@ -215,8 +215,8 @@ Example: d64sh diff before.d64 after.d64
 No image is ever written. The manual says more: `man d64sh`, or docs/MANUAL.md
 beside the source.";
 
-const CATALOGUE_USAGE: &str = "d64sh catalogue [--maps] FILE..
-       d64sh catalogue [--maps] --files-from LIST [--null]";
+const CATALOGUE_USAGE: &str = "d64sh catalogue [--maps] [--title TEXT] [--links FOLDER] FILE..
+       d64sh catalogue [..] --files-from LIST [--null]";
 
 const CATALOGUE_DETAILS: &str =
     "In:      images of 35 or 40 tracks, each with or without the read codes of its

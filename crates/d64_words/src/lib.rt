@@ -10,5 +10,5 @@ mod reading;
 mod surveys;
 mod values;
 
-pub use asked::{DiffForm, Extraction, Format, Job, JobFault, Names, PictureForm, Separator};
+pub use asked::{DiffForm, Extraction, Format, Job, JobFault, Names, Page, PictureForm, Separator};
 pub use reading::job;

@@ -34,11 +34,12 @@ const ADDRESS_DIGITS: usize = 4;
 /// else `Tracks` exactly where what follows `--tracks` is neither 35 nor 40, or there is an image
 /// beside it; else `Both` exactly where there is `--resume` beside `--tracks`; else `Format`
 /// exactly where what follows `--format` of a survey is neither `text`, `json` nor `csv`; else
-/// `Folder` exactly where what follows `--into` of `extract` is empty; else `Names` exactly where
-/// there are both FILE and `--files-from`, or neither; else `Null` exactly where there is `--null`
-/// without `--files-from`; else `Picture` exactly where what follows `--format` of `map` is neither
-/// `text` nor `svg`, or `Difference` exactly where what follows `--format` of `diff` is neither
-/// `text` nor `json`; and `Memory` in place of any answer.
+/// `Folder` exactly where what follows `--into` of `extract` is empty, `Title` exactly where what
+/// follows `--title` of `catalogue` is empty, or else `Links` exactly where what follows `--links`
+/// is empty; else `Names` exactly where there are both FILE and `--files-from`, or neither; else
+/// `Null` exactly where there is `--null` without `--files-from`; else `Picture` exactly where what
+/// follows `--format` of `map` is neither `text` nor `svg`, or `Difference` exactly where what
+/// follows `--format` of `diff` is neither `text` nor `json`; and `Memory` in place of any answer.
 pub fn job(alloc: Global, words: &[&str]) -> Result<Job, JobFault>
     ensures job { IfOk result (IsJob (map (λ word. word.now) words.now)) }
     ensures fault { IfErr result (IsFault (map (λ word. word.now) words.now)) }

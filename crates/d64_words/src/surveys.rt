@@ -5,11 +5,12 @@ ghost use Rattle.clap.specs.Words.{found_of, first_of, rows_of};
 ghost use Rattle.d64_words.specs.Asked.{IsJobOf, IsFaultOf};
 ghost use Rattle.d64_words.specs.Extraction.{HasNoFolder, IsExtractionBy};
 ghost use Rattle.d64_words.specs.Names.{IsNamesBy, IsNamesFault};
+ghost use Rattle.d64_words.specs.Page.{is_left_empty, IsPageBy, IsPageFault};
 ghost use Rattle.d64_words.specs.declared.asked.JobFault.TheVariants.{Folder, Memory};
 
-use crate::asked::{Extraction, Job, JobFault, Names, Separator};
+use crate::asked::{Extraction, Job, JobFault, Names, Page, Separator};
 use crate::forms::format;
-use crate::values::{given, has_flag, values};
+use crate::values::{given, has_flag, value, values};
 use clap::ArgMatches;
 use std::alloc::Global;
 
@@ -72,8 +73,36 @@ pub(crate) fn catalogue_job(alloc: Global, arguments: &ArgMatches) -> Result<Job
     ensures fault { IfErr result (IsFaultOf (codes "catalogue", rows_of (found_of arguments.now))) }
 {
     Ok(Job::Catalogue {
-        maps: has_flag(arguments, "maps"),
+        page: page(alloc, arguments)?,
         names: names(alloc, arguments)?,
+    })
+}
+
+/// Whether the words give an argument an empty value.
+fn is_left_empty(arguments: &ArgMatches, id: &str) -> bool
+    ensures { result ≡ is_left_empty id.now (rows_of (found_of arguments.now)) }
+{
+    match given(arguments, id) {
+        Some(text) => text.is_empty(),
+        None => false,
+    }
+}
+
+/// How the words want a page made.
+fn page(alloc: Global, arguments: &ArgMatches) -> Result<Page, JobFault>
+    ensures page { IfOk result (IsPageBy (rows_of (found_of arguments.now))) }
+    ensures fault { IfErr result (IsPageFault (rows_of (found_of arguments.now))) }
+{
+    if is_left_empty(arguments, "title") {
+        return Err(JobFault::Title);
+    }
+    if is_left_empty(arguments, "links") {
+        return Err(JobFault::Links);
+    }
+    Ok(Page {
+        maps: has_flag(arguments, "maps"),
+        title: value(alloc, arguments, "title")?,
+        links: value(alloc, arguments, "links")?,
     })
 }
 

@@ -48,9 +48,12 @@ map| => Map { format: Text, file: \"\" }
 diff|a|my disk => Diff { format: Text, old: \"a\", new: \"my disk\" }
 diff|a|--format|text|my disk => Diff { format: Text, old: \"a\", new: \"my disk\" }
 diff|--format=json|--|-|--format => Diff { format: Json, old: \"-\", new: \"--format\" }
-catalogue|a|b => Catalogue { maps: false, names: Given([\"a\", \"b\"]) }
-catalogue|--files-from=-|--maps => Catalogue { maps: true, names: Listed { list: \"-\", separator: LineFeed } }
-catalogue|--null|--files-from|l => Catalogue { maps: false, names: Listed { list: \"l\", separator: Nul } }";
+catalogue|a|b => Catalogue { page: Page { maps: false, title: None, links: None }, names: Given([\"a\", \"b\"]) }
+catalogue|--files-from=-|--maps => Catalogue { page: Page { maps: true, title: None, links: None }, names: Listed { list: \"-\", separator: LineFeed } }
+catalogue|--null|--files-from|l => Catalogue { page: Page { maps: false, title: None, links: None }, names: Listed { list: \"l\", separator: Nul } }
+catalogue|--title|My disks|a => Catalogue { page: Page { maps: false, title: Some(\"My disks\"), links: None }, names: Given([\"a\"]) }
+catalogue|--links=out|a|--title=--maps => Catalogue { page: Page { maps: false, title: Some(\"--maps\"), links: Some(\"out\") }, names: Given([\"a\"]) }
+catalogue|a|--maps|--links|//x: => Catalogue { page: Page { maps: true, title: None, links: Some(\"//x:\") }, names: Given([\"a\"]) }";
 
 /// Arguments that are refused, and a line of the text that says why.
 const REFUSED: &str = "\
@@ -128,6 +131,11 @@ extract|--null => usage: FILE.. or --files-from LIST is wanted, not both
 extract|a|--files-from|l => usage: FILE.. or --files-from LIST is wanted, not both
 extract|--null|--files-from|l|a => usage: FILE.. or --files-from LIST is wanted, not both
 extract|a|--null => usage: --null goes with --files-from
+catalogue|--title||a => usage: --title takes a text
+catalogue|--links=|--title= => usage: --title takes a text
+catalogue|--links||a => usage: --links takes the name of a folder
+catalogue|--links=|a|--files-from|l => usage: --links takes the name of a folder
+catalogue|--title|t|--links|l => usage: FILE.. or --files-from LIST is wanted, not both
 catalogue => usage: FILE.. or --files-from LIST is wanted, not both
 catalogue|-- => usage: FILE.. or --files-from LIST is wanted, not both
 catalogue|--null => usage: FILE.. or --files-from LIST is wanted, not both
@@ -145,7 +153,9 @@ check|-a => Usage: d64sh check [--digest] [--format FORMAT] FILE..
 check|a|--format=csv|--format=csv => Usage: d64sh check [--digest] [--format FORMAT] FILE..
 files|a|--digest => Usage: d64sh files [--format FORMAT] FILE..
 extract|a|--digest => Usage: d64sh extract [--into FOLDER] [--part] [--skip-existing] [--format FORMAT] FILE..
-catalogue|a|--format|text => Usage: d64sh catalogue [--maps] FILE..
+catalogue|a|--format|text => Usage: d64sh catalogue [--maps] [--title TEXT] [--links FOLDER] FILE..
+catalogue|--title|a|--title|b => Usage: d64sh catalogue [--maps] [--title TEXT] [--links FOLDER] FILE..
+extract|--links|l|a => Usage: d64sh extract [--into FOLDER] [--part] [--skip-existing] [--format FORMAT] FILE..
 map|--format|json => Usage: d64sh map [--format FORMAT] FILE
 map|a|b => Usage: d64sh map [--format FORMAT] FILE
 map =>   <FILE>

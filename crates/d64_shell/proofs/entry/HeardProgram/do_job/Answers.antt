@@ -65,12 +65,12 @@ returns-in-Map-clause-ended g c =
 
 pub returns-in-Catalogue-clause-ended : goal.returns-in-Catalogue-clause-ended
 returns-in-Catalogue-clause-ended g c =
-    survey_ended c.args.job (catalogue_rule c.in-Catalogue.maps) catalogue_heading (files_of c.in-Catalogue.names) (files_in c.new-in-Catalogue.result.names)
+    survey_ended c.args.job (catalogue_rule c.in-Catalogue.page) (catalogue_heading c.in-Catalogue.page) (files_of c.in-Catalogue.names) (files_in c.new-in-Catalogue.result.names)
     (outside_at g.R.Read.remaining c.args.input.now g.W.Write.contents c.args.output.now g.H.Host.state c.args.host.now)
     (outside_at g.R.Read.remaining c.run-in-Catalogue.new.input g.W.Write.contents c.run-in-Catalogue.new.output g.H.Host.state c.run-in-Catalogue.new.host)
     (account_at g.F.Write.contents c.args.faults.now) (account_at g.F.Write.contents c.run-in-Catalogue.new.faults) c.run-in-Catalogue.result
     (ap work_of c.in-Catalogue.is) (search rules)
-    (c.run-in-Catalogue.ensures.ended (catalogue_rule c.in-Catalogue.maps) catalogue_heading (search rules))
+    (c.run-in-Catalogue.ensures.ended (catalogue_rule c.in-Catalogue.page) (catalogue_heading c.in-Catalogue.page) (search rules))
 
 pub returns-in-Extract-clause-ended : goal.returns-in-Extract-clause-ended
 returns-in-Extract-clause-ended g c =
