@@ -1,2 +1,3 @@
 mod ProgramRuns
 mod JobEnds
+mod Errors

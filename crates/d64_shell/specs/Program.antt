@@ -1,9 +1,11 @@
 -- What the program does with its words, its streams and a host.
-use Rattle.std.specs.Prelude.{◌≡◌, ℕ, List, ◌∷◌, codes, ◌⊎◌}
+use Rattle.std.specs.Prelude.{◌≡◌, ℕ, List, ◌∷◌, map, codes, ◌⊎◌, ⊤}
 use Rattle.d64_script.specs.Output.{Account}
-use Rattle.d64_words.specs.Asked.{IsFault, IsJob}
+use Rattle.d64_wording.specs.Shown.{shown_name}
+use Rattle.d64_words.specs.Asked.{IsFault, IsJob, WasAskedFor}
 use Rattle.d64_words.specs.declared.asked.Job.{Job}
 use Rattle.d64_words.specs.declared.asked.JobFault.{JobFault}
+use Rattle.d64_words.specs.declared.asked.JobFault.TheVariants.{Words}
 use Rattle.d64_collection.specs.Answers.{by_rule}
 use Rattle.d64_unpack.specs.Conduct.{unpacks}
 use Rattle.d64_job.specs.Outside.{Outside}
@@ -25,6 +27,16 @@ EndedWork (Comparison rule old_name new_name) old new faults told status = Ended
 abbrev pub named_words : List (List ℕ) → List (List ℕ)
 named_words after = codes "d64sh" ∷ after
 
+-- words as names of the host are shown
+abbrev pub shown_words : List (List ℕ) → List (List ℕ)
+shown_words words = map shown_name words
+
+-- where the fault is an error of clap's, whose text has words, and not the help or the version that
+-- was asked for, it is one of these words
+abbrev pub IsErrorOf : List (List ℕ) → JobFault → Type 0
+IsErrorOf words (Words error) = WasAskedFor (Words error) ⊎ IsFault words (Words error)
+IsErrorOf words fault = ⊤
+
 -- the words ask for the shell
 abbrev pub AsksForShell : List (List ℕ) → Type 0
 AsksForShell after = (job : Job) × IsJob (named_words after) job × IsScript (work_of job)
@@ -34,8 +46,9 @@ abbrev pub AsksToPassOver : List (List ℕ) → Type 0
 AsksToPassOver after = (job : Job) × IsJob (named_words after) job × PassesOver (work_of job)
 
 -- what the program has done, and its status: the job that the words ask for has ended; or they ask
--- for none, and were answered so, with nothing read and no file touched
+-- for none, and were answered so, with nothing read and no file touched; an error of clap's is then
+-- one of the words as they are shown
 abbrev pub Ended : List (List ℕ) → Outside → Outside → Account → Account → ℕ → Type 0
 Ended after old new faults told status =
     ((job : Job) × IsJob (named_words after) job × EndedWork (work_of job) old new faults told status)
-    ⊎ ((fault : JobFault) × IsFault (named_words after) fault × (new.reader ≡ old.reader) × (new.host ≡ old.host) × AnswersWords fault old.output new.output faults told status)
+    ⊎ ((fault : JobFault) × IsFault (named_words after) fault × IsErrorOf (named_words (shown_words after)) fault × (new.reader ≡ old.reader) × (new.host ≡ old.host) × AnswersWords fault old.output new.output faults told status)
