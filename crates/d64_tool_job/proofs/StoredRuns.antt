@@ -20,7 +20,7 @@ use Rattle.d64_tool_job.specs.declared.tools.ToolFault.TheVariants.{Read, Write,
 -- a tool has not had its input, and stored nothing
 pub ended_without_input : (tool : Tool) (name : Option (List ℕ)) (target : List ℕ) (old new : Outside) (faults told : Account) (status : ℕ) (fault : ToolFault) (answer : Result (Unit {0}) ToolFault)
     → answer ≡ Err fault → TakesInput name old new (Err fault) → new.output ≡ old.output → (name ≡ None → fault ≡ Read → IsUnreadable new.reading)
-    → ReportsStored tool name [] target answer faults told status → EndedToolTo tool name target old new faults told status
+    → ReportsStored tool name [] target new.host.files answer faults told status → EndedToolTo tool name target old new faults told status
 ended_without_input tool name target old new faults told status fault answer is takes output due reports = (
   Err fault,
   answer,
@@ -35,7 +35,7 @@ ended_without_input tool name target old new faults told status fault answer is 
 -- it has had its input, and stored what it made of it, or not
 pub ended_with_input : (tool : Tool) (name : Option (List ℕ)) (target : List ℕ) (old middle new : Outside) (faults told : Account) (status : ℕ) (bytes : List ℕ) (answer : Result (Unit {0}) ToolFault)
     → TakesInput name old middle (Ok bytes) → HasStored tool bytes target middle.host new.host answer → (answer ≡ Err Read → ⊥)
-    → new.reader ≡ middle.reader → new.output ≡ old.output → ReportsStored tool name bytes target answer faults told status
+    → new.reader ≡ middle.reader → new.output ≡ old.output → ReportsStored tool name bytes target new.host.files answer faults told status
     → EndedToolTo tool name target old new faults told status
 ended_with_input tool name target old middle new faults told status bytes answer takes stored unread reader output reports = (
   Ok bytes,

@@ -4,7 +4,7 @@ use Rattle.std.specs.Io.KnownBytes.{Keeps}
 use Rattle.d64_script.specs.Input.{IsUnreadable}
 use Rattle.d64_script.specs.Output.{Account, Writes}
 use Rattle.d64_script.specs.Status.{status_line}
-use Rattle.d64_host.specs.Files.{HostState}
+use Rattle.d64_host.specs.Files.{Files, HostState}
 use Rattle.d64_host.specs.declared.host.HostFault.{HostFault}
 use Rattle.d64_host.specs.declared.host.HostFault.TheVariants as files
 use Rattle.d64_line.specs.Act.{FetchesFile}
@@ -23,7 +23,9 @@ use Rattle.d64_tool_job.specs.declared.tools.ToolFault.TheVariants as tool_fault
 use Rattle.d64_job.specs.declared.program_fault.ProgramFault.TheVariants.{Read, Write, Memory}
 use Rattle.d64_job.specs.Outside.{Outside}
 use Rattle.d64_job.specs.Faults.{Reports}
+use Rattle.d64_collection.specs.Reasons.{IsWriteReason, with_known_reason}
 use Rattle.d64_collection.specs.Runs.{file_limit}
+use Rattle.d64_collection.specs.declared.reason.Reason.{Reason}
 
 -- how the fault of a tool's file that cannot be fetched is told
 abbrev pub fault_of_fetch : HostFault → ToolFault
@@ -96,25 +98,28 @@ abbrev pub ReportsProgram : Option (List ℕ) → ListFault → Account → Acco
 ReportsProgram name fault faults told status =
     ((status ≡ 1) × Writes faults told (refusal_line name None (status_of_listing fault) (list_fault_text fault))) ⊎ Reports Memory faults told status
 
--- that a result cannot be stored is reported, with status 2; or there is no memory for that
-abbrev pub ReportsUnwritten : List ℕ → Account → Account → ℕ → Type 0
-ReportsUnwritten target faults told status = ((status ≡ 2) × Writes faults told (unwritten_line target)) ⊎ Reports Memory faults told status
+-- that a result cannot be stored on a host of these files is reported with the reason, as far as the
+-- host can say, and with status 2; or there is no memory for that
+abbrev pub ReportsUnwritten : List ℕ → Option Files → Account → Account → ℕ → Type 0
+ReportsUnwritten target all faults told status =
+    ((status ≡ 2) × (reason : Option Reason) × IsWriteReason all reason × Writes faults told (with_known_reason reason (unwritten_line target)))
+    ⊎ Reports Memory faults told status
 
--- how a tool is reported that had these bytes and stores its result
-abbrev pub ReportsStored : {A : Type 0} → Tool → Option (List ℕ) → List ℕ → List ℕ → Result A ToolFault → Account → Account → ℕ → Type 0
-ReportsStored tool name bytes target (Ok done) faults told status = (status ≡ 0) × (told ≡ faults)
-ReportsStored tool name bytes target (Err (tool_faults.Text fault)) faults told status = ReportsText name (start_of tool) bytes faults told status
-ReportsStored tool name bytes target (Err (tool_faults.NotBasic fault)) faults told status = ReportsProgram name fault faults told status
-ReportsStored tool name bytes target (Err tool_faults.Read) faults told status = Reports Read faults told status
-ReportsStored tool name bytes target (Err tool_faults.Write) faults told status = ReportsUnwritten target faults told status
-ReportsStored tool name bytes target (Err (tool_faults.Memory error)) faults told status = Reports Memory faults told status
+-- how a tool is reported that had these bytes and stores its result, on a host of these files then
+abbrev pub ReportsStored : {A : Type 0} → Tool → Option (List ℕ) → List ℕ → List ℕ → Option Files → Result A ToolFault → Account → Account → ℕ → Type 0
+ReportsStored tool name bytes target all (Ok done) faults told status = (status ≡ 0) × (told ≡ faults)
+ReportsStored tool name bytes target all (Err (tool_faults.Text fault)) faults told status = ReportsText name (start_of tool) bytes faults told status
+ReportsStored tool name bytes target all (Err (tool_faults.NotBasic fault)) faults told status = ReportsProgram name fault faults told status
+ReportsStored tool name bytes target all (Err tool_faults.Read) faults told status = Reports Read faults told status
+ReportsStored tool name bytes target all (Err tool_faults.Write) faults told status = ReportsUnwritten target all faults told status
+ReportsStored tool name bytes target all (Err (tool_faults.Memory error)) faults told status = Reports Memory faults told status
 
 -- how a tool ended that stores its result; it reports a fault of reading its input only if that
 -- cannot be read to its end
 abbrev pub EndedToolTo : Tool → Option (List ℕ) → List ℕ → Outside → Outside → Account → Account → ℕ → Type 0
 EndedToolTo tool name target old new faults told status =
     (taken : Result (List ℕ) ToolFault) × (answer : Result (Unit {0}) ToolFault) × RanToolTo tool name target taken old new answer
-    × (name ≡ None → answer ≡ Err tool_faults.Read → IsUnreadable new.reading) × ReportsStored tool name (bytes_of taken) target answer faults told status
+    × (name ≡ None → answer ≡ Err tool_faults.Read → IsUnreadable new.reading) × ReportsStored tool name (bytes_of taken) target new.host.files answer faults told status
 
 -- how a tool ended that writes its result; it tells a fault of reading its input, or of writing,
 -- where the input cannot be read to its end, or a write or a flush has failed

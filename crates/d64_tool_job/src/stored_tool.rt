@@ -1,10 +1,13 @@
 //! The tools' job where the result goes to a host file: it is stored whole or not at all, and a
 //! refused input is reported in the form of compilers.
-ghost use Rattle.std.specs.Prelude.{◌≡◌, ◌≤◌, ◌⊎◌, IfErr, IfOk, Ok, Err, None, length, option_copied};
+ghost use Rattle.std.specs.Prelude.{◌≡◌, ◌≤◌, ◌⊎◌, IfErr, IfOk, Ok, Err, Option, None, length, option_copied};
 ghost use Rattle.d64_script.specs.Input.{IsUnread, IsUnreadable, reading_of};
 ghost use Rattle.d64_script.specs.Output.{Account};
 ghost use Rattle.d64_script.specs.Script.{script_limit};
+ghost use Rattle.d64_collection.specs.Reasons.{IsWriteReason, with_known_reason};
 ghost use Rattle.d64_collection.specs.Runs.{account_at};
+ghost use Rattle.d64_collection.specs.declared.reason.Reason.{Reason};
+ghost use Rattle.d64_wording.specs.FaultLines.{unwritten_line};
 ghost use Rattle.d64_job.specs.Outside.{outside_of};
 ghost use Rattle.d64_tool_job.specs.ToolRuns.{EndedToolTo, ReportsProgram, ReportsText, ReportsStored, ReportsUnwritten, TakesInput};
 ghost use Rattle.d64_tool_job.specs.Tools.{HasStored, fault_of_store, start_of};
@@ -13,6 +16,7 @@ use crate::refusal_line::push_refusal_line;
 use crate::refused_text::refused_text;
 use crate::tools::{Tool, ToolFault, whole_input};
 use cbm_text::ListFault;
+use d64_collection::{push_known_reason, reason_unwritten};
 use d64_host::{Host, HostFault};
 use d64_job::{ALL_ACCEPTED, NOT_RUN, ProgramFault, SOME_REFUSED, fetch_file};
 use d64_line::status_from::of_list_fault;
@@ -56,9 +60,9 @@ impl<'n> StoredTool<'n> {
         match self.taken(alloc, input, host) {
             Ok(bytes) => {
                 let answer = self.store(alloc, bytes.as_slice(), host);
-                self.report(alloc, bytes.as_slice(), answer, faults)
+                self.report(alloc, bytes.as_slice(), answer, host, faults)
             }
-            Err(fault) => self.report(alloc, b"", Err(fault), faults),
+            Err(fault) => self.report(alloc, b"", Err(fault), host, faults),
         }
     }
 
@@ -108,17 +112,18 @@ impl<'n> StoredTool<'n> {
     }
 
     /// Reports how the tool ended that had these bytes, and returns the exit status.
-    fn report<F: Write>(
+    fn report<F: Write, H: Host>(
         self,
         alloc: Global,
         bytes: &[u8],
         answer: Result<(), ToolFault>,
+        host: &H,
         faults: &mut OutputStream<'_, F>,
     ) -> u8
         requires { length bytes.now ≤ script_limit }
         ensures faults { faults.new.writer.ghost_name ≡ faults.old.writer.ghost_name }
         ensures status { result ≤ 2 }
-        ensures reported { ReportsStored self.entry.tool (option_copied self.entry.file) bytes.now self.entry.target.now answer (account_at F.contents faults.old) (account_at F.contents faults.new) result }
+        ensures reported { ReportsStored self.entry.tool (option_copied self.entry.file) bytes.now self.entry.target.now (H.state host.now).files answer (account_at F.contents faults.old) (account_at F.contents faults.new) result }
         ensures silent { result ≡ 0 → faults.new ≡ faults.old }
     {
         match answer {
@@ -126,7 +131,7 @@ impl<'n> StoredTool<'n> {
             Err(ToolFault::Text(_)) => self.report_text(alloc, bytes, faults),
             Err(ToolFault::NotBasic(fault)) => self.report_program(alloc, fault, faults),
             Err(ToolFault::Read) => ProgramFault::Read.report_on(faults),
-            Err(ToolFault::Write) => self.report_unwritten(alloc, faults),
+            Err(ToolFault::Write) => self.report_unwritten(alloc, host, faults),
             Err(ToolFault::Memory(_)) => ProgramFault::Memory.report_on(faults),
         }
     }
@@ -174,21 +179,36 @@ impl<'n> StoredTool<'n> {
         }
     }
 
-    /// Reports that the result cannot be written, and returns the exit status.
-    fn report_unwritten<F: Write>(self, alloc: Global, faults: &mut OutputStream<'_, F>) -> u8
+    /// Reports that the result cannot be written, and why, as far as the host can say; and returns
+    /// the exit status.
+    fn report_unwritten<F: Write, H: Host>(
+        self,
+        alloc: Global,
+        host: &H,
+        faults: &mut OutputStream<'_, F>,
+    ) -> u8
         ensures faults { faults.new.writer.ghost_name ≡ faults.old.writer.ghost_name }
         ensures status { result ≡ 2 }
-        ensures reported { ReportsUnwritten self.entry.target.now (account_at F.contents faults.old) (account_at F.contents faults.new) result }
+        ensures reported { ReportsUnwritten self.entry.target.now (H.state host.now).files (account_at F.contents faults.old) (account_at F.contents faults.new) result }
     {
-        let mut line = Vec::new(alloc);
-        match unwritten_line(&mut line, self.target.as_bytes()) {
-            Ok(()) => {
+        match unwritten_text(alloc, self.target, host) {
+            Ok(line) => {
                 let _ = faults.write(line.as_slice());
                 NOT_RUN
             }
             Err(_) => ProgramFault::Memory.report_on(faults),
         }
     }
+}
+
+/// The line that a result cannot be written to a file, with the reason, as far as the host can say.
+fn unwritten_text<H: Host>(alloc: Global, target: &str, host: &H) -> Result<Vec<u8>, AllocError>
+    ensures { IfOk result (λ line. (reason : Option Reason) × IsWriteReason (H.state host.now).files reason × (line.items ≡ with_known_reason reason (unwritten_line target.now))) }
+{
+    let mut line = Vec::new(alloc);
+    unwritten_line(&mut line, target.as_bytes())?;
+    push_known_reason(&mut line, reason_unwritten(host, target))?;
+    Ok(line)
 }
 
 /// The fault of a store as the tool's.

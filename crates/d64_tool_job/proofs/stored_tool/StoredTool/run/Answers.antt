@@ -20,7 +20,7 @@ returns-in-Ok-clause-ended g c output =
     subst (λ (bytes : List ℕ). HasStored c.args.self.tool bytes target middle.host new.host answer) c.as_slice.ensures.value c.store-answer.ensures.stored in
     ended_with_input c.args.self.tool name target old middle new (account_at g.F.Write.contents c.args.faults.now) (account_at g.F.Write.contents c.report.new.faults) c.report.result c.in-Ok.bytes.items answer
     (c.in-Ok.ensures.bytes output) stored (stored_not_read c.args.self.tool c.in-Ok.bytes.items target middle.host new.host answer stored) refl refl
-    (subst (λ (bytes : List ℕ). ReportsStored c.args.self.tool name bytes target answer (account_at g.F.Write.contents c.args.faults.now) (account_at g.F.Write.contents c.report.new.faults) c.report.result)
+    (subst (λ (bytes : List ℕ). ReportsStored c.args.self.tool name bytes target new.host.files answer (account_at g.F.Write.contents c.args.faults.now) (account_at g.F.Write.contents c.report.new.faults) c.report.result)
     c.as_slice-in-Ok.ensures.value c.report.ensures.reported)
 
 pub returns-in-Err-clause-ended : goal.returns-in-Err-clause-ended
