@@ -9,3 +9,4 @@ pub mod LineStart
 pub mod Prompt
 pub mod Leaving
 pub mod Ear
+pub mod Unfit

@@ -1,6 +1,6 @@
 //! Who says to a person what is wrong with a refused line, and what becomes of changes that are not
 //! saved.
-ghost use Rattle.std.specs.Prelude.{◌≡◌, ◌⊎◌, ℕ, List, Some, None, IfSome, if◌then◌else◌, ◌++◌, ◌&&◌, ◌||◌, codes, not, false, true};
+ghost use Rattle.std.specs.Prelude.{◌≡◌, ◌⊎◌, ℕ, List, [], Some, None, IfSome, if◌then◌else◌, ◌++◌, ◌&&◌, ◌||◌, codes, not, false, true};
 ghost use Rattle.d64_host.specs.Files.{HostState};
 ghost use Rattle.d64_script.specs.HeldLine.{Says};
 ghost use Rattle.d64_script.specs.Output.{Writes, account_of};
@@ -29,8 +29,9 @@ use crate::past::Past;
 use crate::prompt::{prompt_name, write_prompt};
 use crate::said::Said;
 use crate::text_cause::text_line;
+use crate::unfit::unfit_line;
 use arrayvec::ArrayVec;
-use d64_host::Host;
+use d64_host::{Host, HostFault};
 use d64_image::Image;
 use d64_runner::{Listener, Opening, Refusals};
 use d64_script::held_line::HeldLine;
@@ -57,6 +58,10 @@ pub struct Advisor<'w, W: Write, H: Host> {
     host: H,
     /// Whether the input and the output are a terminal.
     is_terminal: bool,
+    /// Whether it is said there why no session begins.
+    is_shown: bool,
+    /// The line that says it.
+    unfit: Option<Vec<u8>>,
     /// Whether lines are typed there.
     is_typed: bool,
     /// Whether refused lines are named by their numbers.
@@ -91,6 +96,8 @@ impl<'w, W: Write, H: Host> Advisor<'w, W, H> {
             output: OutputStream::new(writer),
             host,
             is_terminal,
+            is_shown: false,
+            unfit: None,
             is_typed: false,
             is_numbered: false,
             lines: 0,
@@ -103,6 +110,25 @@ impl<'w, W: Write, H: Host> Advisor<'w, W, H> {
             done: 0,
             past: Past::new(alloc),
         }
+    }
+
+    /// It is to be said why no session begins, where none does.
+    pub fn explain_misses(&mut self)
+        ensures output { self.new.output ≡ self.old.output }
+        ensures shown { self.new.is_shown ≡ true }
+    {
+        self.is_shown = true;
+    }
+
+    /// Says why no session began, where that is known.
+    pub fn end_without_session(&mut self)
+        ensures lent { self.new.output.writer.ghost_name ≡ self.old.output.writer.ghost_name }
+        ensures told { Writes
+            (account_of (W.contents self.old.output.writer.now) self.old.output.has_failed)
+            (account_of (W.contents self.new.output.writer.now) self.new.output.has_failed)
+            (option_map_or (λ line. line.items) self.old.unfit []) }
+    {
+        let _ = self.output.write(bytes_of(&self.unfit, b""));
     }
 
     /// The session begins: of that nothing is said.
@@ -280,6 +306,12 @@ fn asks_for_help(line: &HeldLine, status: &Status) -> bool {
 }
 
 impl<'w, W: Write, H: Host> Listener for Advisor<'w, W, H> {
+    fn miss(&mut self, name: &str, contents: Result<&[u8], HostFault>) {
+        if self.is_shown {
+            self.unfit = unfit_line(self.alloc, &self.host, name, contents);
+        }
+    }
+
     fn begin(&mut self, opening: &Opening<'_>, session: &Session) {
         self.begin_with(opening, session);
     }

@@ -18,5 +18,6 @@ mod past;
 mod prompt;
 mod said;
 mod text_cause;
+mod unfit;
 
 pub use advisor::Advisor;

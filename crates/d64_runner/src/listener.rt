@@ -1,6 +1,7 @@
 //! Who listens to the run of a script.
 
 use crate::manners::Refusals;
+use d64_host::HostFault;
 use d64_image::Image;
 use d64_script::held_line::HeldLine;
 use d64_script::status::Status;
@@ -22,6 +23,10 @@ pub struct Opening<'n> {
 /// Is told what becomes of a session: how it begins, what each line was answered, and how it ends.
 /// It has no part in the run, which is the same with every listener.
 pub trait Listener {
+    /// No session begins with the file of this name: it has these bytes, of which there are as many
+    /// as no image has, or it cannot be read.
+    fn miss(&mut self, name: &str, contents: Result<&[u8], HostFault>);
+
     /// The session begins.
     fn begin(&mut self, opening: &Opening<'_>, session: &Session);
 
@@ -53,6 +58,8 @@ pub trait Listener {
 pub struct Nobody;
 
 impl Listener for Nobody {
+    fn miss(&mut self, _name: &str, _contents: Result<&[u8], HostFault>) {}
+
     fn begin(&mut self, _opening: &Opening<'_>, _session: &Session) {}
 
     fn wait(&mut self, _image: &Image) {}

@@ -12,8 +12,8 @@ ghost use Rattle.d64_shell_job.specs.ShellRuns.{IsDue, IsFirstHistory, IsReadDue
 ghost use Rattle.d64_collection.specs.Runs.{file_limit};
 ghost use Rattle.d64_job.specs.Outside.{outside_at};
 
-use d64_host::Host;
-use d64_image::{BLOCKS, Image, blocks_of};
+use d64_host::{Host, HostFault};
+use d64_image::{BLOCKS, Image, ImageFault, blocks_of};
 use d64_job::{ALL_ACCEPTED, ProgramFault, SOME_REFUSED, fetch_file};
 use d64_runner::{Listener, Manner, Opening, Outcome, Refusals, ScriptRunner, ShellFault};
 use d64_script::input::InputStream;
@@ -67,7 +67,14 @@ impl<'n> ShellJob<'n> {
             (outside_at R.remaining input.new W.contents output.new H.state host.new)) }
     {
         let text = given_text(alloc, self.lines)?;
-        let mut session = first_session(alloc, host, self.image, self.tracks, self.resume)?;
+        let mut session = first_session(
+            alloc,
+            host,
+            self.image,
+            self.tracks,
+            self.resume,
+            listener,
+        )?;
         listener.begin(&self.opening(), &session);
         let script = Script {
             alloc,
@@ -166,12 +173,14 @@ impl<'n> Script<'n> {
 }
 
 /// The session that the script runs on: of a session file, of an image file, or of a blank image.
-fn first_session<H: Host>(
+/// The listener is told of a file that gives none.
+fn first_session<H: Host, L: Listener>(
     alloc: Global,
     host: &mut H,
     image: Option<&str>,
     tracks: u8,
     resume: Option<&str>,
+    listener: &mut L,
 ) -> Result<Session, ProgramFault>
     ensures session { IfOk result (λ session. IsFirstHistory
         (H.state host.old)
@@ -183,19 +192,20 @@ fn first_session<H: Host>(
         (H.state host.new)) }
 {
     if let Some(name) = resume {
-        return session_of_file(alloc, host, name);
+        return session_of_file(alloc, host, name, listener);
     }
     match image {
-        Some(name) => Ok(Session::new(alloc, image_of_file(alloc, host, name)?)),
+        Some(name) => Ok(Session::new(alloc, image_of_file(alloc, host, name, listener)?)),
         None => Ok(Session::new(alloc, blank_image(alloc, tracks)?)),
     }
 }
 
 /// The session of a host file.
-fn session_of_file<H: Host>(
+fn session_of_file<H: Host, L: Listener>(
     alloc: Global,
     host: &mut H,
     name: &str,
+    listener: &mut L,
 ) -> Result<Session, ProgramFault>
     ensures session { IfOk result (λ session. IsSession session × FetchesFile
         (H.state host.old)
@@ -210,6 +220,7 @@ fn session_of_file<H: Host>(
     let mut file = match host.open(name) {
         Ok(file) => file,
         Err(fault) => {
+            listener.miss(name, Err(fault));
             return Err(ProgramFault::of_file(fault, ProgramFault::UnreadableSession));
         }
     };
@@ -218,6 +229,7 @@ fn session_of_file<H: Host>(
         Err(ReadFault::Resume(fault)) => Err(fault.into()),
         Err(ReadFault::TooLong) => Err(ProgramFault::UnreadableSession),
         Err(ReadFault::Device) => {
+            listener.miss(name, Err(HostFault::Device));
             host.count_failed_read();
             Err(ProgramFault::UnreadableSession)
         }
@@ -236,7 +248,12 @@ fn blank_image(alloc: Global, tracks: u8) -> Result<Image, AllocError>
 }
 
 /// The image of a host file.
-fn image_of_file<H: Host>(alloc: Global, host: &mut H, name: &str) -> Result<Image, ProgramFault>
+fn image_of_file<H: Host, L: Listener>(
+    alloc: Global,
+    host: &mut H,
+    name: &str,
+    listener: &mut L,
+) -> Result<Image, ProgramFault>
     ensures image { IfOk result (λ image. IsImage image × FetchesFile
         (H.state host.old)
         name.now file_limit (Ok (bytes_of image))
@@ -248,8 +265,32 @@ fn image_of_file<H: Host>(alloc: Global, host: &mut H, name: &str) -> Result<Ima
         × GivesNoImage fetched fault) }
 {
     match fetch_file(alloc, host, name) {
-        Ok(bytes) => Ok(Image::from_bytes(alloc, bytes.as_slice())?),
-        Err(fault) => Err(ProgramFault::of_file(fault, ProgramFault::UnreadableImage)),
+        Ok(bytes) => image_of_bytes(alloc, name, bytes.as_slice(), listener),
+        Err(fault) => {
+            listener.miss(name, Err(fault));
+            Err(ProgramFault::of_file(fault, ProgramFault::UnreadableImage))
+        }
+    }
+}
+
+/// The image of the bytes of the host file of this name.
+fn image_of_bytes<L: Listener>(
+    alloc: Global,
+    name: &str,
+    bytes: &[u8],
+    listener: &mut L,
+) -> Result<Image, ProgramFault>
+    ensures image { IfOk result (λ image. IsImage image × (bytes_of image ≡ bytes.now)) }
+    ensures none { IfErr result (λ fault. GivesNoImage (Ok bytes.now) fault) }
+{
+    match Image::from_bytes(alloc, bytes) {
+        Ok(image) => Ok(image),
+        Err(fault) => {
+            if let ImageFault::WrongLength(_) = fault {
+                listener.miss(name, Ok(bytes));
+            }
+            Err(fault.into())
+        }
     }
 }
 

@@ -121,7 +121,7 @@ pub fn guess_of(bytes: &[u8]) -> Option<Guess>
 }
 
 /// A guess in words.
-pub(crate) fn guess_text(guess: Guess) -> &'static [u8]
+pub fn guess_text(guess: Guess) -> &'static [u8]
     ensures { result.now ≡ guess_text guess }
 {
     match guess {

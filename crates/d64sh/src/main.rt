@@ -81,14 +81,19 @@ fn run_program<'a, O: Write + Drop, E: Write>(
     let errors = WithinLimit::new(rt, limit, StandardStream::Error, rt.stderr());
     let mut errors = Retrying(errors);
     let mut advisor = Advisor::new(rt.alloc(), is_terminal, &mut errors, FolderHost::new(rt));
+    if rt.stderr().is_terminal() {
+        advisor.explain_misses();
+    }
     let program = program_with(rt.alloc(), &mut advisor);
-    Ok(program.run(
+    let status = program.run(
         words,
         &mut InputStream::new(&mut input),
         &mut OutputStream::new(&mut output),
         faults,
         &mut WatchedHost::new(line, FolderHost::new(rt)),
-    ))
+    );
+    advisor.end_without_session();
+    Ok(status)
 }
 
 /// The program, with this listener.
