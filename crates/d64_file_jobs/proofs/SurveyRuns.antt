@@ -22,11 +22,11 @@ use Rattle.d64_file_jobs.specs.declared.file_names.FileNames.{FileNames}
 use Rattle.d64_file_jobs.specs.declared.file_names.FileNames.TheVariants.{Given, Listed}
 
 -- one of the two cases that a test decides
-first_case : (test : Bool) (P Q : Type 0) → test ≡ true → P → MatchBool test P Q
+pub first_case : (test : Bool) (P Q : Type 0) → test ≡ true → P → MatchBool test P Q
 first_case true P Q is p = p
 first_case false P Q is p = cc
 
-second_case : (test : Bool) (P Q : Type 0) → test ≡ false → Q → MatchBool test P Q
+pub second_case : (test : Bool) (P Q : Type 0) → test ≡ false → Q → MatchBool test P Q
 second_case true P Q is q = cc
 second_case false P Q is q = q
 

@@ -3,8 +3,10 @@ ghost use Rattle.std.specs.Prelude.{◌≡◌, ◌≤◌, ℕ, List, [], Err, If
 ghost use Rattle.d64_host.specs.declared.host.HostFault.{HostFault};
 ghost use Rattle.d64_script.specs.Input.{IsUnread, reading_of};
 ghost use Rattle.d64_collection.specs.Answers.{KeepsQuiet, Rule, by_rule};
+ghost use Rattle.d64_collection.specs.Reasons.{with_known_reason};
+ghost use Rattle.d64_wording.specs.FaultLines.{unread_line};
 ghost use Rattle.d64_collection.specs.Runs.{account_at, stand_at};
-ghost use Rattle.d64_file_jobs.specs.JobEnds.{EndedSurvey, TellsFault};
+ghost use Rattle.d64_file_jobs.specs.JobEnds.{EndedSurvey, IsListReason, TellsFault};
 ghost use Rattle.d64_job.specs.Outside.{outside_at};
 ghost use Rattle.d64_file_jobs.specs.SurveyFiles.{files_in, list_name};
 ghost use Rattle.d64_file_jobs.specs.Surveys.{IsOpened, RunsListFile, Says, Surveys, fault_of_list};
@@ -12,7 +14,9 @@ ghost use Rattle.d64_collection.specs.declared.desk.RunFault.{RunFault};
 ghost use Rattle.d64_collection.specs.declared.report.Verdict.{Verdict};
 
 use crate::file_names::FileNames;
-use d64_collection::{Clerk, Desk, ListDesk, Report, RunFault, Verdict};
+use d64_collection::{
+    Clerk, Desk, ListDesk, Reason, Report, RunFault, Verdict, push_known_reason, reason_of,
+};
 use d64_host::{Host, HostFault};
 use d64_job::{NOT_RUN, ProgramFault};
 use d64_script::input::InputStream;
@@ -41,6 +45,16 @@ fn open_list<H: Host>(list: &str, host: &mut H) -> Result<H::File, RunFault>
     match host.open(list) {
         Ok(file) => Ok(file),
         Err(fault) => Err(fault_of_list(fault)),
+    }
+}
+
+/// Why a list cannot be read, as far as the host can say: nothing of the standard input.
+fn reason_of_list<H: Host>(list: &str, host: &H) -> Option<Reason>
+    ensures { IsListReason (H.state host.now).files list.now result }
+{
+    match list {
+        "-" => None,
+        list => reason_of(host, list, HostFault::Device),
     }
 }
 
@@ -75,6 +89,18 @@ fn answer_list_file<H: Host, C: Clerk, W: Write, F: Write>(
         host.count_failed_read();
     }
     Err(RunFault::List)
+}
+
+/// Adds the line of a list that cannot be read to an empty text, and the reason, if one is known.
+fn push_unread_list(
+    line: &mut Vec<u8>,
+    list: &str,
+    reason: Option<Reason>,
+) -> Result<(), AllocError>
+    ensures { line.old.items ≡ [] → OnOk result (line.new.items ≡ with_known_reason reason (unread_line list.now)) }
+{
+    unread_line(line, list.as_bytes())?;
+    push_known_reason(line, reason)
 }
 
 /// A survey of the files of these names.
@@ -153,7 +179,7 @@ impl<'n> SurveyJob<'n> {
         };
         match self.answer(&mut clerk, input, output, faults, host) {
             Ok(verdict) => verdict.exit_status(),
-            Err(fault) => self.tell(fault, faults),
+            Err(fault) => self.tell(fault, host, faults),
         }
     }
 
@@ -203,26 +229,37 @@ impl<'n> SurveyJob<'n> {
 
     /// Tells the fault of a run, and returns the exit status. Where a write fails, the rest of the
     /// line is dropped.
-    fn tell<F: Write>(&self, fault: RunFault, faults: &mut OutputStream<'_, F>) -> u8
+    fn tell<H: Host, F: Write>(
+        &self,
+        fault: RunFault,
+        host: &H,
+        faults: &mut OutputStream<'_, F>,
+    ) -> u8
         ensures faults { faults.new.writer.ghost_name ≡ faults.old.writer.ghost_name }
         ensures status { result ≡ 2 }
-        ensures told { TellsFault (list_name (files_in self.now.names)) fault (account_at F.contents faults.old) (account_at F.contents faults.new) result }
+        ensures told { TellsFault (H.state host.now).files (list_name (files_in self.now.names)) fault (account_at F.contents faults.old) (account_at F.contents faults.new) result }
     {
         match fault {
-            RunFault::List => self.tell_list(self.names.list_name(), faults),
+            RunFault::List => self.tell_list(self.names.list_name(), host, faults),
             RunFault::Write => ProgramFault::Write.report_on(faults),
             RunFault::Memory => ProgramFault::Memory.report_on(faults),
         }
     }
 
-    /// Tells that a list cannot be read.
-    fn tell_list<F: Write>(&self, list: &str, faults: &mut OutputStream<'_, F>) -> u8
+    /// Tells that a list cannot be read, and why, if that is known.
+    fn tell_list<H: Host, F: Write>(
+        &self,
+        list: &str,
+        host: &H,
+        faults: &mut OutputStream<'_, F>,
+    ) -> u8
         ensures faults { faults.new.writer.ghost_name ≡ faults.old.writer.ghost_name }
         ensures status { result ≡ 2 }
-        ensures told { TellsFault list.now RunFault.List (account_at F.contents faults.old) (account_at F.contents faults.new) result }
+        ensures told { TellsFault (H.state host.now).files list.now RunFault.List (account_at F.contents faults.old) (account_at F.contents faults.new) result }
     {
         let mut line = Vec::new(self.alloc);
-        match unread_line(&mut line, list.as_bytes()) {
+        let reason = reason_of_list(list, host);
+        match push_unread_list(&mut line, list, reason) {
             Ok(()) => {
                 let _ = faults.write(line.as_slice());
                 NOT_RUN

@@ -1,0 +1,14 @@
+use Rattle.std.proofs.Common.{rules, ◌≡◌, true, false, refl}
+use Rattle.d64_file_jobs.specs.Surveys.{is_input}
+use Rattle.d64_file_jobs.proofs.SurveyRuns.{first_case, second_case}
+use Rattle.d64_file_jobs.proofs.survey_job.reason_of_list.Goals as goal
+
+pub returns-in-text : goal.returns-in-text
+returns-in-text g c =
+    let input : is_input c.args.list.now ≡ true = search (rules, c.in-text.is) in
+    first_case (is_input c.args.list.now) _ _ input refl
+
+pub returns : goal.returns
+returns g c =
+    let file : is_input c.args.list.now ≡ false = search (rules, c.in_default.not-text) in
+    second_case (is_input c.args.list.now) _ _ file c.reason_of.ensures
