@@ -17,6 +17,13 @@ MEMORY = 2_600_000_000
 LINES_OF_A_CRATE = 1_500
 
 
+@functools.cache
+def kit():
+    """The folder of the toolchain."""
+    page = subprocess.run([RT, "doc"], stdin=subprocess.DEVNULL, stdout=subprocess.PIPE, text=True, check=True).stdout.split()
+    return os.path.dirname(next(it for it in page if it.endswith("START-HERE.md")))
+
+
 def version():
     """The newest version of CHANGELOG.md."""
     with open(os.path.join(TOP, "CHANGELOG.md"), encoding="utf-8") as file:
