@@ -2,7 +2,6 @@
 
 ghost use Rattle.std.specs.Prelude.{◌≡◌, IfOk, false, option_map};
 ghost use Rattle.clap.specs.Words.{App, Rule, app_of, kind_of, new_app, rule_of, with_rule, with_subcommand};
-ghost use Rattle.clap.specs.declared.error.kind.ErrorKind.TheVariants.{InvalidValue};
 ghost use Rattle.clap.specs.declared.builder.command.Command.TheViews.{out-Command as fields_of};
 ghost use Rattle.d64_words.specs.Commands.{bare_app, d64sh, app_named, shell, petcat, crunch, check, files, extract, map, diff, catalogue, survey, with_names, file_argument, image_argument, required_argument, files_argument, valued_option, output_option, line_option, stop_flag, flag, with_script};
 ghost use Rattle.d64_words.specs.Making.{IsArgument, IsMade};
@@ -50,14 +49,19 @@ pub(crate) fn named<'a>(alloc: Global, name: &str) -> Result<Option<Command<'a>>
     Ok(Some(command?))
 }
 
-/// The error that an option lacks its value, with the usage of the subcommand of this name, where
-/// there is one.
-pub(crate) fn lacks_value(alloc: Global, name: &str, message: &str) -> Result<Error, AllocError>
-    ensures { IfOk result (λ error. kind_of error ≡ InvalidValue) }
+/// An error of this kind that says this, with the usage of the subcommand of this name, or of the
+/// program where there is none.
+pub(crate) fn error(
+    alloc: Global,
+    name: &str,
+    kind: ErrorKind,
+    message: &str,
+) -> Result<Error, AllocError>
+    ensures { IfOk result (λ error. kind_of error ≡ kind) }
 {
     bare(alloc)
         .override_usage(help_of(name).usage)
-        .error(ErrorKind::InvalidValue, message)
+        .error(kind, message)
 }
 
 /// The command `d64sh` without its subcommands.

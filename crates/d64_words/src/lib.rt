@@ -8,6 +8,7 @@ mod forms;
 mod help;
 mod reading;
 mod surveys;
+mod tips;
 mod values;
 
 pub use asked::{DiffForm, Extraction, Format, Job, JobFault, Names, Page, PictureForm, Separator};

@@ -13,6 +13,7 @@ use crate::asked::{Job, JobFault};
 use crate::command;
 use crate::dumps::{diff_job, map_job};
 use crate::surveys::{catalogue_job, check_job, extract_job, files_job};
+use crate::tips::{message_of, with_tip};
 use crate::values::{given, has_flag, value, values};
 use clap::error::ErrorKind;
 use clap::{ArgMatches, Error};
@@ -52,7 +53,7 @@ pub fn job(alloc: Global, words: &[&str]) -> Result<Job, JobFault>
     };
     match command.try_get_matches_from(&words[1..]) {
         Ok(arguments) => job_of(alloc, name, &arguments),
-        Err(error) => Err(JobFault::from(with_usage(alloc, name, error)?)),
+        Err(error) => Err(JobFault::from(explained(alloc, words, name, error)?)),
     }
 }
 
@@ -61,25 +62,35 @@ fn program_job(alloc: Global, words: &[&str]) -> Result<Job, JobFault>
     ensures job { IfOk result (IsJob (map (λ word. word.now) words.now)) }
     ensures fault { IfErr result (IsFault (map (λ word. word.now) words.now)) }
 {
-    let matches = command::d64sh(alloc)?.try_get_matches_from(words)?;
+    let matches = match command::d64sh(alloc)?.try_get_matches_from(words) {
+        Ok(matches) => matches,
+        Err(error) => return Err(JobFault::from(with_tip(alloc, words, error)?)),
+    };
     let Some((name, arguments)) = matches.subcommand() else {
         unreachable!()
     };
     job_of(alloc, name, arguments)
 }
 
-/// The error, with the usage of the subcommand of this name where it is that an option lacks its
-/// value: `clap` tells no usage of that one.
-fn with_usage(alloc: Global, name: &str, error: Error) -> Result<Error, AllocError>
+/// The error of a subcommand, with its usage where `clap` tells none, or with a tip where `shell`
+/// was probably meant otherwise.
+fn explained(alloc: Global, words: &[&str], name: &str, error: Error) -> Result<Error, AllocError>
     ensures { IfOk result (λ told. kind_of told ≡ kind_of error) }
 {
-    if error.kind() != ErrorKind::InvalidValue {
-        return Ok(error);
+    if error.kind() == ErrorKind::InvalidValue {
+        with_usage(alloc, name, &error)
+    } else {
+        with_tip(alloc, words, error)
     }
+}
+
+/// The error that an option lacks its value, with the usage of the subcommand of this name: `clap`
+/// tells no usage of that one.
+fn with_usage(alloc: Global, name: &str, error: &Error) -> Result<Error, AllocError>
+    ensures { IfOk result (λ told. kind_of told ≡ kind_of error.now) }
+{
     let text = format!(in alloc; "{error}")?;
-    let line = text.as_str().lines().next().unwrap_or("");
-    let message = line.strip_prefix("error: ").unwrap_or(line);
-    command::lacks_value(alloc, name, message)
+    command::error(alloc, name, error.kind(), message_of(text.as_str()))
 }
 
 /// The job that a subcommand with these matches asks for.

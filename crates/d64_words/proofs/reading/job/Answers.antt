@@ -73,9 +73,9 @@ returns-in-Ok-clause-fault c =
     let none = sym (fault_is begins) ∙ c.in-Ok.ensures.kinds (is_free begins) in
     IfErr-weaker c.job_of.result _ _ (refused _ _ none (met_is begins c.in-Ok.arguments c.in-Ok.ensures.matches)) c.job_of.ensures.fault
 
-pub returns-in_ok-with_usage-in-Err-clause-fault : goal.returns-in_ok-with_usage-in-Err-clause-fault
-returns-in_ok-with_usage-in-Err-clause-fault c =
+pub returns-in_ok-explained-in-Err-clause-fault : goal.returns-in_ok-explained-in-Err-clause-fault
+returns-in_ok-explained-in-Err-clause-fault c =
     let lookup = c.in-Some.ensures.lookup in
     let begins = begins_with lookup.3.0 lookup.1 c.in_ok-command.ensures c.in-Some-2.is in
     let kinds = c.in-Err.ensures.kinds (is_free begins) in
-    told _ c.in_ok-with_usage-in-Err.field-0 c.from.result (rw (← fault_is begins, c.in_ok-with_usage-in-Err.ensures) kinds) c.from.ensures
+    told _ c.in_ok-explained-in-Err.field-0 c.from.result (rw (← fault_is begins, c.in_ok-explained-in-Err.ensures) kinds) c.from.ensures

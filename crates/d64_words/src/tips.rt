@@ -1,0 +1,140 @@
+//! Tips beside errors of `clap`: what was probably meant where a subcommand is missing, or where
+//! there are more arguments than `shell` takes.
+
+ghost use Rattle.std.specs.Prelude.{◌≡◌, IfOk};
+ghost use Rattle.clap.specs.Words.{kind_of};
+
+use crate::command;
+use clap::Error;
+use clap::error::ErrorKind;
+use std::alloc::{AllocError, Global};
+
+/// The most characters of an argument that a tip shows.
+const SHOWN_CHARACTERS: usize = 64;
+
+/// What was probably meant: the shell, on an image, with a line to run.
+#[derive(Clone, Copy, Debug)]
+struct Intent<'a> {
+    /// The name of the subcommand whose error it is, or nothing for the program's own.
+    subcommand: &'static str,
+    image: &'a str,
+    /// The arguments behind the image, of which the line consists.
+    rest: &'a [&'a str],
+}
+
+/// Whether an argument looks like the path of a file.
+fn is_path_like(word: &str) -> bool {
+    word.contains('.') || word.contains('/')
+}
+
+/// Whether an argument is no option.
+fn is_plain(word: &str) -> bool {
+    !word.starts_with('-')
+}
+
+/// What the arguments, of which the first is the program's name, probably mean.
+fn intent_of<'a>(words: &'a [&'a str], kind: ErrorKind) -> Option<Intent<'a>> {
+    match words {
+        [_, image, rest @ ..] if kind == ErrorKind::InvalidSubcommand && is_path_like(image) => {
+            Some(Intent {
+                subcommand: "",
+                image,
+                rest,
+            })
+        }
+        [_, name, image, first, ..]
+            if kind == ErrorKind::UnknownArgument
+                && *name == "shell"
+                && is_plain(image)
+                && is_plain(first) =>
+        {
+            Some(Intent {
+                subcommand: "shell",
+                image,
+                rest: &words[3..],
+            })
+        }
+        _ => None,
+    }
+}
+
+/// Whether a byte has no meaning of its own in a line for a shell of the host.
+fn is_bare(byte: u8) -> bool {
+    byte.is_ascii_alphanumeric() || matches!(byte, b'.' | b'/' | b'_' | b'-' | b'+' | b',')
+}
+
+/// Adds an argument as a line for a shell of the host has it: between apostrophes unless all its
+/// bytes are bare, and cut where it is long.
+fn push_argument(tip: &mut String, word: &str) -> Result<(), AllocError> {
+    let is_quoted = word.is_empty() || !word.bytes().all(is_bare);
+    if is_quoted {
+        tip.push('\'')?;
+    }
+    push_cut(tip, word)?;
+    if is_quoted {
+        tip.push('\'')?;
+    }
+    Ok(())
+}
+
+/// Adds the first characters of an argument, and `..` where it has more.
+fn push_cut(tip: &mut String, word: &str) -> Result<(), AllocError> {
+    for (count, character) in word.chars().enumerate() {
+        if count == SHOWN_CHARACTERS {
+            return tip.push_str("..");
+        }
+        tip.push(character)?;
+    }
+    Ok(())
+}
+
+/// The line that arguments probably mean, up to the first that is an option; `list` where there are
+/// none.
+fn line_of(alloc: Global, words: &[&str]) -> Result<String, AllocError> {
+    let mut line = String::new(alloc);
+    for word in words {
+        if !is_plain(word) {
+            break;
+        }
+        if !line.is_empty() {
+            line.push(' ')?;
+        }
+        line.push_str(word)?;
+    }
+    if line.is_empty() {
+        line.push_str("list")?;
+    }
+    Ok(line)
+}
+
+/// What was probably meant, as it is typed.
+fn tip_of(alloc: Global, intent: Intent) -> Result<String, AllocError> {
+    let line = line_of(alloc, intent.rest)?;
+    let mut tip = String::new(alloc);
+    tip.push_str("d64sh shell ")?;
+    push_argument(&mut tip, intent.image)?;
+    tip.push_str(" -c ")?;
+    push_argument(&mut tip, line.as_str())?;
+    Ok(tip)
+}
+
+/// The error of these arguments, of which the first is the program's name, with a tip where they
+/// probably mean the shell: an image in the place of a subcommand, or a line behind an image
+/// without `-c`.
+pub(crate) fn with_tip(alloc: Global, words: &[&str], error: Error) -> Result<Error, AllocError>
+    ensures { IfOk result (λ told. kind_of told ≡ kind_of error) }
+{
+    let Some(intent) = intent_of(words, error.kind()) else {
+        return Ok(error);
+    };
+    let tip = tip_of(alloc, intent)?;
+    let text = format!(in alloc; "{error}")?;
+    let message = format!(in alloc; "{}\n\n  tip: to run a line on an image: {tip}", message_of(text.as_str()))?;
+    command::error(alloc, intent.subcommand, error.kind(), message.as_str())
+}
+
+/// The message of an error of `clap`: its first line, behind `error: `.
+pub(crate) fn message_of(text: &str) -> &str {
+    let line = text.lines().next().unwrap_or("");
+    line.strip_prefix("error: ").unwrap_or(line)
+}
