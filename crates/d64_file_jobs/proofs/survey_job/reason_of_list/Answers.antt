@@ -8,7 +8,7 @@ returns-in-text g c =
     let input : is_input c.args.list.now ≡ true = search (rules, c.in-text.is) in
     first_case (is_input c.args.list.now) _ _ input refl
 
-pub returns : goal.returns
-returns g c =
+pub returns-in_default : goal.returns-in_default
+returns-in_default g c =
     let file : is_input c.args.list.now ≡ false = search (rules, c.in_default.not-text) in
     second_case (is_input c.args.list.now) _ _ file c.reason_of.ensures
