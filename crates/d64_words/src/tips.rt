@@ -46,8 +46,7 @@ fn intent_of<'a>(words: &'a [&'a str], kind: ErrorKind) -> Option<Intent<'a>> {
             if kind == ErrorKind::UnknownArgument
                 && *name == "shell"
                 && is_plain(image)
-                && is_plain(first) =>
-        {
+                && is_plain(first) => {
             Some(Intent {
                 subcommand: "shell",
                 image,
@@ -129,7 +128,10 @@ pub(crate) fn with_tip(alloc: Global, words: &[&str], error: Error) -> Result<Er
     };
     let tip = tip_of(alloc, intent)?;
     let text = format!(in alloc; "{error}")?;
-    let message = format!(in alloc; "{}\n\n  tip: to run a line on an image: {tip}", message_of(text.as_str()))?;
+    let message = format!(in alloc;
+        "{}\n\n  tip: to run a line on an image: {tip}",
+        message_of(text.as_str())
+    )?;
     command::error(alloc, intent.subcommand, error.kind(), message.as_str())
 }
 
