@@ -2,7 +2,7 @@
 use Rattle.std.proofs.Common.{ℕ, List, inr}
 use Rattle.d64_words.specs.Asked.{IsFault}
 use Rattle.d64_words.specs.declared.asked.JobFault.{JobFault}
-use Rattle.d64_words.specs.declared.asked.JobFault.TheVariants.{Words, Start, Memory, Tracks, Both, Format, Names, Null, Picture, Difference, Folder}
+use Rattle.d64_words.specs.declared.asked.JobFault.TheVariants.{Words, Start, Memory, Tracks, Both, Format, Names, Null, Picture, Difference, Folder, Title, Links}
 use Rattle.d64_shell.specs.Program.{IsErrorOf}
 
 -- a fault of words is an error of them, if it is one of clap's
@@ -18,3 +18,5 @@ of_words words Null is = tt
 of_words words Picture is = tt
 of_words words Difference is = tt
 of_words words Folder is = tt
+of_words words Title is = tt
+of_words words Links is = tt

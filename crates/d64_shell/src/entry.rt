@@ -1,19 +1,20 @@
 //! The program `d64sh`, from its words to its exit status.
-ghost use Rattle.std.specs.Prelude.{◌≡◌, ◌≢◌, ◌≤◌, Bool, false, map, true};
+ghost use Rattle.std.specs.Prelude.{◌≡◌, ◌≢◌, ◌≤◌, Bool, false, map, option_copied, true};
 ghost use Rattle.d64_script.specs.Input.{IsUnread, Reading, reading_of};
 ghost use Rattle.d64_script.specs.Output.{account_of};
 ghost use Rattle.d64_collection.specs.Runs.{account_at};
 ghost use Rattle.d64_shell.specs.Jobs.{IsScript, PassesOver, work_of};
 ghost use Rattle.d64_shell.specs.Program.{AsksForShell, AsksToPassOver, Ended, EndedWork};
 ghost use Rattle.d64_job.specs.Outside.{outside_at, outside_of};
+ghost use Rattle.d64_tool_job.specs.ToolRuns.{EndedConversion};
 
 use crate::asking::asked;
 use crate::extraction::setup_of;
 use d64_catalogue::CatalogueReport;
 use d64_check::CheckReport;
 use d64_file_jobs::{DifferenceJob, FileNames, SurveyJob};
-use d64_host::Host;
-use d64_job::answer_words;
+use d64_host::{Host, HostFault};
+use d64_job::{NOT_RUN, answer_words};
 use d64_listing::FilesReport;
 use d64_picture::MapReport;
 use d64_runner::{Listener, Nobody};
@@ -134,6 +135,40 @@ impl<'l, L: Listener> HeardProgram<'l, L> {
         }
     }
 
+    /// Runs a tool, and returns the exit status. If the tool has not run, the listener gets the name
+    /// of its file: that may be what cannot be read.
+    fn run_tool<R: Read, W: Write, F: Write, H: Host>(
+        self,
+        job: ToolJob<'_>,
+        input: &mut InputStream<'_, R>,
+        output: &mut OutputStream<'_, W>,
+        faults: &mut OutputStream<'_, F>,
+        host: &mut H,
+    ) -> u8
+        requires unread { IsUnread (reading_of input.old.reads input.old.came input.old.has_failed) }
+        requires unfailed { output.old.has_failed ≡ false }
+        requires delivered { output.old.is_delivered ≡ true }
+        ensures input { input.new.reader.ghost_name ≡ input.old.reader.ghost_name }
+        ensures output { output.new.writer.ghost_name ≡ output.old.writer.ghost_name }
+        ensures faults { faults.new.writer.ghost_name ≡ faults.old.writer.ghost_name }
+        ensures ended { EndedConversion job.entry.tool (option_copied job.entry.file) (option_copied job.entry.target)
+            (outside_at R.remaining input.old W.contents output.old H.state host.old)
+            (outside_at R.remaining input.new W.contents output.new H.state host.new)
+            (account_at F.contents faults.old) (account_at F.contents faults.new) result }
+        ensures status { result ≤ 2 }
+        ensures delivered { result ≡ 0 → (output.new.is_delivered ≡ true) × (output.new.has_failed ≡ false) }
+        ensures silent { result ≡ 0 → faults.new ≡ faults.old }
+    {
+        let HeardProgram { alloc, listener } = self;
+        let status = job.run(alloc, input, output, faults, host);
+        if status == NOT_RUN {
+            if let Some(name) = job.file {
+                listener.miss(name, Err(HostFault::Device));
+            }
+        }
+        status
+    }
+
     /// Does a job, and answers the exit status.
     fn do_job<R: Read, W: Write, F: Write, H: Host>(
         self,
@@ -188,7 +223,7 @@ impl<'l, L: Listener> HeardProgram<'l, L> {
                     file: file.as_deref(),
                     target: target.as_deref(),
                 };
-                job.run(alloc, input, output, faults, host)
+                self.run_tool(job, input, output, faults, host)
             }
             Job::Crunch {
                 start,
@@ -200,7 +235,7 @@ impl<'l, L: Listener> HeardProgram<'l, L> {
                     file: file.as_deref(),
                     target: target.as_deref(),
                 };
-                job.run(alloc, input, output, faults, host)
+                self.run_tool(job, input, output, faults, host)
             }
             Job::Check {
                 digest,
