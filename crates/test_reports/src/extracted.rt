@@ -36,7 +36,7 @@ fn a_file_that_is_written(rt: HostRuntime) -> Result<(), Fail> {
     assert!(rt; prints(rt, Format::Json, &hello(), Some(path), json.as_slice())?);
     let csv =
         b"image,slot,name,field,kind,type,closed,locked,size,first,record,blocks,side,bytes,sha256,whole,why,conditions,read_errors,file,error
-a.d64,0,hello,48454c4c4fa0a0a0a0a0a0a0a0a0a0a0,prg,130,true,false,1,17/0,,1,,37,1f1f1f1f1f1f1f1f1f1f1f1f1f1f1f1f1f1f1f1f1f1f1f1f1f1f1f1f1f1f1f1f,true,,,0,\"a b/\"\"\xFF\\.prg\",
+a.d64,0,hello,48454c4c4fa0a0a0a0a0a0a0a0a0a0a0,prg,130,true,false,1,17/0,,1,,37,1f1f1f1f1f1f1f1f1f1f1f1f1f1f1f1f1f1f1f1f1f1f1f1f1f1f1f1f1f1f1f1f,true,,,0,\"a b/\"\"\\xff\\\\.prg\",
 b.d64,,,,,,,,,,,,,,,,,,,,is there already
 \"c,d\",,,,,,,,,,,,,,,,,,,,wrong length
 ";
