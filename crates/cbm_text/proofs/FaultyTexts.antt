@@ -4,7 +4,7 @@ use Rattle.std.specs.Prelude.{All, Bool, IfErr, IfOk, Result, Ok, Err, is_err, s
 use Rattle.std.specs.Int.{from_bool}
 use Rattle.std.proofs.lemmas.List.{length-take}
 use Rattle.std.proofs.lemmas.List.Elements.{All-append, All-cons, All-take}
-use Rattle.d64_script.specs.RawLines.{lines_of, text_of, is_skipped}
+use Rattle.script_text.specs.RawLines.{lines_of, text_of, is_skipped}
 use Rattle.cbm_text.specs.declared.fault.BasicFault.{BasicFault}
 use Rattle.cbm_text.specs.declared.fault.BasicFault.TheVariants.{NoNumber, NumberTooLarge, Text, TokenByte, ZeroByte, TooLong, Memory}
 use Rattle.cbm_text.specs.declared.cause.Cause.{Cause}

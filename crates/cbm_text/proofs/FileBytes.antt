@@ -4,7 +4,7 @@ use Rattle.std.specs.Prelude.{nat_lt}
 use Rattle.std.proofs.lemmas.Bool.Decides.{nat_tests}
 use Rattle.std.specs.List.{flat_map}
 use Rattle.std.proofs.lemmas.List.Elements.{All-nil, All-cons, All-head, All-tail, All-append}
-use Rattle.d64_script.specs.RawLines.{lines_of, text_of}
+use Rattle.script_text.specs.RawLines.{lines_of, text_of}
 use Rattle.cbm_text.specs.Kept.{Opener, QuoteMark, RemWord, DataWord, opening, code_of}
 use Rattle.cbm_text.specs.Pieces.{Piece, Kept, Token, Question, Single, print_token, crunched_piece, AreCut}
 use Rattle.cbm_text.specs.Keywords.{keywords, token_from}

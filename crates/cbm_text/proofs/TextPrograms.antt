@@ -4,8 +4,8 @@ use Rattle.std.proofs.lemmas.List.{append-nil, length-append}
 use Rattle.std.specs.Prelude.{nat_eq, suc, zero}
 use Rattle.std.specs.List.{list_any}
 use Rattle.std.proofs.lemmas.Bool.{eqb-false, or_parts}
-use Rattle.d64_script.specs.RawLines.{lines_of, text_of, is_skipped}
-use Rattle.d64_script.proofs.LineCuts.{length-lines_of}
+use Rattle.script_text.specs.RawLines.{lines_of, text_of, is_skipped}
+use Rattle.script_text.proofs.LineCuts.{length-lines_of}
 use Rattle.cbm_text.specs.declared.fault.BasicFault.{BasicFault}
 use Rattle.cbm_text.specs.declared.fault.BasicFault.TheVariants.{NoNumber, NumberTooLarge, Text, TokenByte, ZeroByte, TooLong, Memory}
 use Rattle.cbm_text.specs.Crunching.{Crunched}

@@ -10,8 +10,8 @@ use Rattle.std.proofs.lemmas.List.Folds.{list_any-append}
 use Rattle.petscii.specs.TextForm.{IsTextOf}
 use Rattle.petscii.proofs.Readings.{one_reading, no_fault, one_fault}
 use Rattle.petscii.specs.declared.fault.TextFault.{TextFault}
-use Rattle.d64_script.specs.RawLines.{lines_of, text_of, is_skipped}
-use Rattle.d64_script.proofs.LineCuts.{lines_of-nil}
+use Rattle.script_text.specs.RawLines.{lines_of, text_of, is_skipped}
+use Rattle.script_text.proofs.LineCuts.{lines_of-nil}
 use Rattle.cbm_text.specs.declared.fault.BasicFault.{BasicFault}
 use Rattle.cbm_text.specs.declared.fault.BasicFault.TheVariants.{NoNumber, NumberTooLarge, Text, TokenByte, ZeroByte, TooLong, Memory}
 use Rattle.cbm_text.specs.Kept.{Opener, QuoteMark, RemWord, DataWord, opening, code_of}

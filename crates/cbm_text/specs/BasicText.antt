@@ -2,7 +2,7 @@
 use Rattle.std.specs.Prelude.{◌≡◌, ◌≢◌, ℕ, ◌+◌, ◌^◌, ◌<◌, ◌≤◌, ◌⊎◌, true, false, List, [], ◌∷◌, length, Contains, Option, Some, None, MatchOption}
 use Rattle.petscii.specs.TextForm.{IsTextOf}
 use Rattle.petscii.specs.TextFault as text_faults
-use Rattle.d64_script.specs.RawLines.{lines_of, text_of, is_skipped}
+use Rattle.script_text.specs.RawLines.{lines_of, text_of, is_skipped}
 use Rattle.cbm_text.specs.declared.fault.BasicFault.{BasicFault}
 use Rattle.cbm_text.specs.declared.fault.BasicFault.TheVariants.{NoNumber, NumberTooLarge, Text, TokenByte, ZeroByte, TooLong, Memory}
 use Rattle.cbm_text.specs.Crunching.{Crunched}

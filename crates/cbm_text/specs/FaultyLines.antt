@@ -1,6 +1,6 @@
 -- The faulty lines of a BASIC text.
 use Rattle.std.specs.Prelude.{◌≡◌, ℕ, ◌+◌, ◌⊎◌, true, false, List, [], ◌∷◌, ◌++◌, take, Result, Ok, Err}
-use Rattle.d64_script.specs.RawLines.{lines_of, text_of, is_skipped}
+use Rattle.script_text.specs.RawLines.{lines_of, text_of, is_skipped}
 use Rattle.cbm_text.specs.declared.fault.BasicFault.{BasicFault}
 use Rattle.cbm_text.specs.declared.faulty_text.FaultyLine.{FaultyLine}
 use Rattle.cbm_text.specs.Program.{Line, address_behind}

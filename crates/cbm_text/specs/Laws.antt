@@ -1,7 +1,7 @@
 -- The statements of the laws.
 use Rattle.std.specs.Prelude.{◌≡◌, ℕ, false, List, All, Contains}
 use Rattle.petscii.specs.TextForm.{IsTextOf}
-use Rattle.d64_script.specs.RawLines.{lines_of, text_of, is_skipped}
+use Rattle.script_text.specs.RawLines.{lines_of, text_of, is_skipped}
 use Rattle.cbm_text.specs.declared.fault.BasicFault.{BasicFault}
 use Rattle.cbm_text.specs.Pieces.{Piece, Question}
 use Rattle.cbm_text.specs.Crunching.{AreTextPieces, Crunched}

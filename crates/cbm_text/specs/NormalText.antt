@@ -1,7 +1,7 @@
 -- The normal spelling of a BASIC text.
 use Rattle.std.specs.Prelude.{◌≡◌, ℕ, ◌⊎◌, true, false, List, [], ◌∷◌, ◌++◌}
 use Rattle.petscii.specs.TextForm.{IsTextOf}
-use Rattle.d64_script.specs.RawLines.{lines_of, text_of, is_skipped}
+use Rattle.script_text.specs.RawLines.{lines_of, text_of, is_skipped}
 use Rattle.cbm_text.specs.Listing.{line_text}
 use Rattle.cbm_text.specs.TextLine.{line_number, rest_of}
 

@@ -8,8 +8,8 @@ use crate::codes::{MOST_BYTES, crunch_bytes};
 use crate::fault::BasicFault;
 use crate::program::{self, push_line, push_word};
 use crate::text_line::split_number;
-use d64_script::raw_lines::{self, RawLines};
 use petscii::{TextFault, from_text};
+use script_text::raw_lines::{self, RawLines};
 use std::alloc::Global;
 
 /// The greatest link.

@@ -7,7 +7,7 @@ ghost use Rattle.cbm_text.specs.FaultyLines.{AreFaultyIn, IsNoted};
 use crate::cause::{Cause, cause_of};
 use crate::crunching::push_text_line;
 use crate::fault::BasicFault;
-use d64_script::raw_lines::{self, RawLines};
+use script_text::raw_lines::{self, RawLines};
 use std::alloc::{AllocError, Global};
 
 /// A faulty line of a BASIC text.

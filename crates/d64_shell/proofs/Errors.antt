@@ -1,8 +1,8 @@
 -- Errors of words.
 use Rattle.std.proofs.Common.{ℕ, List, inr}
-use Rattle.d64_words.specs.Asked.{IsFault}
-use Rattle.d64_words.specs.declared.asked.JobFault.{JobFault}
-use Rattle.d64_words.specs.declared.asked.JobFault.TheVariants.{Words, Start, Memory, Tracks, Both, Format, Names, Null, Picture, Difference, Folder, Title, Links}
+use Rattle.program_arguments.specs.Asked.{IsFault}
+use Rattle.program_arguments.specs.declared.asked.JobFault.{JobFault}
+use Rattle.program_arguments.specs.declared.asked.JobFault.TheVariants.{Words, Start, Memory, Tracks, Both, Format, Names, Null, Picture, Difference, Folder, Title, Links}
 use Rattle.d64_shell.specs.Program.{IsErrorOf}
 
 -- a fault of words is an error of them, if it is one of clap's

@@ -1,20 +1,20 @@
 -- How a job ends, by how its work does.
 use Rattle.std.proofs.Common.{◌≡◌, ℕ, Bool, true, false, List, Result, Ok, Err, refl, sym, subst}
 use Rattle.std.specs.Prelude.{IfOk}
-use Rattle.d64_script.specs.Output.{Account}
-use Rattle.d64_words.specs.declared.asked.Job.{Job}
-use Rattle.d64_collection.specs.Answers.{KeepsQuiet, Rule, by_rule}
-use Rattle.d64_unpack.specs.Conduct.{unpacks}
-use Rattle.d64_unpack.specs.Setup.{SetupView}
-use Rattle.d64_unpack.specs.declared.unpacker.Unpacker.{Unpacker}
-use Rattle.d64_unpack.proofs.QuietWork.{clean_is_quiet}
-use Rattle.d64_runner.specs.Transcript.{Manner}
-use Rattle.d64_shell_job.specs.Beginnings.{Beginning, Source}
+use Rattle.script_text.specs.Output.{Account}
+use Rattle.program_arguments.specs.declared.asked.Job.{Job}
+use Rattle.program_batch.specs.Answers.{KeepsQuiet, Rule, by_rule}
+use Rattle.cmd_extract.specs.Conduct.{unpacks}
+use Rattle.cmd_extract.specs.Setup.{SetupView}
+use Rattle.cmd_extract.specs.declared.unpacker.Unpacker.{Unpacker}
+use Rattle.cmd_extract.proofs.QuietWork.{clean_is_quiet}
+use Rattle.script_run.specs.Transcript.{Manner}
+use Rattle.cmd_shell.specs.Beginnings.{Beginning, Source}
 use Rattle.d64_shell.specs.Jobs.{Work, Script, Survey, Extraction, PassesOver, work_of}
-use Rattle.d64_file_jobs.specs.SurveyFiles.{SurveyFiles}
-use Rattle.d64_job.specs.Outside.{Outside}
-use Rattle.d64_shell_job.specs.ShellRuns.{EndedShell}
-use Rattle.d64_file_jobs.specs.JobEnds.{EndedSurvey}
+use Rattle.program_surveys.specs.SurveyFiles.{SurveyFiles}
+use Rattle.program_exit.specs.Outside.{Outside}
+use Rattle.cmd_shell.specs.ShellRuns.{EndedShell}
+use Rattle.program_surveys.specs.JobEnds.{EndedSurvey}
 use Rattle.d64_shell.specs.Program.{EndedWork}
 
 -- where a job's work is a survey, it has ended as that has

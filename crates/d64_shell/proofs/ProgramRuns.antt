@@ -1,9 +1,9 @@
 -- Runs of the program.
 use Rattle.std.proofs.Common.{◌≡◌, ℕ, Bool, List, Option, subst}
-use Rattle.d64_script.specs.Input.{Reading}
-use Rattle.d64_script.specs.Output.{account_of}
-use Rattle.d64_host.specs.Files.{HostState}
-use Rattle.d64_job.specs.Outside.{outside_of}
+use Rattle.script_text.specs.Input.{Reading}
+use Rattle.script_text.specs.Output.{account_of}
+use Rattle.host_storage.specs.Files.{HostState}
+use Rattle.program_exit.specs.Outside.{outside_of}
 use Rattle.d64_shell.specs.Program.{Ended}
 
 -- what the program has done over wrapped streams it has done over the streams that are in them

@@ -1,23 +1,23 @@
 -- What each job does.
 use Rattle.std.specs.Prelude.{◌≡◌, ℕ, true, List, [], ◌∷◌, Option, ⊤, map, option_map, string_bytes}
-use Rattle.d64_words.specs.declared.asked.Job.{Job}
-use Rattle.d64_file_jobs.specs.SurveyFiles.{SurveyFiles, Named, files_of}
-use Rattle.d64_file_jobs.specs.Comparisons.{PairRule}
-use Rattle.d64_runner.specs.Transcript.{Manner}
-use Rattle.d64_tool_job.specs.declared.tools.Tool.{Tool}
-use Rattle.d64_words.specs.declared.asked.Job.TheVariants.{Shell, Petcat, Crunch, Check, Files, Extract, Map, Catalogue, Diff}
-use Rattle.d64_words.specs.declared.asked.Extraction.{Extraction as AskedExtraction}
-use Rattle.d64_words.specs.declared.asked.Format.{Format}
-use Rattle.d64_collection.specs.Answers.{Rule}
-use Rattle.d64_check.specs.Check.{check_rule, heading_of as check_heading}
-use Rattle.d64_listing.specs.Files.{files_rule, heading_of as files_heading}
-use Rattle.d64_listing.specs.Extracts.{extract_heading}
-use Rattle.d64_unpack.specs.Setup.{SetupView}
-use Rattle.d64_picture.specs.Pictures.{map_rule}
-use Rattle.d64_catalogue.specs.Catalogue.{catalogue_rule, catalogue_heading}
-use Rattle.d64_difference.specs.Differences.{difference_rule}
-use Rattle.d64_tool_job.specs.declared.tools.Tool.TheVariants as tools
-use Rattle.d64_shell_job.specs.Beginnings.{Beginning, beginning_of, home_of, Source, source_of, refusals_of}
+use Rattle.program_arguments.specs.declared.asked.Job.{Job}
+use Rattle.program_surveys.specs.SurveyFiles.{SurveyFiles, Named, files_of}
+use Rattle.program_surveys.specs.Comparisons.{PairRule}
+use Rattle.script_run.specs.Transcript.{Manner}
+use Rattle.cmd_basic.specs.declared.tools.Tool.{Tool}
+use Rattle.program_arguments.specs.declared.asked.Job.TheVariants.{Shell, Petcat, Crunch, Check, Files, Extract, Map, Catalogue, Diff}
+use Rattle.program_arguments.specs.declared.asked.Extraction.{Extraction as AskedExtraction}
+use Rattle.program_arguments.specs.declared.asked.Format.{Format}
+use Rattle.program_batch.specs.Answers.{Rule}
+use Rattle.cmd_check.specs.Check.{check_rule, heading_of as check_heading}
+use Rattle.cmd_files.specs.Files.{files_rule, heading_of as files_heading}
+use Rattle.cmd_files.specs.Extracts.{extract_heading}
+use Rattle.cmd_extract.specs.Setup.{SetupView}
+use Rattle.cmd_map.specs.Pictures.{map_rule}
+use Rattle.cmd_catalogue.specs.Catalogue.{catalogue_rule, catalogue_heading}
+use Rattle.cmd_diff.specs.Differences.{difference_rule}
+use Rattle.cmd_basic.specs.declared.tools.Tool.TheVariants as tools
+use Rattle.cmd_shell.specs.Beginnings.{Beginning, beginning_of, home_of, Source, source_of, refusals_of}
 
 -- what an extraction is asked for by the words, in a form of the output
 abbrev pub setup_of : AskedExtraction → Format → SetupView

@@ -1,18 +1,18 @@
 -- What the program does with its words, its streams and a host.
 use Rattle.std.specs.Prelude.{◌≡◌, ℕ, List, ◌∷◌, map, codes, ◌⊎◌, ⊤}
-use Rattle.d64_script.specs.Output.{Account}
-use Rattle.d64_wording.specs.Shown.{shown_name}
-use Rattle.d64_words.specs.Asked.{IsFault, IsJob, WasAskedFor}
-use Rattle.d64_words.specs.declared.asked.Job.{Job}
-use Rattle.d64_words.specs.declared.asked.JobFault.{JobFault}
-use Rattle.d64_words.specs.declared.asked.JobFault.TheVariants.{Words}
-use Rattle.d64_collection.specs.Answers.{by_rule}
-use Rattle.d64_unpack.specs.Conduct.{unpacks}
-use Rattle.d64_job.specs.Outside.{Outside}
-use Rattle.d64_job.specs.WordFaults.{AnswersWords}
-use Rattle.d64_tool_job.specs.ToolRuns.{EndedConversion}
-use Rattle.d64_file_jobs.specs.JobEnds.{EndedSurvey, EndedComparison}
-use Rattle.d64_shell_job.specs.ShellRuns.{EndedShell}
+use Rattle.script_text.specs.Output.{Account}
+use Rattle.out_messages.specs.Shown.{shown_name}
+use Rattle.program_arguments.specs.Asked.{IsFault, IsJob, WasAskedFor}
+use Rattle.program_arguments.specs.declared.asked.Job.{Job}
+use Rattle.program_arguments.specs.declared.asked.JobFault.{JobFault}
+use Rattle.program_arguments.specs.declared.asked.JobFault.TheVariants.{Words}
+use Rattle.program_batch.specs.Answers.{by_rule}
+use Rattle.cmd_extract.specs.Conduct.{unpacks}
+use Rattle.program_exit.specs.Outside.{Outside}
+use Rattle.program_exit.specs.WordFaults.{AnswersWords}
+use Rattle.cmd_basic.specs.ToolRuns.{EndedConversion}
+use Rattle.program_surveys.specs.JobEnds.{EndedSurvey, EndedComparison}
+use Rattle.cmd_shell.specs.ShellRuns.{EndedShell}
 use Rattle.d64_shell.specs.Jobs.{Work, Script, Conversion, Survey, Extraction, Comparison, work_of, IsScript, PassesOver}
 
 -- how a job ended that does this work

@@ -1,11 +1,11 @@
 //! The job that arguments ask for, or a fault whose text has them as they are shown.
 ghost use Rattle.std.specs.Prelude.{◌≡◌, List, ℕ, IfErr, IfOk, IfSome, IsTrue, false, map, string_bytes};
 ghost use Rattle.d64_shell.specs.Program.{IsErrorOf, named_words, shown_words};
-ghost use Rattle.d64_wording.specs.Shown.{shown_name};
-ghost use Rattle.d64_words.specs.Asked.{IsFault, IsJob};
+ghost use Rattle.out_messages.specs.Shown.{shown_name};
+ghost use Rattle.program_arguments.specs.Asked.{IsFault, IsJob};
 
-use d64_wording::push_shown;
-use d64_words::{Job, JobFault, job};
+use out_messages::push_shown;
+use program_arguments::{Job, JobFault, job};
 use std::alloc::{AllocError, Global};
 
 /// The job that the words after the program's name ask for. What `clap` says of words that ask for

@@ -1,29 +1,29 @@
 //! The program `d64sh`, from its words to its exit status.
 ghost use Rattle.std.specs.Prelude.{◌≡◌, ◌≢◌, ◌≤◌, Bool, false, map, option_copied, true};
-ghost use Rattle.d64_script.specs.Input.{IsUnread, Reading, reading_of};
-ghost use Rattle.d64_script.specs.Output.{account_of};
-ghost use Rattle.d64_collection.specs.Runs.{account_at};
+ghost use Rattle.script_text.specs.Input.{IsUnread, Reading, reading_of};
+ghost use Rattle.script_text.specs.Output.{account_of};
+ghost use Rattle.program_batch.specs.Runs.{account_at};
 ghost use Rattle.d64_shell.specs.Jobs.{IsScript, PassesOver, work_of};
 ghost use Rattle.d64_shell.specs.Program.{AsksForShell, AsksToPassOver, Ended, EndedWork};
-ghost use Rattle.d64_job.specs.Outside.{outside_at, outside_of};
-ghost use Rattle.d64_tool_job.specs.ToolRuns.{EndedConversion};
+ghost use Rattle.program_exit.specs.Outside.{outside_at, outside_of};
+ghost use Rattle.cmd_basic.specs.ToolRuns.{EndedConversion};
 
 use crate::asking::asked;
 use crate::extraction::setup_of;
-use d64_catalogue::CatalogueReport;
-use d64_check::CheckReport;
-use d64_file_jobs::{DifferenceJob, FileNames, SurveyJob};
-use d64_host::{Host, HostFault};
-use d64_job::{NOT_RUN, answer_words};
-use d64_listing::FilesReport;
-use d64_picture::MapReport;
-use d64_runner::{Listener, Nobody};
-use d64_script::input::InputStream;
-use d64_script::output::OutputStream;
-use d64_shell_job::{ShellJob, exit_status, refusals_of};
-use d64_tool_job::{Tool, ToolJob};
-use d64_unpack::Unpacker;
-use d64_words::Job;
+use cmd_basic::{Tool, ToolJob};
+use cmd_catalogue::CatalogueReport;
+use cmd_check::CheckReport;
+use cmd_extract::Unpacker;
+use cmd_files::FilesReport;
+use cmd_map::MapReport;
+use cmd_shell::{ShellJob, exit_status, refusals_of};
+use host_storage::{Host, HostFault};
+use program_arguments::Job;
+use program_exit::{NOT_RUN, answer_words};
+use program_surveys::{DifferenceJob, FileNames, SurveyJob};
+use script_run::{Listener, Nobody};
+use script_text::input::InputStream;
+use script_text::output::OutputStream;
 use std::alloc::Global;
 use std::io::{Read, Write};
 

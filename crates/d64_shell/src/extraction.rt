@@ -2,8 +2,8 @@
 ghost use Rattle.std.specs.Prelude.{◌≡◌};
 ghost use Rattle.d64_shell.specs.Jobs.{setup_of};
 
-use d64_unpack::Setup;
-use d64_words::{Extraction, Format};
+use cmd_extract::Setup;
+use program_arguments::{Extraction, Format};
 
 /// What an extraction is asked for by the words, in a form of the output.
 pub(crate) fn setup_of(asked: Extraction, form: Format) -> Setup

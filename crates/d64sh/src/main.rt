@@ -5,12 +5,12 @@ mod progress;
 mod unread_output;
 mod within_limit;
 
-use d64_advice::Advisor;
-use d64_host::{Retrying, SizeLimit, StandardStream};
-use d64_script::input::InputStream;
-use d64_script::output::OutputStream;
 use d64_shell::{FolderHost, HeardProgram, Job, Listener, ProgramFault, job};
+use host_storage::{Retrying, SizeLimit, StandardStream};
 use progress::{ProgressLine, WatchedHost, WipingWriter};
+use script_hints::Advisor;
+use script_text::input::InputStream;
+use script_text::output::OutputStream;
 use std::alloc::Global;
 use std::cell::Cell;
 use std::env;

@@ -4,7 +4,7 @@
 ghost use Rattle.std.specs.Io.{WritesAtMost};
 ghost use Rattle.std.specs.Io.KnownBytes.{WriteAppends, Keeps};
 
-use d64_host::{FolderFault, Host, HostFault, Obstacle, WriteObstacle};
+use host_storage::{FolderFault, Host, HostFault, Obstacle, WriteObstacle};
 use std::alloc::Global;
 use std::cell::Cell;
 use std::io::{self, Eprint, Write};

@@ -4,7 +4,7 @@ ghost use Rattle.std.specs.Prelude.{◌≡◌};
 ghost use Rattle.std.specs.Io.{WritesAtMost};
 ghost use Rattle.std.specs.Io.KnownBytes.{WriteAppends, Keeps};
 
-use d64_host::{SizeLimit, StandardStream};
+use host_storage::{SizeLimit, StandardStream};
 use std::io::{self, ErrorKind, Write};
 use std::rt::Files;
 

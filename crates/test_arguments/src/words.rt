@@ -4,8 +4,8 @@
 //! The rows are text, since that is proved and compiled once for all of them: the arguments after
 //! the program's name, parted by `|`, then ` => ` and what must come of them.
 
-use d64_script::output::WriteFault;
-use d64_words::{JobFault, job};
+use program_arguments::{JobFault, job};
+use script_text::output::WriteFault;
 use std::alloc::Global;
 use std::test::Fail;
 

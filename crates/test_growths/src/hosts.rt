@@ -2,7 +2,7 @@
 
 use crate::end::{Bench, End};
 use crate::texts::TEXT;
-use d64_host::{Host, HostFault, MemoryHost};
+use host_storage::{Host, HostFault, MemoryHost};
 use std::alloc::Global;
 use std::test::Fail;
 

@@ -8,10 +8,10 @@ use d64_files::{
     Entry, Kind, Name, Pattern, Slots, check, dir_last, find, first_empty, matches, owned,
     slot_blocks,
 };
-use d64_host::{FolderHost, Host, MemoryHost};
 use d64_image::{BlockNo, BlockSet, Image, Patch};
 use d64_map::{blocks_free, counts_fit, free_count, is_free, pick_dir, pick_first, pick_next};
 use d64_undo::Session;
+use host_storage::{FolderHost, Host, MemoryHost};
 use std::test::Fail;
 
 /// Makes the calls that the bench names, and tells whether they answered what they should.

@@ -1,7 +1,7 @@
 //! A file that is replaced by a new one beside it, step by step.
 ghost use Rattle.std.specs.Prelude.{option_map};
 
-use d64_host::{Draft, HostFault, replace_by};
+use host_storage::{Draft, HostFault, replace_by};
 use std::alloc::Global;
 use std::test::Fail;
 

@@ -1,6 +1,6 @@
 //! What the faults of a host say.
 
-use d64_host::{FolderFault, HostFault};
+use host_storage::{FolderFault, HostFault};
 use std::alloc::AllocError;
 use std::test::Fail;
 

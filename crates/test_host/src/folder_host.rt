@@ -1,6 +1,6 @@
 //! A host over the files of the system.
 
-use d64_host::{FolderFault, FolderHost, Host, HostFault, WriteObstacle};
+use host_storage::{FolderFault, FolderHost, Host, HostFault, WriteObstacle};
 use std::fs;
 use std::io::Read;
 use std::os::unix::fs::{MetadataExt, symlink};

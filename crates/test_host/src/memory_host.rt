@@ -1,6 +1,6 @@
 //! A host in memory.
 
-use d64_host::{FolderFault, Host, HostFault, MemoryHost};
+use host_storage::{FolderFault, Host, HostFault, MemoryHost};
 use std::io::Read;
 use std::test::Fail;
 

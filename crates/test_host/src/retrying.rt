@@ -1,6 +1,6 @@
 //! Reading and writing on where a signal interrupts.
 
-use d64_host::Retrying;
+use host_storage::Retrying;
 use std::io::{self, ErrorKind, Read, Write};
 use std::test::Fail;
 

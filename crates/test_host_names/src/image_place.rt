@@ -1,6 +1,6 @@
 //! The folders of the files of an image, by its path.
 
-use d64_host_names::ImagePlace;
+use host_names::ImagePlace;
 use std::test::Fail;
 
 #[test]

@@ -1,7 +1,7 @@
 //! The names of files of images on a host.
 
-use d64_host_names::Ending::{Del, Prg, Rel, Seq, Usr};
-use d64_host_names::TakenNames;
+use host_names::Ending::{Del, Prg, Rel, Seq, Usr};
+use host_names::TakenNames;
 use std::test::Fail;
 
 /// One name of each rule, alone on its host; the host names are worked out by hand from the rules.

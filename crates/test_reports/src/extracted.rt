@@ -1,10 +1,10 @@
 //! What is printed of single files that are written to the host.
 
 use crate::files::{broken, hello};
+use cmd_files::{print_error, print_extract_heading, print_file, print_length};
 use d64_inventory::FileRow;
-use d64_listing::{print_error, print_extract_heading, print_file, print_length};
-use d64_report::{IS_THERE, Scratch};
-use d64_words::Format;
+use out_json_csv::{IS_THERE, Scratch};
+use program_arguments::Format;
 use std::test::Fail;
 
 /// Whether this is printed in a form: the heading, a file with a path or without one, an image for

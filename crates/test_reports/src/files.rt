@@ -1,11 +1,11 @@
 //! What is printed of single files.
 
 use arrayvec::ArrayVec;
+use cmd_files::{file_csv, file_json, files_header, push_file_line};
 use d64_files::Kind;
 use d64_inventory::{Content, FileRow};
-use d64_listing::{file_csv, file_json, files_header, push_file_line};
-use d64_report::Scratch;
 use d64_survey::Flaw;
+use out_json_csv::Scratch;
 use std::test::Fail;
 
 /// A whole file of one block.

@@ -1,8 +1,8 @@
 //! What is printed of whole dumps.
 
 use crate::disks::{dump_of, holiday};
-use d64_report::{Scratch, check_csv, check_json, csv_header};
 use d64_survey::{Dump, Inspection};
+use out_json_csv::{Scratch, check_csv, check_json, csv_header};
 use std::test::Fail;
 
 /// Whether this is printed of a dump: a table of one row, and after it the object of the same dump.

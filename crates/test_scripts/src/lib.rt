@@ -1,4 +1,4 @@
-//! Tests of the text of scripts through the public calls of `d64_script`: what no contract says,
+//! Tests of the text of scripts through the public calls of `script_text`: what no contract says,
 //! such as texts, and examples whose values come from outside.
 //!
 //! They stand in a crate of their own, since a crate with tests is proved twice. What a script can

@@ -1,12 +1,12 @@
 //! The text of scripts and of their answers.
 
-use d64_script::dump::dump;
-use d64_script::number::number;
-use d64_script::output::write_answer;
-use d64_script::raw_lines::{RawLines, before_end, is_ended, is_skipped, is_too_long, text};
-use d64_script::script::read_script;
-use d64_script::status::Status;
-use d64_script::words::{NoWords, Words};
+use script_text::dump::dump;
+use script_text::number::number;
+use script_text::output::write_answer;
+use script_text::raw_lines::{RawLines, before_end, is_ended, is_skipped, is_too_long, text};
+use script_text::script::read_script;
+use script_text::status::Status;
+use script_text::words::{NoWords, Words};
 use std::process::Abort;
 use std::test::Fail;
 

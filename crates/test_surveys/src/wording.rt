@@ -1,6 +1,6 @@
 //! Names of the host and files of wrong lengths, in words.
 
-use d64_wording::{push_shown, unread_line, wrong_length_line};
+use out_messages::{push_shown, unread_line, wrong_length_line};
 use std::test::Fail;
 
 #[test]

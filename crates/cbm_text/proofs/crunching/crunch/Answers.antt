@@ -1,7 +1,7 @@
 use Rattle.std.proofs.Common.{◌≡◌, ◌⊎◌, ℕ, ◌+◌, List, ◌++◌, ◌≤◌, length, true, false, sym, ◌∙◌, ap, subst, inl, inr, arith, rules}
-use Rattle.d64_script.specs.RawLines.{lines_of, text_of, is_skipped}
-use Rattle.d64_script.specs.declared.raw_lines.RawLines.{RawLines}
-use Rattle.d64_script.proofs.LineCuts.{length-lines_of}
+use Rattle.script_text.specs.RawLines.{lines_of, text_of, is_skipped}
+use Rattle.script_text.specs.declared.raw_lines.RawLines.{RawLines}
+use Rattle.script_text.proofs.LineCuts.{length-lines_of}
 use Rattle.cbm_text.specs.Program.{word}
 use Rattle.cbm_text.specs.BasicText.{IsLine, HasFault, IsFileOf, IsFirstFault, IsOfMemory, TellsLine}
 use Rattle.cbm_text.proofs.TextPrograms.{ProgramSoFar, so_far_nothing, so_far_skipped, so_far_line, so_far_fault, so_far_whole, tells_line}

@@ -1,4 +1,4 @@
-use Rattle.d64_script.specs.RawLines.{lines_of}
+use Rattle.script_text.specs.RawLines.{lines_of}
 use Rattle.cbm_text.proofs.TextPrograms.{ProgramSoFar}
 use Rattle.cbm_text.proofs.crunching.crunch.Given as goal
 

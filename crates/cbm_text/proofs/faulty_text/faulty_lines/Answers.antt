@@ -1,8 +1,8 @@
 use Rattle.std.proofs.Common.{◌≡◌, ◌+◌, ◌≤◌, List, ℕ, length, true, false, sym, ◌∙◌, ap, subst, arith, rules}
 use Rattle.std.specs.Int.{from_bool}
-use Rattle.d64_script.specs.RawLines.{lines_of, text_of, is_skipped}
-use Rattle.d64_script.specs.declared.raw_lines.RawLines.{RawLines}
-use Rattle.d64_script.proofs.LineCuts.{length-lines_of}
+use Rattle.script_text.specs.RawLines.{lines_of, text_of, is_skipped}
+use Rattle.script_text.specs.declared.raw_lines.RawLines.{RawLines}
+use Rattle.script_text.proofs.LineCuts.{length-lines_of}
 use Rattle.cbm_text.specs.BasicText.{HasFault, IsLine, IsOfMemory}
 use Rattle.cbm_text.specs.FaultyLines.{IsNoted}
 use Rattle.cbm_text.specs.Program.{Line, address_behind}

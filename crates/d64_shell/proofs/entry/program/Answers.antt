@@ -1,5 +1,5 @@
 use Rattle.std.proofs.Common.{rules}
-use Rattle.d64_script.specs.Input.{reading_of}
+use Rattle.script_text.specs.Input.{reading_of}
 use Rattle.d64_shell.proofs.ProgramRuns.{Ended-streams}
 use Rattle.d64_shell.proofs.entry.program.Goals as goal
 

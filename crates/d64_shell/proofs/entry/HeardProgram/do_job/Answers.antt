@@ -1,18 +1,18 @@
 -- A script and a survey have ended as the work of their job says.
 use Rattle.std.proofs.Common.{◌≡◌, ℕ, List, Option, inr, map, option_copied, option_map, rules, ap, ap₂}
-use Rattle.d64_collection.specs.Runs.{account_at}
-use Rattle.d64_check.specs.Check.{check_rule, heading_of as check_heading}
-use Rattle.d64_listing.specs.Files.{files_rule, heading_of as files_heading}
-use Rattle.d64_listing.specs.Extracts.{extract_heading}
-use Rattle.d64_picture.specs.Pictures.{map_rule}
-use Rattle.d64_catalogue.specs.Catalogue.{catalogue_rule, catalogue_heading}
+use Rattle.program_batch.specs.Runs.{account_at}
+use Rattle.cmd_check.specs.Check.{check_rule, heading_of as check_heading}
+use Rattle.cmd_files.specs.Files.{files_rule, heading_of as files_heading}
+use Rattle.cmd_files.specs.Extracts.{extract_heading}
+use Rattle.cmd_map.specs.Pictures.{map_rule}
+use Rattle.cmd_catalogue.specs.Catalogue.{catalogue_rule, catalogue_heading}
 use Rattle.std.specs.Prelude.{[], ◌∷◌, string_bytes}
-use Rattle.d64_runner.specs.Transcript.{Manner}
-use Rattle.d64_runner.specs.declared.manners.Refusals.{Refusals}
-use Rattle.d64_shell_job.specs.Beginnings.{beginning_of, home_of, refusals_of, source_of}
+use Rattle.script_run.specs.Transcript.{Manner}
+use Rattle.script_run.specs.declared.manners.Refusals.{Refusals}
+use Rattle.cmd_shell.specs.Beginnings.{beginning_of, home_of, refusals_of, source_of}
 use Rattle.d64_shell.specs.Jobs.{setup_of, work_of}
-use Rattle.d64_file_jobs.specs.SurveyFiles.{Named, files_in, files_of}
-use Rattle.d64_job.specs.Outside.{outside_at}
+use Rattle.program_surveys.specs.SurveyFiles.{Named, files_in, files_of}
+use Rattle.program_exit.specs.Outside.{outside_at}
 use Rattle.d64_shell.proofs.JobEnds.{extraction_ended, extraction_is_quiet, script_ended, survey_ended}
 use Rattle.d64_shell.proofs.entry.HeardProgram.do_job.Goals as goal
 

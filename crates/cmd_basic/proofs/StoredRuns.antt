@@ -1,0 +1,91 @@
+-- Runs of tools that store their results, by what their steps leave.
+use Rattle.std.proofs.Common.{◌≡◌, ℕ, List, [], ◌++◌, length, take, Option, None, Result, Ok, Err, inl, inr, refl, sym, ap, ◌∙◌, ◌-◌, nat_le, cond, false, codes, append_assoc}
+use Rattle.std.specs.List.{flat_map}
+use Rattle.cbm_text.specs.declared.faulty_text.FaultyLine.{FaultyLine}
+use Rattle.script_text.specs.Input.{IsUnreadable}
+use Rattle.script_text.specs.Output.{Account}
+use Rattle.host_storage.specs.Files.{HostState}
+use Rattle.host_storage.specs.declared.host.HostFault.{HostFault}
+use Rattle.host_storage.specs.declared.host.HostFault.TheVariants as files
+use Rattle.program_exit.specs.Outside.{Outside}
+use Rattle.out_messages.specs.Words.{count_of}
+use Rattle.cmd_basic.specs.RefusedText.{faulty_line, more_lines, most_lines, refused_text}
+use Rattle.cmd_basic.specs.ToolRuns.{EndedToolTo, ReportsStored, TakesInput}
+use Rattle.cmd_basic.specs.Tools.{HasStored, Refuses, answer_of_store, fault_of_store}
+use Rattle.cmd_basic.specs.declared.tools.Tool.{Tool}
+use Rattle.cmd_basic.specs.declared.tools.Tool.TheVariants.{Petcat, Crunch}
+use Rattle.cmd_basic.specs.declared.tools.ToolFault.{ToolFault}
+use Rattle.cmd_basic.specs.declared.tools.ToolFault.TheVariants.{Read, Write, Memory, Text, NotBasic}
+
+-- a tool has not had its input, and stored nothing
+pub ended_without_input : (tool : Tool) (name : Option (List ℕ)) (target : List ℕ) (old new : Outside) (faults told : Account) (status : ℕ) (fault : ToolFault) (answer : Result (Unit {0}) ToolFault)
+    → answer ≡ Err fault → TakesInput name old new (Err fault) → new.output ≡ old.output → (name ≡ None → fault ≡ Read → IsUnreadable new.reading)
+    → ReportsStored tool name [] target new.host.files answer faults told status → EndedToolTo tool name target old new faults told status
+ended_without_input tool name target old new faults told status fault answer is takes output due reports = (
+  Err fault,
+  answer,
+  record { middle = new; takes = takes; stores = (is, refl); reader = refl; output = output },
+  (λ none unread. due none (same_fault answer fault Read is unread)),
+  reports,
+)
+  where
+    same_fault : (answer : Result (Unit {0}) ToolFault) (a b : ToolFault) → answer ≡ Err a → answer ≡ Err b → a ≡ b
+    same_fault answer a b is other = cc
+
+-- it has had its input, and stored what it made of it, or not
+pub ended_with_input : (tool : Tool) (name : Option (List ℕ)) (target : List ℕ) (old middle new : Outside) (faults told : Account) (status : ℕ) (bytes : List ℕ) (answer : Result (Unit {0}) ToolFault)
+    → TakesInput name old middle (Ok bytes) → HasStored tool bytes target middle.host new.host answer → (answer ≡ Err Read → ⊥)
+    → new.reader ≡ middle.reader → new.output ≡ old.output → ReportsStored tool name bytes target new.host.files answer faults told status
+    → EndedToolTo tool name target old new faults told status
+ended_with_input tool name target old middle new faults told status bytes answer takes stored unread reader output reports = (
+  Ok bytes,
+  answer,
+  record { middle = middle; takes = takes; stores = stored; reader = reader; output = output },
+  (λ none is. absurd (unread is)),
+  reports,
+)
+
+-- no tool refuses its input by a fault of reading
+pub refuses_not_read : (tool : Tool) (input : List ℕ) (fault : ToolFault) → Refuses tool input fault → fault ≡ Read → ⊥
+refuses_not_read Petcat input Read refuses is = refuses
+refuses_not_read (Crunch start) input Read refuses is = refuses
+refuses_not_read tool input Write refuses is = cc
+refuses_not_read tool input (Memory error) refuses is = cc
+refuses_not_read tool input (NotBasic fault) refuses is = cc
+refuses_not_read tool input (Text fault) refuses is = cc
+
+-- and no store is refused by one
+pub store_not_read : (fault : HostFault) → fault_of_store fault ≡ Read → ⊥
+store_not_read (files.Memory error) is = cc
+store_not_read files.Missing is = cc
+store_not_read files.Device is = cc
+store_not_read files.TooLong is = cc
+
+-- nor does a run that had its input
+pub stored_not_read : (tool : Tool) (input target : List ℕ) (old new : HostState) (answer : Result (Unit {0}) ToolFault) → HasStored tool input target old new answer → answer ≡ Err Read → ⊥
+stored_not_read tool input target old new answer (inl (output, makes, stored, stores, is)) read = not_read stored (sym is ∙ read)
+  where
+    not_read : (stored : Result (Unit {0}) HostFault) → answer_of_store stored ≡ Err Read → ⊥
+    not_read (Ok done) is = cc
+    not_read (Err fault) is = store_not_read fault cc
+stored_not_read tool input target old new answer (inr (fault, refuses, is, kept)) read = refuses_not_read tool input fault refuses cc
+
+-- what is printed of faulty lines, part by part
+pub refused_parts : (name : Option (List ℕ)) (all kept : List FaultyLine) (count : ℕ) (none lines out : List ℕ) → none ≡ [] → lines ≡ none ++ flat_map (faulty_line name) kept
+    → out ≡ lines ++ more_lines count → kept ≡ take most_lines all → count ≡ length all → out ≡ refused_text name all
+unfolding refused_text
+refused_parts name all kept count none lines out empty added more first counted =
+    more
+    ∙ ap (λ (l : List ℕ). l ++ more_lines count) (added ∙ ap (λ (o : List ℕ). o ++ flat_map (faulty_line name) kept) empty ∙ ap (λ (ls : List FaultyLine). flat_map (faulty_line name) ls) first)
+    ∙ ap (λ (n : ℕ). flat_map (faulty_line name) (take most_lines all) ++ more_lines n) counted
+
+-- how many are not printed, part by part
+pub more_parts : (count : ℕ) (old first second out : List ℕ) → nat_le count most_lines ≡ false → first ≡ old ++ codes "    and "
+    → second ≡ first ++ count_of (count - most_lines) (codes "more faulty line") → out ≡ second ++ codes "\n" → out ≡ old ++ more_lines count
+unfolding more_lines
+more_parts count old first second out many begun counted ended =
+    let number = count_of (count - most_lines) (codes "more faulty line") in
+    ended ∙ ap (λ (o : List ℕ). o ++ codes "\n") (counted ∙ ap (λ (o : List ℕ). o ++ number) begun)
+    ∙ append_assoc (old ++ codes "    and ") number (codes "\n")
+    ∙ append_assoc old (codes "    and ") (number ++ codes "\n")
+    ∙ ap (λ t. old ++ cond t [] (codes "    and " ++ (number ++ codes "\n"))) (sym many)

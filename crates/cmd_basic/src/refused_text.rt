@@ -1,0 +1,101 @@
+//! What is printed of a text that is no program: its faulty lines, in the form of compilers.
+ghost use Rattle.std.specs.Prelude.{◌≡◌, ◌-◌, ◌≤◌, ◌<◌, ◌^◌, ◌++◌, All, IfOk, IfSome, List, OnOk, [], codes, length, option_copied};
+ghost use Rattle.std.specs.List.{flat_map};
+ghost use Rattle.cbm_text.specs.Causes.{cause_text};
+ghost use Rattle.cbm_text.specs.FaultyLines.{AreFaultyIn};
+ghost use Rattle.script_text.specs.Script.{script_limit};
+ghost use Rattle.cmd_basic.specs.RefusedText.{HasSmallNumber, faulty_line, indented, more_lines, refused_text};
+
+use crate::refusal_line::push_refusal_line;
+use cbm_text::{Cause, FaultyLine, faulty_lines};
+use out_messages::{push_count, shown_start};
+use script_commands::status_from::of_basic_fault;
+use std::alloc::{AllocError, Global};
+
+/// The most faulty lines of a text that are printed.
+const MOST_LINES: usize = 20;
+
+/// What is printed of a text that is no program, of the input of this name: its first faulty lines,
+/// each with what is wrong and with its first characters below, and how many more there are.
+pub(crate) fn refused_text(
+    alloc: Global,
+    name: Option<&str>,
+    start: u16,
+    text: &[u8],
+) -> Result<Vec<u8>, AllocError>
+    requires { length text.now ≤ script_limit }
+    ensures { IfOk result (λ out. (all : List FaultyLine) × AreFaultyIn start text.now all × (out.items ≡ refused_text (option_copied name.entry) all)) }
+{
+    let found = faulty_lines(alloc, start, text, MOST_LINES)?;
+    let mut out = Vec::new(alloc);
+    push_faulty_lines(alloc, &mut out, name, found.lines.as_slice())?;
+    push_more_lines(&mut out, found.count)?;
+    Ok(out)
+}
+
+/// Adds faulty lines.
+fn push_faulty_lines(
+    alloc: Global,
+    out: &mut Vec<u8>,
+    name: Option<&str>,
+    lines: &[FaultyLine<'_>],
+) -> Result<(), AllocError>
+    requires { All HasSmallNumber lines.now }
+    ensures { OnOk result (out.new.items ≡ out.old.items ++ flat_map (faulty_line (option_copied name.entry)) lines.now) }
+{
+    for line in lines {
+        push_faulty_line(alloc, out, name, line)?;
+    }
+    Ok(())
+}
+
+/// Adds a faulty line: its refusal, and its first characters below.
+#[tactic(auto, unfolding(crate::specs::RefusedText::faulty_line))]
+fn push_faulty_line(
+    alloc: Global,
+    out: &mut Vec<u8>,
+    name: Option<&str>,
+    line: &FaultyLine<'_>,
+) -> Result<(), AllocError>
+    requires { HasSmallNumber line.now }
+    ensures { OnOk result (out.new.items ≡ out.old.items ++ faulty_line (option_copied name.entry) line.now) }
+{
+    let cause = cause_text(alloc, line.cause)?;
+    let status = of_basic_fault(line.fault);
+    push_refusal_line(out, name, line.fault.line(), status, cause.as_slice())?;
+    let start = shown_start(alloc, line.text)?;
+    push_indented(out, start.as_slice())
+}
+
+/// What is wrong with a line.
+fn cause_text(alloc: Global, cause: Cause) -> Result<Vec<u8>, AllocError>
+    ensures { IfOk result (λ text. text.items ≡ cause_text cause) }
+{
+    let mut text = Vec::new(alloc);
+    cause.push_to(&mut text)?;
+    Ok(text)
+}
+
+/// Adds a line that does not begin at the left margin.
+#[tactic(auto, unfolding(crate::specs::RefusedText::indented))]
+fn push_indented(out: &mut Vec<u8>, text: &[u8]) -> Result<(), AllocError>
+    ensures { OnOk result (out.new.items ≡ out.old.items ++ indented text.now) }
+{
+    out.extend_from_slice(b"    ")?;
+    out.extend_from_slice(text)?;
+    out.extend_from_slice(b"\n")
+}
+
+/// Adds how many faulty lines of so many are not printed, if there are some.
+#[tactic(auto, unfolding(crate::specs::RefusedText::more_lines))]
+fn push_more_lines(out: &mut Vec<u8>, count: usize) -> Result<(), AllocError>
+    ensures { OnOk result (out.new.items ≡ out.old.items ++ more_lines count) }
+{
+    if count <= MOST_LINES {
+        return Ok(());
+    }
+    out.extend_from_slice(b"    and ")?;
+    push_count(out, count - MOST_LINES, b"more faulty line")?;
+    out.extend_from_slice(b"\n")?;
+    Ok(())
+}

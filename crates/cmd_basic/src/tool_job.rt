@@ -1,0 +1,153 @@
+//! The tools' job: a tool on the input or on a file, and how its answer is told.
+ghost use Rattle.std.specs.Prelude.{◌≡◌, ◌≤◌, false, IfErr, IsOk, None, OnOk, option_copied, true};
+ghost use Rattle.script_text.specs.Input.{IsUnread, reading_of};
+ghost use Rattle.script_text.specs.Output.{Writes};
+ghost use Rattle.program_batch.specs.Runs.{account_at};
+ghost use Rattle.script_text.specs.Status.{status_line};
+ghost use Rattle.cmd_basic.specs.ToolRuns.{EndedConversion, RanToolOn, TellsAnswer};
+ghost use Rattle.program_exit.specs.Outside.{outside_at};
+ghost use Rattle.cmd_basic.specs.Tools.{ReadsWith, TellsSmallLine, WritesWith};
+
+use crate::stored_tool::StoredTool;
+use crate::tools::{Tool, ToolFault};
+use host_storage::{Host, HostFault};
+use program_exit::{ALL_ACCEPTED, ProgramFault, SOME_REFUSED, fetch_file};
+use script_commands::status_from::{of_basic_fault, of_list_fault};
+use script_text::input::InputStream;
+use script_text::output::OutputStream;
+use script_text::status::Status;
+use std::alloc::Global;
+use std::io::{Read, Write};
+
+/// What the words ask of a tool.
+#[derive(Clone, Copy, Debug)]
+pub struct ToolJob<'n> {
+    pub tool: Tool,
+    /// The host file that it works on; without one, it is the input.
+    pub file: Option<&'n str>,
+    /// The host file that its result goes to; without one, it is the output.
+    pub target: Option<&'n str>,
+}
+
+impl<'n> ToolJob<'n> {
+    /// Runs the tool, and answers the exit status.
+    pub fn run<R: Read, W: Write, F: Write, H: Host>(
+        self,
+        alloc: Global,
+        input: &mut InputStream<'_, R>,
+        output: &mut OutputStream<'_, W>,
+        faults: &mut OutputStream<'_, F>,
+        host: &mut H,
+    ) -> u8
+        requires unread { IsUnread (reading_of input.old.reads input.old.came input.old.has_failed) }
+        requires unfailed { output.old.has_failed ≡ false }
+        requires delivered { output.old.is_delivered ≡ true }
+        ensures input { input.new.reader.ghost_name ≡ input.old.reader.ghost_name }
+        ensures output { output.new.writer.ghost_name ≡ output.old.writer.ghost_name }
+        ensures faults { faults.new.writer.ghost_name ≡ faults.old.writer.ghost_name }
+        ensures ended { EndedConversion self.entry.tool (option_copied self.entry.file) (option_copied self.entry.target)
+            (outside_at R.remaining input.old W.contents output.old H.state host.old)
+            (outside_at R.remaining input.new W.contents output.new H.state host.new)
+            (account_at F.contents faults.old) (account_at F.contents faults.new) result }
+        ensures status { result ≤ 2 }
+        ensures delivered { result ≡ 0 → (output.new.is_delivered ≡ true) × (output.new.has_failed ≡ false) }
+        ensures silent { result ≡ 0 → faults.new ≡ faults.old }
+    {
+        let Some(target) = self.target else {
+            let answer = run_tool(alloc, self.tool, self.file, input, output, host);
+            return tell_answer(answer, faults);
+        };
+        let job = StoredTool {
+            tool: self.tool,
+            file: self.file,
+            target,
+        };
+        job.run(alloc, input, faults, host)
+    }
+}
+
+/// Runs the tool on the file that the host has under this name, or on the input, and flushes the
+/// output.
+fn run_tool<R: Read, W: Write, H: Host>(
+    alloc: Global,
+    tool: Tool,
+    name: Option<&str>,
+    input: &mut InputStream<'_, R>,
+    output: &mut OutputStream<'_, W>,
+    host: &mut H,
+) -> Result<(), ToolFault>
+    requires unread { IsUnread (reading_of input.old.reads input.old.came input.old.has_failed) }
+    ensures input { input.new.reader.ghost_name ≡ input.old.reader.ghost_name }
+    ensures output { output.new.writer.ghost_name ≡ output.old.writer.ghost_name }
+    ensures ran { RanToolOn tool (option_copied name.entry)
+        (outside_at R.remaining input.old W.contents output.old H.state host.old)
+        (outside_at R.remaining input.new W.contents output.new H.state host.new) result }
+    ensures line { IfErr result TellsSmallLine }
+    ensures reads { option_copied name.entry ≡ None → ReadsWith result (reading_of input.new.reads input.new.came input.new.has_failed) }
+    ensures writes { WritesWith result output.old.has_failed output.new.has_failed }
+    ensures delivered { OnOk result (output.new.is_delivered ≡ true) }
+{
+    write_result(alloc, tool, name, input, output, host)?;
+    match output.flush() {
+        Ok(()) => Ok(()),
+        Err(_) => Err(ToolFault::Write),
+    }
+}
+
+/// Writes what the tool makes of the file that the host has under this name, or of the input.
+fn write_result<R: Read, W: Write, H: Host>(
+    alloc: Global,
+    tool: Tool,
+    name: Option<&str>,
+    input: &mut InputStream<'_, R>,
+    output: &mut OutputStream<'_, W>,
+    host: &mut H,
+) -> Result<(), ToolFault>
+    requires unread { IsUnread (reading_of input.old.reads input.old.came input.old.has_failed) }
+    ensures input { input.new.reader.ghost_name ≡ input.old.reader.ghost_name }
+    ensures output { output.new.writer.ghost_name ≡ output.old.writer.ghost_name }
+    ensures ran { RanToolOn tool (option_copied name.entry)
+        (outside_at R.remaining input.old W.contents output.old H.state host.old)
+        (outside_at R.remaining input.new W.contents output.new H.state host.new) result }
+    ensures line { IfErr result TellsSmallLine }
+    ensures reads { option_copied name.entry ≡ None → ReadsWith result (reading_of input.new.reads input.new.came input.new.has_failed) }
+    ensures writes { WritesWith result output.old.has_failed output.new.has_failed }
+{
+    let Some(name) = name else {
+        return tool.run(alloc, input, output);
+    };
+    match fetch_file(alloc, host, name) {
+        Ok(bytes) => tool.write(alloc, &bytes, output),
+        Err(HostFault::Memory(error)) => Err(ToolFault::Memory(error)),
+        Err(HostFault::Missing | HostFault::Device | HostFault::TooLong) => Err(ToolFault::Read),
+    }
+}
+
+/// Tells a tool's answer, and answers the exit status.
+fn tell_answer<F: Write>(answer: Result<(), ToolFault>, faults: &mut OutputStream<'_, F>) -> u8
+    requires { IfErr answer TellsSmallLine }
+    ensures faults { faults.new.writer.ghost_name ≡ faults.old.writer.ghost_name }
+    ensures wrote { result ≡ 0 → IsOk answer }
+    ensures told { TellsAnswer answer (account_at F.contents faults.old) (account_at F.contents faults.new) result }
+    ensures silent { result ≡ 0 → faults.new ≡ faults.old }
+{
+    match answer {
+        Ok(()) => ALL_ACCEPTED,
+        Err(ToolFault::Text(fault)) => tell_refusal(of_basic_fault(fault), faults),
+        Err(ToolFault::NotBasic(fault)) => tell_refusal(of_list_fault(fault), faults),
+        Err(ToolFault::Read) => ProgramFault::Read.report_on(faults),
+        Err(ToolFault::Write) => ProgramFault::Write.report_on(faults),
+        Err(ToolFault::Memory(_)) => ProgramFault::Memory.report_on(faults),
+    }
+}
+
+/// Writes the status line of a refusal, and answers the exit status. Where a write fails, the rest
+/// of the line is dropped.
+fn tell_refusal<F: Write>(status: Status, faults: &mut OutputStream<'_, F>) -> u8
+    ensures faults { faults.new.writer.ghost_name ≡ faults.old.writer.ghost_name }
+    ensures status { result ≡ 1 }
+    ensures told { Writes (account_at F.contents faults.old) (account_at F.contents faults.new) (status_line status) }
+{
+    let _ = faults.write(status.line().as_slice());
+    SOME_REFUSED
+}

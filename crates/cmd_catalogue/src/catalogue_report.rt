@@ -1,0 +1,134 @@
+//! What `catalogue` says of each file of a run.
+ghost use Rattle.std.specs.Prelude.{◌≡◌, List, ℕ, Option, Some, None, IfOk, OnOk, option_map, [], ◌++◌};
+ghost use Rattle.cmd_catalogue.specs.Catalogue.{answer_of, catalogue_rule, catalogue_heading};
+ghost use Rattle.cmd_catalogue.specs.Quiet.{catalogue_rule-is_quiet};
+
+use crate::head::push_head;
+use crate::host_files::{HostFiles, folder_of};
+use crate::section::{push_section, push_unanswered};
+use d64_image::Image;
+use d64_inventory::is_amiss;
+use d64_survey::{Dump, DumpFault, Fault, Inspection, ReadError};
+use out_messages::{push_no_dump, unread_line, wrong_length_line};
+use program_arguments::Page;
+use program_batch::{AnswerRoom, Report, Verdict};
+use std::alloc::{AllocError, Global};
+
+/// The report of `catalogue`, with the memory that it keeps from file to file.
+#[derive(Drop)]
+pub struct CatalogueReport {
+    alloc: Global,
+    page: Page,
+    dump: Dump,
+    faults: Vec<Fault>,
+    errors: Vec<ReadError>,
+    files: HostFiles,
+    text: Vec<u8>,
+}
+
+impl CatalogueReport {
+    /// A report on a page that is made so.
+    pub fn new(alloc: Global, page: Page) -> Result<CatalogueReport, AllocError>
+        ensures { IfOk result (λ report. report.page ≡ page) }
+    {
+        Ok(CatalogueReport {
+            alloc,
+            page,
+            dump: Dump::from_image(alloc, Image::zeroed(alloc)?),
+            faults: Vec::new(alloc),
+            errors: Vec::new(alloc),
+            files: HostFiles::new(alloc),
+            text: Vec::new(alloc),
+        })
+    }
+
+    /// What is told of the dump that was read of a file, with these bytes.
+    fn tell_dump(&mut self, name: &[u8], room: &mut AnswerRoom) -> Result<Verdict, AllocError>
+        ensures page { self.new.page ≡ self.old.page }
+        ensures answered { room.old.printed.items ≡ [] → room.old.complaint.items ≡ [] → (bytes : List ℕ) → IfOk result (λ verdict.
+            record { printed = room.new.printed.items; complaint = room.new.complaint.items; verdict = verdict }
+            ≡ answer_of self.old.page name.now bytes (Some self.old.dump)) }
+    {
+        let all = Inspection::of(&self.dump, &mut self.faults, &mut self.errors)?;
+        let folder = folder_of(self.alloc, self.page.links.as_deref(), name)?;
+        push_section(
+            &mut room.printed,
+            self.page.maps,
+            name,
+            &all,
+            folder.as_deref(),
+            &mut self.files,
+            &mut self.text,
+        )?;
+        if is_amiss(&all) {
+            Ok(Verdict::Amiss)
+        } else {
+            Ok(Verdict::Clean)
+        }
+    }
+
+    /// What is told of a file that cannot be read.
+    fn tell_unread(&mut self, name: &[u8], room: &mut AnswerRoom) -> Result<Verdict, AllocError>
+        ensures page { self.new.page ≡ self.old.page }
+        ensures answered { room.old.printed.items ≡ [] → room.old.complaint.items ≡ [] → IfOk result (λ verdict.
+            record { printed = room.new.printed.items; complaint = room.new.complaint.items; verdict = verdict }
+            ≡ catalogue_rule self.old.page name.now None) }
+    {
+        push_unanswered(&mut room.printed, name, b"cannot be read")?;
+        unread_line(&mut room.complaint, name)?;
+        Ok(Verdict::Failed)
+    }
+
+    /// What is told of a file with these bytes, where no dump has so many.
+    fn tell_wrong_length(
+        &mut self,
+        name: &[u8],
+        bytes: &[u8],
+        room: &mut AnswerRoom,
+    ) -> Result<Verdict, AllocError>
+        ensures page { self.new.page ≡ self.old.page }
+        ensures answered { room.old.printed.items ≡ [] → room.old.complaint.items ≡ [] → IfOk result (λ verdict.
+            record { printed = room.new.printed.items; complaint = room.new.complaint.items; verdict = verdict }
+            ≡ answer_of self.old.page name.now bytes.now None) }
+    {
+        self.text.clear();
+        push_no_dump(&mut self.text, bytes)?;
+        push_unanswered(&mut room.printed, name, self.text.as_slice())?;
+        wrong_length_line(&mut room.complaint, name, bytes)?;
+        Ok(Verdict::Failed)
+    }
+}
+
+impl Report for CatalogueReport {
+    ghost rule = { λ report. catalogue_rule report.page };
+
+    ghost heading = { λ report. catalogue_heading report.page };
+
+    ghost quiet = { λ report. catalogue_rule-is_quiet report.page };
+
+    fn head(&mut self, room: &mut AnswerRoom) -> Result<(), AllocError> {
+        room.clear();
+        push_head(
+            &mut room.printed,
+            self.page.title.as_deref(),
+            &mut self.text,
+        )
+    }
+
+    fn answer(
+        &mut self,
+        name: &[u8],
+        bytes: Option<&[u8]>,
+        room: &mut AnswerRoom,
+    ) -> Result<Verdict, AllocError> {
+        room.clear();
+        let Some(bytes) = bytes else {
+            return self.tell_unread(name, room);
+        };
+        match self.dump.refill(bytes) {
+            Ok(()) => self.tell_dump(name, room),
+            Err(DumpFault::WrongLength(_)) => self.tell_wrong_length(name, bytes, room),
+            Err(DumpFault::Memory(error)) => Err(error),
+        }
+    }
+}

@@ -1,0 +1,98 @@
+//! What stands before the sections. The end tags of what it leaves open, `body` and `html`, may be
+//! left out in HTML.
+ghost use Rattle.std.specs.Prelude.{◌≡◌, ◌++◌, option_map, OnOk};
+ghost use Rattle.cmd_catalogue.specs.Head.{opening, head_end, search_head, header, page_head};
+ghost use Rattle.cmd_catalogue.specs.Title.{page_title};
+
+use crate::element::push_text_line;
+use crate::script::push_script;
+use crate::style::push_style;
+use crate::title::push_page_title;
+use std::alloc::AllocError;
+
+/// The beginning of the page: its language, and what it may load, of scripts only its own (by its
+/// digest).
+const OPENING: &[u8] = b"<!DOCTYPE html>\n\
+<html lang=\"en\">\n\
+<head>\n\
+<meta charset=\"utf-8\">\n\
+<meta name=\"viewport\" content=\"width=device-width, initial-scale=1\">\n\
+<meta http-equiv=\"Content-Security-Policy\" content=\"default-src 'none'; style-src 'unsafe-inline'; script-src 'sha256-TD4h3keVhuO1sG4/VpmLZV2bySAgO6CpnTw6jgvpkRs='; base-uri 'none'; form-action 'none'\">\n";
+
+/// The end of its head.
+const HEAD_END: &[u8] = b"</head>\n\
+<body>\n\
+<header>\n";
+
+/// What stands above the sections, below the heading: the search field, the buttons, and how many
+/// disks are shown.
+const SEARCH_HEAD: &[u8] = b"<div class=\"tools\" role=\"search\" hidden>\n\
+<input type=\"search\" aria-label=\"Search disks and files\" placeholder=\"Search disks and files\" autocomplete=\"off\" autocapitalize=\"none\" spellcheck=\"false\">\n\
+<div role=\"group\" aria-label=\"State\">\n\
+<button type=\"button\" value=\"\" aria-pressed=\"true\">All</button>\n\
+<button type=\"button\" value=\"sound\" aria-pressed=\"false\">Sound</button>\n\
+<button type=\"button\" value=\"amiss\" aria-pressed=\"false\">Problems</button>\n\
+</div>\n\
+<output></output>\n\
+</div>\n\
+</header>\n";
+
+/// Adds the beginning of the page.
+#[tactic(auto, unfolding(crate::specs::Head::opening))]
+fn push_opening(out: &mut Vec<u8>) -> Result<(), AllocError>
+    ensures { OnOk result (out.new.items ≡ out.old.items ++ opening) }
+{
+    out.extend_from_slice(OPENING)
+}
+
+/// Adds the end of its head.
+#[tactic(auto, unfolding(crate::specs::Head::head_end))]
+fn push_head_end(out: &mut Vec<u8>) -> Result<(), AllocError>
+    ensures { OnOk result (out.new.items ≡ out.old.items ++ head_end) }
+{
+    out.extend_from_slice(HEAD_END)
+}
+
+/// Adds what stands below the heading.
+#[tactic(auto, unfolding(crate::specs::Head::search_head))]
+fn push_search_head(out: &mut Vec<u8>) -> Result<(), AllocError>
+    ensures { OnOk result (out.new.items ≡ out.old.items ++ search_head) }
+{
+    out.extend_from_slice(SEARCH_HEAD)
+}
+
+/// Adds the end of the head, and all that stands above the sections, with this heading.
+#[tactic(auto, unfolding(crate::specs::Head::header))]
+fn push_header(out: &mut Vec<u8>, title: &[u8]) -> Result<(), AllocError>
+    ensures { OnOk result (out.new.items ≡ out.old.items ++ header title.now) }
+{
+    push_head_end(out)?;
+    push_text_line(out, b"h1", b"", title)?;
+    push_search_head(out)
+}
+
+/// Adds what stands before all sections, with this title.
+#[tactic(auto, unfolding(crate::specs::Head::page_head))]
+fn push_titled_head(out: &mut Vec<u8>, title: &[u8]) -> Result<(), AllocError>
+    ensures { OnOk result (out.new.items ≡ out.old.items ++ page_head title.now) }
+{
+    push_opening(out)?;
+    push_text_line(out, b"title", b"", title)?;
+    push_style(out)?;
+    push_script(out)?;
+    push_header(out, title)
+}
+
+/// Adds what stands before all sections, with the title that is asked for, or the usual one. The
+/// text is room that is used again.
+pub(crate) fn push_head(
+    out: &mut Vec<u8>,
+    title: Option<&str>,
+    text: &mut Vec<u8>,
+) -> Result<(), AllocError>
+    ensures { OnOk result (out.new.items ≡ out.old.items ++ page_head (page_title (option_map (λ title. title.now) title.entry))) }
+{
+    text.clear();
+    push_page_title(text, title)?;
+    push_titled_head(out, text.as_slice())
+}

@@ -1,0 +1,58 @@
+-- What `check` says of a file.
+use Rattle.std.specs.Prelude.{ℕ, Bool, List, [], length, Option, Some, None, if◌then◌else◌, codes}
+use Rattle.sha2.specs.Sha256.{sha256}
+use Rattle.d64_image.specs.Disk.{Bytes}
+use Rattle.d64_survey.specs.Dump.{DumpView}
+use Rattle.d64_survey.specs.Inspection.{is_amiss}
+use Rattle.program_arguments.specs.declared.asked.Format.{Format}
+use Rattle.program_arguments.specs.declared.asked.Format.TheVariants.{Text, Json, Csv}
+use Rattle.out_json_csv.specs.Values.{line_of}
+use Rattle.out_json_csv.specs.Checks.{check_object, check_row}
+use Rattle.out_json_csv.specs.Rows.{header_row, unanswered_row}
+use Rattle.out_json_csv.specs.Unanswered.{unread_object, wrong_length_object}
+use Rattle.out_messages.specs.CheckText.{check_text}
+use Rattle.out_messages.specs.FaultLines.{unread_line, wrong_length_line}
+use Rattle.program_batch.specs.Answers.{Answer, Rule}
+use Rattle.program_batch.specs.declared.report.Verdict.TheVariants.{Clean, Amiss, Failed}
+use Rattle.out_json_csv.specs.DumpOf.{dump_of}
+
+-- the digest of bytes, where it is asked for
+abbrev pub digest_of : Bool → Bytes → Option Bytes
+digest_of asked bytes = if asked then Some (sha256 bytes) else None
+
+-- what is printed of a dump
+abbrev pub printed_of : Format → List ℕ → DumpView → Option Bytes → List ℕ
+printed_of Text name dump digest = check_text name dump
+printed_of Json name dump digest = line_of (check_object dump name digest)
+printed_of Csv name dump digest = check_row dump name digest
+
+-- what is printed of a file that cannot be read
+abbrev pub printed_unread : Format → Bool → List ℕ → List ℕ
+printed_unread Text digest name = []
+printed_unread Json digest name = line_of (unread_object name)
+printed_unread Csv digest name = unanswered_row name digest (codes "cannot be read")
+
+-- and of one whose length no dump has
+abbrev pub printed_wrong_length : Format → Bool → List ℕ → ℕ → List ℕ
+printed_wrong_length Text digest name length = []
+printed_wrong_length Json digest name length = line_of (wrong_length_object name length)
+printed_wrong_length Csv digest name length = unanswered_row name digest (codes "wrong length")
+
+-- what stands before all answers: the header row of CSV
+abbrev pub heading_of : Format → Bool → List ℕ
+heading_of Text digest = []
+heading_of Json digest = []
+heading_of Csv digest = header_row digest
+
+-- what is answered of bytes: of a dump, what is found; and else that they are of a wrong length
+abbrev pub answer_of : Format → Bool → List ℕ → Bytes → Option DumpView → Answer
+answer_of form digest name bytes None =
+    record { printed = printed_wrong_length form digest name (length bytes); complaint = wrong_length_line name bytes; verdict = Failed }
+answer_of form digest name bytes (Some dump) =
+    record { printed = printed_of form name dump (digest_of digest bytes); complaint = []; verdict = if is_amiss dump then Amiss else Clean }
+
+-- what `check` answers of a file in a form, with digests or without: of its bytes, or that it
+-- cannot be read
+abbrev pub check_rule : Format → Bool → Rule
+check_rule form digest name None = record { printed = printed_unread form digest name; complaint = unread_line name; verdict = Failed }
+check_rule form digest name (Some bytes) = answer_of form digest name bytes (dump_of bytes)

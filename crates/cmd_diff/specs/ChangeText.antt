@@ -1,0 +1,77 @@
+-- What is printed of a change for people: lines of the old dump behind `-`, lines of the new one
+-- behind `+`.
+use Rattle.std.specs.Prelude.{ℕ, nat_eq, if◌then◌else◌, Bool, List, [], ◌++◌, length, is_some, codes, decimal}
+use Rattle.std.specs.List.{flat_map}
+use Rattle.std.specs.Cmp.Lexicographic.{pointwise}
+use Rattle.petscii.specs.Spelling.{spelling}
+use Rattle.d64_image.specs.Disk.{Disk, Blocks, Bytes}
+use Rattle.d64_image.specs.Image.{tracks_of}
+use Rattle.d64_map.specs.Map.{blocks_free}
+use Rattle.d64_survey.specs.Dump.{DumpView}
+use Rattle.d64_names.specs.Names.{disk_dos}
+use Rattle.out_messages.specs.CheckText.{label_text}
+use Rattle.out_messages.specs.Shown.{shown_name}
+use Rattle.out_messages.specs.Words.{count_of, block_text}
+use Rattle.cmd_files.specs.FileTable.{file_line}
+use Rattle.cmd_diff.specs.Changes.{Change, DiskChanged, Added, Removed, FileChanged, BlocksChanged, CodesChanged}
+
+-- whether there are read codes
+abbrev pub codes_text : Bool → List ℕ
+codes_text has_codes = if has_codes then codes ", with read codes\n" else codes "\n"
+
+-- the DOS version
+unfoldable pub dos_text : Disk → List ℕ
+dos_text image = codes " " ++ (spelling (disk_dos image) ++ codes ", ")
+
+-- how many tracks there are
+unfoldable pub tracks_text : Disk → List ℕ
+tracks_text image = decimal (tracks_of (length image)) ++ codes " tracks, "
+
+-- how many blocks are free
+unfoldable pub free_text : Disk → List ℕ
+free_text image = count_of (blocks_free image) (codes "block") ++ codes " free"
+
+-- what is told of the disk after its label
+unfoldable pub size_text : DumpView → List ℕ
+size_text dump = dos_text dump.image ++ (tracks_text dump.image ++ (free_text dump.image ++ codes_text (is_some dump.codes)))
+
+-- the disk's line
+unfoldable pub disk_line : DumpView → List ℕ
+disk_line dump = codes "disk " ++ (label_text dump.image ++ size_text dump)
+
+-- a line of the old dump
+abbrev pub old_line : List ℕ → List ℕ
+old_line line = codes "-" ++ line
+
+-- a line of the new dump
+abbrev pub new_line : List ℕ → List ℕ
+new_line line = codes "+" ++ line
+
+-- that a file changed whose line is the same
+abbrev pub same_line : List ℕ → List ℕ → List ℕ
+same_line old new = if pointwise nat_eq old new then codes "  (the same line, but the file's content, blocks or entry differ)\n" else []
+
+-- two lines of a file, and what to say where they are the same
+unfoldable pub both_lines : List ℕ → List ℕ → List ℕ
+both_lines old new = old_line old ++ (new_line new ++ same_line old new)
+
+-- a block in a list
+abbrev pub listed_block : ℕ → List ℕ
+listed_block block = codes " " ++ block_text block
+
+-- a line of blocks
+unfoldable pub blocks_line : List ℕ → Blocks → List ℕ
+blocks_line word blocks = word ++ (flat_map listed_block blocks ++ codes "\n")
+
+-- what is printed of a change
+abbrev pub change_lines : Change → List ℕ
+change_lines (DiskChanged old new) = old_line (disk_line old) ++ new_line (disk_line new)
+change_lines (Added new) = new_line (file_line new)
+change_lines (Removed old) = old_line (file_line old)
+change_lines (FileChanged old new) = both_lines (file_line old) (file_line new)
+change_lines (BlocksChanged blocks) = blocks_line (codes "blocks that differ:") blocks
+change_lines (CodesChanged blocks) = blocks_line (codes "blocks with another read code:") blocks
+
+-- the names of the dumps, before all changes
+unfoldable pub heading : Bytes → Bytes → List ℕ
+heading old new = codes "--- " ++ (shown_name old ++ (codes "\n+++ " ++ (shown_name new ++ codes "\n")))

@@ -1,0 +1,98 @@
+-- What is said of two dumps.
+use Rattle.std.specs.Prelude.{ℕ, ◌==◌, nat_eq, List, [], ◌∷◌, ◌++◌, length, Option, Some, None, Result, Ok, Err, is_some, if◌then◌else◌, codes}
+use Rattle.std.specs.List.{flat_map}
+use Rattle.std.specs.Cmp.Lexicographic.{pointwise}
+use Rattle.d64_image.specs.Disk.{Bytes, Blocks}
+use Rattle.d64_survey.specs.Dump.{DumpView}
+use Rattle.out_json_csv.specs.Values.{line_of}
+use Rattle.out_json_csv.specs.DumpOf.{dump_of}
+use Rattle.out_json_csv.specs.Unanswered.{unread_object, wrong_length_object}
+use Rattle.out_messages.specs.FaultLines.{unread_line, wrong_length_line}
+use Rattle.program_batch.specs.Answers.{Answer}
+use Rattle.program_batch.specs.Reasons.{with_known_reason}
+use Rattle.program_batch.specs.declared.reason.Reason.{Reason}
+use Rattle.program_batch.specs.declared.report.Verdict.TheVariants.{Clean, Amiss, Failed}
+use Rattle.program_arguments.specs.declared.asked.DiffForm.{DiffForm}
+use Rattle.program_arguments.specs.declared.asked.DiffForm.TheVariants.{Text, Json}
+use Rattle.cmd_diff.specs.Changes.{Change, changes}
+use Rattle.cmd_diff.specs.ChangeObject.{blocks_object, change_object}
+use Rattle.cmd_diff.specs.ChangeText.{blocks_line, change_lines, heading}
+
+-- what is read of a file: its bytes, or why it cannot be read, if that is known
+abbrev pub Contents : Type 0
+Contents = Result Bytes (Option Reason)
+
+-- the same as the code has it, where this gives the bytes
+abbrev pub contents_by : {B : Type 0} → (B → Bytes) → Result B (Option Reason) → Contents
+contents_by bytes_of (Ok bytes) = Ok (bytes_of bytes)
+contents_by bytes_of (Err reason) = Err reason
+
+-- what is printed of a change
+abbrev pub printed_change : DiffForm → Change → List ℕ
+printed_change Text change = change_lines change
+printed_change Json change = line_of (change_object change)
+
+-- what is printed of changes, in their order
+unfoldable pub printed_changes : DiffForm → List Change → List ℕ
+printed_changes form list = flat_map (printed_change form) list
+
+-- what is printed of blocks: a line that begins with this heading, or an object of the change of
+-- this word
+abbrev pub printed_list : DiffForm → List ℕ → List ℕ → Blocks → List ℕ
+printed_list Text heading word blocks = blocks_line heading blocks
+printed_list Json heading word blocks = line_of (blocks_object word blocks)
+
+-- and that where there are some
+abbrev pub printed_blocks : DiffForm → List ℕ → List ℕ → Blocks → List ℕ
+printed_blocks form heading word [] = []
+printed_blocks form heading word (block ∷ blocks) = printed_list form heading word (block ∷ blocks)
+
+-- the changes for people, with these lines: the names stand before them; files that differ where no
+-- line tells it differ in good read codes
+unfoldable pub under_names : Bytes → Bytes → List ℕ → List ℕ
+under_names old_name new_name lines = if length lines == 0 then codes "only good read codes differ\n" else heading old_name new_name ++ lines
+
+-- what is printed of two dumps that differ in a byte
+abbrev pub printed_difference : DiffForm → Bytes → Bytes → DumpView → DumpView → List ℕ
+printed_difference Text old_name new_name old new = under_names old_name new_name (printed_changes Text (changes old new))
+printed_difference Json old_name new_name old new = printed_changes Json (changes old new)
+
+-- the line on standard error of a file that isn't answered: it cannot be read, with the reason, or
+-- no dump has its length
+abbrev pub fault_line : Bytes → Contents → List ℕ
+fault_line name (Err reason) = with_known_reason reason (unread_line name)
+fault_line name (Ok bytes) = if is_some (dump_of bytes) then [] else wrong_length_line name bytes
+
+-- and what is printed of it
+abbrev pub printed_fault : DiffForm → Bytes → Contents → List ℕ
+printed_fault Text name contents = []
+printed_fault Json name (Err reason) = line_of (unread_object name)
+printed_fault Json name (Ok bytes) = if is_some (dump_of bytes) then [] else line_of (wrong_length_object name (length bytes))
+
+-- what is answered where one of two files isn't, or neither
+abbrev pub unanswered_pair : DiffForm → Bytes → Contents → Bytes → Contents → Answer
+unanswered_pair form old_name old new_name new =
+    record { printed = printed_fault form old_name old ++ printed_fault form new_name new; complaint = fault_line old_name old ++ fault_line new_name new; verdict = Failed }
+
+-- what is answered of two dumps that differ in a byte
+abbrev pub amiss_with : List ℕ → Answer
+amiss_with printed = record { printed = printed; complaint = []; verdict = Amiss }
+
+-- what is answered where nothing is said
+abbrev pub silence : Answer
+silence = record { printed = []; complaint = []; verdict = Clean }
+
+-- what is answered of two files by the dumps that their bytes are: nothing where the bytes are
+-- equal, and else what changed
+abbrev pub difference_by : DiffForm → Bytes → Bytes → Bytes → Bytes → Option DumpView → Option DumpView → Answer
+difference_by form old_name old new_name new (Some old_dump) (Some new_dump) =
+    if pointwise nat_eq old new then silence else amiss_with (printed_difference form old_name new_name old_dump new_dump)
+difference_by form old_name old new_name new (Some old_dump) None = unanswered_pair form old_name (Ok old) new_name (Ok new)
+difference_by form old_name old new_name new None new_dump = unanswered_pair form old_name (Ok old) new_name (Ok new)
+
+-- what `diff` answers of an old file and a new one in a form: of their bytes, or that they cannot
+-- be read
+abbrev pub difference_rule : DiffForm → Bytes → Contents → Bytes → Contents → Answer
+difference_rule form old_name (Ok old) new_name (Ok new) = difference_by form old_name old new_name new (dump_of old) (dump_of new)
+difference_rule form old_name (Ok old) new_name (Err reason) = unanswered_pair form old_name (Ok old) new_name (Err reason)
+difference_rule form old_name (Err reason) new_name new = unanswered_pair form old_name (Err reason) new_name new

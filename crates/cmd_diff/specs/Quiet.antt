@@ -1,0 +1,27 @@
+-- Why `diff` complains of no files that it calls clean.
+use Rattle.std.specs.Prelude.{◌≡◌, ℕ, nat_eq, Bool, true, false, if◌then◌else◌, List, [], Option, Some, None, Ok, Err, refl}
+use Rattle.std.specs.Cmp.Lexicographic.{pointwise}
+use Rattle.d64_image.specs.Disk.{Bytes}
+use Rattle.d64_survey.specs.Dump.{DumpView}
+use Rattle.program_batch.specs.declared.report.Verdict.TheVariants.{Clean}
+use Rattle.out_json_csv.specs.DumpOf.{dump_of}
+use Rattle.program_arguments.specs.declared.asked.DiffForm.{DiffForm}
+use Rattle.cmd_diff.specs.Differences.{Contents, silence, amiss_with, difference_by, difference_rule}
+
+-- neither silence nor what is amiss has a complaint
+either-is_quiet : (equal : Bool) (printed : List ℕ) → (if equal then silence else amiss_with printed).complaint ≡ []
+either-is_quiet true printed = refl
+either-is_quiet false printed = refl
+
+difference_by-is_quiet : (form : DiffForm) (old_name old new_name new : Bytes) (old_dump new_dump : Option DumpView)
+    → (difference_by form old_name old new_name new old_dump new_dump).verdict ≡ Clean → (difference_by form old_name old new_name new old_dump new_dump).complaint ≡ []
+difference_by-is_quiet form old_name old new_name new (Some old_dump) (Some new_dump) clean = either-is_quiet (pointwise nat_eq old new) _
+difference_by-is_quiet form old_name old new_name new (Some old_dump) None clean = cc
+difference_by-is_quiet form old_name old new_name new None new_dump clean = cc
+
+-- a clean answer has no complaint
+pub difference_rule-is_quiet : (form : DiffForm) (old_name : Bytes) (old : Contents) (new_name : Bytes) (new : Contents)
+    → (difference_rule form old_name old new_name new).verdict ≡ Clean → (difference_rule form old_name old new_name new).complaint ≡ []
+difference_rule-is_quiet form old_name (Ok old) new_name (Ok new) clean = difference_by-is_quiet form old_name old new_name new (dump_of old) (dump_of new) clean
+difference_rule-is_quiet form old_name (Ok old) new_name (Err reason) clean = cc
+difference_rule-is_quiet form old_name (Err reason) new_name new clean = cc

@@ -1,0 +1,156 @@
+//! What `diff` says of two files.
+ghost use Rattle.std.specs.Prelude.{◌≡◌, ◌++◌, [], Ok, IfOk, OnOk};
+ghost use Rattle.program_batch.specs.Answers.{Answer};
+ghost use Rattle.cmd_diff.specs.Differences.{contents_by, printed_difference, unanswered_pair, difference_rule, difference_by};
+
+use crate::drafts::Drafts;
+use crate::dump_room::DumpRoom;
+use crate::printing::{print_changes, push_difference};
+use crate::unanswered::{print_fault, push_fault_lines};
+use d64_survey::Inspection;
+use out_json_csv::Scratch;
+use program_arguments::DiffForm;
+use program_batch::{AnswerRoom, Reason, Verdict};
+use std::alloc::{AllocError, Global};
+use std::mem;
+
+/// The report of `diff`, with the memory that it keeps.
+#[derive(Drop)]
+pub struct DifferenceReport {
+    alloc: Global,
+    form: DiffForm,
+    earlier: DumpRoom,
+    later: DumpRoom,
+    drafts: Drafts,
+    scratch: Scratch,
+}
+
+impl DifferenceReport {
+    /// A report in a form.
+    pub fn new(alloc: Global, form: DiffForm) -> Result<DifferenceReport, AllocError>
+        ensures { IfOk result (λ report. report.form ≡ form) }
+    {
+        Ok(DifferenceReport {
+            alloc,
+            form,
+            earlier: DumpRoom::new(alloc)?,
+            later: DumpRoom::new(alloc)?,
+            drafts: Drafts::new(alloc),
+            scratch: Scratch::new(alloc),
+        })
+    }
+
+    /// Prints what changed from the old dump to the new one.
+    fn print(
+        &mut self,
+        old_name: &[u8],
+        new_name: &[u8],
+        out: &mut Vec<u8>,
+    ) -> Result<(), AllocError>
+        ensures form { self.new.form ≡ self.old.form }
+        ensures printed { OnOk result (out.new.items ≡ out.old.items ++ printed_difference self.old.form old_name.now new_name.now self.old.earlier.dump self.old.later.dump) }
+    {
+        let old = Inspection::of(
+            &self.earlier.dump,
+            &mut self.earlier.faults,
+            &mut self.earlier.errors,
+        )?;
+        let new = Inspection::of(
+            &self.later.dump,
+            &mut self.later.faults,
+            &mut self.later.errors,
+        )?;
+        match self.form {
+            DiffForm::Text => push_difference(
+                &mut self.drafts,
+                old_name,
+                new_name,
+                &old,
+                &new,
+                out,
+            ),
+            DiffForm::Json => {
+                let text = mem::replace(out, Vec::new(self.alloc));
+                *out = print_changes(DiffForm::Json, &mut self.drafts, &old, &new, text)?;
+                Ok(())
+            }
+        }
+    }
+
+    /// Says of two files, with these bytes or the reason why one cannot be read, why they aren't
+    /// answered.
+    fn tell_unanswered(
+        &mut self,
+        old_name: &[u8],
+        old: Result<&[u8], Option<Reason>>,
+        new_name: &[u8],
+        new: Result<&[u8], Option<Reason>>,
+        room: &mut AnswerRoom,
+    ) -> Result<Verdict, AllocError>
+        ensures form { self.new.form ≡ self.old.form }
+        ensures answered { room.old.printed.items ≡ [] → room.old.complaint.items ≡ [] → IfOk result (λ verdict.
+            record { printed = room.new.printed.items; complaint = room.new.complaint.items; verdict = verdict }
+            ≡ unanswered_pair self.old.form old_name.now (contents_by (λ bytes. bytes.now) old.entry) new_name.now (contents_by (λ bytes. bytes.now) new.entry)) }
+    {
+        let out = mem::replace(&mut room.printed, Vec::new(self.alloc));
+        let first = print_fault(self.form, &mut self.scratch, old_name, old, out)?;
+        room.printed = print_fault(self.form, &mut self.scratch, new_name, new, first)?;
+        push_fault_lines(
+            self.alloc,
+            &mut room.complaint,
+            old_name,
+            old,
+            new_name,
+            new,
+        )?;
+        Ok(Verdict::Failed)
+    }
+
+    /// Says of two files with these bytes what changed.
+    fn tell_bytes(
+        &mut self,
+        old_name: &[u8],
+        old: &[u8],
+        new_name: &[u8],
+        new: &[u8],
+        room: &mut AnswerRoom,
+    ) -> Result<Verdict, AllocError>
+        ensures form { self.new.form ≡ self.old.form }
+        ensures answered { room.old.printed.items ≡ [] → room.old.complaint.items ≡ [] → IfOk result (λ verdict.
+            record { printed = room.new.printed.items; complaint = room.new.complaint.items; verdict = verdict }
+            ≡ difference_rule self.old.form old_name.now (Ok old.now) new_name.now (Ok new.now)) }
+    {
+        let is_old = self.earlier.refill(old)?;
+        let is_new = self.later.refill(new)?;
+        if !is_old || !is_new {
+            return self.tell_unanswered(old_name, Ok(old), new_name, Ok(new), room);
+        }
+        if old == new {
+            return Ok(Verdict::Clean);
+        }
+        self.print(old_name, new_name, &mut room.printed)?;
+        Ok(Verdict::Amiss)
+    }
+
+    /// Puts into the room, in the place of what that had, what is told of an old file and a new one
+    /// with these names and these bytes, or with the reason, if it is known, where one cannot be
+    /// read. The answer is the same whatever was answered before.
+    pub fn answer(
+        &mut self,
+        old_name: &[u8],
+        old: Result<&[u8], Option<Reason>>,
+        new_name: &[u8],
+        new: Result<&[u8], Option<Reason>>,
+        room: &mut AnswerRoom,
+    ) -> Result<Verdict, AllocError>
+        ensures form { self.new.form ≡ self.old.form }
+        ensures answered { IfOk result (λ verdict. record { printed = room.new.printed.items; complaint = room.new.complaint.items; verdict = verdict }
+            ≡ difference_rule self.old.form old_name.now (contents_by (λ bytes. bytes.now) old.entry) new_name.now (contents_by (λ bytes. bytes.now) new.entry)) }
+    {
+        room.clear();
+        match (old, new) {
+            (Ok(old), Ok(new)) => self.tell_bytes(old_name, old, new_name, new, room),
+            (old, new) => self.tell_unanswered(old_name, old, new_name, new, room),
+        }
+    }
+}

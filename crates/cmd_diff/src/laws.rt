@@ -1,0 +1,14 @@
+//! Laws of differences: each function's contract is a law, and its body is empty.
+ghost use Rattle.cmd_diff.specs.Laws.{NoChangeToItself, EqualBytesAreSilent, EachByteOfImagesIsTold};
+
+/// Nothing changes from a dump to itself, and nothing is said of two files with the same bytes of a
+/// dump.
+pub fn equal_bytes_are_silent()
+    ensures changes { NoChangeToItself }
+    ensures silent { EqualBytesAreSilent }
+{}
+
+/// Each byte of an image that differs is told: where no change is told, the images are equal.
+pub fn images_are_told()
+    ensures { EachByteOfImagesIsTold }
+{}

@@ -1,0 +1,88 @@
+//! What is said of a file that isn't answered.
+ghost use Rattle.std.specs.Prelude.{◌≡◌, ◌++◌, [], Ok, length, is_some, IfOk, OnOk};
+ghost use Rattle.d64_survey.specs.Dump.{image_bytes};
+ghost use Rattle.out_json_csv.specs.DumpOf.{dump_of};
+ghost use Rattle.cmd_diff.specs.Differences.{contents_by, fault_line, printed_fault};
+
+use out_json_csv::{Scratch, unread_json, wrong_length_json};
+use out_messages::{unread_line, wrong_length_line};
+use program_arguments::DiffForm;
+use program_batch::{Reason, push_known_reason};
+use std::alloc::{AllocError, Global};
+
+/// Whether these bytes are as many as a dump has.
+#[tactic(auto, unfolding(out_json_csv::specs::DumpOf::dump_of))]
+fn is_dump(bytes: &[u8]) -> bool
+    ensures { result ≡ is_some (dump_of bytes.now) }
+{
+    matches!(bytes.len(), 174_848 | 175_531 | 196_608 | 197_376)
+}
+
+/// Puts the line on standard error of a file that isn't answered into room that is empty: it has
+/// these bytes, or cannot be read, for a reason that may be known.
+fn push_fault_line(
+    out: &mut Vec<u8>,
+    name: &[u8],
+    contents: Result<&[u8], Option<Reason>>,
+) -> Result<(), AllocError>
+    ensures { out.old.items ≡ [] → OnOk result (out.new.items ≡ fault_line name.now (contents_by (λ bytes. bytes.now) contents.entry)) }
+{
+    match contents {
+        Ok(bytes) if is_dump(bytes) => Ok(()),
+        Ok(bytes) => wrong_length_line(out, name, bytes),
+        Err(reason) => {
+            unread_line(out, name)?;
+            push_known_reason(out, reason)
+        }
+    }
+}
+
+/// Puts the lines on standard error of two files into room that is empty: of each that isn't
+/// answered.
+pub(crate) fn push_fault_lines(
+    alloc: Global,
+    out: &mut Vec<u8>,
+    old_name: &[u8],
+    old: Result<&[u8], Option<Reason>>,
+    new_name: &[u8],
+    new: Result<&[u8], Option<Reason>>,
+) -> Result<(), AllocError>
+    ensures { out.old.items ≡ [] → OnOk result (out.new.items ≡ fault_line old_name.now (contents_by (λ bytes. bytes.now) old.entry) ++ fault_line new_name.now (contents_by (λ bytes. bytes.now) new.entry)) }
+{
+    push_fault_line(out, old_name, old)?;
+    let mut line = Vec::new(alloc);
+    push_fault_line(&mut line, new_name, new)?;
+    out.extend_from_slice(line.as_slice())
+}
+
+/// Appends the object of a file with these bytes, where no dump has so many.
+fn print_wrong_length(
+    scratch: &mut Scratch,
+    name: &[u8],
+    bytes: &[u8],
+    out: Vec<u8>,
+) -> Result<Vec<u8>, AllocError>
+    ensures { IfOk result (λ text. text.items ≡ out.items ++ printed_fault DiffForm.Json name.now (Ok bytes.now)) }
+{
+    if is_dump(bytes) {
+        return Ok(out);
+    }
+    wrong_length_json(scratch, name, bytes.len(), out)
+}
+
+/// Appends what is printed of a file that isn't answered.
+pub(crate) fn print_fault(
+    form: DiffForm,
+    scratch: &mut Scratch,
+    name: &[u8],
+    contents: Result<&[u8], Option<Reason>>,
+    out: Vec<u8>,
+) -> Result<Vec<u8>, AllocError>
+    ensures { IfOk result (λ text. text.items ≡ out.items ++ printed_fault form name.now (contents_by (λ bytes. bytes.now) contents.entry)) }
+{
+    match (form, contents) {
+        (DiffForm::Text, _) => Ok(out),
+        (DiffForm::Json, Err(_)) => unread_json(scratch, name, out),
+        (DiffForm::Json, Ok(bytes)) => print_wrong_length(scratch, name, bytes, out),
+    }
+}

@@ -1,0 +1,85 @@
+-- How a work is done, step by step.
+use Rattle.std.proofs.Common.{◌≡◌, Bool, true, false, Option, Some, None, refl, sym, ap, subst, inl, inr, Result, Ok, Err}
+use Rattle.std.specs.Prelude.{OnOk, IfOk, IsErr, MatchResult}
+use Rattle.host_storage.specs.Files.{HostState}
+use Rattle.program_batch.specs.Answers.{Answer}
+use Rattle.program_batch.specs.Reasons.{IsWriteReason}
+use Rattle.program_batch.specs.declared.reason.Reason.{Reason}
+use Rattle.program_batch.specs.declared.report.Verdict.{Verdict}
+use Rattle.program_batch.specs.declared.report.AnswerRoom.{AnswerRoom}
+use Rattle.cmd_extract.specs.Work.{Work, Done, Then, Why, Call, Says, Does, LeadsTo, Comes, Ends, answer_in}
+use Rattle.cmd_extract.specs.Progress.{Progress}
+
+-- memory may be wanting before all
+pub stops : (work : Work) (host : HostState) → Does work host None host
+unfolding Does
+stops (Done answer) host = (refl, inr refl)
+stops (Then call next) host = inr (refl, refl)
+stops (Why next) host = inr (refl, refl)
+
+-- what is done comes to its answer
+pub answers : (answer : Answer) (host : HostState) → Does (Done answer) host (Some answer) host
+unfolding Does
+answers answer host = (refl, inl refl)
+
+-- a call was made
+pub asked : (call : Call) (next : Bool → Work) (old now : HostState) (said : Bool) → Says call old said now → LeadsTo (Then call next) old (next said) now
+unfolding Does
+asked call next old now said says = λ given new done. inl (said, now, says, done)
+
+-- it was asked why a call was refused
+pub explained : (next : Option Reason → Work) (host : HostState) (reason : Option Reason) → IsWriteReason host.files reason → LeadsTo (Why next) host (next reason) host
+unfolding Does
+explained next host reason says = λ given new done. inl (reason, says, done)
+
+-- one part of the way after another
+pub further : (work middle rest : Work) (old reached now : HostState) → LeadsTo work old middle reached → LeadsTo middle reached rest now → LeadsTo work old rest now
+further work middle rest old reached now first second = λ given new done. first given new (second given new done)
+
+pub comes_further : {A E : Type 0} (result : Result A E) (work middle rest : Work) (old reached now : HostState) → LeadsTo work old middle reached → Comes result middle reached rest now
+    → Comes result work old rest now
+comes_further (Ok done) work middle rest old reached now first second = further work middle rest old reached now first second
+comes_further (Err fault) work middle rest old reached now first second = first None now second
+
+-- one that ends there
+pub comes_here : {A E : Type 0} (result : Result A E) (work rest : Work) (old now : HostState) → LeadsTo work old rest now → Comes result work old rest now
+comes_here (Ok done) work rest old now leads = leads
+comes_here (Err fault) work rest old now leads = leads None now (stops rest now)
+
+-- what has come so far, where that is as it should be
+pub comes_to : {A E : Type 0} (result : Result A E) (work : Work) (rest : Progress → Work) (old now : HostState) (reached wanted : Progress) → OnOk result (reached ≡ wanted)
+    → LeadsTo work old (rest wanted) now → Comes result work old (rest reached) now
+comes_to (Ok done) work rest old now reached wanted is leads = subst (λ (p : Progress). LeadsTo work old (rest p) now) (sym is) leads
+comes_to (Err fault) work rest old now reached wanted is leads = leads None now (stops (rest wanted) now)
+
+-- nothing was done yet
+pub nothing_yet : (work : Work) (host : HostState) → LeadsTo work host work host
+nothing_yet work host = λ given new done. done
+
+-- memory was wanting
+pub comes_not : {A E : Type 0} (result : Result A E) (work rest : Work) (old now : HostState) → IsErr result → Does work old None now → Comes result work old rest now
+comes_not (Ok done) work rest old now is stopped = absurd (let f : false ≡ true = is in cc)
+comes_not (Err fault) work rest old now is stopped = stopped
+
+-- what holds where memory was wanting
+pub match_not : {A E : Type 0} (result : Result A E) (P : A → Type 0) (Q : Type 0) → IsErr result → Q → MatchResult result P (λ fault. Q)
+match_not (Ok done) P Q is holds = absurd (let f : false ≡ true = is in cc)
+match_not (Err fault) P Q is holds = holds
+
+-- one part of the way, and then the end
+pub ends_after : {E : Type 0} (result : Result Verdict E) (room : AnswerRoom) (work middle : Work) (old reached now : HostState) → LeadsTo work old middle reached
+    → Ends result room middle reached now → Ends result room work old now
+ends_after (Ok verdict) room work middle old reached now first second = first (Some (answer_in room verdict)) now second
+ends_after (Err fault) room work middle old reached now first second = first None now second
+
+-- the end with an answer
+pub ends_with : {E : Type 0} (result : Result Verdict E) (room : AnswerRoom) (answer : Answer) (host : HostState) → IfOk result (λ verdict. answer_in room verdict ≡ answer)
+    → Ends result room (Done answer) host host
+unfolding Does
+ends_with (Ok verdict) room answer host is = (refl, inl (ap (λ (a : Answer). Some a) is))
+ends_with (Err fault) room answer host is = (refl, inr refl)
+
+-- the end for want of memory
+pub ends_not : {E : Type 0} (result : Result Verdict E) (room : AnswerRoom) (work : Work) (old now : HostState) → IsErr result → Does work old None now → Ends result room work old now
+ends_not (Ok verdict) room work old now is stopped = absurd (let f : false ≡ true = is in cc)
+ends_not (Err fault) room work old now is stopped = stopped

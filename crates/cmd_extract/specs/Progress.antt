@@ -1,0 +1,118 @@
+-- How far it has come with the files of an image.
+use Rattle.std.specs.Prelude.{ℕ, Bool, true, false, List, [], ◌∷◌, ◌++◌, Option, Some, None}
+use Rattle.std.specs.Option.{option_map_or}
+use Rattle.petscii.specs.Spelling.{spelling}
+use Rattle.d64_files.specs.Name.{name_in}
+use Rattle.d64_files.specs.declared.kind.Kind.{Kind}
+use Rattle.d64_files.specs.declared.kind.Kind.TheVariants as kinds
+use Rattle.d64_inventory.specs.Rows.{RowView}
+use Rattle.cmd_extract_contents.specs.Portions.{Portion, portion_at}
+use Rattle.cmd_extract_contents.specs.Limits.{limit, left_after}
+use Rattle.cmd_extract_contents.specs.declared.extent.Extent.{Extent}
+use Rattle.cmd_extract_contents.specs.declared.extent.Extent.TheVariants as extents
+use Rattle.host_names.specs.TakenNames.{next_name}
+use Rattle.host_names.specs.declared.ending.Ending.{Ending}
+use Rattle.host_names.specs.declared.ending.Ending.TheVariants as endings
+use Rattle.program_arguments.specs.declared.asked.Format.TheVariants.{Json}
+use Rattle.program_batch.specs.Reasons.{with_known_reason}
+use Rattle.program_batch.specs.declared.reason.Reason.{Reason}
+use Rattle.out_messages.specs.FaultLines.{unwritten_line}
+use Rattle.cmd_files.specs.Files.{before_rows}
+use Rattle.cmd_files.specs.Extracts.{printed_file}
+use Rattle.cmd_extract.specs.Setup.{TaskView}
+use Rattle.cmd_extract.specs.Paths.{path_in, list_path}
+use Rattle.cmd_extract.specs.declared.list_state.ListState.{ListState}
+use Rattle.cmd_extract.specs.declared.list_state.ListState.TheVariants.{New, Begun, GivenUp}
+
+-- the most bytes of lines of the list of the files that wait to be written
+abbrev pub waiting_limit : ℕ
+waiting_limit = 65536
+
+-- how far it has come: how many bytes later files may have, the host names that are taken, what is
+-- printed, the lines of the list of the files that wait to be written, in JSON, how far that list is
+-- written, what is complained of, and whether a write failed
+pub record Progress : Type 0 where
+  pub left : Option ℕ
+  pub taken : List (List ℕ)
+  pub printed : List ℕ
+  pub lines : List ℕ
+  pub list : ListState
+  pub complaint : List ℕ
+  pub has_failed : Bool
+
+-- no file has come
+abbrev pub first_progress : TaskView → Progress
+first_progress task = record {
+  left = Some limit;
+  taken = [];
+  printed = before_rows task.setup.form task.name task.dump.image;
+  lines = [];
+  list = New;
+  complaint = [];
+  has_failed = false;
+}
+
+-- the ending of the host name by the kind of a file
+abbrev pub ending_of : Kind → Ending
+ending_of kinds.Del = endings.Del
+ending_of kinds.Seq = endings.Seq
+ending_of kinds.Prg = endings.Prg
+ending_of kinds.Usr = endings.Usr
+ending_of kinds.Rel = endings.Rel
+
+-- the same where there may be no kind: then there is nothing to write
+abbrev pub ending_by : Option Kind → Ending
+ending_by kind = option_map_or ending_of kind endings.Del
+
+-- a file is written in part
+abbrev pub is_part : Extent → Bool
+is_part extents.Content = false
+is_part extents.Part = true
+
+-- the host name of the file of a row, where these are taken
+unfoldable pub host_name : List (List ℕ) → RowView → Extent → List ℕ
+host_name taken row extent = next_name taken (spelling (name_in row.field)) (ending_by row.kind) (is_part extent)
+
+-- what there is to write of the file of a row
+abbrev pub portion_of : TaskView → RowView → Option Portion
+portion_of task row = portion_at task.setup.with_parts task.dump.image row.slot
+
+-- a file was told of, with the path of its host file, or that none was written
+unfoldable pub told_progress : TaskView → RowView → Option (List ℕ) → Progress → Progress
+told_progress task row path progress = record progress {
+  printed = progress.printed ++ printed_file task.setup.form task.name row path;
+  lines = progress.lines ++ printed_file Json task.name row path;
+}
+
+-- of the files that may come after one, fewer bytes are left
+abbrev pub spent_progress : TaskView → RowView → Progress → Progress
+spent_progress task row progress = record progress { left = left_after progress.left (portion_of task row) }
+
+-- a host name is taken
+abbrev pub named_progress : List ℕ → Progress → Progress
+named_progress file progress = record progress { taken = progress.taken ++ file ∷ [] }
+
+-- a write at a path failed, for this reason, if one is known
+abbrev pub failed_at : List ℕ → Option Reason → Progress → Progress
+failed_at path reason progress =
+    record progress { complaint = with_known_reason reason (progress.complaint ++ unwritten_line path); has_failed = true }
+
+-- the file of a row was written under a host name
+abbrev pub written_progress : TaskView → RowView → List ℕ → Progress → Progress
+written_progress task row file progress = told_progress task row (Some (path_in task.done file)) progress
+
+-- or it could not be
+abbrev pub unwritten_progress : TaskView → RowView → List ℕ → Option Reason → Progress → Progress
+unwritten_progress task row file reason progress = told_progress task row None (failed_at (path_in task.partial file) reason progress)
+
+-- the lines that waited are in the list
+abbrev pub put_progress : Progress → Progress
+put_progress progress = record progress { lines = []; list = Begun }
+
+-- or they could not be put there, and no more of the list is tried
+abbrev pub unput_progress : TaskView → Option Reason → Progress → Progress
+unput_progress task reason progress = record (failed_at (list_path task) reason progress) { lines = []; list = GivenUp }
+
+-- the lines that waited are dropped, since no more of the list is tried
+abbrev pub dropped_progress : Progress → Progress
+dropped_progress progress = record progress { lines = [] }

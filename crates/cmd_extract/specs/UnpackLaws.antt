@@ -1,0 +1,19 @@
+-- What follows from the definition of how images are unpacked.
+use Rattle.std.specs.Prelude.{◌≡◌, false, [], Some}
+use Rattle.program_batch.specs.Answers.{KeepsQuiet}
+use Rattle.d64_inventory.specs.Rows.{rows}
+use Rattle.cmd_extract_contents.specs.Limits.{limit}
+use Rattle.cmd_extract.specs.Setup.{SetupView, TaskView}
+use Rattle.cmd_extract.specs.Paths.{list_path}
+use Rattle.cmd_extract.specs.Unpacking.{folder_work}
+use Rattle.cmd_extract.specs.ListedLines.{all_into, lines_of}
+use Rattle.cmd_extract.specs.Conduct.{unpacks}
+
+-- nothing is complained of an image on which the verdict is clean, unless those that are complete
+-- are passed over
+abbrev pub CleanIsQuiet : Type 0
+CleanIsQuiet = (setup : SetupView) → setup.skips ≡ false → KeepsQuiet (unpacks setup)
+
+-- where each call is accepted, the list of an image's files has the lines of all rows
+abbrev pub ListIsWhole : Type 0
+ListIsWhole = (task : TaskView) → all_into (list_path task) (folder_work task) ≡ lines_of task (rows task.dump) (Some limit) []

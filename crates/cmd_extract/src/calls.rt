@@ -1,0 +1,69 @@
+//! The calls that are made of the host.
+ghost use Rattle.std.specs.Prelude.{◌≡◌};
+ghost use Rattle.program_batch.specs.Reasons.{IsWriteReason};
+ghost use Rattle.cmd_extract.specs.Work.{Says, Look, Folder, NewFolder, NewFile, MoreOfFile, Rename};
+
+use host_storage::{FolderFault, Host};
+use program_batch::{Reason, reason_unwritten};
+
+/// Whether something is there at a path.
+pub(crate) fn is_there<H: Host>(host: &H, path: &str) -> bool
+    ensures { Says (Look path.now) (H.state host.now) result (H.state host.now) }
+{
+    host.is_there(path)
+}
+
+/// Makes a folder, where it isn't there, and says whether it is then.
+pub(crate) fn have_folder<H: Host>(host: &mut H, path: &str) -> bool
+    ensures { Says (Folder path.now) (H.state host.old) result (H.state host.new) }
+{
+    match host.make_folder(path) {
+        Ok(()) => true,
+        Err(FolderFault::Exists) => true,
+        Err(FolderFault::Device) => false,
+    }
+}
+
+/// Makes a folder that is new, and says whether it could be made.
+pub(crate) fn make_folder<H: Host>(host: &mut H, path: &str) -> bool
+    ensures { Says (NewFolder path.now) (H.state host.old) result (H.state host.new) }
+{
+    host.make_folder(path).is_ok()
+}
+
+/// Makes a file that is new, with these bytes, and says whether it could be made.
+pub(crate) fn make_file<H: Host>(host: &mut H, path: &[u8], bytes: &[u8]) -> bool
+    ensures { Says (NewFile path.now bytes.now) (H.state host.old) result (H.state host.new) }
+{
+    match str::from_utf8(path) {
+        Ok(path) => host.make_file(path, bytes).is_ok(),
+        Err(_) => false,
+    }
+}
+
+/// Adds these bytes at the end of a file that is there, and says whether they could be added.
+pub(crate) fn extend_file<H: Host>(host: &mut H, path: &[u8], bytes: &[u8]) -> bool
+    ensures { Says (MoreOfFile path.now bytes.now) (H.state host.old) result (H.state host.new) }
+{
+    match str::from_utf8(path) {
+        Ok(path) => host.extend_file(path, bytes).is_ok(),
+        Err(_) => false,
+    }
+}
+
+/// Why the last call, which was refused, could not be done at this path, as far as the host can say.
+pub(crate) fn reason_at<H: Host>(host: &H, path: &[u8]) -> Option<Reason>
+    ensures { IsWriteReason (H.state host.now).files result }
+{
+    match str::from_utf8(path) {
+        Ok(path) => reason_unwritten(host, path),
+        Err(_) => None,
+    }
+}
+
+/// Gives a folder another path, and says whether it has that then.
+pub(crate) fn rename<H: Host>(host: &mut H, from: &str, to: &str) -> bool
+    ensures { Says (Rename from.now to.now) (H.state host.old) result (H.state host.new) }
+{
+    host.rename_folder(from, to).is_ok()
+}

@@ -1,0 +1,254 @@
+//! The files of an image, one after another.
+ghost use Rattle.std.specs.Prelude.{◌≡◌, ◌∷◌, [], ◌++◌, ℕ, List, Option, Some, None, OnOk, if◌then◌else◌};
+ghost use Rattle.petscii.specs.Spelling.{spelling};
+ghost use Rattle.d64_inventory.specs.Rows.{rows};
+ghost use Rattle.cmd_extract_contents.specs.Limits.{portion_within};
+ghost use Rattle.cmd_extract.specs.Work.{Work, Comes};
+ghost use Rattle.cmd_extract.specs.Progress.{Progress, waiting_limit, first_progress, portion_of, host_name, spent_progress, written_progress, unwritten_progress, put_progress};
+ghost use Rattle.cmd_extract.specs.FilesNow.{progress_of};
+ghost use Rattle.cmd_extract.specs.Setup.{TaskView};
+ghost use Rattle.cmd_extract.specs.Paths.{list_path};
+ghost use Rattle.cmd_extract.specs.Unpacking.{after_putting, write_work, file_work, files_work, wait_work, put_work, closed_progress};
+
+use crate::calls::{extend_file, make_file, reason_at};
+use crate::ending::{ending_by, is_part};
+use crate::list_state::ListState;
+use crate::paths::put_path;
+use crate::setup::Task;
+use crate::telling::Told;
+use cmd_extract_contents::{Extent, Extraction};
+use cmd_files::print_after;
+use d64_files::{SlotNo, name_in};
+use d64_inventory::{FileRow, Rows};
+use host_names::TakenNames;
+use host_storage::Host;
+use out_messages::too_much_line;
+use petscii::push_spelling;
+use program_batch::Reason;
+use std::alloc::{AllocError, Global};
+
+/// The name of the list of an image's files, in its folder.
+const LIST_NAME: &[u8] = b"files.jsonl";
+
+/// The most bytes of lines of the list that wait to be written.
+const WAITING_BYTES: usize = 65_536;
+
+/// The files of an image that is unpacked, and what is told of them, in memory that is kept from
+/// image to image.
+#[derive(Drop)]
+pub(crate) struct Files {
+    pub(crate) extraction: Extraction,
+    pub(crate) taken: TakenNames,
+    pub(crate) told: Told,
+    /// The bytes of a file.
+    pub(crate) bytes: Vec<u8>,
+    /// The name of a file in text form.
+    pub(crate) text: Vec<u8>,
+    /// Its name on the host.
+    pub(crate) name: Vec<u8>,
+    /// Its path there.
+    pub(crate) path: Vec<u8>,
+}
+
+/// Names the host file of a file of the image. The name is taken from then on.
+fn name_file(
+    taken: &mut TakenNames,
+    text: &mut Vec<u8>,
+    row: &FileRow,
+    extent: Extent,
+    name: &mut Vec<u8>,
+) -> Result<(), AllocError>
+    ensures name { OnOk result (name.new.items ≡ host_name taken.old row.now extent) }
+    ensures taken { OnOk result (taken.new ≡ taken.old ++ name.new.items ∷ []) }
+{
+    text.clear();
+    push_spelling(text, name_in(&row.field))?;
+    taken.take(text, ending_by(row.kind), is_part(extent), name)
+}
+
+impl Files {
+    /// No files, and no memory yet.
+    pub(crate) fn new(alloc: Global) -> Files {
+        Files {
+            extraction: Extraction::new(),
+            taken: TakenNames::new(alloc),
+            told: Told::new(alloc),
+            bytes: Vec::new(alloc),
+            text: Vec::new(alloc),
+            name: Vec::new(alloc),
+            path: Vec::new(alloc),
+        }
+    }
+
+    /// Begins with the files of an image, and forgets those before.
+    fn begin(&mut self, task: &Task) -> Result<(), AllocError>
+        ensures { OnOk result (progress_of self.new ≡ first_progress task.now) }
+    {
+        self.extraction = Extraction::new();
+        self.taken.clear();
+        self.told.begin(task)
+    }
+
+    /// Tells of a file that was written under the host name that it got.
+    fn tell_written(&mut self, task: &Task, row: &FileRow) -> Result<(), AllocError>
+        ensures { OnOk result (progress_of self.new ≡ written_progress task.now row.now self.old.name.items (progress_of self.old)) }
+    {
+        put_path(&mut self.path, &task.done, &self.name)?;
+        self.told.tell(task, row, Some(&self.path))
+    }
+
+    /// Tells of a file that could not be written under that name, for this reason, if one is known.
+    fn tell_unwritten(
+        &mut self,
+        task: &Task,
+        row: &FileRow,
+        reason: Option<Reason>,
+    ) -> Result<(), AllocError>
+        ensures { OnOk result (progress_of self.new ≡ unwritten_progress task.now row.now self.old.name.items reason (progress_of self.old)) }
+    {
+        put_path(&mut self.path, &task.partial, &self.name)?;
+        self.told.tell_failure(&self.path, reason)?;
+        self.told.tell(task, row, None)
+    }
+
+    /// Writes a file whose bytes and host name are known.
+    fn write_file<H: Host>(
+        &mut self,
+        task: &Task,
+        row: &FileRow,
+        host: &mut H,
+    ) -> Result<(), AllocError>
+        ensures { (rest : Progress → Work) → Comes result
+            (write_work task.now row.now self.old.name.items self.old.bytes.items (progress_of self.old) rest) (H.state host.old)
+            (rest (progress_of self.new)) (H.state host.new) }
+    {
+        put_path(&mut self.path, &task.partial, &self.name)?;
+        if make_file(host, &self.path, &self.bytes) {
+            self.tell_written(task, row)
+        } else {
+            let reason = reason_at(host, &self.path);
+            self.tell_unwritten(task, row, reason)
+        }
+    }
+
+    /// Writes the file of a row, if there is something to write.
+    fn unpack_file<H: Host>(
+        &mut self,
+        task: &Task,
+        row: &FileRow,
+        host: &mut H,
+    ) -> Result<(), AllocError>
+        ensures { (rest : Progress → Work) → Comes result
+            (file_work task.now row.now (spent_progress task.now row.now (progress_of self.old)) (portion_within self.old.extraction (portion_of task.now row.now)) rest) (H.state host.old)
+            (rest (progress_of self.new)) (H.state host.new) }
+    {
+        let slot = SlotNo::at(row.slot);
+        let setup = task.setup;
+        let with_parts = setup.with_parts;
+        match self
+            .extraction
+            .next(task.all.survey(), slot, with_parts, &mut self.bytes)?
+        {
+            Some(extent) => {
+                name_file(&mut self.taken, &mut self.text, row, extent, &mut self.name)?;
+                self.write_file(task, row, host)
+            }
+            None => self.told.tell(task, row, None),
+        }
+    }
+
+    /// Ends a piece of the list that was to be written at the path, and was or wasn't.
+    fn end_piece<H: Host>(&mut self, is_put: bool, host: &H) -> Result<(), AllocError>
+        ensures { (task : TaskView) (rest : Progress → Work) → self.old.path.items ≡ list_path task → Comes result
+            (after_putting task (progress_of self.old) rest is_put) (H.state host.now)
+            (rest (progress_of self.new)) (H.state host.now) }
+    {
+        self.told.lines.clear();
+        if is_put {
+            self.told.list = ListState::Begun;
+            return Ok(());
+        }
+        self.told.list = ListState::GivenUp;
+        let reason = reason_at(host, &self.path);
+        self.told.tell_failure(&self.path, reason)
+    }
+
+    /// Puts the lines that wait into the list of the files, which is made for the first of them.
+    pub(crate) fn put_lines<H: Host>(&mut self, task: &Task, host: &mut H) -> Result<(), AllocError>
+        ensures { (rest : Progress → Work) → Comes result
+            (put_work self.old.told.list task.now (progress_of self.old) rest) (H.state host.old)
+            (rest (progress_of self.new)) (H.state host.new) }
+    {
+        put_path(&mut self.path, &task.partial, LIST_NAME)?;
+        match self.told.list {
+            ListState::New => {
+                let is_put = make_file(host, &self.path, &self.told.lines);
+                self.end_piece(is_put, host)
+            }
+            ListState::Begun => {
+                let is_put = extend_file(host, &self.path, &self.told.lines);
+                self.end_piece(is_put, host)
+            }
+            ListState::GivenUp => {
+                self.told.lines.clear();
+                Ok(())
+            }
+        }
+    }
+
+    /// Puts the lines that wait into the list, once they pass the limit.
+    fn put_long_lines<H: Host>(&mut self, task: &Task, host: &mut H) -> Result<(), AllocError>
+        ensures { (rest : Progress → Work) → Comes result
+            (wait_work task.now (progress_of self.old) rest) (H.state host.old)
+            (rest (progress_of self.new)) (H.state host.new) }
+    {
+        if self.told.lines.len() > WAITING_BYTES {
+            return self.put_lines(task, host);
+        }
+        Ok(())
+    }
+
+    /// Writes the file of a row, and its line, once enough of them wait.
+    fn unpack_row<H: Host>(
+        &mut self,
+        task: &Task,
+        row: &FileRow,
+        host: &mut H,
+    ) -> Result<(), AllocError>
+        ensures { (rest : Progress → Work) → Comes result
+            (file_work task.now row.now (spent_progress task.now row.now (progress_of self.old)) (portion_within self.old.extraction (portion_of task.now row.now)) (λ after. wait_work task.now after rest)) (H.state host.old)
+            (rest (progress_of self.new)) (H.state host.new) }
+    {
+        self.unpack_file(task, row, host)?;
+        self.put_long_lines(task, host)
+    }
+
+    /// Writes the files of an image, one after another.
+    pub(crate) fn unpack_files<H: Host>(
+        &mut self,
+        task: &Task,
+        host: &mut H,
+    ) -> Result<(), AllocError>
+        ensures { Comes result
+            (files_work task.now (rows task.now.dump) (first_progress task.now)) (H.state host.old)
+            (files_work task.now [] (progress_of self.new)) (H.state host.new) }
+    {
+        self.begin(task)?;
+        for row in Rows::of(task.all) {
+            self.unpack_row(task, &row, host)?;
+        }
+        Ok(())
+    }
+
+    /// Ends with the files of an image: tells what stands after them, and of too many bytes.
+    pub(crate) fn close(&mut self, task: &Task) -> Result<(), AllocError>
+        ensures { OnOk result (progress_of self.new ≡ closed_progress task.now (progress_of self.old)) }
+    {
+        let setup = task.setup;
+        print_after(setup.form, task.all, &mut self.told.printed)?;
+        if self.extraction.is_over() {
+            too_much_line(&mut self.told.complaint, task.name.as_bytes())?;
+        }
+        Ok(())
+    }
+}

@@ -1,0 +1,92 @@
+//! The paths at which an image is unpacked.
+ghost use Rattle.std.specs.Prelude.{◌≡◌, ◌++◌, map, string_bytes, IfOk, OnOk};
+ghost use Rattle.host_names.specs.ImagePlace.{finished_name, unfinished_name};
+ghost use Rattle.cmd_extract.specs.Paths.{ends_in_slash, path_inside, place_below, path_in, list_in};
+
+use host_names::ImagePlace;
+use std::alloc::{AllocError, Global};
+
+/// Whether a path ends in a `/`.
+fn ends_in_slash(path: &[u8]) -> bool
+    ensures { result ≡ ends_in_slash path.now }
+{
+    match path {
+        [.., b'/'] => true,
+        _ => false,
+    }
+}
+
+/// What the paths in a folder begin with: the folder's, and a `/`, unless it ends in one.
+pub(crate) fn inside(alloc: Global, folder: &str) -> Result<String, AllocError>
+    ensures { IfOk result (λ path. string_bytes path ≡ path_inside folder.now) }
+{
+    let mut path = String::from_str(alloc, folder)?;
+    if !ends_in_slash(folder.as_bytes()) {
+        path.push('/')?;
+    }
+    Ok(path)
+}
+
+/// Goes on to what the paths in the last of some folders begin with, each of which lies in the one
+/// before it.
+fn go_below(place: &mut String, folders: &[&str]) -> Result<(), AllocError>
+    ensures { OnOk result (string_bytes place.new ≡ place_below (string_bytes place.old) (map (λ folder. folder.now) folders.now)) }
+{
+    for folder in folders {
+        place.push_str(folder)?;
+        place.push('/')?;
+    }
+    Ok(())
+}
+
+/// What the paths in the last folder of an image's path begin with, below the folder that is asked
+/// for.
+fn place_of(alloc: Global, into: &str, place: &ImagePlace) -> Result<String, AllocError>
+    ensures { IfOk result (λ path. string_bytes path ≡ place_below (path_inside into.now) (map (λ folder. folder.now) place.now.folders.items)) }
+{
+    let mut path = inside(alloc, into)?;
+    go_below(&mut path, place.folders.as_slice())?;
+    Ok(path)
+}
+
+/// The path of the folder of the image in this place when all is in it.
+pub fn done_path(alloc: Global, into: &str, place: &ImagePlace) -> Result<String, AllocError>
+    ensures { IfOk result (λ path. string_bytes path ≡ place_below (path_inside into.now) (map (λ folder. folder.now) place.now.folders.items) ++ finished_name place.now.last.now) }
+{
+    let mut path = place_of(alloc, into, place)?;
+    place.push_name(&mut path)?;
+    Ok(path)
+}
+
+/// The path of that folder before.
+pub(crate) fn partial_path(
+    alloc: Global,
+    into: &str,
+    place: &ImagePlace,
+) -> Result<String, AllocError>
+    ensures { IfOk result (λ path. string_bytes path ≡ place_below (path_inside into.now) (map (λ folder. folder.now) place.now.folders.items) ++ unfinished_name place.now.last.now) }
+{
+    let mut path = place_of(alloc, into, place)?;
+    place.push_partial_name(&mut path)?;
+    Ok(path)
+}
+
+/// The path of the list of an image's files in this folder.
+pub(crate) fn list_in(alloc: Global, folder: &str) -> Result<String, AllocError>
+    ensures { IfOk result (λ path. string_bytes path ≡ list_in folder.now) }
+{
+    let mut path = String::from_str(alloc, folder)?;
+    path.push('/')?;
+    path.push_str("files.jsonl")?;
+    Ok(path)
+}
+
+/// Puts the path of a file in a folder in the place of what a list had.
+pub fn put_path(path: &mut Vec<u8>, folder: &str, file: &[u8]) -> Result<(), AllocError>
+    ensures { OnOk result (path.new.items ≡ path_in folder.now file.now) }
+{
+    path.clear();
+    path.extend_from_slice(folder.as_bytes())?;
+    path.extend_from_slice(b"/")?;
+    path.extend_from_slice(file)
+}

@@ -1,0 +1,57 @@
+//! What an extraction is asked for, and an image that is unpacked.
+
+use d64_survey::Inspection;
+use program_arguments::Format;
+use std::alloc::Global;
+use std::marker::Model;
+
+/// What an extraction is asked for.
+#[derive(Drop)]
+pub struct Setup {
+    /// The folder below which all goes. It must be there.
+    pub into: String,
+    /// Whether parts are written too of files that have no content.
+    pub with_parts: bool,
+    /// Whether an image whose folder is complete is passed over.
+    pub skips: bool,
+    /// The form of what is printed.
+    pub form: Format,
+}
+
+impl Model for Setup {
+    ghost use Rattle.std.specs.Prelude.{string_bytes};
+    ghost use Rattle.cmd_extract.specs.Setup.{SetupView};
+
+    ghost Value = { SetupView };
+
+    ghost view = { λ setup. record { into = string_bytes setup.into; with_parts = setup.with_parts; skips = setup.skips; form = setup.form } };
+}
+
+/// An image that is unpacked.
+#[derive(Drop)]
+pub(crate) struct Task<'a, 'd> {
+    pub(crate) alloc: Global,
+    pub(crate) setup: &'a Setup,
+    /// The name of its file on the host.
+    pub(crate) name: &'a str,
+    pub(crate) all: &'a Inspection<'d>,
+    /// The path of its folder when all is in it.
+    pub(crate) done: String,
+    /// The path of its folder before that.
+    pub(crate) partial: String,
+}
+
+impl<'a, 'd> Model for Task<'a, 'd> {
+    ghost use Rattle.std.specs.Prelude.{string_bytes};
+    ghost use Rattle.cmd_extract.specs.Setup.{TaskView};
+
+    ghost Value = { TaskView };
+
+    ghost view = { λ task. record {
+      setup = task.setup.now;
+      name = task.name.now;
+      dump = task.all.now;
+      done = string_bytes task.done;
+      partial = string_bytes task.partial;
+    } };
+}

@@ -1,0 +1,139 @@
+//! An image is unpacked, call by call of the host.
+ghost use Rattle.std.specs.Prelude.{map};
+ghost use Rattle.d64_inventory.specs.Rows.{rows};
+ghost use Rattle.cmd_extract.specs.Paths.{path_inside};
+ghost use Rattle.cmd_extract.specs.Work.{Ends};
+ghost use Rattle.cmd_extract.specs.FilesNow.{progress_of};
+ghost use Rattle.cmd_extract.specs.Unpacking.{name_work, unmade_work, folder_work, folders_work, folder_after, present_work, task_work_with};
+
+use crate::answering::{
+    tell_finished, tell_present, tell_skipped, tell_unfinished, tell_unmade, tell_unnamed,
+};
+use crate::calls::{is_there, make_folder, reason_at, rename};
+use crate::files::Files;
+use crate::folders::have_folders;
+use crate::paths::{inside, list_in};
+use crate::setup::Task;
+use host_storage::Host;
+use program_batch::{AnswerRoom, Verdict};
+use std::alloc::AllocError;
+
+impl<'a, 'd> Task<'a, 'd> {
+    /// Gives the image's folder its name, where all was written, and answers.
+    fn name_folder<H: Host>(
+        &self,
+        files: &mut Files,
+        host: &mut H,
+        room: &mut AnswerRoom,
+    ) -> Result<Verdict, AllocError>
+        ensures { Ends result room.new (name_work self.now (progress_of files.old)) (H.state host.old) (H.state host.new) }
+    {
+        if files.told.has_failed {
+            return Ok(tell_unfinished(files, room));
+        }
+        if rename(host, &self.partial, &self.done) {
+            Ok(tell_finished(self, files, room))
+        } else {
+            let reason = reason_at(host, self.done.as_bytes());
+            tell_unnamed(self, reason, files, room)
+        }
+    }
+
+    /// Answers that a folder cannot be made at a path, or that the one is missing below which all
+    /// goes, and why.
+    fn end_unmade<H: Host>(
+        &self,
+        path: &str,
+        files: &mut Files,
+        host: &H,
+        room: &mut AnswerRoom,
+    ) -> Result<Verdict, AllocError>
+        ensures { Ends result room.new (unmade_work self.now path.now) (H.state host.now) (H.state host.now) }
+    {
+        let setup = self.setup;
+        let is_into_there = is_there(host, &setup.into);
+        let reason = reason_at(host, path.as_bytes());
+        let scratch = &mut files.told.scratch;
+        if is_into_there {
+            tell_unmade(self, scratch, path, reason, room)
+        } else {
+            tell_unmade(self, scratch, &setup.into, reason, room)
+        }
+    }
+
+    /// Makes the image's folder, and all that is in it.
+    fn unpack_folder<H: Host>(
+        &self,
+        files: &mut Files,
+        host: &mut H,
+        room: &mut AnswerRoom,
+    ) -> Result<Verdict, AllocError>
+        ensures { Ends result room.new (folder_work self.now) (H.state host.old) (H.state host.new) }
+    {
+        if !make_folder(host, &self.partial) {
+            return self.end_unmade(&self.partial, files, host, room);
+        }
+        files.unpack_files(self, host)?;
+        files.close(self)?;
+        files.put_lines(self, host)?;
+        self.name_folder(files, host, room)
+    }
+
+    /// Makes the folders in which the image's folder lies, and then that.
+    fn unpack_below<H: Host>(
+        &self,
+        folders: &[&str],
+        files: &mut Files,
+        host: &mut H,
+        room: &mut AnswerRoom,
+    ) -> Result<Verdict, AllocError>
+        ensures { Ends result room.new (folders_work (folder_after self.now) (path_inside self.now.setup.into) (map (λ folder. folder.now) folders.now)) (H.state host.old) (H.state host.new) }
+    {
+        let setup = self.setup;
+        let start = inside(self.alloc, &setup.into)?;
+        match have_folders(host, start, folders)? {
+            Some(path) => self.end_unmade(&path, files, host, room),
+            None => self.unpack_folder(files, host, room),
+        }
+    }
+
+    /// Ends where something has the path of the image's folder.
+    fn end_present<H: Host>(
+        &self,
+        files: &mut Files,
+        host: &H,
+        room: &mut AnswerRoom,
+    ) -> Result<Verdict, AllocError>
+        ensures { Ends result room.new (present_work self.now) (H.state host.now) (H.state host.now) }
+    {
+        let setup = self.setup;
+        if !setup.skips {
+            return tell_present(self, &mut files.told.scratch, &self.done, room);
+        }
+        let list = list_in(self.alloc, &self.done)?;
+        if is_there(host, &list) {
+            tell_skipped(self, room)
+        } else {
+            tell_present(self, &mut files.told.scratch, &self.done, room)
+        }
+    }
+
+    /// Unpacks the image, which lies in these folders, unless its folder is there.
+    pub(crate) fn unpack<H: Host>(
+        &self,
+        folders: &[&str],
+        files: &mut Files,
+        host: &mut H,
+        room: &mut AnswerRoom,
+    ) -> Result<Verdict, AllocError>
+        ensures { Ends result room.new (task_work_with self.now (map (λ folder. folder.now) folders.now)) (H.state host.old) (H.state host.new) }
+    {
+        if is_there(host, &self.done) {
+            return self.end_present(files, host, room);
+        }
+        if is_there(host, &self.partial) {
+            return tell_present(self, &mut files.told.scratch, &self.partial, room);
+        }
+        self.unpack_below(folders, files, host, room)
+    }
+}

@@ -1,0 +1,131 @@
+//! What is done with each file of a run: its image is unpacked.
+ghost use Rattle.std.specs.Prelude.{◌≡◌, Some, option_map, string_bytes, IfOk};
+ghost use Rattle.out_json_csv.specs.DumpOf.{dump_of};
+ghost use Rattle.cmd_extract.specs.Work.{Ends};
+ghost use Rattle.cmd_extract.specs.Unpacking.{task_work, task_of, unpacking};
+
+use crate::answering::{tell_unread, tell_wrong_length};
+use crate::files::Files;
+use crate::paths::{done_path, partial_path};
+use crate::setup::{Setup, Task};
+use cmd_files::print_extract_heading;
+use d64_image::Image;
+use d64_survey::{Dump, DumpFault, Fault, Inspection, ReadError};
+use host_names::ImagePlace;
+use host_storage::Host;
+use program_batch::{AnswerRoom, Clerk, Verdict};
+use std::alloc::{AllocError, Global};
+use std::mem;
+
+/// Unpacks images, one after another, with the memory that is kept from one to the next.
+#[derive(Drop)]
+pub struct Unpacker {
+    alloc: Global,
+    setup: Setup,
+    dump: Dump,
+    faults: Vec<Fault>,
+    errors: Vec<ReadError>,
+    files: Files,
+}
+
+impl Unpacker {
+    /// One that unpacks as is asked for.
+    pub fn new(alloc: Global, setup: Setup) -> Result<Unpacker, AllocError>
+        ensures { IfOk result (λ unpacker. unpacker.setup ≡ setup) }
+    {
+        Ok(Unpacker {
+            alloc,
+            setup,
+            dump: Dump::from_image(alloc, Image::zeroed(alloc)?),
+            faults: Vec::new(alloc),
+            errors: Vec::new(alloc),
+            files: Files::new(alloc),
+        })
+    }
+
+    /// Unpacks the dump that was read of the file of this name.
+    fn unpack_dump<H: Host>(
+        &mut self,
+        name: &str,
+        host: &mut H,
+        room: &mut AnswerRoom,
+    ) -> Result<Verdict, AllocError>
+        ensures setup { self.new.setup ≡ self.old.setup }
+        ensures done { Ends result room.new (task_work (task_of self.old.setup name.now self.old.dump)) (H.state host.old) (H.state host.new) }
+    {
+        let all = Inspection::of(&self.dump, &mut self.faults, &mut self.errors)?;
+        let place = ImagePlace::of(self.alloc, name)?;
+        let done = done_path(self.alloc, &self.setup.into, &place)?;
+        let partial = partial_path(self.alloc, &self.setup.into, &place)?;
+        let task = Task {
+            alloc: self.alloc,
+            setup: &self.setup,
+            name,
+            all: &all,
+            done,
+            partial,
+        };
+        task.unpack(place.folders.as_slice(), &mut self.files, host, room)
+    }
+
+    /// Unpacks the file of this name with these bytes, or tells that it cannot be read where there
+    /// are none.
+    fn unpack<H: Host>(
+        &mut self,
+        name: &[u8],
+        bytes: Option<&[u8]>,
+        host: &mut H,
+        room: &mut AnswerRoom,
+    ) -> Result<Verdict, AllocError>
+        ensures setup { self.new.setup ≡ self.old.setup }
+        ensures done { Ends result room.new (unpacking self.old.setup name.now (option_map (λ bytes. bytes.now) bytes.entry)) (H.state host.old) (H.state host.new) }
+    {
+        let bytes = match bytes {
+            Some(bytes) => bytes,
+            None => return tell_unread(&self.setup, &mut self.files.told.scratch, name, room),
+        };
+        let path = match str::from_utf8(name) {
+            Ok(path) => path,
+            Err(_) => return tell_unread(&self.setup, &mut self.files.told.scratch, name, room),
+        };
+        match self.dump.refill(bytes) {
+            Ok(()) => self.unpack_dump(path, host, room),
+            Err(DumpFault::WrongLength(_)) => {
+                tell_wrong_length(&self.setup, &mut self.files.told.scratch, name, bytes, room)
+            }
+            Err(DumpFault::Memory(error)) => Err(error),
+        }
+    }
+}
+
+impl Clerk for Unpacker {
+    ghost use Rattle.cmd_extract.specs.Setup.{SetupView};
+    ghost use Rattle.cmd_extract.specs.Conduct.{unpacks};
+    ghost use Rattle.cmd_files.specs.Extracts.{extract_heading};
+
+    ghost Manner = { SetupView };
+
+    ghost manner = { λ unpacker. unpacker.setup };
+
+    ghost conduct = { unpacks };
+
+    ghost heading = { λ unpacker. extract_heading unpacker.setup.form };
+
+    fn head(&mut self, room: &mut AnswerRoom) -> Result<(), AllocError> {
+        room.clear();
+        let out = mem::replace(&mut room.printed, Vec::new(self.alloc));
+        let form = self.setup.form;
+        room.printed = print_extract_heading(form, &mut self.files.told.scratch, out)?;
+        Ok(())
+    }
+
+    fn answer<H: Host>(
+        &mut self,
+        name: &[u8],
+        bytes: Option<&[u8]>,
+        host: &mut H,
+        room: &mut AnswerRoom,
+    ) -> Result<Verdict, AllocError> {
+        self.unpack(name, bytes, host, room)
+    }
+}

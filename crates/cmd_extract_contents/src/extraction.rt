@@ -1,0 +1,89 @@
+//! The extraction of an image, file by file.
+ghost use Rattle.std.specs.Prelude.{◌≡◌, not, is_some, Some, None, IfOk, OnOk, option_map};
+ghost use Rattle.cmd_extract_contents.specs.Portions.{Portion, portion_at};
+ghost use Rattle.cmd_extract_contents.specs.Limits.{remaining_bytes, left_after, portion_within};
+
+use crate::extent::Extent;
+use crate::finding::put_portion;
+use d64_files::SlotNo;
+use d64_survey::Survey;
+use std::alloc::AllocError;
+use std::marker::Model;
+
+/// The most bytes that the files of an image may have together. A sound disk has at most 190,246;
+/// slots that share blocks may have many times as many.
+pub const LIMIT: usize = 16_777_216;
+
+/// The extraction of the files of an image, one after another: what is written of each, as long as
+/// they don't have too many bytes together.
+#[derive(Drop)]
+pub struct Extraction {
+    /// How many bytes later files may have; None once there were too many.
+    left: Option<usize>,
+}
+
+impl Model for Extraction {
+    ghost use Rattle.std.specs.Prelude.{ℕ, Option};
+
+    ghost Value = { Option ℕ };
+
+    ghost view = { λ extraction. extraction.left };
+}
+
+/// How many bytes later files may have after one of so many, or None where there are too many.
+fn less(left: Option<usize>, count: usize) -> Option<usize>
+    ensures { result ≡ remaining_bytes left count }
+{
+    match left {
+        Some(left) => left.checked_sub(count),
+        None => None,
+    }
+}
+
+impl Extraction {
+    /// The extraction of an image of which nothing is written yet.
+    pub fn new() -> Extraction
+        ensures { result ≡ Some 16777216 }
+    {
+        Extraction { left: Some(LIMIT) }
+    }
+
+    /// Puts what is written of the file of the next slot into a list, in the place of what that
+    /// had, and says how much of the file that is: its content, or a part, where parts are wanted
+    /// too. None, and the list has nothing that is told, where nothing is written: there is no such
+    /// slot or nothing to write of it, or with this file, or with one before it, there are too many
+    /// bytes.
+    pub fn next(
+        &mut self,
+        survey: &Survey,
+        slot: SlotNo,
+        with_parts: bool,
+        bytes: &mut Vec<u8>,
+    ) -> Result<Option<Extent>, AllocError>
+        ensures written { IfOk result (λ extent. option_map (λ extent. record { bytes = bytes.new.items; extent = extent }) extent
+            ≡ portion_within self.old (portion_at with_parts survey.now slot)) }
+        ensures left { OnOk result (self.new ≡ left_after self.old (portion_at with_parts survey.now slot)) }
+    {
+        let Some(entry) = survey.entry(slot) else {
+            return Ok(None);
+        };
+        match put_portion(bytes, survey.image(), &entry, with_parts)? {
+            Some(extent) => {
+                self.left = less(self.left, bytes.len());
+                if self.left.is_some() {
+                    Ok(Some(extent))
+                } else {
+                    Ok(None)
+                }
+            }
+            None => Ok(None),
+        }
+    }
+
+    /// Whether the files had too many bytes, so that one of them wasn't written, nor any later one.
+    pub fn is_over(&self) -> bool
+        ensures { result ≡ not (is_some self.now) }
+    {
+        self.left.is_none()
+    }
+}

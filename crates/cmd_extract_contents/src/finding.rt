@@ -1,0 +1,108 @@
+//! What there is to write of the file of a slot.
+ghost use Rattle.std.specs.Prelude.{◌≡◌, if◌then◌else◌, Some, None, IfOk, option_map, option_map as map_option};
+ghost use Rattle.std.specs.Option.{option_and_then};
+ghost use Rattle.d64_survey.specs.Way.{way};
+ghost use Rattle.d64_inventory.specs.Contents.{content_along, content_of};
+ghost use Rattle.cmd_extract_contents.specs.Portions.{Portion, found_along, part_of, portion};
+
+use crate::data::{push_all, push_data};
+use crate::extent::Extent;
+use d64_files::{BlockList, Entry};
+use d64_image::Image;
+use d64_survey::{data_pair, walk};
+use std::alloc::AllocError;
+
+/// Puts the content along the way from a track and a sector into an empty list, and says whether
+/// there is one: whether the way is a whole chain.
+fn put_content_from(
+    bytes: &mut Vec<u8>,
+    image: &Image,
+    track: u8,
+    sector: u8,
+) -> Result<bool, AllocError>
+    ensures { IfOk result (λ is_there. (if is_there then Some bytes.new.items else None) ≡ content_along image.now (way image.now (track, sector))) }
+{
+    bytes.clear();
+    let mut blocks = BlockList::empty();
+    let end = walk(image, track, sector, &mut blocks);
+    if !end.is_whole() {
+        return Ok(false);
+    }
+    push_data(bytes, image, blocks.as_slice())?;
+    Ok(true)
+}
+
+/// Puts the content of the file of an entry into a list, in the place of what that had, and says
+/// whether there is one.
+fn put_content(bytes: &mut Vec<u8>, image: &Image, entry: &Entry) -> Result<bool, AllocError>
+    ensures { IfOk result (λ is_there. (if is_there then Some bytes.new.items else None) ≡ content_of image.now entry.now.bytes) }
+{
+    match data_pair(entry) {
+        Some((track, sector)) => put_content_from(bytes, image, track, sector),
+        None => Ok(false),
+    }
+}
+
+/// Puts what is there along the way from a track and a sector into a list, in the place of what
+/// that had, and says whether there is something: whether the way has a block.
+fn put_found_from(
+    bytes: &mut Vec<u8>,
+    image: &Image,
+    track: u8,
+    sector: u8,
+) -> Result<bool, AllocError>
+    ensures { IfOk result (λ is_there. (if is_there then Some bytes.new.items else None) ≡ found_along image.now (way image.now (track, sector))) }
+{
+    bytes.clear();
+    let mut blocks = BlockList::empty();
+    let end = walk(image, track, sector, &mut blocks);
+    let list = blocks.as_slice();
+    if list.is_empty() {
+        return Ok(false);
+    }
+    if end.is_whole() {
+        push_data(bytes, image, list)?;
+    } else {
+        push_all(bytes, image, list)?;
+    }
+    Ok(true)
+}
+
+/// Puts what is there of the file of an entry into a list, in the place of what that had, and says
+/// whether there is something.
+fn put_part(bytes: &mut Vec<u8>, image: &Image, entry: &Entry) -> Result<bool, AllocError>
+    ensures { IfOk result (λ is_there. (if is_there then Some bytes.new.items else None) ≡ part_of image.now entry.now.bytes) }
+{
+    if !entry.used() {
+        return Ok(false);
+    }
+    if !entry.has_kind() {
+        return Ok(false);
+    }
+    let (track, sector) = entry.first_pair();
+    put_found_from(bytes, image, track, sector)
+}
+
+/// Puts what there is to write of the file of an entry into a list, in the place of what that had,
+/// and says how much of the file that is, or None where there is nothing: its content, and where it
+/// has none, if parts are wanted too, what is there of it.
+pub(crate) fn put_portion(
+    bytes: &mut Vec<u8>,
+    image: &Image,
+    entry: &Entry,
+    with_parts: bool,
+) -> Result<Option<Extent>, AllocError>
+    ensures { IfOk result (λ extent. option_map (λ extent. record { bytes = bytes.new.items; extent = extent }) extent ≡ portion with_parts image.now entry.now.bytes) }
+{
+    if put_content(bytes, image, entry)? {
+        return Ok(Some(Extent::Content));
+    }
+    if !with_parts {
+        return Ok(None);
+    }
+    if put_part(bytes, image, entry)? {
+        Ok(Some(Extent::Part))
+    } else {
+        Ok(None)
+    }
+}

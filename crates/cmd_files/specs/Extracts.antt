@@ -1,0 +1,33 @@
+-- What is printed of images whose files are written to the host.
+use Rattle.std.specs.Prelude.{ℕ, List, [], Option, codes}
+use Rattle.d64_image.specs.Disk.{Bytes}
+use Rattle.d64_inventory.specs.Rows.{RowView}
+use Rattle.program_arguments.specs.declared.asked.Format.{Format}
+use Rattle.program_arguments.specs.declared.asked.Format.TheVariants.{Text, Json, Csv}
+use Rattle.out_json_csv.specs.Values.{line_of}
+use Rattle.out_json_csv.specs.Unanswered.{unanswered_object, wrong_length_object}
+use Rattle.cmd_files.specs.Extracted.{extracted_object, extracted_row, extracted_line, extracted_header, unextracted_row}
+
+-- what is printed of a used slot of an image with this host name, and the path of its host file
+abbrev pub printed_file : Format → Bytes → RowView → Option Bytes → List ℕ
+printed_file Text name row path = extracted_line row path
+printed_file Json name row path = line_of (extracted_object name row path)
+printed_file Csv name row path = extracted_row name row path
+
+-- what is printed of an image that isn't answered, for this error
+abbrev pub printed_error : Format → Bytes → List ℕ → List ℕ
+printed_error Text name error = []
+printed_error Json name error = line_of (unanswered_object name error)
+printed_error Csv name error = unextracted_row name error
+
+-- and of a file of so many bytes, which no dump has
+abbrev pub printed_length : Format → Bytes → ℕ → List ℕ
+printed_length Text name length = []
+printed_length Json name length = line_of (wrong_length_object name length)
+printed_length Csv name length = unextracted_row name (codes "wrong length")
+
+-- what stands before all answers: the header row of CSV
+abbrev pub extract_heading : Format → List ℕ
+extract_heading Text = []
+extract_heading Json = []
+extract_heading Csv = extracted_header

@@ -1,0 +1,282 @@
+//! What is printed of a file as CSV.
+ghost use Rattle.std.specs.Prelude.{◌≡◌, [], ◌∷◌, ◌++◌, codes, decimal, OnOk, IfOk};
+ghost use Rattle.std.specs.Option.{option_map_or};
+ghost use Rattle.csv.specs.Records.{fields_of, partial_of};
+ghost use Rattle.out_messages.specs.FileText.{kind_letters};
+ghost use Rattle.cmd_files.specs.FileRow.{name_alone, row_fields, columns, decimal_or_empty, truth_or_empty, name_fields, type_fields, entry_fields, way_fields, content_fields, state_fields, file_fields, file_row, header_row, unanswered_row};
+
+use crate::spaced::{spell_flaws, spell_numbers};
+use csv::ByteRecord;
+use d64_files::{Kind, name_in};
+use d64_inventory::FileRow;
+use out_json_csv::{
+    Scratch, UNREAD, WRONG_LENGTH, end_row, push_boolean, push_field, push_fields,
+    push_hexadecimal, push_host_name, push_name, push_number, push_pair,
+};
+use out_messages::kind_letters;
+use std::alloc::AllocError;
+
+/// The columns that each row has, but for the error.
+const COLUMNS: [&[u8]; 19] = [
+    b"image",
+    b"slot",
+    b"name",
+    b"field",
+    b"kind",
+    b"type",
+    b"closed",
+    b"locked",
+    b"size",
+    b"first",
+    b"record",
+    b"blocks",
+    b"side",
+    b"bytes",
+    b"sha256",
+    b"whole",
+    b"why",
+    b"conditions",
+    b"read_errors",
+];
+
+/// The columns of a row between the name of the image and the error, with nothing in them.
+const EMPTY: [&[u8]; 18] = [b""; 18];
+
+/// Adds the name, and the field that it stands in, to a row.
+fn push_names(scratch: &mut Vec<u8>, line: &mut ByteRecord, row: &FileRow) -> Result<(), AllocError>
+    requires { partial_of line.old ≡ [] }
+    ensures fields { OnOk result (fields_of line.new ≡ fields_of line.old ++ name_fields row.now) }
+    ensures whole { OnOk result (partial_of line.new ≡ []) }
+{
+    push_name(scratch, line, name_in(&row.field))?;
+    push_hexadecimal(scratch, line, &row.field)
+}
+
+/// Adds the letters of a kind to a row, or nothing in their place.
+fn push_kind(line: &mut ByteRecord, kind: Option<Kind>) -> Result<(), AllocError>
+    requires { partial_of line.old ≡ [] }
+    ensures fields { OnOk result (fields_of line.new ≡ fields_of line.old ++ option_map_or kind_letters kind [] ∷ []) }
+    ensures whole { OnOk result (partial_of line.new ≡ []) }
+{
+    match kind {
+        Some(kind) => push_field(line, kind_letters(kind).as_bytes()),
+        None => push_field(line, b""),
+    }
+}
+
+/// Adds a number to a row, or nothing in its place.
+fn push_count(line: &mut ByteRecord, count: Option<usize>) -> Result<(), AllocError>
+    requires { partial_of line.old ≡ [] }
+    ensures fields { OnOk result (fields_of line.new ≡ fields_of line.old ++ decimal_or_empty count ∷ []) }
+    ensures whole { OnOk result (partial_of line.new ≡ []) }
+{
+    match count {
+        Some(count) => push_number(line, count as u64),
+        None => push_field(line, b""),
+    }
+}
+
+/// Adds the length of a record to a row, or nothing in its place.
+fn push_record(line: &mut ByteRecord, length: Option<u8>) -> Result<(), AllocError>
+    requires { partial_of line.old ≡ [] }
+    ensures fields { OnOk result (fields_of line.new ≡ fields_of line.old ++ decimal_or_empty length ∷ []) }
+    ensures whole { OnOk result (partial_of line.new ≡ []) }
+{
+    match length {
+        Some(length) => push_number(line, u64::from(length)),
+        None => push_field(line, b""),
+    }
+}
+
+/// Adds `true`, `false`, or nothing to a row.
+fn push_answer(line: &mut ByteRecord, answer: Option<bool>) -> Result<(), AllocError>
+    requires { partial_of line.old ≡ [] }
+    ensures fields { OnOk result (fields_of line.new ≡ fields_of line.old ++ truth_or_empty answer ∷ []) }
+    ensures whole { OnOk result (partial_of line.new ≡ []) }
+{
+    match answer {
+        Some(answer) => push_boolean(line, answer),
+        None => push_field(line, b""),
+    }
+}
+
+/// Adds the kind, and the type byte with what it says of the file, to a row.
+fn push_type(line: &mut ByteRecord, row: &FileRow) -> Result<(), AllocError>
+    requires { partial_of line.old ≡ [] }
+    ensures fields { OnOk result (fields_of line.new ≡ fields_of line.old ++ type_fields row.now) }
+    ensures whole { OnOk result (partial_of line.new ≡ []) }
+{
+    push_kind(line, row.kind)?;
+    push_number(line, u64::from(row.type_byte))?;
+    push_boolean(line, row.closed)?;
+    push_boolean(line, row.locked)
+}
+
+/// Adds the shown size, the pair of the first block, and the length of a record, to a row.
+fn push_entry(line: &mut ByteRecord, row: &FileRow) -> Result<(), AllocError>
+    requires { partial_of line.old ≡ [] }
+    ensures fields { OnOk result (fields_of line.new ≡ fields_of line.old ++ entry_fields row.now) }
+    ensures whole { OnOk result (partial_of line.new ≡ []) }
+{
+    let (track, sector) = row.first;
+    push_number(line, u64::from(row.size))?;
+    push_pair(line, track, sector)?;
+    push_record(line, row.record)
+}
+
+/// Adds how many blocks the data way and the side way have, to a row.
+fn push_ways(line: &mut ByteRecord, row: &FileRow) -> Result<(), AllocError>
+    requires { partial_of line.old ≡ [] }
+    ensures fields { OnOk result (fields_of line.new ≡ fields_of line.old ++ way_fields row.now) }
+    ensures whole { OnOk result (partial_of line.new ≡ []) }
+{
+    push_count(line, row.blocks)?;
+    push_count(line, row.side)
+}
+
+/// Adds how many bytes the content has, and their digest, to a row.
+fn push_content(
+    scratch: &mut Vec<u8>,
+    line: &mut ByteRecord,
+    row: &FileRow,
+) -> Result<(), AllocError>
+    requires { partial_of line.old ≡ [] }
+    ensures fields { OnOk result (fields_of line.new ≡ fields_of line.old ++ content_fields row.now) }
+    ensures whole { OnOk result (partial_of line.new ≡ []) }
+{
+    match row.content {
+        Some(content) => {
+            push_number(line, content.bytes as u64)?;
+            push_hexadecimal(scratch, line, &content.digest)
+        }
+        None => {
+            push_field(line, b"")?;
+            push_field(line, b"")
+        }
+    }
+}
+
+/// Adds whether the file is whole, why not, the conditions that it breaks, and how many of its
+/// blocks have a read error, to a row.
+fn push_state(scratch: &mut Vec<u8>, line: &mut ByteRecord, row: &FileRow) -> Result<(), AllocError>
+    requires { partial_of line.old ≡ [] }
+    ensures fields { OnOk result (fields_of line.new ≡ fields_of line.old ++ state_fields row.now) }
+    ensures whole { OnOk result (partial_of line.new ≡ []) }
+{
+    push_answer(line, row.whole)?;
+    spell_flaws(scratch, row.why.as_slice())?;
+    push_field(line, scratch.as_slice())?;
+    spell_numbers(scratch, row.conditions.as_slice())?;
+    push_field(line, scratch.as_slice())?;
+    push_number(line, row.read_errors as u64)
+}
+
+/// Adds what is told of a file, but for the image and the slot, to a row.
+pub fn push_file_fields(
+    scratch: &mut Vec<u8>,
+    line: &mut ByteRecord,
+    row: &FileRow,
+) -> Result<(), AllocError>
+    requires { partial_of line.old ≡ [] }
+    ensures fields { OnOk result (fields_of line.new ≡ fields_of line.old ++ file_fields row.now) }
+    ensures whole { OnOk result (partial_of line.new ≡ []) }
+{
+    push_names(scratch, line, row)?;
+    push_type(line, row)?;
+    push_entry(line, row)?;
+    push_ways(line, row)?;
+    push_content(scratch, line, row)?;
+    push_state(scratch, line, row)
+}
+
+/// Begins the row of a file: the name of its image and all that is told of it.
+pub(crate) fn begin_file_row(
+    scratch: &mut Scratch,
+    name: &[u8],
+    row: &FileRow,
+) -> Result<(), AllocError>
+    ensures fields { OnOk result (fields_of scratch.new.row ≡ row_fields name.now row.now) }
+    ensures whole { OnOk result (partial_of scratch.new.row ≡ []) }
+{
+    scratch.row.clear();
+    push_host_name(&mut scratch.text, &mut scratch.row, name)?;
+    push_number(&mut scratch.row, row.slot as u64)?;
+    push_file_fields(&mut scratch.text, &mut scratch.row, row)
+}
+
+/// Adds the row of a file to a text.
+pub fn file_csv(
+    scratch: &mut Scratch,
+    name: &[u8],
+    row: &FileRow,
+    out: Vec<u8>,
+) -> Result<Vec<u8>, AllocError>
+    ensures { IfOk result (λ text. text.items ≡ out.items ++ file_row name.now row.now) }
+{
+    begin_file_row(scratch, name, row)?;
+    end_row(&mut scratch.row, b"", out)
+}
+
+/// Begins the header row: the columns but for the error.
+pub(crate) fn begin_header(scratch: &mut Scratch) -> Result<(), AllocError>
+    ensures fields { OnOk result (fields_of scratch.new.row ≡ columns) }
+    ensures whole { OnOk result (partial_of scratch.new.row ≡ []) }
+{
+    scratch.row.clear();
+    push_fields(&mut scratch.row, &COLUMNS)
+}
+
+/// Adds the header row to a text.
+#[tactic(auto, unfolding(crate::specs::FileRow::header_row))]
+pub fn files_header(scratch: &mut Scratch, out: Vec<u8>) -> Result<Vec<u8>, AllocError>
+    ensures { IfOk result (λ text. text.items ≡ out.items ++ header_row) }
+{
+    begin_header(scratch)?;
+    end_row(&mut scratch.row, b"error", out)
+}
+
+/// Begins a row with a name alone.
+pub(crate) fn begin_name_alone(scratch: &mut Scratch, name: &[u8]) -> Result<(), AllocError>
+    ensures fields { OnOk result (fields_of scratch.new.row ≡ name_alone name.now) }
+    ensures whole { OnOk result (partial_of scratch.new.row ≡ []) }
+{
+    scratch.row.clear();
+    push_host_name(&mut scratch.text, &mut scratch.row, name)?;
+    push_fields(&mut scratch.row, &EMPTY)
+}
+
+/// Adds a row with a name and an error alone.
+#[tactic(auto, unfolding(crate::specs::FileRow::unanswered_row))]
+fn push_unanswered(
+    scratch: &mut Scratch,
+    name: &[u8],
+    error: &[u8],
+    out: Vec<u8>,
+) -> Result<Vec<u8>, AllocError>
+    ensures { IfOk result (λ text. text.items ≡ out.items ++ unanswered_row name.now error.now) }
+{
+    begin_name_alone(scratch, name)?;
+    end_row(&mut scratch.row, error, out)
+}
+
+/// Adds the row of an image that cannot be read to a text.
+pub fn unread_file_csv(
+    scratch: &mut Scratch,
+    name: &[u8],
+    out: Vec<u8>,
+) -> Result<Vec<u8>, AllocError>
+    ensures { IfOk result (λ text. text.items ≡ out.items ++ unanswered_row name.now (codes "cannot be read")) }
+{
+    push_unanswered(scratch, name, UNREAD.as_bytes(), out)
+}
+
+/// Adds the row of an image whose length no dump has to a text.
+pub fn wrong_length_file_csv(
+    scratch: &mut Scratch,
+    name: &[u8],
+    out: Vec<u8>,
+) -> Result<Vec<u8>, AllocError>
+    ensures { IfOk result (λ text. text.items ≡ out.items ++ unanswered_row name.now (codes "wrong length")) }
+{
+    push_unanswered(scratch, name, WRONG_LENGTH.as_bytes(), out)
+}

@@ -1,0 +1,82 @@
+//! Printing the files that are written to the host, in one of the three forms.
+ghost use Rattle.std.specs.Prelude.{◌≡◌, ◌++◌, option_map, IfOk};
+ghost use Rattle.cmd_files.specs.Extracts.{printed_file, printed_error, printed_length, extract_heading};
+
+use crate::extracted::{
+    extracted_csv, extracted_header, extracted_json, push_extracted_line, unextracted_csv,
+};
+use d64_inventory::FileRow;
+use out_json_csv::{Scratch, WRONG_LENGTH, unanswered_json, wrong_length_json};
+use program_arguments::Format;
+use std::alloc::AllocError;
+
+/// Appends what stands before all answers.
+pub fn print_extract_heading(
+    form: Format,
+    scratch: &mut Scratch,
+    out: Vec<u8>,
+) -> Result<Vec<u8>, AllocError>
+    ensures { IfOk result (λ text. text.items ≡ out.items ++ extract_heading form) }
+{
+    match form {
+        Format::Text | Format::Json => Ok(out),
+        Format::Csv => extracted_header(scratch, out),
+    }
+}
+
+/// Appends what is printed of a file of the image with this name, and the path of the host file;
+/// None where none was written.
+pub fn print_file(
+    form: Format,
+    scratch: &mut Scratch,
+    name: &[u8],
+    row: &FileRow,
+    path: Option<&[u8]>,
+    out: Vec<u8>,
+) -> Result<Vec<u8>, AllocError>
+    ensures { IfOk result (λ text. text.items ≡ out.items ++ printed_file form name.now row.now (option_map (λ p. p.now) path.entry)) }
+{
+    match form {
+        Format::Text => {
+            let mut text = out;
+            push_extracted_line(&mut scratch.text, &mut text, row, path)?;
+            Ok(text)
+        }
+        Format::Json => extracted_json(scratch, name, row, path, out),
+        Format::Csv => extracted_csv(scratch, name, row, path, out),
+    }
+}
+
+/// Appends what is printed of an image that isn't answered, for this error.
+pub fn print_error(
+    form: Format,
+    scratch: &mut Scratch,
+    name: &[u8],
+    error: &str,
+    out: Vec<u8>,
+) -> Result<Vec<u8>, AllocError>
+    ensures { IfOk result (λ text. text.items ≡ out.items ++ printed_error form name.now error.now) }
+{
+    match form {
+        Format::Text => Ok(out),
+        Format::Json => unanswered_json(scratch, name, error, out),
+        Format::Csv => unextracted_csv(scratch, name, error.as_bytes(), out),
+    }
+}
+
+/// Appends what is printed of a file of so many bytes, which no dump has.
+pub fn print_length(
+    form: Format,
+    scratch: &mut Scratch,
+    name: &[u8],
+    length: usize,
+    out: Vec<u8>,
+) -> Result<Vec<u8>, AllocError>
+    ensures { IfOk result (λ text. text.items ≡ out.items ++ printed_length form name.now length) }
+{
+    match form {
+        Format::Text => Ok(out),
+        Format::Json => wrong_length_json(scratch, name, length, out),
+        Format::Csv => unextracted_csv(scratch, name, WRONG_LENGTH.as_bytes(), out),
+    }
+}

@@ -1,0 +1,140 @@
+//! What is printed of a file that is written to the host: what `files` prints, and the path of the
+//! host file.
+ghost use Rattle.std.specs.Prelude.{◌≡◌, [], ◌∷◌, ◌++◌, option_map, OnOk, IfOk};
+ghost use Rattle.csv.specs.Records.{fields_of, partial_of};
+ghost use Rattle.out_json_csv.specs.Values.{line_of, member_tokens};
+ghost use Rattle.cmd_files.specs.Extracted.{path_member, path_field, path_text, extracted_object, extracted_row, extracted_line, extracted_header, unextracted_row};
+
+use crate::csv_line::{begin_file_row, begin_header, begin_name_alone};
+use crate::file_member::put_file_members;
+use crate::json_line::put_place;
+use crate::table::push_file_text;
+use csv::ByteRecord;
+use d64_inventory::FileRow;
+use json::Writer;
+use out_json_csv::{
+    Scratch, end_row, into_line, push_field, push_host_name, put_host_name, put_null,
+};
+use out_messages::push_shown;
+use std::alloc::AllocError;
+
+/// Prints the path of a host file, or null where none was written.
+fn put_path(
+    scratch: &mut Vec<u8>,
+    writer: &mut Writer,
+    path: Option<&[u8]>,
+) -> Result<(), AllocError>
+    ensures before { writer.new.before ≡ writer.old.before }
+    ensures tokens { OnOk result (writer.new.tokens ≡ writer.old.tokens ++ member_tokens (path_member (option_map (λ p. p.now) path.entry) ∷ [])) }
+{
+    match path {
+        Some(path) => put_host_name(scratch, writer, "file", path),
+        None => put_null(writer, "file"),
+    }
+}
+
+/// Adds the line of a file to a text: an object of JSON with the name of its image, all that is
+/// told of it, and the path of the host file.
+pub(crate) fn extracted_json(
+    scratch: &mut Scratch,
+    name: &[u8],
+    row: &FileRow,
+    path: Option<&[u8]>,
+    out: Vec<u8>,
+) -> Result<Vec<u8>, AllocError>
+    ensures { IfOk result (λ text. text.items ≡ out.items ++ line_of (extracted_object name.now row.now (option_map (λ p. p.now) path.entry))) }
+{
+    let start = out.len();
+    let mut writer = Writer::new(out);
+    writer.begin_object()?;
+    put_place(&mut scratch.text, &mut writer, name, row)?;
+    put_file_members(&mut scratch.text, &mut writer, row)?;
+    put_path(&mut scratch.text, &mut writer, path)?;
+    writer.end_object()?;
+    let text = into_line(writer, start)?;
+    Ok(text)
+}
+
+/// Adds the path of a host file to a row, or nothing in its place.
+fn push_path_field(
+    scratch: &mut Vec<u8>,
+    row: &mut ByteRecord,
+    path: Option<&[u8]>,
+) -> Result<(), AllocError>
+    requires { partial_of row.old ≡ [] }
+    ensures fields { OnOk result (fields_of row.new ≡ fields_of row.old ++ path_field (option_map (λ p. p.now) path.entry) ∷ []) }
+    ensures whole { OnOk result (partial_of row.new ≡ []) }
+{
+    match path {
+        Some(path) => push_host_name(scratch, row, path),
+        None => push_field(row, b""),
+    }
+}
+
+/// Adds the row of a file to a text, with the path of the host file.
+pub(crate) fn extracted_csv(
+    scratch: &mut Scratch,
+    name: &[u8],
+    row: &FileRow,
+    path: Option<&[u8]>,
+    out: Vec<u8>,
+) -> Result<Vec<u8>, AllocError>
+    ensures { IfOk result (λ text. text.items ≡ out.items ++ extracted_row name.now row.now (option_map (λ p. p.now) path.entry)) }
+{
+    begin_file_row(scratch, name, row)?;
+    push_path_field(&mut scratch.text, &mut scratch.row, path)?;
+    end_row(&mut scratch.row, b"", out)
+}
+
+/// Adds where a file was written.
+fn push_path(out: &mut Vec<u8>, path: Option<&[u8]>) -> Result<(), AllocError>
+    ensures { OnOk result (out.new.items ≡ out.old.items ++ path_text (option_map (λ p. p.now) path.entry)) }
+{
+    match path {
+        Some(path) => {
+            out.extend_from_slice(b" -> ")?;
+            push_shown(out, path)
+        }
+        None => out.extend_from_slice(b", not written"),
+    }
+}
+
+/// Adds the line of a file for people, with the path of the host file.
+#[tactic(auto, unfolding(crate::specs::Extracted::extracted_line))]
+pub(crate) fn push_extracted_line(
+    scratch: &mut Vec<u8>,
+    out: &mut Vec<u8>,
+    row: &FileRow,
+    path: Option<&[u8]>,
+) -> Result<(), AllocError>
+    ensures { OnOk result (out.new.items ≡ out.old.items ++ extracted_line row.now (option_map (λ p. p.now) path.entry)) }
+{
+    push_file_text(scratch, out, row)?;
+    push_path(out, path)?;
+    out.extend_from_slice(b"\n")
+}
+
+/// Adds the header row to a text.
+#[tactic(auto, unfolding(crate::specs::Extracted::extracted_header))]
+pub(crate) fn extracted_header(scratch: &mut Scratch, out: Vec<u8>) -> Result<Vec<u8>, AllocError>
+    ensures { IfOk result (λ text. text.items ≡ out.items ++ extracted_header) }
+{
+    begin_header(scratch)?;
+    push_field(&mut scratch.row, b"file")?;
+    end_row(&mut scratch.row, b"error", out)
+}
+
+/// Adds the row of an image that isn't answered, for this error, to a text.
+#[tactic(auto, unfolding(crate::specs::Extracted::unextracted_row))]
+pub(crate) fn unextracted_csv(
+    scratch: &mut Scratch,
+    name: &[u8],
+    error: &[u8],
+    out: Vec<u8>,
+) -> Result<Vec<u8>, AllocError>
+    ensures { IfOk result (λ text. text.items ≡ out.items ++ unextracted_row name.now error.now) }
+{
+    begin_name_alone(scratch, name)?;
+    push_field(&mut scratch.row, b"")?;
+    end_row(&mut scratch.row, error, out)
+}

@@ -1,0 +1,190 @@
+//! What is told of a file as members of a JSON object.
+ghost use Rattle.std.specs.Prelude.{◌≡◌, [], ◌∷◌, ◌++◌, map, codes, OnOk};
+ghost use Rattle.json.specs.Json.{string};
+ghost use Rattle.json.specs.Tree.{json_tokens};
+ghost use Rattle.out_json_csv.specs.Values.{array_of, member_tokens, numeral, numeral_or_null};
+ghost use Rattle.cmd_files.specs.FileObject.{kind_value, boolean_or_null, bytes_value, digest_value, flaw_value, name_members, type_members, entry_members, way_members, content_members, state_members, file_members};
+
+use crate::flaw_word::flaw_word;
+use d64_files::{Kind, name_in};
+use d64_inventory::{Content, FileRow};
+use d64_survey::Flaw;
+use json::Writer;
+use out_json_csv::{
+    put_boolean, put_hexadecimal, put_name, put_null, put_number, put_pair, put_text,
+};
+use out_messages::kind_letters;
+use std::alloc::AllocError;
+
+/// Prints the name, and the field that it stands in.
+fn put_names(scratch: &mut Vec<u8>, writer: &mut Writer, row: &FileRow) -> Result<(), AllocError>
+    ensures before { writer.new.before ≡ writer.old.before }
+    ensures tokens { OnOk result (writer.new.tokens ≡ writer.old.tokens ++ member_tokens (name_members row.now)) }
+{
+    put_name(scratch, writer, "name", name_in(&row.field))?;
+    put_hexadecimal(scratch, writer, "field", &row.field)
+}
+
+/// Prints a kind, or null.
+fn put_kind(writer: &mut Writer, key: &str, kind: Option<Kind>) -> Result<(), AllocError>
+    ensures before { writer.new.before ≡ writer.old.before }
+    ensures tokens { OnOk result (writer.new.tokens ≡ writer.old.tokens ++ member_tokens ((key.now, kind_value kind) ∷ [])) }
+{
+    match kind {
+        Some(kind) => put_text(writer, key, kind_letters(kind)),
+        None => put_null(writer, key),
+    }
+}
+
+/// Prints a number, or null.
+fn put_count(writer: &mut Writer, key: &str, count: Option<usize>) -> Result<(), AllocError>
+    ensures before { writer.new.before ≡ writer.old.before }
+    ensures tokens { OnOk result (writer.new.tokens ≡ writer.old.tokens ++ member_tokens ((key.now, numeral_or_null count) ∷ [])) }
+{
+    match count {
+        Some(count) => put_number(writer, key, count as u64),
+        None => put_null(writer, key),
+    }
+}
+
+/// Prints the length of a record, or null.
+fn put_record(writer: &mut Writer, key: &str, length: Option<u8>) -> Result<(), AllocError>
+    ensures before { writer.new.before ≡ writer.old.before }
+    ensures tokens { OnOk result (writer.new.tokens ≡ writer.old.tokens ++ member_tokens ((key.now, numeral_or_null length) ∷ [])) }
+{
+    match length {
+        Some(length) => put_number(writer, key, u64::from(length)),
+        None => put_null(writer, key),
+    }
+}
+
+/// Prints true, false, or null.
+fn put_answer(writer: &mut Writer, key: &str, answer: Option<bool>) -> Result<(), AllocError>
+    ensures before { writer.new.before ≡ writer.old.before }
+    ensures tokens { OnOk result (writer.new.tokens ≡ writer.old.tokens ++ member_tokens ((key.now, boolean_or_null answer) ∷ [])) }
+{
+    match answer {
+        Some(answer) => put_boolean(writer, key, answer),
+        None => put_null(writer, key),
+    }
+}
+
+/// Prints the kind, and the type byte with what it says of the file.
+fn put_type(writer: &mut Writer, row: &FileRow) -> Result<(), AllocError>
+    ensures before { writer.new.before ≡ writer.old.before }
+    ensures tokens { OnOk result (writer.new.tokens ≡ writer.old.tokens ++ member_tokens (type_members row.now)) }
+{
+    put_kind(writer, "kind", row.kind)?;
+    put_number(writer, "type", u64::from(row.type_byte))?;
+    put_boolean(writer, "closed", row.closed)?;
+    put_boolean(writer, "locked", row.locked)
+}
+
+/// Prints the shown size, the pair of the first block, and the length of a record.
+fn put_entry(writer: &mut Writer, row: &FileRow) -> Result<(), AllocError>
+    ensures before { writer.new.before ≡ writer.old.before }
+    ensures tokens { OnOk result (writer.new.tokens ≡ writer.old.tokens ++ member_tokens (entry_members row.now)) }
+{
+    let (track, sector) = row.first;
+    put_number(writer, "size", u64::from(row.size))?;
+    put_pair(writer, "first", track, sector)?;
+    put_record(writer, "record", row.record)
+}
+
+/// Prints how many blocks the data way and the side way have.
+fn put_ways(writer: &mut Writer, row: &FileRow) -> Result<(), AllocError>
+    ensures before { writer.new.before ≡ writer.old.before }
+    ensures tokens { OnOk result (writer.new.tokens ≡ writer.old.tokens ++ member_tokens (way_members row.now)) }
+{
+    put_count(writer, "blocks", row.blocks)?;
+    put_count(writer, "side", row.side)
+}
+
+/// Prints the content: how many bytes it has, and their digest.
+fn put_content(scratch: &mut Vec<u8>, writer: &mut Writer, row: &FileRow) -> Result<(), AllocError>
+    ensures before { writer.new.before ≡ writer.old.before }
+    ensures tokens { OnOk result (writer.new.tokens ≡ writer.old.tokens ++ member_tokens (content_members row.now)) }
+{
+    match row.content {
+        Some(content) => {
+            put_number(writer, "bytes", content.bytes as u64)?;
+            put_hexadecimal(scratch, writer, "sha256", &content.digest)
+        }
+        None => {
+            put_null(writer, "bytes")?;
+            put_null(writer, "sha256")
+        }
+    }
+}
+
+/// Prints an array of reasons.
+fn put_flaws(writer: &mut Writer, flaws: &[Flaw]) -> Result<(), AllocError>
+    ensures before { writer.new.before ≡ writer.old.before }
+    ensures tokens { OnOk result (writer.new.tokens ≡ writer.old.tokens ++ json_tokens (array_of (map flaw_value flaws.now))) }
+{
+    writer.begin_array()?;
+    for flaw in flaws {
+        writer.string(flaw_word(*flaw))?;
+    }
+    writer.end_array()
+}
+
+/// Prints an array of numbers.
+fn put_numbers(writer: &mut Writer, numbers: &[u8]) -> Result<(), AllocError>
+    ensures before { writer.new.before ≡ writer.old.before }
+    ensures tokens { OnOk result (writer.new.tokens ≡ writer.old.tokens ++ json_tokens (array_of (map numeral numbers.now))) }
+{
+    writer.begin_array()?;
+    for number in numbers {
+        writer.u64(u64::from(*number))?;
+    }
+    writer.end_array()
+}
+
+/// Prints why a file isn't whole.
+fn put_why(writer: &mut Writer, flaws: &[Flaw]) -> Result<(), AllocError>
+    ensures before { writer.new.before ≡ writer.old.before }
+    ensures tokens { OnOk result (writer.new.tokens ≡ writer.old.tokens ++ member_tokens ((codes "why", array_of (map flaw_value flaws.now)) ∷ [])) }
+{
+    writer.key("why")?;
+    put_flaws(writer, flaws)
+}
+
+/// Prints the numbers of the conditions that a file breaks.
+fn put_conditions(writer: &mut Writer, numbers: &[u8]) -> Result<(), AllocError>
+    ensures before { writer.new.before ≡ writer.old.before }
+    ensures tokens { OnOk result (writer.new.tokens ≡ writer.old.tokens ++ member_tokens ((codes "conditions", array_of (map numeral numbers.now)) ∷ [])) }
+{
+    writer.key("conditions")?;
+    put_numbers(writer, numbers)
+}
+
+/// Prints whether the file is whole, why not, the conditions that it breaks, and how many of its
+/// blocks have a read error.
+fn put_state(writer: &mut Writer, row: &FileRow) -> Result<(), AllocError>
+    ensures before { writer.new.before ≡ writer.old.before }
+    ensures tokens { OnOk result (writer.new.tokens ≡ writer.old.tokens ++ member_tokens (state_members row.now)) }
+{
+    put_answer(writer, "whole", row.whole)?;
+    put_why(writer, row.why.as_slice())?;
+    put_conditions(writer, row.conditions.as_slice())?;
+    put_number(writer, "read_errors", row.read_errors as u64)
+}
+
+/// Prints what is told of a file, but for the image and the slot: the members from its name to its
+/// read errors.
+pub fn put_file_members(
+    scratch: &mut Vec<u8>,
+    writer: &mut Writer,
+    row: &FileRow,
+) -> Result<(), AllocError>
+    ensures before { writer.new.before ≡ writer.old.before }
+    ensures tokens { OnOk result (writer.new.tokens ≡ writer.old.tokens ++ member_tokens (file_members row.now)) }
+{
+    put_names(scratch, writer, row)?;
+    put_type(writer, row)?;
+    put_entry(writer, row)?;
+    put_ways(writer, row)?;
+    put_content(scratch, writer, row)?;
+    put_state(writer, row)
+}

@@ -1,0 +1,124 @@
+//! What `files` says of each file of a run.
+ghost use Rattle.std.specs.Prelude.{◌≡◌, List, ℕ, Option, Some, None, IfOk, OnOk, option_map, [], ◌++◌};
+ghost use Rattle.program_batch.specs.Answers.{Answer};
+ghost use Rattle.out_json_csv.specs.DumpOf.{dump_of};
+ghost use Rattle.cmd_files.specs.Files.{answer_of, files_rule, heading_of};
+ghost use Rattle.cmd_files.specs.Quiet.{files_rule-is_quiet};
+
+use crate::printing::{print_dump, print_heading, print_unread, print_wrong_length};
+use d64_image::Image;
+use d64_inventory::is_amiss;
+use d64_survey::{Dump, DumpFault, Fault, Inspection, ReadError};
+use out_json_csv::Scratch;
+use out_messages::{unread_line, wrong_length_line};
+use program_arguments::Format;
+use program_batch::{AnswerRoom, Report, Verdict};
+use std::alloc::{AllocError, Global};
+use std::mem;
+
+/// The report of `files`, with the memory that it keeps from file to file.
+#[derive(Drop)]
+pub struct FilesReport {
+    alloc: Global,
+    form: Format,
+    dump: Dump,
+    faults: Vec<Fault>,
+    errors: Vec<ReadError>,
+    scratch: Scratch,
+}
+
+impl FilesReport {
+    /// A report in a form.
+    pub fn new(alloc: Global, form: Format) -> Result<FilesReport, AllocError>
+        ensures { IfOk result (λ report. report.form ≡ form) }
+    {
+        Ok(FilesReport {
+            alloc,
+            form,
+            dump: Dump::from_image(alloc, Image::zeroed(alloc)?),
+            faults: Vec::new(alloc),
+            errors: Vec::new(alloc),
+            scratch: Scratch::new(alloc),
+        })
+    }
+
+    /// What is told of the dump that was read of a file, with these bytes.
+    fn tell_dump(&mut self, name: &[u8], room: &mut AnswerRoom) -> Result<Verdict, AllocError>
+        ensures form { self.new.form ≡ self.old.form }
+        ensures answered { room.old.printed.items ≡ [] → room.old.complaint.items ≡ [] → (bytes : List ℕ) → IfOk result (λ verdict.
+            record { printed = room.new.printed.items; complaint = room.new.complaint.items; verdict = verdict }
+            ≡ answer_of self.old.form name.now bytes (Some self.old.dump)) }
+    {
+        let all = Inspection::of(&self.dump, &mut self.faults, &mut self.errors)?;
+        let out = mem::replace(&mut room.printed, Vec::new(self.alloc));
+        room.printed = print_dump(self.form, &mut self.scratch, name, &all, out)?;
+        if is_amiss(&all) {
+            Ok(Verdict::Amiss)
+        } else {
+            Ok(Verdict::Clean)
+        }
+    }
+
+    /// What is told of a file that cannot be read.
+    fn tell_unread(&mut self, name: &[u8], room: &mut AnswerRoom) -> Result<Verdict, AllocError>
+        ensures form { self.new.form ≡ self.old.form }
+        ensures answered { room.old.printed.items ≡ [] → room.old.complaint.items ≡ [] → IfOk result (λ verdict.
+            record { printed = room.new.printed.items; complaint = room.new.complaint.items; verdict = verdict }
+            ≡ files_rule self.old.form name.now None) }
+    {
+        let out = mem::replace(&mut room.printed, Vec::new(self.alloc));
+        room.printed = print_unread(self.form, &mut self.scratch, name, out)?;
+        unread_line(&mut room.complaint, name)?;
+        Ok(Verdict::Failed)
+    }
+
+    /// What is told of a file with these bytes, where no dump has so many.
+    fn tell_wrong_length(
+        &mut self,
+        name: &[u8],
+        bytes: &[u8],
+        room: &mut AnswerRoom,
+    ) -> Result<Verdict, AllocError>
+        ensures form { self.new.form ≡ self.old.form }
+        ensures answered { room.old.printed.items ≡ [] → room.old.complaint.items ≡ [] → IfOk result (λ verdict.
+            record { printed = room.new.printed.items; complaint = room.new.complaint.items; verdict = verdict }
+            ≡ answer_of self.old.form name.now bytes.now None) }
+    {
+        let out = mem::replace(&mut room.printed, Vec::new(self.alloc));
+        room.printed = print_wrong_length(self.form, &mut self.scratch, name, bytes.len(), out)?;
+        wrong_length_line(&mut room.complaint, name, bytes)?;
+        Ok(Verdict::Failed)
+    }
+}
+
+impl Report for FilesReport {
+    ghost rule = { λ report. files_rule report.form };
+
+    ghost heading = { λ report. heading_of report.form };
+
+    ghost quiet = { λ report. files_rule-is_quiet report.form };
+
+    fn head(&mut self, room: &mut AnswerRoom) -> Result<(), AllocError> {
+        room.clear();
+        let out = mem::replace(&mut room.printed, Vec::new(self.alloc));
+        room.printed = print_heading(self.form, &mut self.scratch, out)?;
+        Ok(())
+    }
+
+    fn answer(
+        &mut self,
+        name: &[u8],
+        bytes: Option<&[u8]>,
+        room: &mut AnswerRoom,
+    ) -> Result<Verdict, AllocError> {
+        room.clear();
+        let Some(bytes) = bytes else {
+            return self.tell_unread(name, room);
+        };
+        match self.dump.refill(bytes) {
+            Ok(()) => self.tell_dump(name, room),
+            Err(DumpFault::WrongLength(_)) => self.tell_wrong_length(name, bytes, room),
+            Err(DumpFault::Memory(error)) => Err(error),
+        }
+    }
+}

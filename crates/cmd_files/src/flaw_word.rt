@@ -1,0 +1,20 @@
+//! The words for why a file isn't whole.
+ghost use Rattle.std.specs.Prelude.{◌≡◌};
+ghost use Rattle.cmd_files.specs.FlawWords.{flaw_word as flaw_word_of};
+
+use d64_survey::Flaw;
+
+/// The word for a reason.
+pub(crate) fn flaw_word(flaw: Flaw) -> &'static str
+    ensures { result.now ≡ flaw_word_of flaw }
+{
+    match flaw {
+        Flaw::Unclosed => "open",
+        Flaw::Kindless => "kind",
+        Flaw::Broken => "chain",
+        Flaw::Shared => "shared",
+        Flaw::Unreadable => "error",
+        Flaw::Missized => "size",
+        Flaw::Geos => "geos",
+    }
+}

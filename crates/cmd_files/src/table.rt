@@ -1,0 +1,175 @@
+//! The files of an image as a table for people.
+ghost use Rattle.std.specs.Prelude.{◌≡◌, ◌≤◌, ◌++◌, decimal, OnOk};
+ghost use Rattle.out_messages.specs.Names.{quoted_name};
+ghost use Rattle.cmd_files.specs.FileTable.{spaces, right_in, left_in, head_line, blocks_there, reasons, unknown_text, state_by, locked_text, kind_text, state_text, file_text, file_line};
+
+use d64_files::{Kind, name_in};
+use d64_image::Image;
+use d64_inventory::FileRow;
+use itoa::Buffer;
+use out_messages::{kind_letters, push_flaws, push_label, push_quoted, push_shown};
+use std::alloc::AllocError;
+
+/// How many columns the size has.
+const SIZE_COLUMNS: usize = 5;
+
+/// How many columns the name has, in quotes.
+const NAME_COLUMNS: usize = 18;
+
+/// Adds so many spaces.
+fn push_spaces(out: &mut Vec<u8>, count: usize) -> Result<(), AllocError>
+    requires { count ≤ 18 }
+    ensures { OnOk result (out.new.items ≡ out.old.items ++ spaces count) }
+{
+    out.resize(out.len() + count, b' ')
+}
+
+/// Adds a text at the right of so many columns.
+fn push_right(out: &mut Vec<u8>, width: usize, text: &[u8]) -> Result<(), AllocError>
+    requires { width ≤ 18 }
+    ensures { OnOk result (out.new.items ≡ out.old.items ++ right_in width text.now) }
+{
+    push_spaces(out, width.saturating_sub(text.len()))?;
+    out.extend_from_slice(text)
+}
+
+/// Adds a text at the left of so many columns.
+fn push_left(out: &mut Vec<u8>, width: usize, text: &[u8]) -> Result<(), AllocError>
+    requires { width ≤ 18 }
+    ensures { OnOk result (out.new.items ≡ out.old.items ++ left_in width text.now) }
+{
+    out.extend_from_slice(text)?;
+    push_spaces(out, width.saturating_sub(text.len()))
+}
+
+/// Adds the image's line: its name on the host, the disk's name and its id.
+#[tactic(auto, unfolding(crate::specs::FileTable::head_line))]
+pub fn push_head_line(out: &mut Vec<u8>, name: &[u8], image: &Image) -> Result<(), AllocError>
+    ensures { OnOk result (out.new.items ≡ out.old.items ++ head_line name.now image.now) }
+{
+    push_shown(out, name)?;
+    out.extend_from_slice(b" ")?;
+    push_label(out, image)?;
+    out.extend_from_slice(b"\n")
+}
+
+/// How many blocks of a file are there.
+fn blocks_there(row: &FileRow) -> usize
+    ensures { result ≡ blocks_there row.now }
+{
+    row.blocks
+        .unwrap_or(0)
+        .saturating_add(row.side.unwrap_or(0))
+}
+
+/// Adds why the file isn't whole, or why that isn't known.
+#[tactic(auto, unfolding(crate::specs::FileTable::reasons))]
+fn push_reasons(out: &mut Vec<u8>, row: &FileRow) -> Result<(), AllocError>
+    ensures { OnOk result (out.new.items ≡ out.old.items ++ reasons row.now) }
+{
+    push_flaws(
+        out,
+        usize::from(row.size),
+        blocks_there(row),
+        row.why.as_slice(),
+    )
+}
+
+/// Adds that it isn't known whether the file is whole, and why, where there is more to say.
+#[tactic(auto, unfolding(crate::specs::FileTable::unknown_text))]
+fn push_unknown(out: &mut Vec<u8>, row: &FileRow) -> Result<(), AllocError>
+    ensures { OnOk result (out.new.items ≡ out.old.items ++ unknown_text row.now) }
+{
+    out.extend_from_slice(b"not known")?;
+    if row.why.is_empty() {
+        return Ok(());
+    }
+    out.extend_from_slice(b": ")?;
+    push_reasons(out, row)
+}
+
+/// Adds whether the file is whole, or what is amiss.
+fn push_wholeness(out: &mut Vec<u8>, row: &FileRow) -> Result<(), AllocError>
+    ensures { OnOk result (out.new.items ≡ out.old.items ++ state_by row.now.whole row.now) }
+{
+    match row.whole {
+        Some(true) => out.extend_from_slice(b"whole"),
+        Some(false) => push_reasons(out, row),
+        None => push_unknown(out, row),
+    }
+}
+
+/// That a file is locked.
+fn locked_text(locked: bool) -> &'static [u8]
+    ensures { result.now ≡ locked_text locked }
+{
+    if locked { b", locked" } else { b"" }
+}
+
+/// The letters of a kind.
+fn kind_text(kind: Option<Kind>) -> &'static str
+    ensures { result.now ≡ kind_text kind }
+{
+    match kind {
+        Some(kind) => kind_letters(kind),
+        None => "???",
+    }
+}
+
+/// Adds what is told of a file after its name.
+#[tactic(auto, unfolding(crate::specs::FileTable::state_text))]
+fn push_state(out: &mut Vec<u8>, row: &FileRow) -> Result<(), AllocError>
+    ensures { OnOk result (out.new.items ≡ out.old.items ++ state_text row.now) }
+{
+    out.extend_from_slice(kind_text(row.kind).as_bytes())?;
+    out.extend_from_slice(b"   ")?;
+    push_wholeness(out, row)?;
+    out.extend_from_slice(locked_text(row.locked))
+}
+
+/// Adds the shown size, in its columns.
+fn push_size(out: &mut Vec<u8>, size: u16) -> Result<(), AllocError>
+    ensures { OnOk result (out.new.items ≡ out.old.items ++ right_in 5 (decimal size)) }
+{
+    let mut digits = Buffer::new();
+    push_right(out, SIZE_COLUMNS, digits.format(size).as_bytes())
+}
+
+/// Adds a name in quotes, in its columns.
+fn push_name(scratch: &mut Vec<u8>, out: &mut Vec<u8>, name: &[u8]) -> Result<(), AllocError>
+    ensures { OnOk result (out.new.items ≡ out.old.items ++ left_in 18 (quoted_name name.now)) }
+{
+    scratch.clear();
+    push_quoted(scratch, name)?;
+    push_left(out, NAME_COLUMNS, scratch.as_slice())
+}
+
+/// Adds what is told of a file on a line: the size that the directory shows, the name, the kind,
+/// whether it is whole or what is amiss, and whether it is locked.
+#[tactic(auto, unfolding(crate::specs::FileTable::file_text))]
+pub(crate) fn push_file_text(
+    scratch: &mut Vec<u8>,
+    out: &mut Vec<u8>,
+    row: &FileRow,
+) -> Result<(), AllocError>
+    ensures { OnOk result (out.new.items ≡ out.old.items ++ file_text row.now) }
+{
+    push_size(out, row.size)?;
+    out.extend_from_slice(b" ")?;
+    push_name(scratch, out, name_in(&row.field))?;
+    out.extend_from_slice(b" ")?;
+    push_state(out, row)
+}
+
+/// Adds the line of a file.
+#[tactic(auto, unfolding(crate::specs::FileTable::file_line))]
+pub fn push_file_line(
+    scratch: &mut Vec<u8>,
+    out: &mut Vec<u8>,
+    row: &FileRow,
+) -> Result<(), AllocError>
+    ensures { OnOk result (out.new.items ≡ out.old.items ++ file_line row.now) }
+{
+    push_file_text(scratch, out, row)?;
+    out.extend_from_slice(b"\n")
+}

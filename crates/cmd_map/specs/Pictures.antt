@@ -1,0 +1,32 @@
+-- What `map` says of a file.
+use Rattle.std.specs.Prelude.{ℕ, List, [], Some, None, if◌then◌else◌}
+use Rattle.std.specs.Option.{option_map_or}
+use Rattle.d64_survey.specs.Dump.{DumpView}
+use Rattle.d64_survey.specs.Inspection.{is_amiss}
+use Rattle.out_messages.specs.FaultLines.{unread_line, wrong_length_line}
+use Rattle.program_batch.specs.Answers.{Answer, Rule}
+use Rattle.program_batch.specs.declared.report.Verdict.TheVariants.{Clean, Amiss, Failed}
+use Rattle.out_json_csv.specs.DumpOf.{dump_of}
+use Rattle.program_arguments.specs.declared.asked.PictureForm.{PictureForm}
+use Rattle.program_arguments.specs.declared.asked.PictureForm.TheVariants.{Text, Svg}
+use Rattle.cmd_map.specs.MapText.{map_text}
+use Rattle.cmd_map.specs.Svg.{svg_of}
+
+-- the map of a dump in a form
+abbrev pub picture_of : PictureForm → List ℕ → DumpView → List ℕ
+picture_of Text name dump = map_text name dump
+picture_of Svg name dump = svg_of name dump
+
+-- what is answered of a dump
+abbrev pub answer_of : PictureForm → List ℕ → DumpView → Answer
+answer_of form name dump = record { printed = picture_of form name dump; complaint = []; verdict = if is_amiss dump then Amiss else Clean }
+
+-- what is answered of a file that isn't told of, but for this line on standard error
+abbrev pub failed_with : List ℕ → Answer
+failed_with line = record { printed = []; complaint = line; verdict = Failed }
+
+-- what `map` answers of a file in a form: that it cannot be read; or of its bytes, as the dump that
+-- they are, or that they are of a wrong length
+abbrev pub map_rule : PictureForm → Rule
+map_rule form name None = failed_with (unread_line name)
+map_rule form name (Some bytes) = option_map_or (answer_of form name) (dump_of bytes) (failed_with (wrong_length_line name bytes))

@@ -1,0 +1,89 @@
+//! The map of a disk as text.
+ghost use Rattle.std.specs.Prelude.{◌≡◌, ◌<◌, ◌≤◌, ◌++◌, OnOk};
+ghost use Rattle.cmd_map.specs.MapText.{head_line, column_lines, padded_number, row, track_line, track_lines, legend_line, map_text as map_text_of};
+
+use crate::block_state::state_of;
+use d64_image::BlockNo;
+use d64_survey::Inspection;
+use out_messages::{push_label, push_number, push_shown, push_state};
+use std::alloc::AllocError;
+
+/// How many sectors a track has at most.
+const SECTORS: u8 = 21;
+
+/// The numbers of the sectors, above the rows: tens, and then ones.
+const COLUMN_LINES: &[u8] = b"      0         1         2\n      012345678901234567890\n";
+
+/// What each character stands for.
+const LEGEND_LINE: &[u8] =
+    b"- free   # a file   = map or directory   ? marked used, belongs to no file   ! shared, or wrongly marked free   x read error\n";
+
+/// Adds the line of the file's name, the disk's, and its state.
+#[tactic(auto, unfolding(crate::specs::MapText::head_line))]
+fn push_head(out: &mut Vec<u8>, name: &[u8], inspection: &Inspection) -> Result<(), AllocError>
+    ensures { OnOk result (out.new.items ≡ out.old.items ++ head_line name.now inspection.now) }
+{
+    push_shown(out, name)?;
+    out.extend_from_slice(b" ")?;
+    push_label(out, inspection.image())?;
+    out.extend_from_slice(b": ")?;
+    push_state(out, inspection)?;
+    out.extend_from_slice(b"\n")
+}
+
+/// Adds a track's number, right-aligned to four characters.
+#[tactic(auto, unfolding(crate::specs::MapText::padded_number))]
+fn push_padded(out: &mut Vec<u8>, track: u8) -> Result<(), AllocError>
+    ensures { OnOk result (out.new.items ≡ out.old.items ++ padded_number track) }
+{
+    out.extend_from_slice(if track < 10 { b"   " } else { b"  " })?;
+    push_number(out, usize::from(track))
+}
+
+/// Adds the characters of a track's blocks.
+fn push_row(out: &mut Vec<u8>, inspection: &Inspection, track: u8) -> Result<(), AllocError>
+    requires { (1 ≤ track) × (track < 41) }
+    ensures { OnOk result (out.new.items ≡ out.old.items ++ row inspection.now track) }
+{
+    for sector in 0..SECTORS {
+        match BlockNo::of(track, sector) {
+            Some(block) => out.extend_from_slice(state_of(inspection, block).mark())?,
+            None => {}
+        }
+    }
+    Ok(())
+}
+
+/// Adds the line of a track.
+#[tactic(auto, unfolding(crate::specs::MapText::track_line))]
+fn push_track(out: &mut Vec<u8>, inspection: &Inspection, track: u8) -> Result<(), AllocError>
+    requires { (1 ≤ track) × (track < 41) }
+    ensures { OnOk result (out.new.items ≡ out.old.items ++ track_line inspection.now track) }
+{
+    push_padded(out, track)?;
+    out.extend_from_slice(b"  ")?;
+    push_row(out, inspection, track)?;
+    out.extend_from_slice(b"\n")
+}
+
+/// Adds a line each track.
+fn push_tracks(out: &mut Vec<u8>, inspection: &Inspection) -> Result<(), AllocError>
+    ensures { OnOk result (out.new.items ≡ out.old.items ++ track_lines inspection.now) }
+{
+    for track in 1..inspection.image().tracks() + 1 {
+        push_track(out, inspection, track)?;
+    }
+    Ok(())
+}
+
+/// Adds the map as text: a head line, the numbers of the sectors, a line a track with a character
+/// for each sector that it has, and what the characters stand for.
+#[tactic(auto, unfolding(crate::specs::MapText::map_text))]
+pub fn map_text(name: &[u8], inspection: &Inspection, out: &mut Vec<u8>) -> Result<(), AllocError>
+    ensures { OnOk result (out.new.items ≡ out.old.items ++ map_text_of name.now inspection.now) }
+{
+    push_head(out, name, inspection)?;
+    out.extend_from_slice(COLUMN_LINES)?;
+    push_tracks(out, inspection)?;
+    out.extend_from_slice(LEGEND_LINE)
+}

@@ -1,0 +1,17 @@
+-- The script that the words ask for, as the code has it.
+use Rattle.std.specs.Prelude.{map, option_copied, string_bytes}
+use Rattle.script_run.specs.Transcript.{Manner}
+use Rattle.cmd_shell.specs.Beginnings.{Beginning, Source, beginning_of, home_of, source_of}
+use Rattle.cmd_shell.specs.declared.shell_job.ShellJob.{ShellJob}
+
+-- what it begins with
+abbrev pub beginning_in : ShellJob → Beginning
+beginning_in job = beginning_of (option_copied job.image) job.tracks (option_copied job.resume)
+
+-- where it comes from
+abbrev pub source_in : ShellJob → Source
+source_in job = source_of (map string_bytes job.lines.now)
+
+-- how it is run
+abbrev pub manner_in : ShellJob → Manner
+manner_in job = record { home = home_of (option_copied job.image); refusals = job.refusals }

@@ -1,0 +1,317 @@
+//! The shell's job: a script on the image of a file, on a blank one, or on a session that was kept.
+ghost use Rattle.std.specs.Prelude.{◌≡◌, ℕ, List, Result, Ok, Err, None, IfOk, IfErr, OnOk, map, option_copied, option_map, string_bytes, true, false};
+ghost use Rattle.host_storage.specs.declared.host.HostFault.{HostFault};
+ghost use Rattle.d64_image.specs.Image.{IsImage, bytes_of};
+ghost use Rattle.d64_undo.specs.SessionFile.{IsSession, file_of};
+ghost use Rattle.script_text.specs.Input.{IsUnread, reading_of};
+ghost use Rattle.script_commands.specs.Act.{FetchesFile, world_of};
+ghost use Rattle.script_run.specs.Runner.{manner_of, stand_of};
+ghost use Rattle.cmd_shell.specs.Beginnings.{Given, beginning_of, refusals_of, source_by, source_of, text_of_lines};
+ghost use Rattle.cmd_shell.specs.Scripts.{beginning_in, manner_in, source_in};
+ghost use Rattle.cmd_shell.specs.ShellRuns.{IsDue, IsFirstHistory, IsReadDue, HasNoHistory, GivesNoImage, GivesNoSession, RanFrom, RanShell, StoppedBy, blank_image, session_limit, status_of};
+ghost use Rattle.program_batch.specs.Runs.{file_limit};
+ghost use Rattle.program_exit.specs.Outside.{outside_at};
+
+use d64_image::{BLOCKS, Image, ImageFault, blocks_of};
+use d64_undo::{ReadFault, Session, resume_from};
+use host_storage::{Host, HostFault};
+use program_exit::{ALL_ACCEPTED, ProgramFault, SOME_REFUSED, fetch_file};
+use script_run::{Listener, Manner, Opening, Outcome, Refusals, ScriptRunner, ShellFault};
+use script_text::input::InputStream;
+use script_text::output::OutputStream;
+use std::alloc::{AllocError, Global};
+use std::io::{Read, Write};
+
+/// The most bytes of a session file that are read.
+const SESSION_BYTES: u32 = 67_108_864;
+
+/// What the words ask of the shell.
+#[derive(Clone, Copy, Debug)]
+pub struct ShellJob<'n> {
+    /// The image file on which the script runs, and where `save` stores by default.
+    pub image: Option<&'n str>,
+    /// The tracks of the blank image on which it runs without one.
+    pub tracks: u8,
+    /// The session file on whose session it runs instead.
+    pub resume: Option<&'n str>,
+    /// The lines of the script; where there are none, it is the input.
+    pub lines: &'n [String],
+    pub refusals: Refusals,
+}
+
+impl<'n> ShellJob<'n> {
+    /// Runs the script on its session, and then flushes the output. Where the words give the
+    /// script, nothing of the input is read. All this is the same with every listener, which is
+    /// told of the session's begin and end, too.
+    pub fn run<R: Read, W: Write, H: Host, L: Listener>(
+        self,
+        alloc: Global,
+        input: &mut InputStream<'_, R>,
+        output: &mut OutputStream<'_, W>,
+        host: &mut H,
+        listener: &mut L,
+    ) -> Result<Outcome, ProgramFault>
+        requires unread { IsUnread (reading_of input.old.reads input.old.came input.old.has_failed) }
+        requires unfailed { output.old.has_failed ≡ false }
+        requires delivered { output.old.is_delivered ≡ true }
+        ensures input { input.new.reader.ghost_name ≡ input.old.reader.ghost_name }
+        ensures output { output.new.writer.ghost_name ≡ output.old.writer.ghost_name }
+        ensures delivered { OnOk result ((output.new.is_delivered ≡ true) × (output.new.has_failed ≡ false)) }
+        ensures ran { IfOk result (λ outcome. RanShell (beginning_in self.entry) (source_in self.entry) (manner_in self.entry)
+            (outside_at R.remaining input.old W.contents output.old H.state host.old)
+            (outside_at R.remaining input.new W.contents output.new H.state host.new) (Ok outcome)) }
+        ensures stopped { IfErr result (λ fault. StoppedBy fault (beginning_in self.entry) (source_in self.entry) (manner_in self.entry)
+            (outside_at R.remaining input.old W.contents output.old H.state host.old)
+            (outside_at R.remaining input.new W.contents output.new H.state host.new)) }
+        ensures due { IfErr result (λ fault. IsDue fault (source_in self.entry)
+            (outside_at R.remaining input.new W.contents output.new H.state host.new)) }
+    {
+        let text = given_text(alloc, self.lines)?;
+        let mut session = first_session(
+            alloc,
+            host,
+            self.image,
+            self.tracks,
+            self.resume,
+            listener,
+        )?;
+        listener.begin(&self.opening(), &session);
+        let script = Script {
+            alloc,
+            text: text.as_deref(),
+            manner: Manner {
+                home: self.image.unwrap_or(""),
+                refusals: self.refusals,
+            },
+        };
+        let ran = script.run(input, output, host, &mut session, listener);
+        listener.end(self.image.unwrap_or(""), &session);
+        match output.flush() {
+            Ok(()) => Ok(ran?),
+            Err(_) => Err(ProgramFault::Write),
+        }
+    }
+}
+
+impl<'n> ShellJob<'n> {
+    /// What a listener is told of it at the session's begin.
+    fn opening(&self) -> Opening<'n> {
+        Opening {
+            home: self.image.unwrap_or(""),
+            held_in: self.resume.or(self.image).unwrap_or(""),
+            is_given: !self.lines.is_empty(),
+            refusals: self.refusals,
+        }
+    }
+}
+
+/// The text of the lines, each with a line feed after it, where there are some.
+fn given_text(alloc: Global, lines: &[String]) -> Result<Option<Vec<u8>>, AllocError>
+    ensures text { IfOk result (λ text. source_by (option_map (λ bytes. bytes.items) text) ≡ source_of (map string_bytes lines.now)) }
+    ensures none { IfErr result (λ _. source_of (map string_bytes lines.now) ≡ Given (text_of_lines (map string_bytes lines.now))) }
+{
+    if lines.is_empty() {
+        return Ok(None);
+    }
+    Ok(Some(text_of_lines(alloc, lines)?))
+}
+
+/// The text of the lines, each with a line feed after it.
+fn text_of_lines(alloc: Global, lines: &[String]) -> Result<Vec<u8>, AllocError>
+    ensures { IfOk result (λ text. text.items ≡ text_of_lines (map string_bytes lines.now)) }
+{
+    let mut text = Vec::new(alloc);
+    for line in lines {
+        text.extend_from_slice(line.as_bytes())?;
+        text.push(b'\n')?;
+    }
+    Ok(text)
+}
+
+/// A script, and how it is run.
+#[derive(Clone, Copy, Debug)]
+struct Script<'n> {
+    alloc: Global,
+    /// Its text; without one, it is the input.
+    text: Option<&'n [u8]>,
+    manner: Manner<'n>,
+}
+
+impl<'n> Script<'n> {
+    /// Runs it on a session. Where it has a text, nothing of the input is read.
+    fn run<R: Read, W: Write, H: Host, L: Listener>(
+        self,
+        input: &mut InputStream<'_, R>,
+        output: &mut OutputStream<'_, W>,
+        host: &mut H,
+        session: &mut Session,
+        listener: &mut L,
+    ) -> Result<Outcome, ShellFault>
+        requires unread { IsUnread (reading_of input.old.reads input.old.came input.old.has_failed) }
+        requires unfailed { output.old.has_failed ≡ false }
+        requires delivered { output.old.is_delivered ≡ true }
+        ensures input { input.new.reader.ghost_name ≡ input.old.reader.ghost_name }
+        ensures output { output.new.writer.ghost_name ≡ output.old.writer.ghost_name }
+        ensures ran { RanFrom (source_by (option_copied self.entry.text)) (manner_of self.entry.manner) (R.remaining input.old.reader.now) (R.remaining input.new.reader.now)
+            (stand_of (W.contents output.old.writer.now) (world_of (H.state host.old) session.old))
+            (stand_of (W.contents output.new.writer.now) (world_of (H.state host.new) session.new))
+            result }
+        ensures unfailed { OnOk result (output.new.has_failed ≡ false) }
+        ensures due { result ≡ Err ShellFault.Read → IsReadDue (source_by (option_copied self.entry.text)) (reading_of input.new.reads input.new.came input.new.has_failed) }
+        ensures failed { result ≡ Err ShellFault.Write → output.new.has_failed ≡ true }
+    {
+        let runner = ScriptRunner {
+            alloc: self.alloc,
+            manner: self.manner,
+            listener,
+        };
+        let Some(text) = self.text else {
+            return runner.run(input, output, host, session);
+        };
+        runner.run_text(text, output, host, session)
+    }
+}
+
+/// The session that the script runs on: of a session file, of an image file, or of a blank image.
+/// The listener is told of a file that gives none.
+fn first_session<H: Host, L: Listener>(
+    alloc: Global,
+    host: &mut H,
+    image: Option<&str>,
+    tracks: u8,
+    resume: Option<&str>,
+    listener: &mut L,
+) -> Result<Session, ProgramFault>
+    ensures session { IfOk result (λ session. IsFirstHistory
+        (H.state host.old)
+        (beginning_of (option_copied image.entry) tracks (option_copied resume.entry)) session
+        (H.state host.new)) }
+    ensures none { IfErr result (λ fault. HasNoHistory fault
+        (H.state host.old)
+        (beginning_of (option_copied image.entry) tracks (option_copied resume.entry))
+        (H.state host.new)) }
+{
+    if let Some(name) = resume {
+        return session_of_file(alloc, host, name, listener);
+    }
+    match image {
+        Some(name) => Ok(Session::new(alloc, image_of_file(alloc, host, name, listener)?)),
+        None => Ok(Session::new(alloc, blank_image(alloc, tracks)?)),
+    }
+}
+
+/// The session of a host file.
+fn session_of_file<H: Host, L: Listener>(
+    alloc: Global,
+    host: &mut H,
+    name: &str,
+    listener: &mut L,
+) -> Result<Session, ProgramFault>
+    ensures session { IfOk result (λ session. IsSession session × FetchesFile
+        (H.state host.old)
+        name.now session_limit (Ok (file_of session))
+        (H.state host.new)) }
+    ensures none { IfErr result (λ fault. (fetched : Result (List ℕ) HostFault) × FetchesFile
+        (H.state host.old)
+        name.now session_limit fetched
+        (H.state host.new)
+        × GivesNoSession fetched fault) }
+{
+    let mut file = match host.open(name) {
+        Ok(file) => file,
+        Err(fault) => {
+            listener.miss(name, Err(fault));
+            return Err(ProgramFault::of_file(fault, ProgramFault::UnreadableSession));
+        }
+    };
+    match resume_from(alloc, &mut file, SESSION_BYTES) {
+        Ok(session) => Ok(session),
+        Err(ReadFault::Resume(fault)) => Err(fault.into()),
+        Err(ReadFault::TooLong) => Err(ProgramFault::UnreadableSession),
+        Err(ReadFault::Device) => {
+            listener.miss(name, Err(HostFault::Device));
+            host.count_failed_read();
+            Err(ProgramFault::UnreadableSession)
+        }
+    }
+}
+
+/// A blank image of so many tracks.
+fn blank_image(alloc: Global, tracks: u8) -> Result<Image, AllocError>
+    ensures { IfOk result (λ image. image ≡ blank_image tracks) }
+{
+    if blocks_of(tracks) == Some(BLOCKS) {
+        Image::zeroed40(alloc)
+    } else {
+        Image::zeroed(alloc)
+    }
+}
+
+/// The image of a host file.
+fn image_of_file<H: Host, L: Listener>(
+    alloc: Global,
+    host: &mut H,
+    name: &str,
+    listener: &mut L,
+) -> Result<Image, ProgramFault>
+    ensures image { IfOk result (λ image. IsImage image × FetchesFile
+        (H.state host.old)
+        name.now file_limit (Ok (bytes_of image))
+        (H.state host.new)) }
+    ensures none { IfErr result (λ fault. (fetched : Result (List ℕ) HostFault) × FetchesFile
+        (H.state host.old)
+        name.now file_limit fetched
+        (H.state host.new)
+        × GivesNoImage fetched fault) }
+{
+    match fetch_file(alloc, host, name) {
+        Ok(bytes) => image_of_bytes(alloc, name, bytes.as_slice(), listener),
+        Err(fault) => {
+            listener.miss(name, Err(fault));
+            Err(ProgramFault::of_file(fault, ProgramFault::UnreadableImage))
+        }
+    }
+}
+
+/// The image of the bytes of the host file of this name.
+fn image_of_bytes<L: Listener>(
+    alloc: Global,
+    name: &str,
+    bytes: &[u8],
+    listener: &mut L,
+) -> Result<Image, ProgramFault>
+    ensures image { IfOk result (λ image. IsImage image × (bytes_of image ≡ bytes.now)) }
+    ensures none { IfErr result (λ fault. GivesNoImage (Ok bytes.now) fault) }
+{
+    match Image::from_bytes(alloc, bytes) {
+        Ok(image) => Ok(image),
+        Err(fault) => {
+            if let ImageFault::WrongLength(_) = fault {
+                listener.miss(name, Ok(bytes));
+            }
+            Err(fault.into())
+        }
+    }
+}
+
+/// What a refused line does.
+pub fn refusals_of(stops: bool) -> Refusals
+    ensures { result ≡ refusals_of stops }
+{
+    if stops {
+        Refusals::Stop
+    } else {
+        Refusals::GoOn
+    }
+}
+
+/// The exit status of a script that ran to its end.
+pub fn exit_status(outcome: Outcome) -> u8
+    ensures { result ≡ status_of outcome }
+{
+    if outcome.refused == 0 {
+        ALL_ACCEPTED
+    } else {
+        SOME_REFUSED
+    }
+}

@@ -1,6 +1,0 @@
-use Rattle.std.proofs.Common.{◌≡◌, ◌++◌, take}
-use Rattle.d64_catalogue.specs.Sections.{error_items}
-use Rattle.d64_catalogue.proofs.section.push_error_items.Given as goal
-
-abbrev pub invariant-loop-error : goal.invariant-loop-error
-invariant-loop-error l = l.out.items ≡ l.initial.out.items ++ error_items l.survey (take l.error-index l.list)

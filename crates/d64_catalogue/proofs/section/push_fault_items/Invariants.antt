@@ -1,6 +1,0 @@
-use Rattle.std.proofs.Common.{◌≡◌, ◌++◌, take}
-use Rattle.d64_catalogue.specs.Sections.{fault_items}
-use Rattle.d64_catalogue.proofs.section.push_fault_items.Given as goal
-
-abbrev pub invariant-loop-fault : goal.invariant-loop-fault
-invariant-loop-fault l = l.out.items ≡ l.initial.out.items ++ fault_items l.survey (take l.fault-index l.list)

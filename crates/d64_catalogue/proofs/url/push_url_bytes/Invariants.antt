@@ -1,7 +1,0 @@
-use Rattle.std.proofs.Common.{◌≡◌, ◌++◌, take}
-use Rattle.std.specs.List.{flat_map}
-use Rattle.d64_catalogue.specs.Urls.{url_byte}
-use Rattle.d64_catalogue.proofs.url.push_url_bytes.Given as goal
-
-abbrev pub invariant-loop-byte : goal.invariant-loop-byte
-invariant-loop-byte l = l.url.items ≡ l.initial.url.items ++ flat_map url_byte (take l.byte-index l.path)

@@ -1,7 +1,0 @@
--- How far the code has come with the host files of an image.
-use Rattle.d64_catalogue.specs.Links.{Naming}
-use Rattle.d64_catalogue.specs.declared.host_files.HostFiles.{HostFiles}
-
--- how far it has come, by what the code holds
-abbrev pub naming_of : HostFiles → Naming
-naming_of files = record { left = files.extraction; taken = files.taken }

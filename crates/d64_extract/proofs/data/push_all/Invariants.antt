@@ -1,6 +1,0 @@
-use Rattle.std.proofs.Common.{◌≡◌, ◌++◌, take}
-use Rattle.d64_extract.specs.Portions.{all_along}
-use Rattle.d64_extract.proofs.data.push_all.Given as goal
-
-abbrev pub invariant-loop-block : goal.invariant-loop-block
-invariant-loop-block l = l.bytes.items ≡ l.fn.bytes.items ++ all_along l.image (take l.block-index l.blocks)

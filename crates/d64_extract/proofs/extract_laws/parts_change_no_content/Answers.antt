@@ -1,5 +1,0 @@
-use Rattle.d64_extract.proofs.Written.{parts_change_nothing}
-use Rattle.d64_extract.proofs.extract_laws.parts_change_no_content.Goals as goal
-
-pub returns : goal.returns
-returns c = parts_change_nothing

@@ -1,6 +1,0 @@
-use Rattle.d64_file_jobs.proofs.SurveyRuns.{not_begun}
-use Rattle.d64_file_jobs.proofs.survey_job.SurveyJob.run_by.Goals as goal
-
--- there was no memory for a report
-pub returns-in-Err-clause-ended : goal.returns-in-Err-clause-ended
-returns-in-Err-clause-ended g c = λ manner heading made. not_begun (g.C.Clerk.conduct manner) heading _ _ _ _ _ c.report_on.ensures.reported

@@ -1,5 +1,0 @@
-use Rattle.d64_host_names.proofs.SafeNames.{name_ends}
-use Rattle.d64_host_names.proofs.laws.names_keep_their_ending.Goals as goal
-
-pub returns : goal.returns
-returns c = name_ends

@@ -1,9 +1,0 @@
-use Rattle.std.proofs.Common.{◌≡◌, ℕ, length}
-use Rattle.d64_host_names.specs.HostName.{without_last_spaces}
-use Rattle.d64_host_names.proofs.stem.without_last_spaces.Given as goal
-
-abbrev pub invariant-loop-last : goal.invariant-loop-last
-invariant-loop-last l = without_last_spaces l.left ≡ without_last_spaces l.name
-
-abbrev pub decreases-loop-last : goal.decreases-loop-last
-decreases-loop-last l = length l.left

@@ -1,8 +1,0 @@
-use Rattle.d64_line.proofs.TextArguments.{Does-read}
-use Rattle.d64_line.proofs.handlers.format.Goals as goal
-
-pub returns : goal.returns
-returns c = λ host.
-    rw (← c.as_bytes.ensures.value, ← c.in-Some.ensures)
-    (Does-read _ _ _ c.in_ok-name.name host _ _ _ c.in_ok-name.ensures
-    (Does-read _ _ _ c.in_ok-id.id host _ _ _ c.in_ok-id.ensures (c.run_command.ensures host)))

@@ -1,6 +1,0 @@
-use Rattle.std.proofs.Common.{◌≡◌, ◌++◌, drop}
-use Rattle.d64_markup.specs.Markup.{escaped_within}
-use Rattle.d64_markup.proofs.markup.push_escaped_within.Given as goal
-
-abbrev pub invariant-loop-byte : goal.invariant-loop-byte
-invariant-loop-byte l = l.out.items ++ escaped_within l.left (drop l.byte-index l.text) ≡ l.initial.out.items ++ escaped_within l.room l.text

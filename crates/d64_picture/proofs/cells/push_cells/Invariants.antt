@@ -1,7 +1,0 @@
-use Rattle.std.proofs.Common.{◌≡◌, ◌++◌}
-use Rattle.std.specs.List.{flat_map}
-use Rattle.d64_picture.specs.Cells.{cell, cells}
-use Rattle.d64_picture.proofs.cells.push_cells.Given as goal
-
-abbrev pub invariant-loop-block : goal.invariant-loop-block
-invariant-loop-block l = l.out.items ++ flat_map (cell l.inspection) l.block-iterator ≡ l.initial.out.items ++ cells l.inspection

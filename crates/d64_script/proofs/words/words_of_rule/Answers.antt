@@ -1,5 +1,0 @@
-use Rattle.d64_script.proofs.WordRule.{words_of_rule}
-use Rattle.d64_script.proofs.words.words_of_rule.Goals as goal
-
-pub returns : goal.returns
-returns c = words_of_rule c.args.line.now

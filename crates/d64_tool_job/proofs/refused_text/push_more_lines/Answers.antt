@@ -1,8 +1,0 @@
-use Rattle.std.proofs.Common.{rules}
-use Rattle.d64_tool_job.proofs.StoredRuns.{more_parts}
-use Rattle.d64_tool_job.proofs.refused_text.push_more_lines.Goals as goal
-
-pub returns : goal.returns
-returns c =
-    more_parts c.args.count c.args.out.now.items c.extend_from_slice.new.self.items c.push_count.new.out.items _ (search rules)
-    c.in_ok-extend_from_slice.ensures.items c.in_ok-push_count.ensures c.in_ok-extend_from_slice-2.ensures.items

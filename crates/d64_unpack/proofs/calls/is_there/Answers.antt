@@ -1,5 +1,0 @@
-use Rattle.std.proofs.Common.{refl}
-use Rattle.d64_unpack.proofs.calls.is_there.Goals as goal
-
-pub returns : goal.returns
-returns g c = (c.is_there.ensures.answer, refl)

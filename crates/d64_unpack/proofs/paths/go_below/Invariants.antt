@@ -1,7 +1,0 @@
-use Rattle.std.proofs.Common.{◌≡◌, drop, map, string_bytes, Bor, ℕ, List}
-use Rattle.d64_unpack.specs.Paths.{place_below}
-use Rattle.d64_unpack.proofs.paths.go_below.Given as goal
-
-abbrev pub invariant-loop-folder : goal.invariant-loop-folder
-invariant-loop-folder l =
-    place_below (string_bytes l.place) (map (λ (folder : Bor (List ℕ)). folder.now) (drop l.folder-index l.folders)) ≡ place_below (string_bytes l.fn.place) (map (λ (folder : Bor (List ℕ)). folder.now) l.folders)

@@ -1,5 +1,0 @@
-use Rattle.d64_words.proofs.command.files.Goals as goal
-
-pub returns : goal.returns
-returns c =
-    c.survey.ensures _ (c.subcommand.ensures.app, c.subcommand.ensures.local)

@@ -1,0 +1,69 @@
+-- What holds of names and folders.
+use Rattle.std.specs.Prelude.{◌≡◌, ◌≢◌, ℕ, ◌+◌, ◌^◌, ◌<◌, ◌≤◌, Bool, false, List, [], ◌++◌, length, All, codes}
+use Rattle.std.specs.List.{IsDistinct}
+use Rattle.host_names.specs.declared.ending.Ending.{Ending}
+use Rattle.host_names.specs.HostName.{slash, is_forbidden, is_reserved, is_same_name, device_name, tail}
+use Rattle.host_names.specs.TakenNames.{Named, is_taken, next_name, with_names}
+use Rattle.host_names.specs.ImagePlace.{folders_of, image_name, partial_name}
+
+-- so many names can be counted by a host
+abbrev pub AreCounted : List (List ℕ) → Type 0
+AreCounted taken = length taken + 1 < 2 ^ 64
+
+-- a name that names something in the folder that it stands in: it isn't empty, `.` or `..`, and has
+-- no `/`
+pub record StaysInFolder (name : List ℕ) : Type 0 where
+  pub some : name ≢ []
+  pub not_here : name ≢ codes "."
+  pub not_above : name ≢ codes ".."
+  pub no_slash : All (λ byte. byte ≢ slash) name
+
+-- each name of a file names something in its folder
+abbrev pub NamesStayInTheirFolder : Type 0
+NamesStayInTheirFolder = (taken : List (List ℕ)) (text : List ℕ) (ending : Ending) (is_part : Bool) → AreCounted taken
+    → StaysInFolder (next_name taken text ending is_part)
+
+-- a name that each host takes: no byte of it is forbidden, and it is no device
+pub record IsTakenByHosts (name : List ℕ) : Type 0 where
+  pub allowed : All (λ byte. is_forbidden byte ≡ false) name
+  pub no_device : is_reserved (device_name name) ≡ false
+
+-- each name of a file is one
+abbrev pub NamesAreTakenByHosts : Type 0
+NamesAreTakenByHosts = (taken : List (List ℕ)) (text : List ℕ) (ending : Ending) (is_part : Bool) → AreCounted taken
+    → IsTakenByHosts (next_name taken text ending is_part)
+
+-- a byte of printed ASCII, as each byte of a text form is
+abbrev pub IsPrinted : ℕ → Type 0
+IsPrinted byte = (32 ≤ byte) × (byte < 127)
+
+-- the name of a printed text is printed
+abbrev pub NamesArePrinted : Type 0
+NamesArePrinted = (taken : List (List ℕ)) (text : List ℕ) (ending : Ending) (is_part : Bool) → AreCounted taken
+    → All IsPrinted text → All IsPrinted (next_name taken text ending is_part)
+
+-- a name ends with these bytes
+abbrev pub EndsWith : List ℕ → List ℕ → Type 0
+EndsWith name end = (front : List ℕ) × (name ≡ front ++ end)
+
+-- each name of a file keeps its ending, and `.part` after it
+abbrev pub NamesKeepTheirEnding : Type 0
+NamesKeepTheirEnding = (taken : List (List ℕ)) (text : List ℕ) (ending : Ending) (is_part : Bool)
+    → EndsWith (next_name taken text ending is_part) (tail ending is_part)
+
+-- no file gets a name that is taken
+abbrev pub NamesAreFree : Type 0
+NamesAreFree = (taken : List (List ℕ)) (text : List ℕ) (ending : Ending) (is_part : Bool) → AreCounted taken
+    → is_taken taken (next_name taken text ending is_part) ≡ false
+
+-- no two files of an image get the same name
+abbrev pub NoTwoNamesAreTheSame : Type 0
+NoTwoNamesAreTheSame = (files : List Named) → length files < 2 ^ 63 → IsDistinct is_same_name (with_names [] files)
+
+-- the folders of a path lead down
+abbrev pub FoldersLeadDown : Type 0
+FoldersLeadDown = (path : List ℕ) → All StaysInFolder (folders_of path)
+
+-- the folder of an image lies in the last of them, under both of its names
+abbrev pub ImagesStayInTheirFolder : Type 0
+ImagesStayInTheirFolder = (path : List ℕ) → StaysInFolder (image_name path) × StaysInFolder (partial_name path)

@@ -1,0 +1,43 @@
+//! The endings of host names.
+ghost use Rattle.std.specs.Prelude.{◌≡◌, ◌++◌, OnOk};
+ghost use Rattle.host_names.specs.HostName.{ending_text, tail};
+
+use std::alloc::AllocError;
+
+/// The ending of a file's host name, by its kind.
+#[derive(Clone, Copy, Debug, PartialEq, Eq)]
+pub enum Ending {
+    Del,
+    Seq,
+    Prg,
+    Usr,
+    Rel,
+}
+
+impl Ending {
+    /// The ending, with its full stop.
+    #[tactic(auto, unfolding(crate::specs::HostName::ending_text))]
+    fn text(self) -> &'static [u8]
+        ensures { result.now ≡ ending_text self }
+    {
+        match self {
+            Ending::Del => b".del",
+            Ending::Seq => b".seq",
+            Ending::Prg => b".prg",
+            Ending::Usr => b".usr",
+            Ending::Rel => b".rel",
+        }
+    }
+}
+
+/// Adds the ending, and `.part` where the file is written in part.
+#[tactic(auto, unfolding(crate::specs::HostName::tail, crate::specs::HostName::part_text))]
+pub(crate) fn push_tail(name: &mut Vec<u8>, ending: Ending, is_part: bool) -> Result<(), AllocError>
+    ensures { OnOk result (name.new.items ≡ name.old.items ++ tail ending is_part) }
+{
+    name.extend_from_slice(ending.text())?;
+    if is_part {
+        name.extend_from_slice(b".part")?;
+    }
+    Ok(())
+}

@@ -1,0 +1,39 @@
+//! Laws of names and folders: empty functions, whose contracts are the laws.
+ghost use Rattle.host_names.specs.Laws.{NamesStayInTheirFolder, NamesAreTakenByHosts, NamesArePrinted, NamesKeepTheirEnding, NamesAreFree, NoTwoNamesAreTheSame, FoldersLeadDown, ImagesStayInTheirFolder};
+ghost use Rattle.host_names.specs.Shown.{NoNameMakesALine};
+
+/// Each name of a file names something in the folder that it stands in, and each host takes it. It
+/// is printed ASCII where the text is that it is made of, as each text form is.
+#[inline]
+pub fn names_are_safe()
+    ensures stays { NamesStayInTheirFolder }
+    ensures taken { NamesAreTakenByHosts }
+    ensures printed { NamesArePrinted }
+{}
+
+/// Each name of a file ends with its ending, and `.part` after it where it is written in part.
+#[inline]
+pub fn names_keep_their_ending()
+    ensures { NamesKeepTheirEnding }
+{}
+
+/// No two files of an image get the same name, small and capital letters taken as one.
+#[inline]
+pub fn no_two_names_are_the_same()
+    ensures free { NamesAreFree }
+    ensures distinct { NoTwoNamesAreTheSame }
+{}
+
+/// The folders of a path lead down, and the folder of an image lies in the last of them.
+#[inline]
+pub fn folders_stay_below()
+    ensures folders { FoldersLeadDown }
+    ensures image { ImagesStayInTheirFolder }
+{}
+
+/// No name of the host shows a control byte, and no line of JSON does: none commands a terminal, and
+/// none makes a line.
+#[inline]
+pub fn no_name_makes_a_line()
+    ensures { NoNameMakesALine }
+{}

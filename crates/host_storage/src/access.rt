@@ -1,0 +1,52 @@
+//! Who may use a new file that stands for an old one.
+
+ghost use Rattle.std.specs.Prelude.{◌≡◌, ◌↔◌, true, bit_and};
+ghost use Rattle.host_storage.specs.Access.{kept_mode};
+
+use std::fs::{OpenFile, Permissions};
+use std::io;
+use std::os::fd::AsFd;
+use std::os::unix::fs::{MetadataExt, PermissionsExt, fchown};
+
+/// Gives the new file the group, the owner and the permissions of the old one, as far as the system
+/// lets the user.
+pub fn keep_access<F: OpenFile + AsFd>(old: &F, new: &F) -> io::Result<()> {
+    let wanted = old.metadata()?;
+    let made = new.metadata()?;
+    let has_group = made.gid() == wanted.gid() || fchown(new, None, Some(wanted.gid())).is_ok();
+    let has_owner = made.uid() == wanted.uid() || fchown(new, Some(wanted.uid()), None).is_ok();
+    let mode = kept_mode(wanted.mode(), has_owner && has_group);
+    set_mode(new, made.mode() % 0o1000, mode)
+}
+
+/// Sets these permissions of a file that has others. Where the system refuses it, as it does where
+/// files belong to another owner by their mount, the file keeps what it has, if that is no more.
+fn set_mode<F: OpenFile>(file: &F, made: u32, wanted: u32) -> io::Result<()> {
+    if made == wanted {
+        return Ok(());
+    }
+    match file.set_permissions(Permissions::from_mode(wanted)) {
+        Err(_) if is_within(made, wanted) => Ok(()),
+        outcome => outcome,
+    }
+}
+
+/// Whether these permissions are no more than those.
+fn is_within(made: u32, wanted: u32) -> bool
+    ensures { (result ≡ true) ↔ (bit_and made wanted ≡ made) }
+{
+    made & wanted == made
+}
+
+/// The mode of the new file: the permissions of the old one, and where its owner or its group is
+/// another, to the group and to all others what both had.
+fn kept_mode(mode: u32, is_of_same: bool) -> u32
+    ensures { result ≡ kept_mode mode is_of_same }
+{
+    if is_of_same {
+        return mode % 0o1000;
+    }
+    let owner = mode / 0o100 % 0o10;
+    let shared = (mode / 0o10 % 0o10) & (mode % 0o10);
+    owner * 0o100 + shared * 0o11
+}

@@ -1,0 +1,281 @@
+//! A host over the files of the system, as they lie in the current folder.
+
+ghost use Rattle.std.specs.Prelude.{◌≡◌, ◌≢◌, ◌+◌, ◌<◌, ◌≤◌, ◌↔◌, ◌++◌, length, vec_len, None, IfOk, IfErr, IfSome, OnOk, OnErr};
+ghost use Rattle.host_storage.specs.Folders.{failures_after_making};
+ghost use Rattle.host_storage.specs.Host.{failures_after};
+
+use crate::host::{FolderFault, Host, HostFault, Obstacle, WriteObstacle};
+use crate::retrying::Retrying;
+use crate::standard_streams::StandardStreams;
+use crate::whole_store::store_file;
+use crate::writes::Writes;
+use crate::{look, new_entry};
+use std::alloc::{AllocError, Global};
+use std::fs::{self, File};
+use std::io::{ErrorKind, Read};
+use std::marker::Model;
+use std::os::fd::AsFd;
+use std::os::unix::fs::FileTypeExt;
+use std::path::Path;
+use std::rt::Files;
+
+/// How many bytes each read of a file asks for: an image takes eleven of them.
+const READ_BYTES: usize = 16_384;
+
+/// The files of the system, by their paths from the current folder.
+///
+/// It tells a proof nothing of its files, since others write to them too. A store replaces a file
+/// that is there in one step, or leaves it as it was; a new file is removed again where its writing
+/// fails. What is made new waits for no disk.
+#[derive(Drop)]
+pub struct FolderHost<R> {
+    rt: R,
+    /// Through what files are read, once the first one was. It is kept, so that it is cleared once
+    /// and not for each file.
+    buffer: Option<Box<[u8; READ_BYTES]>>,
+    writes: Writes,
+    /// What is open as the standard streams, once the first file was to be stored.
+    streams: Option<StandardStreams>,
+    failures: u64,
+}
+
+impl<R> Model for FolderHost<R> {
+    ghost use Rattle.std.specs.Prelude.{ℕ};
+
+    ghost Value = { ℕ };
+
+    ghost view = { λ host. host.failures };
+}
+
+impl<R: Files + Drop> FolderHost<R> {
+    /// A host over the files of this runtime, with no failure counted.
+    pub fn new(rt: R) -> FolderHost<R>
+        ensures { result ≡ 0 }
+    {
+        FolderHost {
+            rt,
+            buffer: None,
+            writes: Writes::default(),
+            streams: None,
+            failures: 0,
+        }
+    }
+}
+
+impl<R: Files + Drop> Host for FolderHost<R>
+where
+    R::File: AsFd,
+{
+    type File = Retrying<R::File>;
+
+    ghost state = { λ count. record { files = None; failures = count } };
+
+    fn fetch(&mut self, alloc: Global, name: &str, limit: usize) -> Result<Vec<u8>, HostFault> {
+        let mut bytes = Vec::new(alloc);
+        let outcome = read_file(&self.rt, name, &mut self.buffer, limit, &mut bytes);
+        count_failure(&mut self.failures, &outcome);
+        match outcome {
+            Ok(()) => Ok(bytes),
+            Err(fault) => Err(fault),
+        }
+    }
+
+    fn fill(&mut self, name: &str, limit: usize, bytes: &mut Vec<u8>) -> Result<(), HostFault> {
+        if is_named_pipe(&self.rt, name) {
+            self.count_failed_read();
+            return Err(HostFault::Device);
+        }
+        let outcome = read_file(&self.rt, name, &mut self.buffer, limit, bytes);
+        count_failure(&mut self.failures, &outcome);
+        outcome
+    }
+
+    fn open(&mut self, name: &str) -> Result<Retrying<R::File>, HostFault> {
+        let outcome = open_file(&self.rt, name);
+        count_failure(&mut self.failures, &outcome);
+        outcome
+    }
+
+    fn count_failed_read(&mut self) {
+        self.failures = self.failures.saturating_add(1);
+    }
+
+    fn store(&mut self, alloc: Global, name: &str, bytes: &[u8]) -> Result<(), HostFault> {
+        self.writes.begin();
+        let rt = &self.rt;
+        let streams = self
+            .streams
+            .get_or_insert_with(|| StandardStreams::of_process(rt));
+        let outcome = store_file(rt, alloc, &self.writes, streams, name, bytes);
+        count_failure(&mut self.failures, &outcome);
+        outcome
+    }
+
+    fn is_there(&self, path: &str) -> bool {
+        new_entry::is_there(&self.rt, path)
+    }
+
+    fn obstacle(&self, path: &str) -> Option<Obstacle> {
+        look::obstacle(&self.rt, path)
+    }
+
+    fn write_obstacle(&self, path: &str) -> Option<WriteObstacle> {
+        match self.writes.obstacle() {
+            Some(seen) => Some(seen),
+            None => look::write_obstacle(&self.rt, path),
+        }
+    }
+
+    fn make_folder(&mut self, path: &str) -> Result<(), FolderFault> {
+        self.writes.begin();
+        let outcome = new_entry::make_folder(&self.rt, &self.writes, path);
+        count_refusal(&mut self.failures, &outcome);
+        outcome
+    }
+
+    fn make_file(&mut self, path: &str, bytes: &[u8]) -> Result<(), FolderFault> {
+        self.writes.begin();
+        let path = Path::new(path);
+        let outcome = new_entry::make_file(&self.rt, &self.writes, path, bytes);
+        count_refusal(&mut self.failures, &outcome);
+        outcome
+    }
+
+    fn extend_file(&mut self, path: &str, bytes: &[u8]) -> Result<(), FolderFault> {
+        self.writes.begin();
+        let outcome = new_entry::extend_file(&self.rt, &self.writes, path, bytes);
+        count_refusal(&mut self.failures, &outcome);
+        outcome
+    }
+
+    fn rename_folder(&mut self, from: &str, to: &str) -> Result<(), FolderFault> {
+        self.writes.begin();
+        let outcome = new_entry::rename_folder(&self.rt, &self.writes, from, to);
+        count_refusal(&mut self.failures, &outcome);
+        outcome
+    }
+
+    fn failures(&self) -> u64 {
+        self.failures
+    }
+}
+
+/// Counts an outcome that is the device's fault.
+fn count_failure<T>(failures: &mut u64, outcome: &Result<T, HostFault>)
+    ensures { failures.new ≡ failures_after failures.old outcome.now }
+{
+    if let Err(HostFault::Device) = outcome {
+        *failures = failures.saturating_add(1);
+    }
+}
+
+/// Counts an outcome of a call that makes something new, where it is the device's fault.
+fn count_refusal(failures: &mut u64, outcome: &Result<(), FolderFault>)
+    ensures { failures.new ≡ failures_after_making failures.old outcome.now }
+{
+    if let Err(FolderFault::Device) = outcome {
+        *failures = failures.saturating_add(1);
+    }
+}
+
+/// Puts the bytes of the file at this path in the place of what `bytes` has.
+fn read_file<R: Files>(
+    rt: &R,
+    path: &str,
+    buffer: &mut Option<Box<[u8; READ_BYTES]>>,
+    limit: usize,
+    bytes: &mut Vec<u8>,
+) -> Result<(), HostFault>
+    ensures { OnOk result (length bytes.new.items ≤ limit) }
+{
+    let mut file = open_file(rt, path)?;
+    if buffer.is_none() {
+        match Box::new(*bytes.allocator(), [0; READ_BYTES]) {
+            Ok(cleared) => *buffer = Some(cleared),
+            Err(failed) => return Err(HostFault::Memory(AllocError::from(failed))),
+        }
+    }
+    match buffer {
+        Some(buffer) => read_to_end(&mut file, &mut **buffer, limit, bytes),
+        None => unreachable!(),
+    }
+}
+
+/// Whether a named pipe is at this path: to open it may wait for ever for someone who writes to it.
+/// A pipe that the process has open already, as by `<(..)` of a shell, isn't one.
+fn is_named_pipe<R: Files>(rt: &R, path: &str) -> bool {
+    if is_open_already(path) {
+        return false;
+    }
+    match fs::metadata(rt, path) {
+        Ok(found) => found.file_type().is_fifo(),
+        Err(_) => false,
+    }
+}
+
+/// Whether a path is one of those by which a system shows a process the files that it has open.
+fn is_open_already(path: &str) -> bool {
+    path == "/dev/stdin" || path.starts_with("/dev/fd/") || path.starts_with("/proc/self/fd/")
+}
+
+/// Opens the file at this path, to be read.
+fn open_file<R: Files>(rt: &R, path: &str) -> Result<Retrying<R::File>, HostFault>
+    ensures { result ≢ Err HostFault.TooLong }
+{
+    match File::open(rt, path) {
+        Ok(file) => Ok(Retrying(file)),
+        Err(error) => Err(open_fault(error.kind())),
+    }
+}
+
+/// Why a file could not be opened: the system says of a path that it leads to no file, or has
+/// another fault.
+fn open_fault(kind: ErrorKind) -> HostFault
+    ensures missing { (result ≡ HostFault.Missing) ↔ (kind ≡ ErrorKind.NotFound) }
+    ensures device { kind ≢ ErrorKind.NotFound → result ≡ HostFault.Device }
+{
+    match kind {
+        ErrorKind::NotFound => HostFault::Missing,
+        _ => HostFault::Device,
+    }
+}
+
+/// Puts all that a file has left in the place of what `bytes` has. The read that passes the limit is
+/// the last one.
+fn read_to_end<F: Read>(
+    file: &mut F,
+    buffer: &mut [u8],
+    limit: usize,
+    bytes: &mut Vec<u8>,
+) -> Result<(), HostFault>
+    requires { 0 < length buffer.old }
+    ensures within { OnOk result (length bytes.new.items ≤ limit) }
+    ensures whole { OnOk result (IfSome (F.remaining file.old) (λ rest. bytes.new.items ≡ rest)) }
+    ensures too_long { result ≡ Err HostFault.TooLong → IfSome (F.remaining file.old) (λ rest. limit < length rest) }
+    ensures never_missing { result ≢ Err HostFault.Missing }
+{
+    bytes.clear();
+    for _ in 0..u64::MAX {
+        match file.read(buffer) {
+            Ok(0) => return Ok(()),
+            Ok(count) => add_piece(bytes, &buffer[..count], limit)?,
+            Err(_) => return Err(HostFault::Device),
+        }
+    }
+    unreachable!()
+}
+
+/// Adds a piece that was read, where with it there are at most `limit` bytes.
+fn add_piece(bytes: &mut Vec<u8>, piece: &[u8], limit: usize) -> Result<(), HostFault>
+    requires { vec_len bytes.old ≤ limit }
+    ensures added { OnOk result (bytes.new.items ≡ bytes.old.items ++ piece.now) }
+    ensures within { OnOk result (vec_len bytes.new ≤ limit) }
+    ensures refused { OnErr result (bytes.new.items ≡ bytes.old.items) }
+    ensures too_long { (result ≡ Err HostFault.TooLong) ↔ (limit < vec_len bytes.old + length piece.now) }
+    ensures never_missing { IfErr result (λ fault. fault ≢ HostFault.Missing) }
+{
+    if piece.len() > limit - bytes.len() {
+        return Err(HostFault::TooLong);
+    }
+    bytes.extend_from_slice(piece).map_err(HostFault::Memory)
+}

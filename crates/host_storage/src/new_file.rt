@@ -1,0 +1,123 @@
+//! New files of the system, beside those that they are to replace.
+
+ghost use Rattle.std.specs.Prelude.{◌≡◌, None, IfErr, OnOk};
+ghost use Rattle.std.specs.Io.KnownBytes.{Appends};
+ghost use Rattle.host_storage.specs.Host.{IsOfDeviceOrMemory};
+
+use crate::access::keep_access;
+use crate::draft::Draft;
+use crate::host::HostFault;
+use std::alloc::Global;
+use std::fs::{self, File, OpenFile, OpenOptions};
+use std::io::{self, ErrorKind, Write};
+use std::os::fd::AsFd;
+use std::os::unix::fs::OpenOptionsExt;
+use std::path::{Path, PathBuf};
+use std::rt::Files;
+
+/// A new file in the folder of the one that it is to replace, which is open for writing.
+#[derive(Drop)]
+pub struct NewFile<'a, R: Files> {
+    rt: &'a R,
+    old: R::File,
+    old_path: Path<'a>,
+    new: R::File,
+    new_path: PathBuf,
+}
+
+impl<'a, R: Files> NewFile<'a, R> {
+    /// Makes a new file beside the old one, which is open and lies at this path, under a name that
+    /// no file has. Only its owner can open it. What others have left under such names is passed
+    /// over.
+    pub fn beside(
+        rt: &'a R,
+        alloc: Global,
+        old: R::File,
+        old_path: Path<'a>,
+    ) -> Result<NewFile<'a, R>, HostFault>
+        ensures { IfErr result IsOfDeviceOrMemory }
+    {
+        for number in 0..u64::MAX {
+            let new_path = draft_path(alloc, old_path, number)?;
+            match open_new(rt, new_path.as_path()) {
+                Ok(new) => {
+                    return Ok(NewFile {
+                        rt,
+                        old,
+                        old_path,
+                        new,
+                        new_path,
+                    });
+                }
+                Err(error) if error.kind() == ErrorKind::AlreadyExists => {}
+                Err(_) => return Err(HostFault::Device),
+            }
+        }
+        Err(HostFault::Device)
+    }
+}
+
+impl<'a, R: Files> Draft for NewFile<'a, R>
+where
+    R::File: AsFd,
+{
+    ghost place = { λ _. None };
+
+    fn fill(&mut self, bytes: &[u8]) -> Result<(), HostFault> {
+        keep_access(&self.old, &self.new).map_err(|_| HostFault::Device)?;
+        write_to_end(&mut self.new, bytes).map_err(|_| HostFault::Device)
+    }
+
+    fn sync(&mut self) -> Result<(), HostFault> {
+        self.new.sync_all().map_err(|_| HostFault::Device)
+    }
+
+    fn publish(&mut self) -> Result<(), HostFault> {
+        fs::rename(self.rt, self.new_path.as_path(), self.old_path).map_err(|_| HostFault::Device)?;
+        sync_folder_of(self.rt, self.old_path);
+        Ok(())
+    }
+
+    fn discard(&mut self) {
+        // The store was refused already, and no more can be done where the file cannot be removed.
+        let _ = fs::remove_file(self.rt, self.new_path.as_path());
+    }
+}
+
+/// Writes these bytes to a file, and what it holds back of them.
+pub fn write_to_end<F: Write>(file: &mut F, bytes: &[u8]) -> io::Result<()>
+    ensures { OnOk result (Appends (F.contents file.old) (F.contents file.new) bytes.now) }
+{
+    file.write_all(bytes)?;
+    file.flush()
+}
+
+/// The path of a new file in the folder of this one.
+fn draft_path(alloc: Global, path: Path<'_>, number: u64) -> Result<PathBuf, HostFault>
+    ensures { IfErr result IsOfDeviceOrMemory }
+{
+    let name = format!(in alloc; ".d64sh-{number}").map_err(HostFault::Memory)?;
+    path.with_file_name(alloc, name.as_str())
+        .map_err(HostFault::Memory)
+}
+
+/// Makes a file under a name that no file has. Only its owner can open it.
+fn open_new<R: Files>(rt: &R, path: Path<'_>) -> io::Result<R::File> {
+    OpenOptions::new()
+        .write(true)
+        .create_new(true)
+        .mode(0o600)
+        .open(rt, path)
+}
+
+/// Waits until the disk has the folder's new entry, where the system can tell: the file is whole
+/// either way.
+fn sync_folder_of<R: Files>(rt: &R, path: Path<'_>) {
+    let folder = match path.parent() {
+        Some(parent) if parent.to_str() != Some("") => parent,
+        _ => Path::new("."),
+    };
+    if let Ok(folder) = File::open(rt, folder) {
+        let _ = folder.sync_all();
+    }
+}

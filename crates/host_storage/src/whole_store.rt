@@ -1,0 +1,237 @@
+//! Stores that are whole or not at all.
+//!
+//! What a name leads to is found first: nothing, a file, or something that isn't one. A file is
+//! replaced by a new one beside it, so that a store that fails or is cut off leaves the old one.
+
+ghost use Rattle.std.specs.Prelude.{◌≡◌, ◌↔◌, ◌⊎◌, true, false, Some, IfErr};
+ghost use Rattle.host_storage.specs.Host.{IsOfDeviceOrMemory};
+
+use crate::draft::replace_by;
+use crate::host::{FolderFault, HostFault};
+use crate::new_entry::make_file;
+use crate::new_file::{NewFile, write_to_end};
+use crate::process_status::device_of_processes;
+use crate::standard_streams::{StandardStreams, is_same_file};
+use crate::writes::Writes;
+use std::alloc::{AllocError, Global};
+use std::fs::{self, Metadata, OpenFile, OpenOptions};
+use std::io::{ErrorKind, Write};
+use std::os::fd::AsFd;
+use std::os::unix::fs::MetadataExt;
+use std::path::{AsPath, PathBuf};
+use std::rt::Files;
+
+/// How many links are followed from a name, as many as the system follows.
+const MOST_LINKS: u32 = 40;
+
+/// How often a store looks again for a file in whose place another one came meanwhile.
+const MOST_TRIES: u32 = 1_000;
+
+/// Where the links from a name end, and what lies there: a link is one of the system's own.
+#[derive(Drop)]
+struct End {
+    path: PathBuf,
+    found: Option<Metadata>,
+}
+
+/// What a store does about what it has opened.
+#[derive(Clone, Copy, Debug, PartialEq, Eq)]
+enum Way {
+    /// It writes to it as it is.
+    InPlace,
+    /// It puts a new file in its place.
+    Replaced,
+    /// It looks again: the name leads to something else by now.
+    Again,
+}
+
+/// Makes these bytes the whole content of what this name leads to.
+///
+/// A file that is there is replaced in one step, or stays as it is. One that is not there is made,
+/// and removed again where its writing fails. What isn't a file is written as it is. What is open
+/// as a standard stream is refused, and a file of more bytes than the limit lets one have.
+pub fn store_file<R: Files>(
+    rt: &R,
+    alloc: Global,
+    writes: &Writes,
+    streams: &StandardStreams,
+    name: &str,
+    bytes: &[u8],
+) -> Result<(), HostFault>
+where
+    R::File: AsFd,
+    ensures { IfErr result IsOfDeviceOrMemory }
+{
+    for _ in 0..MOST_TRIES {
+        if try_store(rt, alloc, writes, streams, name, bytes)? {
+            return Ok(());
+        }
+    }
+    Err(HostFault::Device)
+}
+
+/// Stores to what this name leads to, unless others change that between two looks at it. Returns
+/// whether it has stored.
+fn try_store<R: Files>(
+    rt: &R,
+    alloc: Global,
+    writes: &Writes,
+    streams: &StandardStreams,
+    name: &str,
+    bytes: &[u8],
+) -> Result<bool, HostFault>
+where
+    R::File: AsFd,
+    ensures { IfErr result IsOfDeviceOrMemory }
+{
+    if streams.may_have(rt, name) {
+        return Err(HostFault::Device);
+    }
+    // The system opens the file, by its own rules of which links may be followed.
+    let opened = OpenOptions::new().write(true).open(rt, name);
+    let end = end_of_links(rt, alloc, name)?;
+    match opened {
+        Ok(old) => store_over(rt, alloc, writes, old, &end, bytes),
+        Err(error) if error.kind() != ErrorKind::NotFound => Err(HostFault::Device),
+        Err(_) if end.found.is_some() => Ok(false),
+        Err(_) => match make_file(rt, writes, end.path.as_path(), bytes) {
+            Ok(()) => Ok(true),
+            Err(FolderFault::Exists) => Ok(false),
+            Err(FolderFault::Device) => Err(HostFault::Device),
+        },
+    }
+}
+
+/// Stores where something is, which is open for writing, if it still lies where the links end.
+/// Returns whether it has stored.
+fn store_over<R: Files>(
+    rt: &R,
+    alloc: Global,
+    writes: &Writes,
+    old: R::File,
+    end: &End,
+    bytes: &[u8],
+) -> Result<bool, HostFault>
+where
+    R::File: AsFd,
+    ensures { IfErr result IsOfDeviceOrMemory }
+{
+    let Ok(opened) = old.metadata() else {
+        return Err(HostFault::Device);
+    };
+    let is_file = opened.is_file();
+    if is_file && !writes.limit.holds(rt, bytes.len() as u64) {
+        return Err(HostFault::Device);
+    }
+    match way_of(is_file, end.is_link(), end.has(&opened)) {
+        Way::InPlace => write_in_place(old, is_file, bytes)?,
+        Way::Replaced => replace_file(rt, alloc, old, end, bytes)?,
+        Way::Again => return Ok(false),
+    }
+    Ok(true)
+}
+
+impl End {
+    /// Whether the links end at one of the system's own.
+    fn is_link(&self) -> bool {
+        self.found.as_ref().is_some_and(|found| found.is_symlink())
+    }
+
+    /// Whether this file is what lies there.
+    fn has(&self, file: &Metadata) -> bool {
+        self.found
+            .as_ref()
+            .is_some_and(|found| is_same_file(file, found))
+    }
+}
+
+/// How a store goes on from what it has opened: a plain file or not, to which a link of the system's
+/// own leads or none, and which still lies where the links end or does not.
+fn way_of(is_file: bool, is_by_system_link: bool, is_found: bool) -> Way
+    ensures in_place { (result ≡ Way.InPlace) ↔ (is_file ≡ false ⊎ is_by_system_link ≡ true) }
+    ensures replaced { (result ≡ Way.Replaced) ↔ (is_file ≡ true × is_by_system_link ≡ false × is_found ≡ true) }
+{
+    if !is_file || is_by_system_link {
+        Way::InPlace
+    } else if is_found {
+        Way::Replaced
+    } else {
+        Way::Again
+    }
+}
+
+/// Puts a new file of these bytes in the place of the old one.
+fn replace_file<R: Files>(
+    rt: &R,
+    alloc: Global,
+    old: R::File,
+    end: &End,
+    bytes: &[u8],
+) -> Result<(), HostFault>
+where
+    R::File: AsFd,
+    ensures { IfErr result IsOfDeviceOrMemory }
+{
+    let mut file = NewFile::beside(rt, alloc, old, end.path.as_path())?;
+    replace_by(&mut file, bytes)
+}
+
+/// Writes to what no new file can stand for: a pipe, a device, or a file that is open already.
+fn write_in_place<F: OpenFile + Write + Drop>(
+    mut old: F,
+    is_file: bool,
+    bytes: &[u8],
+) -> Result<(), HostFault>
+    ensures { IfErr result (λ fault. fault ≡ HostFault.Device) }
+{
+    if is_file && old.set_len(0).is_err() {
+        return Err(HostFault::Device);
+    }
+    write_to_end(&mut old, bytes).map_err(|_| HostFault::Device)
+}
+
+/// Follows the links from a name to what they lead to, but for one of the system's own.
+fn end_of_links<R: Files>(rt: &R, alloc: Global, name: &str) -> Result<End, HostFault>
+    ensures { IfErr result IsOfDeviceOrMemory }
+{
+    let processes = device_of_processes(rt);
+    let mut path = PathBuf::from_str(alloc, name).map_err(HostFault::Memory)?;
+    for _ in 0..=MOST_LINKS {
+        let found = match fs::symlink_metadata(rt, path.as_path()) {
+            Ok(found) => Some(found),
+            Err(error) if error.kind() == ErrorKind::NotFound => None,
+            Err(_) => return Err(HostFault::Device),
+        };
+        let is_followed = found.as_ref().is_some_and(|found| found.is_symlink()
+            && !is_of_system(found.dev(), processes));
+        if !is_followed {
+            return Ok(End { path, found });
+        }
+        path = linked(rt, alloc, path)?;
+    }
+    Err(HostFault::Device)
+}
+
+/// Whether a link on this device is one of the system's own, as those that stand for the streams of
+/// a process: what they lead to is open already, and a new file in its place would not be.
+fn is_of_system(device: u64, processes: Option<u64>) -> bool
+    ensures { (result ≡ true) ↔ (processes ≡ Some device) }
+{
+    processes == Some(device)
+}
+
+/// The path that the link at this path names.
+fn linked<R: Files>(rt: &R, alloc: Global, mut path: PathBuf) -> Result<PathBuf, HostFault>
+    ensures { IfErr result IsOfDeviceOrMemory }
+{
+    let link = match rt.read_link(alloc, path.as_path().path_text()) {
+        Ok(link) => link,
+        Err(error) if error.kind() == ErrorKind::OutOfMemory => {
+            return Err(HostFault::Memory(AllocError));
+        }
+        Err(_) => return Err(HostFault::Device),
+    };
+    path.pop();
+    path.push(link).map_err(HostFault::Memory)?;
+    Ok(path)
+}

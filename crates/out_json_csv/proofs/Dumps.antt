@@ -1,0 +1,77 @@
+-- The bytes of a dump give that dump back.
+use Rattle.std.proofs.Common.{◌≡◌, ℕ, ◌+◌, ◌*◌, ◌/◌, List, [], ◌∷◌, ◌++◌, Option, Some, None, length, take, drop, refl, sym, ap, ap₂, ◌∙◌, inl, inr, arith, length-append, if◌then◌else◌}
+use Rattle.std.specs.Prelude.{All, ◌⊎◌, option_map, is_some}
+use Rattle.std.specs.Simd.{first_chunks}
+use Rattle.std.proofs.Math.Seq.{take-append_seam, drop-append_seam}
+use Rattle.std.proofs.lemmas.List.Elements.{All-head, All-tail}
+use Rattle.d64_image.specs.Image.{IsBlock, IsSize, bytes_of}
+use Rattle.d64_survey.specs.Dump.{DumpView, IsDump, HasCodes, dump_bytes, code_bytes, codes_in, image_bytes}
+use Rattle.out_json_csv.specs.DumpOf.{dump_of, dump_with}
+
+-- an image has 256 bytes a block
+length-bytes : (image : List (List ℕ)) → All IsBlock image → length (bytes_of image) ≡ length image * 256
+length-bytes [] each = refl
+length-bytes (sector ∷ image) each =
+    let here = (All-head IsBlock sector image each).0 in
+    let rest = length-bytes image (All-tail IsBlock sector image each) in
+    omega (arith, length-append sector (bytes_of image))
+
+-- the bytes of blocks, cut into blocks
+chunks_back : (image : List (List ℕ)) → All IsBlock image → first_chunks 256 (length image) (bytes_of image) ≡ image
+chunks_back [] each = refl
+chunks_back (sector ∷ image) each =
+    let here : length sector ≡ 256 = (All-head IsBlock sector image each).0 in
+    let first : take 256 (sector ++ bytes_of image) ≡ sector = ap (λ (n : ℕ). take n (sector ++ bytes_of image)) (sym here) ∙ take-append_seam sector (bytes_of image) in
+    let rest : drop 256 (sector ++ bytes_of image) ≡ bytes_of image = ap (λ (n : ℕ). drop n (sector ++ bytes_of image)) (sym here) ∙ drop-append_seam sector (bytes_of image) in
+    ap₂ (λ (x : List ℕ) (xs : List (List ℕ)). x ∷ xs) first
+    (ap (first_chunks 256 (length image)) rest ∙ chunks_back image (All-tail IsBlock sector image each))
+
+-- how many bytes the image has, by how many all are
+image_part : (count codes all : ℕ) → IsSize count → (codes ≡ 0) ⊎ (codes ≡ count) → all ≡ count * 256 + codes → image_bytes all ≡ Some (count * 256)
+image_part count codes all (inl few) (inl none) is = ap image_bytes (is ∙ ap₂ (λ (a b : ℕ). a * 256 + b) few none) ∙ sym (ap (λ (n : ℕ). Some (n * 256)) few)
+image_part count codes all (inr many) (inl none) is = ap image_bytes (is ∙ ap₂ (λ (a b : ℕ). a * 256 + b) many none) ∙ sym (ap (λ (n : ℕ). Some (n * 256)) many)
+image_part count codes all (inl few) (inr each) is = ap image_bytes (is ∙ ap₂ (λ (a b : ℕ). a * 256 + b) few (each ∙ few)) ∙ sym (ap (λ (n : ℕ). Some (n * 256)) few)
+image_part count codes all (inr many) (inr each) is = ap image_bytes (is ∙ ap₂ (λ (a b : ℕ). a * 256 + b) many (each ∙ many)) ∙ sym (ap (λ (n : ℕ). Some (n * 256)) many)
+
+-- there are no codes, or one for each block
+codes_counted : (image : List (List ℕ)) (codes : Option (List ℕ)) → HasCodes image codes → (length (code_bytes codes) ≡ 0) ⊎ (length (code_bytes codes) ≡ length image)
+codes_counted image None has = inl refl
+codes_counted image (Some codes) has = inr has
+
+-- an image has blocks
+no_size : (n : ℕ) → IsSize n → n ≡ 0 → ⊥
+no_size n (inl few) none = omega (arith, few, none)
+no_size n (inr many) none = omega (arith, many, none)
+
+-- codes as bytes are those codes
+codes_back : (image : List (List ℕ)) (codes : Option (List ℕ)) → IsSize (length image) → HasCodes image codes → codes_in (code_bytes codes) ≡ codes
+codes_back image None size has = refl
+codes_back image (Some []) size has = absurd (no_size (length image) size (sym has))
+codes_back image (Some (code ∷ codes)) size has = refl
+
+-- the bytes of a dump are that dump
+pub dump_of-bytes : (dump : DumpView) (bytes : List ℕ) → IsDump dump → dump_bytes dump ≡ bytes → dump_of bytes ≡ Some dump
+unfolding dump_of
+dump_of-bytes dump bytes is kept =
+    let image = dump.image in
+    let count = length image * 256 in
+    let long : length (bytes_of image) ≡ count = length-bytes image is.0.1 in
+    let all : length bytes ≡ count + length (code_bytes dump.codes) = ap length (sym kept) ∙ length-append (bytes_of image) (code_bytes dump.codes) ∙ ap (λ (n : ℕ). n + length (code_bytes dump.codes)) long in
+    let part = image_part (length image) (length (code_bytes dump.codes)) (length bytes) is.0.0 (codes_counted image dump.codes is.1) all in
+    let front : take count bytes ≡ bytes_of image = ap₂ (λ (n : ℕ) (l : List ℕ). take n l) (sym long) (sym kept) ∙ take-append_seam (bytes_of image) (code_bytes dump.codes) in
+    let back : drop count bytes ≡ code_bytes dump.codes = ap₂ (λ (n : ℕ) (l : List ℕ). drop n l) (sym long) (sym kept) ∙ drop-append_seam (bytes_of image) (code_bytes dump.codes) in
+    let blocks : count / 256 ≡ length image = omega arith in
+    ap (option_map (dump_with bytes)) part
+    ∙ ap Some (ap₂ (λ (i : List (List ℕ)) (c : Option (List ℕ)). record { image = i; codes = c })
+    (ap₂ (λ (n : ℕ) (l : List ℕ). first_chunks 256 n l) blocks front ∙ chunks_back image is.0.1)
+    (ap codes_in back ∙ codes_back image dump.codes is.0.0 is.1))
+
+-- where no dump has so many bytes, they are none
+pub dump_of-none : (bytes : List ℕ) → image_bytes (length bytes) ≡ None → dump_of bytes ≡ None
+unfolding dump_of
+dump_of-none bytes none = ap (option_map (dump_with bytes)) none
+
+-- no dump has so many bytes, where they are refused for that
+pub no_image_part : (told part : Option ℕ) (n m : ℕ) → told ≡ Some n → told ≡ (if is_some part then None else Some m) → part ≡ None
+no_image_part told None n m is refused = refl
+no_image_part told (Some count) n m is refused = cc

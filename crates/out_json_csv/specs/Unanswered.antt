@@ -1,0 +1,26 @@
+-- What is printed of a file that isn't answered.
+use Rattle.std.specs.Prelude.{ℕ, List, [], ◌∷◌, codes}
+use Rattle.std.specs.Str.Lossy.{utf8_lossy}
+use Rattle.json.specs.Json.{Json, string}
+use Rattle.out_json_csv.specs.Values.{Field, object_of, numeral}
+
+-- a name of the host; what isn't UTF-8 becomes U+FFFD
+abbrev pub host_value : List ℕ → Json
+host_value name = string (utf8_lossy name)
+
+-- the member with the name of a file on the host
+abbrev pub image_member : List ℕ → Field
+image_member name = (codes "image", host_value name)
+
+-- a file that isn't answered, for this error
+abbrev pub unanswered_object : List ℕ → List ℕ → Json
+unanswered_object name error = object_of (image_member name ∷ (codes "error", string error) ∷ [])
+
+-- a file that cannot be read
+abbrev pub unread_object : List ℕ → Json
+unread_object name = unanswered_object name (codes "cannot be read")
+
+-- a file whose length no dump has
+abbrev pub wrong_length_object : List ℕ → ℕ → Json
+wrong_length_object name length =
+    object_of (image_member name ∷ (codes "error", string (codes "wrong length")) ∷ (codes "length", numeral length) ∷ [])

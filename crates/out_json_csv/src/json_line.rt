@@ -1,0 +1,149 @@
+//! What is printed of a dump as JSON.
+ghost use Rattle.std.specs.Prelude.{◌≡◌, [], ◌∷◌, ◌++◌, option_map, OnOk, IfOk};
+ghost use Rattle.out_json_csv.specs.Values.{line_of, member_tokens};
+ghost use Rattle.out_json_csv.specs.Checks.{dump_members, label_members, count_members, state_members, fault_list, error_list, finding_members, digest_members, check_object};
+
+use crate::doubt::put_doubts;
+use crate::finding::{put_faults, put_read_errors};
+use crate::member::{put_boolean, put_hexadecimal, put_number};
+use crate::name::put_name;
+use crate::scratch::Scratch;
+use crate::unanswered::{into_line, put_image};
+use d64_image::Image;
+use d64_map::blocks_free;
+use d64_names::{disk_dos, disk_id, disk_name};
+use d64_survey::Inspection;
+use json::Writer;
+use std::alloc::AllocError;
+
+/// Prints the file, the number of tracks, and whether there are read codes.
+fn put_dump(
+    scratch: &mut Vec<u8>,
+    writer: &mut Writer,
+    inspection: &Inspection,
+    name: &[u8],
+) -> Result<(), AllocError>
+    ensures before { writer.new.before ≡ writer.old.before }
+    ensures tokens { OnOk result (writer.new.tokens ≡ writer.old.tokens ++ member_tokens (dump_members inspection.now name.now)) }
+{
+    put_image(scratch, writer, name)?;
+    put_number(writer, "tracks", u64::from(inspection.image().tracks()))?;
+    put_boolean(writer, "codes", inspection.codes().is_some())
+}
+
+/// Prints the disk's name, its id and its DOS version.
+fn put_label(scratch: &mut Vec<u8>, writer: &mut Writer, image: &Image) -> Result<(), AllocError>
+    ensures before { writer.new.before ≡ writer.old.before }
+    ensures tokens { OnOk result (writer.new.tokens ≡ writer.old.tokens ++ member_tokens (label_members image.now)) }
+{
+    put_name(scratch, writer, "name", disk_name(image))?;
+    put_name(scratch, writer, "id", disk_id(image))?;
+    put_name(scratch, writer, "dos", disk_dos(image))
+}
+
+/// Prints how many slots are used, how many files are whole, and how many blocks are free, and are
+/// neither free nor owned.
+fn put_counts(writer: &mut Writer, inspection: &Inspection) -> Result<(), AllocError>
+    ensures before { writer.new.before ≡ writer.old.before }
+    ensures tokens { OnOk result (writer.new.tokens ≡ writer.old.tokens ++ member_tokens (count_members inspection.now)) }
+{
+    put_number(writer, "entries", inspection.entries() as u64)?;
+    put_number(writer, "whole", inspection.whole() as u64)?;
+    put_number(writer, "free", u64::from(blocks_free(inspection.image())))?;
+    put_number(writer, "unowned", inspection.unowned() as u64)
+}
+
+/// Prints whether the image is sound, and whether something is amiss.
+fn put_state(writer: &mut Writer, inspection: &Inspection) -> Result<(), AllocError>
+    ensures before { writer.new.before ≡ writer.old.before }
+    ensures tokens { OnOk result (writer.new.tokens ≡ writer.old.tokens ++ member_tokens (state_members inspection.now)) }
+{
+    put_boolean(writer, "sound", inspection.is_sound())?;
+    put_boolean(writer, "amiss", inspection.is_amiss())
+}
+
+/// Prints all faults.
+fn put_fault_list(
+    scratch: &mut Vec<u8>,
+    writer: &mut Writer,
+    inspection: &Inspection,
+) -> Result<(), AllocError>
+    ensures before { writer.new.before ≡ writer.old.before }
+    ensures tokens { OnOk result (writer.new.tokens ≡ writer.old.tokens ++ member_tokens (fault_list inspection.now ∷ [])) }
+{
+    writer.key("faults")?;
+    put_faults(scratch, writer, inspection.survey(), inspection.faults())
+}
+
+/// Prints all read errors.
+fn put_error_list(
+    scratch: &mut Vec<u8>,
+    writer: &mut Writer,
+    inspection: &Inspection,
+) -> Result<(), AllocError>
+    ensures before { writer.new.before ≡ writer.old.before }
+    ensures tokens { OnOk result (writer.new.tokens ≡ writer.old.tokens ++ member_tokens (error_list inspection.now ∷ [])) }
+{
+    writer.key("read_errors")?;
+    put_read_errors(
+        scratch,
+        writer,
+        inspection.survey(),
+        inspection.read_errors(),
+    )
+}
+
+/// Prints all faults and all read errors.
+fn put_findings(
+    scratch: &mut Vec<u8>,
+    writer: &mut Writer,
+    inspection: &Inspection,
+) -> Result<(), AllocError>
+    ensures before { writer.new.before ≡ writer.old.before }
+    ensures tokens { OnOk result (writer.new.tokens ≡ writer.old.tokens ++ member_tokens (finding_members inspection.now)) }
+{
+    put_fault_list(scratch, writer, inspection)?;
+    put_error_list(scratch, writer, inspection)
+}
+
+/// Prints a digest, where there is one.
+fn put_digest(
+    scratch: &mut Vec<u8>,
+    writer: &mut Writer,
+    digest: Option<&[u8; 32]>,
+) -> Result<(), AllocError>
+    ensures before { writer.new.before ≡ writer.old.before }
+    ensures tokens { OnOk result (writer.new.tokens ≡ writer.old.tokens ++ member_tokens (digest_members (option_map (λ d. d.now) digest.entry))) }
+{
+    match digest {
+        Some(digest) => put_hexadecimal(scratch, writer, "sha256", digest),
+        None => Ok(()),
+    }
+}
+
+/// Adds the line of a dump to a text: an object of JSON with the name of its file, what is on the
+/// disk, what is wrong with it, the SHA-256 digest of the file's bytes where there is one, and its
+/// doubts.
+pub fn check_json(
+    scratch: &mut Scratch,
+    name: &[u8],
+    inspection: &Inspection,
+    digest: Option<&[u8; 32]>,
+    out: Vec<u8>,
+) -> Result<Vec<u8>, AllocError>
+    ensures { IfOk result (λ text. text.items ≡ out.items ++ line_of (check_object inspection.now name.now (option_map (λ d. d.now) digest.entry))) }
+{
+    let start = out.len();
+    let mut writer = Writer::new(out);
+    writer.begin_object()?;
+    put_dump(&mut scratch.text, &mut writer, inspection, name)?;
+    put_label(&mut scratch.text, &mut writer, inspection.image())?;
+    put_counts(&mut writer, inspection)?;
+    put_state(&mut writer, inspection)?;
+    put_findings(&mut scratch.text, &mut writer, inspection)?;
+    put_digest(&mut scratch.text, &mut writer, digest)?;
+    put_doubts(&mut writer, inspection.doubts())?;
+    writer.end_object()?;
+    let text = into_line(writer, start)?;
+    Ok(text)
+}

@@ -1,0 +1,113 @@
+//! The owners of a block as JSON.
+ghost use Rattle.std.specs.Prelude.{◌≡◌, ◌++◌, map, OnOk};
+ghost use Rattle.json.specs.Tree.{json_tokens};
+ghost use Rattle.d64_survey.specs.Owners.{owners_of};
+ghost use Rattle.out_json_csv.specs.Values.{array_of, member_tokens};
+ghost use Rattle.out_json_csv.specs.Owners.{part_word as part_word_of, owner_word as owner_word_of, slot_members, owner_object, more_than_eight, owner_members};
+
+use crate::member::{put_number, put_text};
+use crate::name::put_name;
+use d64_files::SlotNo;
+use d64_image::BlockNo;
+use d64_names::slot_name;
+use d64_survey::{Owner, Part, SHOWN_OWNERS, Survey};
+use json::Writer;
+use std::alloc::AllocError;
+
+/// The word for a part of a file.
+pub(crate) fn part_word(part: Part) -> &'static str
+    ensures { result.now ≡ part_word_of part }
+{
+    match part {
+        Part::Data => "data",
+        Part::Side => "side",
+    }
+}
+
+/// The word for an owner.
+fn owner_word(owner: Owner) -> &'static str
+    ensures { result.now ≡ owner_word_of owner }
+{
+    match owner {
+        Owner::Map => "map",
+        Owner::Directory => "directory",
+        Owner::File(_, part) => part_word(part),
+    }
+}
+
+/// Prints the members of a slot: its number, and its name in text form.
+pub(crate) fn put_slot(
+    scratch: &mut Vec<u8>,
+    writer: &mut Writer,
+    survey: &Survey,
+    slot: SlotNo,
+) -> Result<(), AllocError>
+    ensures before { writer.new.before ≡ writer.old.before }
+    ensures tokens { OnOk result (writer.new.tokens ≡ writer.old.tokens ++ member_tokens (slot_members survey.now slot)) }
+{
+    put_number(writer, "slot", slot.place() as u64)?;
+    put_name(scratch, writer, "name", slot_name(survey, slot))
+}
+
+/// Prints an owner.
+fn put_owner(
+    scratch: &mut Vec<u8>,
+    writer: &mut Writer,
+    survey: &Survey,
+    owner: &Owner,
+) -> Result<(), AllocError>
+    ensures before { writer.new.before ≡ writer.old.before }
+    ensures tokens { OnOk result (writer.new.tokens ≡ writer.old.tokens ++ json_tokens (owner_object survey.now owner.now)) }
+{
+    writer.begin_object()?;
+    put_text(writer, "what", owner_word(*owner))?;
+    match owner {
+        Owner::Map | Owner::Directory => {}
+        Owner::File(slot, _) => put_slot(scratch, writer, survey, *slot)?,
+    }
+    writer.end_object()
+}
+
+/// Prints an array of owners.
+fn put_owner_list(
+    scratch: &mut Vec<u8>,
+    writer: &mut Writer,
+    survey: &Survey,
+    owners: &[Owner],
+) -> Result<(), AllocError>
+    ensures before { writer.new.before ≡ writer.old.before }
+    ensures tokens { OnOk result (writer.new.tokens ≡ writer.old.tokens ++ json_tokens (array_of (map (owner_object survey.now) owners.now))) }
+{
+    writer.begin_array()?;
+    for owner in owners {
+        put_owner(scratch, writer, survey, owner)?;
+    }
+    writer.end_array()
+}
+
+/// Prints how many owners there are more than those that are shown, where there are more.
+fn put_more(writer: &mut Writer, count: usize) -> Result<(), AllocError>
+    ensures before { writer.new.before ≡ writer.old.before }
+    ensures tokens { OnOk result (writer.new.tokens ≡ writer.old.tokens ++ member_tokens (more_than_eight count)) }
+{
+    if count <= SHOWN_OWNERS {
+        return Ok(());
+    }
+    put_number(writer, "more", (count - SHOWN_OWNERS) as u64)
+}
+
+/// Prints the members of the owners of a block: the first eight, and how many more there are.
+pub(crate) fn put_owners(
+    scratch: &mut Vec<u8>,
+    writer: &mut Writer,
+    survey: &Survey,
+    block: BlockNo,
+) -> Result<(), AllocError>
+    ensures before { writer.new.before ≡ writer.old.before }
+    ensures tokens { OnOk result (writer.new.tokens ≡ writer.old.tokens ++ member_tokens (owner_members survey.now (owners_of survey.now block))) }
+{
+    let owners = survey.owners(block);
+    writer.key("owners")?;
+    put_owner_list(scratch, writer, survey, owners.shown())?;
+    put_more(writer, owners.count())
+}

@@ -1,0 +1,21 @@
+//! Pairs of track and sector as text.
+ghost use Rattle.std.specs.Prelude.{◌≡◌};
+ghost use Rattle.out_json_csv.specs.Pairs.{pair_text};
+
+use arrayvec::ArrayString;
+use itoa::Buffer;
+
+/// The most bytes of such a text: two numbers below 256, and a slash.
+const MAX_LEN: usize = 7;
+
+/// The text of a track and a sector, as `17/3`.
+pub(crate) fn pair_text(track: u8, sector: u8) -> ArrayString<MAX_LEN>
+    ensures { result.bytes ≡ pair_text (track, sector) }
+{
+    let mut digits = Buffer::new();
+    let mut text = ArrayString::new();
+    text.push_str(digits.format(track));
+    text.push('/');
+    text.push_str(digits.format(sector));
+    text
+}

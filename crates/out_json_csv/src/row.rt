@@ -1,0 +1,125 @@
+//! Rows of CSV: the header, and the rows of files that aren't answered.
+ghost use Rattle.std.specs.Prelude.{◌≡◌, [], ◌∷◌, ◌++◌, codes, OnOk, IfOk};
+ghost use Rattle.csv.specs.Records.{fields_of, partial_of};
+ghost use Rattle.csv.specs.Writing.{row_text, default_writer};
+ghost use Rattle.out_json_csv.specs.Rows.{in_digest, field_where, header_row, unanswered_row};
+
+use crate::field::{push_field, push_fields, push_host_name};
+use crate::scratch::Scratch;
+use crate::unanswered::{UNREAD, WRONG_LENGTH};
+use csv::{ByteRecord, Writer};
+use std::alloc::AllocError;
+
+/// The columns that each row has, but for the digest, the doubts and the error.
+const COLUMNS: [&[u8]; 14] = [
+    b"image",
+    b"tracks",
+    b"codes",
+    b"name",
+    b"id",
+    b"dos",
+    b"entries",
+    b"whole",
+    b"free",
+    b"unowned",
+    b"sound",
+    b"amiss",
+    b"faults",
+    b"read_errors",
+];
+
+/// The columns of a row between the name and the digest, with nothing in them.
+const EMPTY: [&[u8]; 13] = [b""; 13];
+
+/// Adds a row with an error after its fields to a text.
+pub fn end_row(row: &mut ByteRecord, error: &[u8], out: Vec<u8>) -> Result<Vec<u8>, AllocError>
+    requires { partial_of row.old ≡ [] }
+    ensures { IfOk result (λ text. text.items ≡ out.items ++ row_text default_writer (fields_of row.old ++ error.now ∷ [])) }
+{
+    push_field(row, error)?;
+    write_row(row, out)
+}
+
+/// Adds a whole row to a text.
+fn write_row(row: &ByteRecord, out: Vec<u8>) -> Result<Vec<u8>, AllocError>
+    ensures { IfOk result (λ text. text.items ≡ out.items ++ row_text default_writer (fields_of row.now)) }
+{
+    let mut writer = Writer::from_writer(out);
+    match writer.write_byte_record(row) {
+        Ok(()) => {}
+        Err(_) => return Err(AllocError),
+    }
+    match writer.into_inner() {
+        Ok(text) => Ok(text),
+        Err(_) => Err(AllocError),
+    }
+}
+
+/// Adds a text in the column of the digest to a row, where there is one.
+fn push_in_digest(row: &mut ByteRecord, has_digest: bool, text: &[u8]) -> Result<(), AllocError>
+    requires { partial_of row.old ≡ [] }
+    ensures fields { OnOk result (fields_of row.new ≡ fields_of row.old ++ field_where (in_digest has_digest text.now)) }
+    ensures whole { OnOk result (partial_of row.new ≡ []) }
+{
+    if has_digest {
+        return push_field(row, text);
+    }
+    Ok(())
+}
+
+/// Adds the header row to a text.
+pub fn csv_header(
+    scratch: &mut Scratch,
+    has_digest: bool,
+    out: Vec<u8>,
+) -> Result<Vec<u8>, AllocError>
+    ensures { IfOk result (λ text. text.items ≡ out.items ++ header_row has_digest) }
+{
+    scratch.row.clear();
+    push_fields(&mut scratch.row, &COLUMNS)?;
+    push_in_digest(&mut scratch.row, has_digest, b"sha256")?;
+    push_field(&mut scratch.row, b"doubts")?;
+    end_row(&mut scratch.row, b"error", out)
+}
+
+/// Adds a row with a name and an error alone.
+fn push_unanswered(
+    scratch: &mut Scratch,
+    name: &[u8],
+    has_digest: bool,
+    error: &[u8],
+    out: Vec<u8>,
+) -> Result<Vec<u8>, AllocError>
+    ensures { IfOk result (λ text. text.items ≡ out.items ++ unanswered_row name.now has_digest error.now) }
+{
+    scratch.row.clear();
+    push_host_name(&mut scratch.text, &mut scratch.row, name)?;
+    push_fields(&mut scratch.row, &EMPTY)?;
+    push_in_digest(&mut scratch.row, has_digest, b"")?;
+    push_field(&mut scratch.row, b"")?;
+    end_row(&mut scratch.row, error, out)
+}
+
+/// Adds the row of a file that cannot be read to a text.
+pub fn unread_csv(
+    scratch: &mut Scratch,
+    name: &[u8],
+    has_digest: bool,
+    out: Vec<u8>,
+) -> Result<Vec<u8>, AllocError>
+    ensures { IfOk result (λ text. text.items ≡ out.items ++ unanswered_row name.now has_digest (codes "cannot be read")) }
+{
+    push_unanswered(scratch, name, has_digest, UNREAD.as_bytes(), out)
+}
+
+/// Adds the row of a file whose length no dump has to a text.
+pub fn wrong_length_csv(
+    scratch: &mut Scratch,
+    name: &[u8],
+    has_digest: bool,
+    out: Vec<u8>,
+) -> Result<Vec<u8>, AllocError>
+    ensures { IfOk result (λ text. text.items ≡ out.items ++ unanswered_row name.now has_digest (codes "wrong length")) }
+{
+    push_unanswered(scratch, name, has_digest, WRONG_LENGTH.as_bytes(), out)
+}

@@ -1,0 +1,10 @@
+//! Laws of what is drawn: empty functions, whose contracts are the laws.
+ghost use Rattle.out_markup.specs.Markup.{NoNameMakesMarkup, NoPartMakesMarkup};
+
+/// No name opens a tag or ends an attribute in a text or an attribute, and none makes an entity,
+/// whole or cut short.
+#[inline]
+pub fn no_name_makes_markup()
+    ensures whole { NoNameMakesMarkup }
+    ensures part { NoPartMakesMarkup }
+{}

@@ -1,0 +1,67 @@
+-- The files that are not whole, in words.
+use Rattle.std.specs.Prelude.{ℕ, suc, ◌==◌, if◌then◌else◌, List, [], ◌∷◌, ◌++◌, length, codes, decimal}
+use Rattle.std.specs.List.{flat_map}
+use Rattle.d64_image.specs.Disk.{Disk, Bytes}
+use Rattle.d64_files.specs.Slot.{has_kind, kind_of, name_of, size_of}
+use Rattle.d64_files.specs.declared.kind.Kind.{Kind}
+use Rattle.d64_files.specs.declared.kind.Kind.TheVariants.{Del, Seq, Prg, Usr, Rel}
+use Rattle.d64_survey.specs.Dump.{DumpView}
+use Rattle.d64_survey.specs.Flaws.{why}
+use Rattle.d64_survey.specs.Inspection.{is_unwhole_file}
+use Rattle.d64_survey.specs.SlotBlocks.{slot_blocks}
+use Rattle.d64_survey.specs.declared.flaw.Flaw.{Flaw}
+use Rattle.d64_survey.specs.declared.flaw.Flaw.TheVariants.{Unclosed, Kindless, Broken, Shared, Unreadable, Missized, Geos}
+use Rattle.out_messages.specs.Names.{quoted_name}
+use Rattle.out_messages.specs.Words.{count_of, line_below}
+
+-- the three letters of a kind
+abbrev pub kind_letters : Kind → List ℕ
+kind_letters Del = codes "del"
+kind_letters Seq = codes "seq"
+kind_letters Prg = codes "prg"
+kind_letters Usr = codes "usr"
+kind_letters Rel = codes "rel"
+
+-- those of a slot's file
+abbrev pub letters_of : Bytes → List ℕ
+letters_of cell = if has_kind cell then kind_letters (kind_of cell) else codes "???"
+
+-- the size that the directory shows, and how many blocks there are
+unfoldable pub size_text : ℕ → ℕ → List ℕ
+size_text shown there = codes "the directory says " ++ (count_of shown (codes "block") ++ (codes ", " ++ (decimal there ++ (if there == 1 then codes " is there" else codes " are there"))))
+
+-- a reason why a file isn't whole, of which the directory shows a size, and so many blocks are
+-- there
+unfoldable pub flaw_text : ℕ → ℕ → Flaw → List ℕ
+flaw_text shown there Unclosed = codes "never closed"
+flaw_text shown there Kindless = codes "of no kind"
+flaw_text shown there Broken = codes "its chain is broken"
+flaw_text shown there Shared = codes "has a block that is not its own"
+flaw_text shown there Unreadable = codes "has a read error"
+flaw_text shown there Missized = size_text shown there
+flaw_text shown there Geos = codes "a GEOS file, whose records are not looked at"
+
+-- what stands before the reason at a place
+abbrev pub comma : ℕ → List ℕ
+comma place = if place == 0 then [] else codes ", "
+
+-- the reasons from a place on
+unfoldable pub flaws_from : ℕ → ℕ → ℕ → List Flaw → List ℕ
+flaws_from shown there place [] = []
+flaws_from shown there place (flaw ∷ flaws) = comma place ++ (flaw_text shown there flaw ++ flaws_from shown there (suc place) flaws)
+
+-- all reasons
+abbrev pub flaws_text : ℕ → ℕ → List Flaw → List ℕ
+flaws_text shown there flaws = flaws_from shown there 0 flaws
+
+-- a file that isn't whole, for these reasons
+unfoldable pub file_text : Disk → Bytes → List Flaw → List ℕ
+file_text image cell flaws = quoted_name (name_of cell) ++ (codes " " ++ (letters_of cell ++ (codes ": " ++ flaws_text (size_of cell) (length (slot_blocks image cell)) flaws)))
+
+-- the line of a slot, where its file isn't whole
+unfoldable pub file_line : DumpView → Bytes → List ℕ
+file_line dump cell = if is_unwhole_file dump cell then line_below (file_text dump.image cell (why dump.image dump.codes cell)) else []
+
+-- a line each file that isn't whole
+unfoldable pub file_lines : DumpView → List Bytes → List ℕ
+file_lines dump cells = flat_map (file_line dump) cells

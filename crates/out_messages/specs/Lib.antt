@@ -1,0 +1,11 @@
+pub use Rattle.host_names.specs.Shown
+pub mod ShownStart
+pub mod Guesses
+pub mod FaultLines
+pub mod Names
+pub mod Words
+pub mod OwnerText
+pub mod FaultText
+pub mod FileText
+pub mod DoubtText
+pub mod CheckText

@@ -1,0 +1,186 @@
+//! The files that are not whole, in words.
+ghost use Rattle.std.specs.Prelude.{◌≡◌, ◌≤◌, ◌==◌, ◌++◌, if◌then◌else◌, length, codes, option_map, OnOk};
+ghost use Rattle.d64_files.specs.Slot.{EntryView};
+ghost use Rattle.d64_survey.specs.Owners.{blocks_from, way_slots};
+ghost use Rattle.d64_survey.specs.SlotBlocks.{slot_blocks};
+ghost use Rattle.out_messages.specs.Words.{line_below};
+ghost use Rattle.out_messages.specs.FileText.{kind_letters, letters_of, size_text, comma, flaw_text, flaws_text, file_text, file_line, file_lines};
+
+use crate::number::push_number;
+use crate::words::{LINE_END, LINE_START, push_count, push_quoted};
+use d64_files::{BlockList, Entry, Kind};
+use d64_image::Image;
+use d64_survey::{Flaw, Inspection, Survey, data_pair, side_pair, walk, wholeness};
+use std::alloc::AllocError;
+
+/// The three letters of a kind.
+pub fn kind_letters(kind: Kind) -> &'static str
+    ensures { result.now ≡ kind_letters kind }
+{
+    match kind {
+        Kind::Del => "del",
+        Kind::Seq => "seq",
+        Kind::Prg => "prg",
+        Kind::Usr => "usr",
+        Kind::Rel => "rel",
+    }
+}
+
+/// Those of a slot's file.
+fn letters_of(entry: &Entry) -> &'static [u8]
+    ensures { result.now ≡ letters_of entry.now.bytes }
+{
+    if entry.has_kind() {
+        kind_letters(entry.kind()).as_bytes()
+    } else {
+        b"???"
+    }
+}
+
+/// How many blocks the way from a pair has, where there is one.
+fn way_length(image: &Image, pair: Option<(u8, u8)>) -> usize
+    ensures value { result ≡ length (blocks_from image.now pair) }
+    ensures few { result ≤ 768 }
+{
+    match pair {
+        Some((track, sector)) => {
+            let mut blocks = BlockList::empty();
+            walk(image, track, sector, &mut blocks);
+            blocks.as_slice().len()
+        }
+        None => 0,
+    }
+}
+
+/// How many blocks the ways of a slot's file have.
+pub fn blocks_there(image: &Image, entry: &Entry) -> usize
+    ensures { result ≡ length (slot_blocks image.now entry.now.bytes) }
+{
+    way_length(image, data_pair(entry)) + way_length(image, side_pair(entry))
+}
+
+/// The verb of so many blocks that are there.
+fn is_there(there: usize) -> &'static [u8]
+    ensures { result.now ≡ (if there == 1 then codes " is there" else codes " are there") }
+{
+    if there == 1 {
+        b" is there"
+    } else {
+        b" are there"
+    }
+}
+
+/// Adds the size that the directory shows, and how many blocks there are.
+#[tactic(auto, unfolding(crate::specs::FileText::size_text))]
+fn push_size(out: &mut Vec<u8>, shown: usize, there: usize) -> Result<(), AllocError>
+    ensures { OnOk result (out.new.items ≡ out.old.items ++ size_text shown there) }
+{
+    out.extend_from_slice(b"the directory says ")?;
+    push_count(out, shown, b"block")?;
+    out.extend_from_slice(b", ")?;
+    push_number(out, there)?;
+    out.extend_from_slice(is_there(there))?;
+    Ok(())
+}
+
+/// Adds a reason why a file isn't whole, of which the directory shows a size, and so many blocks
+/// are there.
+#[tactic(auto, unfolding(crate::specs::FileText::flaw_text))]
+fn push_flaw(out: &mut Vec<u8>, shown: usize, there: usize, flaw: Flaw) -> Result<(), AllocError>
+    ensures { OnOk result (out.new.items ≡ out.old.items ++ flaw_text shown there flaw) }
+{
+    match flaw {
+        Flaw::Unclosed => out.extend_from_slice(b"never closed"),
+        Flaw::Kindless => out.extend_from_slice(b"of no kind"),
+        Flaw::Broken => out.extend_from_slice(b"its chain is broken"),
+        Flaw::Shared => out.extend_from_slice(b"has a block that is not its own"),
+        Flaw::Unreadable => out.extend_from_slice(b"has a read error"),
+        Flaw::Missized => push_size(out, shown, there),
+        Flaw::Geos => out.extend_from_slice(b"a GEOS file, whose records are not looked at"),
+    }
+}
+
+/// What stands before the reason at a place.
+fn comma(place: usize) -> &'static [u8]
+    ensures { result.now ≡ comma place }
+{
+    if place == 0 { b"" } else { b", " }
+}
+
+/// Adds the reasons why a file isn't whole, with commas between them: a file of which the directory
+/// shows a size in blocks, and of which so many are there.
+pub fn push_flaws(
+    out: &mut Vec<u8>,
+    shown: usize,
+    there: usize,
+    flaws: &[Flaw],
+) -> Result<(), AllocError>
+    requires { length flaws.now ≤ 7 }
+    ensures { OnOk result (out.new.items ≡ out.old.items ++ flaws_text shown there flaws.now) }
+{
+    let mut place = 0;
+    for flaw in flaws {
+        out.extend_from_slice(comma(place))?;
+        push_flaw(out, shown, there, *flaw)?;
+        place += 1;
+    }
+    Ok(())
+}
+
+/// Adds a file that isn't whole, for these reasons.
+#[tactic(auto, unfolding(crate::specs::FileText::file_text))]
+fn push_file(
+    out: &mut Vec<u8>,
+    survey: &Survey,
+    entry: &Entry,
+    flaws: &[Flaw],
+) -> Result<(), AllocError>
+    requires { length flaws.now ≤ 7 }
+    ensures { OnOk result (out.new.items ≡ out.old.items ++ file_text survey.now entry.now.bytes flaws.now) }
+{
+    push_quoted(out, entry.name())?;
+    out.extend_from_slice(b" ")?;
+    out.extend_from_slice(letters_of(entry))?;
+    out.extend_from_slice(b": ")?;
+    push_flaws(
+        out,
+        usize::from(entry.blocks()),
+        blocks_there(survey.image(), entry),
+        flaws,
+    )
+}
+
+/// Adds the line of a slot, where its file isn't whole.
+#[tactic(auto, unfolding(crate::specs::FileText::file_line, crate::specs::Words::line_below))]
+fn push_file_line(
+    out: &mut Vec<u8>,
+    inspection: &Inspection,
+    entry: &Entry,
+) -> Result<(), AllocError>
+    ensures { OnOk result (out.new.items ≡ out.old.items ++ file_line inspection.now entry.now.bytes) }
+{
+    if !entry.used() {
+        return Ok(());
+    }
+    let survey = inspection.survey();
+    let flaws = survey.why(inspection.codes(), entry);
+    match wholeness(entry, flaws.as_slice()) {
+        Some(false) => {
+            out.extend_from_slice(LINE_START)?;
+            push_file(out, survey, entry, flaws.as_slice())?;
+            out.extend_from_slice(LINE_END)
+        }
+        Some(true) | None => Ok(()),
+    }
+}
+
+/// Adds a line each file that isn't whole.
+#[tactic(auto, unfolding(crate::specs::FileText::file_lines))]
+pub(crate) fn push_file_lines(out: &mut Vec<u8>, inspection: &Inspection) -> Result<(), AllocError>
+    ensures { OnOk result (out.new.items ≡ out.old.items ++ file_lines inspection.now (way_slots inspection.now.image)) }
+{
+    for entry in inspection.survey().slots() {
+        push_file_line(out, inspection, &entry)?;
+    }
+    Ok(())
+}

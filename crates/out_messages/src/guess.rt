@@ -1,0 +1,149 @@
+//! What a file that is no image seems to be.
+ghost use Rattle.std.specs.Prelude.{◌≡◌, length};
+ghost use Rattle.out_messages.specs.Guesses.{guess_by_length, guess_by_first_bytes, cut_short, guess_of as guess_by_all, guess_text};
+
+/// What a file whose length no image has seems to be.
+#[derive(Clone, Copy, Debug, PartialEq, Eq)]
+pub enum Guess {
+    /// A file of no bytes.
+    Empty,
+    /// An image of 36 tracks, with read codes or without them.
+    Tracks36,
+    /// The same of 37 tracks.
+    Tracks37,
+    /// The same of 38 tracks.
+    Tracks38,
+    /// The same of 39 tracks.
+    Tracks39,
+    /// The same of 41 tracks.
+    Tracks41,
+    /// The same of 42 tracks.
+    Tracks42,
+    /// An image of a 1571 disk, with read codes or without them.
+    Disk1571,
+    /// An image of a 1581 disk, with read codes or without them.
+    Disk1581,
+    /// An image of a 2040 disk.
+    D67,
+    /// An image of an 8050 disk.
+    D80,
+    /// An image of an 8250 disk.
+    D82,
+    /// An image of the bits of a 1541 disk.
+    G64,
+    /// An image of the bits of a 1541 disk as nibtools reads it.
+    Nib,
+    /// A tape archive of the emulator C64S.
+    T64,
+    /// A single file of the emulator PC64.
+    P00,
+    /// A zip archive.
+    Zip,
+    /// A file that gzip packed.
+    Gzip,
+    /// An image of 35 tracks whose end is missing.
+    Cut35,
+    /// An image of 40 tracks whose end is missing.
+    Cut40,
+}
+
+/// What a file of this length seems to be, by that alone.
+#[tactic(auto, unfolding(crate::specs::Guesses::lengths))]
+fn guess_by_length(len: usize) -> Option<Guess>
+    ensures { result ≡ guess_by_length len }
+{
+    match len {
+        0 => Some(Guess::Empty),
+        179_200 | 179_900 => Some(Guess::Tracks36),
+        183_552 | 184_269 => Some(Guess::Tracks37),
+        187_904 | 188_638 => Some(Guess::Tracks38),
+        192_256 | 193_007 => Some(Guess::Tracks39),
+        200_960 | 201_745 => Some(Guess::Tracks41),
+        205_312 | 206_114 => Some(Guess::Tracks42),
+        349_696 | 351_062 => Some(Guess::Disk1571),
+        819_200 | 822_400 => Some(Guess::Disk1581),
+        176_640 => Some(Guess::D67),
+        533_248 => Some(Guess::D80),
+        1_066_496 => Some(Guess::D82),
+        _ => None,
+    }
+}
+
+/// What a file seems to be, by the bytes that it begins with.
+#[tactic(auto, unfolding(crate::specs::Guesses::first_bytes))]
+fn guess_by_first_bytes(bytes: &[u8]) -> Option<Guess>
+    ensures { result ≡ guess_by_first_bytes bytes.now }
+{
+    if bytes.starts_with(b"GCR-1541") {
+        return Some(Guess::G64);
+    }
+    if bytes.starts_with(b"MNIB-1541-RAW") {
+        return Some(Guess::Nib);
+    }
+    if bytes.starts_with(b"C64File\0") {
+        return Some(Guess::P00);
+    }
+    if bytes.starts_with(b"C64") {
+        return Some(Guess::T64);
+    }
+    if bytes.starts_with(b"PK\x03\x04") {
+        return Some(Guess::Zip);
+    }
+    if bytes.starts_with(b"\x1f\x8b") {
+        return Some(Guess::Gzip);
+    }
+    None
+}
+
+/// The image of which a file of this length seems to be the beginning.
+fn cut_short(len: usize) -> Option<Guess>
+    ensures { result ≡ cut_short len }
+{
+    match len {
+        91_904..=174_847 => Some(Guess::Cut35),
+        179_901..=196_607 => Some(Guess::Cut40),
+        _ => None,
+    }
+}
+
+/// What a file whose length no image has seems to be; None where it looks like nothing that is
+/// known here.
+pub fn guess_of(bytes: &[u8]) -> Option<Guess>
+    ensures { result ≡ guess_by_all bytes.now }
+{
+    match guess_by_length(bytes.len()) {
+        Some(guess) => Some(guess),
+        None => match guess_by_first_bytes(bytes) {
+            Some(guess) => Some(guess),
+            None => cut_short(bytes.len()),
+        },
+    }
+}
+
+/// A guess in words.
+pub fn guess_text(guess: Guess) -> &'static [u8]
+    ensures { result.now ≡ guess_text guess }
+{
+    match guess {
+        Guess::Empty => b"an empty file",
+        Guess::Tracks36 => b"36 tracks",
+        Guess::Tracks37 => b"37 tracks",
+        Guess::Tracks38 => b"38 tracks",
+        Guess::Tracks39 => b"39 tracks",
+        Guess::Tracks41 => b"41 tracks",
+        Guess::Tracks42 => b"42 tracks",
+        Guess::Disk1571 => b"a 1571 image",
+        Guess::Disk1581 => b"a 1581 image",
+        Guess::D67 => b"a D67 image",
+        Guess::D80 => b"a D80 image",
+        Guess::D82 => b"a D82 image",
+        Guess::G64 => b"a G64 image",
+        Guess::Nib => b"a NIB image",
+        Guess::T64 => b"a T64 archive",
+        Guess::P00 => b"a P00 file",
+        Guess::Zip => b"a zip archive",
+        Guess::Gzip => b"a gzip file",
+        Guess::Cut35 => b"a 35-track image cut short",
+        Guess::Cut40 => b"a 40-track image cut short",
+    }
+}

@@ -1,0 +1,285 @@
+//! What is told of an image for people.
+ghost use Rattle.std.specs.Prelude.{◌≡◌, ◌++◌, nat_lt, if◌then◌else◌, [], OnOk};
+ghost use Rattle.out_messages.specs.CheckText.{label_text, contents_text, faults_text, joining, and_so_many, is_read_sound, is_clean, state_text, image_line, fault_line, most_lines, more_text, more_line, first_lines, faults_of, fault_lines, read_error_lines, unowned_by, unowned_line, check_text as check_text_of};
+ghost use Rattle.out_messages.specs.FaultText.{read_error_text};
+ghost use Rattle.out_messages.specs.Words.{line_below};
+
+use crate::doubt_text::{any_of_unowned, push_doubts, push_unowned_text};
+use crate::fault_text::{push_fault, push_read_error};
+use crate::file_text::push_file_lines;
+use crate::number::push_number;
+use crate::words::{LINE_END, LINE_START, push_count, push_quoted};
+use d64_image::Image;
+use d64_map::blocks_free;
+use d64_names::{disk_id, disk_name};
+use d64_survey::{Fault, Inspection, ReadError, Survey};
+use host_names::push_shown;
+use petscii::push_spelling;
+use std::alloc::AllocError;
+
+/// The conditions of a sound image are numbered from 1 up to this.
+const CONDITIONS: u8 = 6;
+
+/// How many faults of one number have a line each.
+const MOST_LINES: usize = 10;
+
+/// Adds the disk's name and its id.
+#[tactic(auto, unfolding(crate::specs::CheckText::label_text))]
+pub fn push_label(out: &mut Vec<u8>, image: &Image) -> Result<(), AllocError>
+    ensures { OnOk result (out.new.items ≡ out.old.items ++ label_text image.now) }
+{
+    push_quoted(out, disk_name(image))?;
+    out.extend_from_slice(b" ")?;
+    push_spelling(out, disk_id(image))
+}
+
+/// Adds how many files and free blocks there are.
+#[tactic(auto, unfolding(crate::specs::CheckText::contents_text))]
+pub fn push_contents(out: &mut Vec<u8>, inspection: &Inspection) -> Result<(), AllocError>
+    ensures { OnOk result (out.new.items ≡ out.old.items ++ contents_text inspection.now.image) }
+{
+    push_count(out, inspection.entries(), b"file")?;
+    out.extend_from_slice(b", ")?;
+    push_count(out, blocks_free(inspection.image()) as usize, b"block")?;
+    out.extend_from_slice(b" free")?;
+    Ok(())
+}
+
+/// Adds how many faults there are.
+fn push_faults(out: &mut Vec<u8>, count: usize) -> Result<(), AllocError>
+    ensures { OnOk result (out.new.items ≡ out.old.items ++ faults_text count) }
+{
+    if count == 0 {
+        return out.extend_from_slice(b"sound");
+    }
+    push_count(out, count, b"fault")
+}
+
+/// What comes before what else is amiss: right behind `sound` it is a contrast.
+fn joining(is_contrast: bool) -> &'static [u8]
+    ensures { result.now ≡ joining is_contrast }
+{
+    if is_contrast { b", but " } else { b", " }
+}
+
+/// Adds how many more things are amiss, where there are some.
+#[tactic(auto, unfolding(crate::specs::CheckText::and_so_many))]
+fn push_and(
+    out: &mut Vec<u8>,
+    is_contrast: bool,
+    count: usize,
+    noun: &[u8],
+) -> Result<(), AllocError>
+    ensures { OnOk result (out.new.items ≡ out.old.items ++ and_so_many is_contrast count noun.now) }
+{
+    if count == 0 {
+        return Ok(());
+    }
+    out.extend_from_slice(joining(is_contrast))?;
+    push_count(out, count, noun)
+}
+
+/// Whether there is neither a fault nor a read error.
+fn is_read_sound(inspection: &Inspection) -> bool
+    ensures { result ≡ is_read_sound inspection.now }
+{
+    inspection.is_sound() && inspection.read_errors().is_empty()
+}
+
+/// Whether there is neither a fault nor a read error nor a damaged file.
+fn is_clean(inspection: &Inspection) -> bool
+    ensures { result ≡ is_clean inspection.now }
+{
+    is_read_sound(inspection) && inspection.unwhole() == 0
+}
+
+/// Adds the state of a dump.
+#[tactic(auto, unfolding(crate::specs::CheckText::state_text))]
+pub fn push_state(out: &mut Vec<u8>, inspection: &Inspection) -> Result<(), AllocError>
+    ensures { OnOk result (out.new.items ≡ out.old.items ++ state_text inspection.now) }
+{
+    push_faults(out, inspection.faults().len())?;
+    push_and(
+        out,
+        inspection.is_sound(),
+        inspection.read_errors().len(),
+        b"read error",
+    )?;
+    push_and(
+        out,
+        is_read_sound(inspection),
+        inspection.unwhole(),
+        b"damaged file",
+    )?;
+    push_doubts(out, inspection, is_clean(inspection))
+}
+
+/// Adds the image's line.
+#[tactic(auto, unfolding(crate::specs::CheckText::image_line))]
+fn push_image_line(
+    name: &[u8],
+    inspection: &Inspection,
+    out: &mut Vec<u8>,
+) -> Result<(), AllocError>
+    ensures { OnOk result (out.new.items ≡ out.old.items ++ image_line name.now inspection.now) }
+{
+    push_shown(out, name)?;
+    out.extend_from_slice(b": ")?;
+    push_label(out, inspection.image())?;
+    out.extend_from_slice(b", ")?;
+    push_contents(out, inspection)?;
+    out.extend_from_slice(b": ")?;
+    push_state(out, inspection)?;
+    out.extend_from_slice(b"\n")?;
+    Ok(())
+}
+
+/// Adds the line of a fault.
+#[tactic(auto, unfolding(crate::specs::Words::line_below))]
+fn push_fault_line(out: &mut Vec<u8>, survey: &Survey, fault: &Fault) -> Result<(), AllocError>
+    ensures { OnOk result (out.new.items ≡ out.old.items ++ fault_line survey.now fault.now) }
+{
+    out.extend_from_slice(LINE_START)?;
+    push_fault(out, survey, *fault)?;
+    out.extend_from_slice(LINE_END)
+}
+
+/// Adds the line of a fault before which there are so many of its number, unless it is one too many.
+fn push_first_line(
+    out: &mut Vec<u8>,
+    survey: &Survey,
+    fault: &Fault,
+    place: usize,
+) -> Result<(), AllocError>
+    ensures { OnOk result (out.new.items ≡ out.old.items ++ (if nat_lt place most_lines then fault_line survey.now fault.now else [])) }
+{
+    if place < MOST_LINES {
+        return push_fault_line(out, survey, fault);
+    }
+    Ok(())
+}
+
+/// Adds how many more faults of a number there are.
+#[tactic(auto, unfolding(crate::specs::CheckText::more_text))]
+fn push_more(out: &mut Vec<u8>, count: usize) -> Result<(), AllocError>
+    ensures { OnOk result (out.new.items ≡ out.old.items ++ more_text count) }
+{
+    out.extend_from_slice(b"and ")?;
+    push_number(out, count)?;
+    out.extend_from_slice(b" more of these")?;
+    Ok(())
+}
+
+/// Adds a line of how many more faults of a number there are than have one each, where there are
+/// more.
+#[tactic(auto, unfolding(crate::specs::CheckText::more_line, crate::specs::Words::line_below))]
+fn push_more_line(out: &mut Vec<u8>, count: usize) -> Result<(), AllocError>
+    ensures { OnOk result (out.new.items ≡ out.old.items ++ more_line count) }
+{
+    if count <= MOST_LINES {
+        return Ok(());
+    }
+    out.extend_from_slice(LINE_START)?;
+    push_more(out, count - MOST_LINES)?;
+    out.extend_from_slice(LINE_END)
+}
+
+/// Adds a line each of the first ten faults of a number, and one of the others.
+fn push_lines_of(
+    out: &mut Vec<u8>,
+    survey: &Survey,
+    list: &[Fault],
+    number: u8,
+) -> Result<(), AllocError>
+    ensures { OnOk result (out.new.items ≡ out.old.items ++ first_lines survey.now (faults_of list.now number)) }
+{
+    let mut count = 0;
+    for fault in list {
+        if fault.number() == number {
+            push_first_line(out, survey, fault, count)?;
+            count += 1;
+        }
+    }
+    push_more_line(out, count)
+}
+
+/// Adds the lines of faults, by their numbers.
+#[tactic(auto, unfolding(crate::specs::CheckText::fault_lines))]
+fn push_fault_lines(out: &mut Vec<u8>, survey: &Survey, list: &[Fault]) -> Result<(), AllocError>
+    ensures { OnOk result (out.new.items ≡ out.old.items ++ fault_lines survey.now list.now) }
+{
+    for number in 1..CONDITIONS + 1 {
+        push_lines_of(out, survey, list, number)?;
+    }
+    Ok(())
+}
+
+/// Adds the line of a read error.
+#[tactic(auto, unfolding(crate::specs::Words::line_below))]
+fn push_error_line(out: &mut Vec<u8>, survey: &Survey, error: &ReadError) -> Result<(), AllocError>
+    ensures { OnOk result (out.new.items ≡ out.old.items ++ line_below (read_error_text survey.now error.now)) }
+{
+    out.extend_from_slice(LINE_START)?;
+    push_read_error(out, survey, *error)?;
+    out.extend_from_slice(LINE_END)
+}
+
+/// Adds a line each read error.
+#[tactic(auto, unfolding(crate::specs::CheckText::read_error_lines))]
+fn push_error_lines(
+    out: &mut Vec<u8>,
+    survey: &Survey,
+    list: &[ReadError],
+) -> Result<(), AllocError>
+    ensures { OnOk result (out.new.items ≡ out.old.items ++ read_error_lines survey.now list.now) }
+{
+    for error in list {
+        push_error_line(out, survey, error)?;
+    }
+    Ok(())
+}
+
+/// Adds the line of so many blocks that nothing owns, where there are some.
+#[tactic(auto, unfolding(crate::specs::CheckText::unowned_by, crate::specs::Words::line_below))]
+fn push_unowned(out: &mut Vec<u8>, count: usize) -> Result<(), AllocError>
+    ensures { OnOk result (out.new.items ≡ out.old.items ++ unowned_by count) }
+{
+    if count == 0 {
+        return Ok(());
+    }
+    out.extend_from_slice(LINE_START)?;
+    push_unowned_text(out, count)?;
+    out.extend_from_slice(LINE_END)
+}
+
+/// Adds the line of the blocks that nothing owns, where there are some and something is amiss. Where
+/// they are a doubt the image's line says it.
+#[tactic(auto, unfolding(crate::specs::CheckText::unowned_line))]
+fn push_unowned_line(out: &mut Vec<u8>, inspection: &Inspection) -> Result<(), AllocError>
+    ensures { OnOk result (out.new.items ≡ out.old.items ++ unowned_line inspection.now) }
+{
+    if !inspection.is_amiss() {
+        return Ok(());
+    }
+    if any_of_unowned(inspection.doubts()) {
+        return Ok(());
+    }
+    push_unowned(out, inspection.unowned())
+}
+
+/// Adds the text of an image for people: its line, a line each fault, read error and file that
+/// isn't whole, and one of the blocks that are marked used and belong to no file, where something
+/// is amiss and the image's line doesn't say it. Of more than ten faults of one number one line
+/// says how many more there are.
+#[tactic(auto, unfolding(crate::specs::CheckText::check_text))]
+pub fn check_text(name: &[u8], inspection: &Inspection, out: &mut Vec<u8>) -> Result<(), AllocError>
+    ensures { OnOk result (out.new.items ≡ out.old.items ++ check_text_of name.now inspection.now) }
+{
+    let survey = inspection.survey();
+    push_image_line(name, inspection, out)?;
+    push_fault_lines(out, survey, inspection.faults())?;
+    push_error_lines(out, survey, inspection.read_errors())?;
+    push_file_lines(out, inspection)?;
+    push_unowned_line(out, inspection)?;
+    Ok(())
+}

@@ -1,0 +1,29 @@
+//! What is told of an image in plain words: the text for people, and the lines of faults on
+//! standard error.
+#![tactic(auto)]
+
+mod doubt_text;
+mod fault_line;
+mod fault_text;
+mod file_text;
+mod first_characters;
+mod guess;
+mod image_text;
+mod number;
+mod owner_text;
+mod words;
+
+pub use fault_line::{
+    present_line, push_no_dump, skipped_line, too_much_line, unread_line, unwritten_line,
+    wrong_length_line,
+};
+pub use fault_text::{push_fault, push_read_error, push_status};
+pub use file_text::{blocks_there, kind_letters, push_flaws};
+pub use first_characters::shown_start;
+pub use guess::{Guess, guess_of, guess_text};
+pub use host_names::push_shown;
+pub use image_text::{check_text, push_contents, push_label, push_state};
+pub use number::push_number;
+pub use owner_text::push_owners;
+pub use petscii::push_spelling;
+pub use words::{push_block, push_count, push_quoted};

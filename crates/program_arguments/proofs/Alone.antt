@@ -1,0 +1,148 @@
+-- A subcommand that reads alone the words from its name on makes of them what the program makes of
+-- all words.
+use Rattle.std.proofs.Common.{◌≡◌, ◌∙◌, ◌++◌, Bool, cond, true, false, refl, sym, ap, ap₂, subst, List, [], ◌∷◌, Option, Some, None, append-nil, append_assoc, codes, drop, is_some}
+use Rattle.std.specs.Prelude.{option_map, ⊤}
+use Rattle.std.specs.List.{find, fold}
+use Rattle.std.specs.Str.{bytes_eq}
+use Rattle.std.proofs.lemmas.Slice.Eq.{bytes_eq-Decides}
+use Rattle.clap.specs.Kinds.{Kinds, or_else}
+use Rattle.clap.specs.Faults.{built_fault, check_fault, defaults_fault, entered_fault, fault_of, is_simple_and_free, level_fault, walk_fault}
+use Rattle.clap.specs.Simple.{App, Shape, argument_words, built, entered, is_simple, label_of, matches_of, names_of, rows_at, subcommand_of}
+use Rattle.clap.specs.Walk.{Names, Rule, Text, Walk, answers_to, finished, idle, nothing_held, rows_after, walk, walk_from, walked}
+use Rattle.clap.proofs.OnLiterals.{clap_on_literals}
+use Rattle.clap.proofs.WalkLemmas.{both, find-map}
+use Rattle.program_arguments.specs.Commands.{apps, d64sh, app_named}
+use Rattle.program_arguments.proofs.Filled.{found_passes}
+use Rattle.program_arguments.proofs.Parses.{none≢some, same_Some}
+
+-- the walk that stopped at a subcommand, with these words after it
+abbrev at_subcommand : Text → List Text → Walk
+at_subcommand name words = record { held = nothing_held; waiting = idle; position = 1; is_trailing = false; stopped = Some (name, words) }
+
+-- ---- a walk that stopped goes no further
+
+goes_on : (c : List Rule) (names : Names) (name : Text) (before words : List Text)
+    → fold (walked c names) (at_subcommand name before) words ≡ at_subcommand name (before ++ words)
+unfolding walked
+goes_on c names name before [] = ap (at_subcommand name) (sym (append-nil before))
+goes_on c names name before (word ∷ rest) =
+    goes_on c names name (before ++ word ∷ []) rest ∙ ap (at_subcommand name) (append_assoc before (word ∷ []) rest)
+
+fails_no_more : (s : Shape) (names : Names) (name : Text) (before words : List Text) → walk_fault s names (at_subcommand name before) words ≡ []
+unfolding walk_fault walked
+fails_no_more s names name before [] = refl
+fails_no_more s names name before (word ∷ rest) = fails_no_more s names name (before ++ word ∷ []) rest
+
+-- ---- the words from the name of a subcommand on, in a program that has it
+
+module _ (program : App) (s : Shape) (rest : List Text)
+    (found : find (λ t. answers_to s.name (label_of t)) program.subs ≡ Some s) (no_help : bytes_eq s.name (codes "help") ≡ false) where
+  abbrev names : Names
+  names = names_of program
+
+  met : find (answers_to s.name) names ≡ Some (label_of s)
+  met = sym (find-map (answers_to s.name) label_of program.subs) ∙ ap (option_map label_of) found
+
+  stops : walk program.top.rules names nothing_held (s.name ∷ rest) ≡ at_subcommand s.name rest
+  unfolding walked
+  stops = rw met (goes_on program.top.rules names s.name [] rest)
+
+  walks : walk_fault program.top names (walk_from nothing_held) (s.name ∷ rest) ≡ []
+  unfolding walk_fault walked
+  walks = rw (met, no_help) (fails_no_more program.top names s.name [] rest)
+
+  enters : entered program (walk program.top.rules names nothing_held (s.name ∷ rest)).stopped ≡ Some (rows_at s rest)
+  enters = rw (stops, found) refl
+
+  fails : defaults_fault [] program.top.rules ≡ [] → check_fault program.top (finished program.top.rules nothing_held) true ≡ []
+      → built_fault program nothing_held (s.name ∷ rest) ≡ level_fault s [] nothing_held rest false []
+  fails defaults checks = rw (walks, stops, found, defaults, checks) (ends (level_fault s [] nothing_held rest false []))
+    where
+      ends : (kinds : Kinds) → or_else kinds [] ≡ kinds
+      ends [] = refl
+      ends (kind ∷ kinds) = refl
+
+-- ---- the same words, in a command without subcommands
+
+leaf_fails : (s : Shape) (words : List Text) → built_fault (record { top = s; subs = [] }) nothing_held words ≡ level_fault s [] nothing_held words false []
+leaf_fails s words = go (walk s.rules [] nothing_held words).stopped refl
+  where
+    go : (stop : Option (Text × List Text)) → (walk s.rules [] nothing_held words).stopped ≡ stop
+        → level_fault s [] nothing_held words (is_some (entered (record { top = s; subs = [] }) stop)) (entered_fault (record { top = s; subs = [] }) stop)
+        ≡ level_fault s [] nothing_held words false []
+    go None is = refl
+    go (Some p) is = refl
+
+-- ---- each subcommand of the program
+
+-- what is known of one that is written out
+abbrev IsPart : App → Type 0
+IsPart leaf = (is_simple_and_free leaf ≡ true) × (leaf.top.no_binary_name ≡ false) × (built leaf ≡ record { top = (built leaf).top; subs = [] })
+    × ((built leaf).top.name ≡ leaf.top.name) × (bytes_eq leaf.top.name (codes "help") ≡ false)
+    × (find (λ t. answers_to leaf.top.name (label_of t)) (built d64sh).subs ≡ Some (built leaf).top)
+
+abbrev AreParts : List App → Type 0
+AreParts [] = ⊤
+AreParts (leaf ∷ leaves) = IsPart leaf × AreParts leaves
+
+are_parts : AreParts apps
+unfolding clap_on_literals d64sh
+are_parts =
+    ((refl, refl, refl, refl, refl, refl), ((refl, refl, refl, refl, refl, refl), ((refl, refl, refl, refl, refl, refl), ((refl, refl, refl, refl, refl, refl), ((refl, refl, refl, refl, refl, refl), ((refl, refl, refl, refl, refl, refl), ((refl, refl, refl, refl, refl, refl), ((refl, refl, refl, refl, refl, refl), ((refl, refl, refl, refl, refl, refl), tt)))))))))
+
+part_found : (test : App → Bool) (leaves : List App) (leaf : App) → AreParts leaves → find test leaves ≡ Some leaf → IsPart leaf
+part_found test [] leaf are is = absurd (none≢some leaf is)
+part_found test (first ∷ leaves) leaf are is = go (part_found test leaves leaf are.1) (test first) is
+  where
+    go : (find test leaves ≡ Some leaf → IsPart leaf) → (t : Bool) → cond t (Some first) (find test leaves) ≡ Some leaf → IsPart leaf
+    go later true is = subst IsPart (same_Some first leaf is) are.0
+    go later false is = later is
+
+no_default_fails : defaults_fault [] (built d64sh).top.rules ≡ []
+unfolding clap_on_literals d64sh
+no_default_fails = refl
+
+nothing_lacks : check_fault (built d64sh).top (finished (built d64sh).top.rules nothing_held) true ≡ []
+unfolding clap_on_literals d64sh
+nothing_lacks = refl
+
+has_binary_name : d64sh.top.no_binary_name ≡ false
+unfolding d64sh
+has_binary_name = refl
+
+-- the words of the program, which go on with the name of a subcommand
+module _ (words : List Text) (name : Text) (rest : List Text) (leaf : App) (is : app_named name ≡ Some leaf) (begins : drop 1 words ≡ name ∷ rest) where
+  part : IsPart leaf
+  part = part_found (λ app. bytes_eq app.top.name name) apps leaf are_parts is
+
+  pub free : is_simple_and_free leaf ≡ true
+  free = part.0
+
+  pub simple : is_simple leaf ≡ true
+  simple = (both (is_simple leaf) _ free).0
+
+  same_name : (built leaf).top.name ≡ name
+  same_name = part.3 ∙ (bytes_eq-Decides leaf.top.name name).0 (found_passes (λ app. bytes_eq app.top.name name) apps leaf is)
+
+  begins_so : argument_words d64sh words ≡ (built leaf).top.name ∷ rest
+  begins_so = rw has_binary_name (begins ∙ ap (λ n. n ∷ rest) (sym same_name))
+
+  pub same_fault : fault_of d64sh words ≡ fault_of leaf (name ∷ rest)
+  same_fault =
+      let s = (built leaf).top in
+      let no_help = ap (λ n. bytes_eq n (codes "help")) part.3 ∙ part.4 in
+      let found = ap (λ n. find (λ t. answers_to n (label_of t)) (built d64sh).subs) part.3 ∙ part.5 in
+      let all = ap (built_fault (built d64sh) nothing_held) begins_so ∙ fails (built d64sh) s rest found no_help no_default_fails nothing_lacks in
+      let alone = ap (λ l. built_fault l nothing_held rest) part.2 ∙ leaf_fails s rest in
+      all ∙ sym (ap (λ b. built_fault (built leaf) nothing_held (cond b (name ∷ rest) rest)) part.1 ∙ alone)
+
+  pub same_met : subcommand_of d64sh words ≡ Some (name, matches_of leaf (name ∷ rest))
+  same_met =
+      let s = (built leaf).top in
+      let found = ap (λ n. find (λ t. answers_to n (label_of t)) (built d64sh).subs) part.3 ∙ part.5 in
+      let no_help = ap (λ n. bytes_eq n (codes "help")) part.3 ∙ part.4 in
+      let all = ap (λ after. entered (built d64sh) (walk (built d64sh).top.rules (names_of (built d64sh)) nothing_held after).stopped) begins_so
+      ∙ enters (built d64sh) s rest found no_help in
+      let alone = ap (λ b. rows_after (built leaf).top.rules (names_of (built leaf)) (cond b (name ∷ rest) rest)) part.1
+      ∙ ap (λ l. rows_after l.top.rules (names_of l) rest) part.2 in
+      all ∙ ap Some (ap₂ (λ n rows. (n, rows)) same_name (sym alone))

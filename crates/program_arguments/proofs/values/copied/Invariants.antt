@@ -1,0 +1,7 @@
+use Rattle.std.proofs.Common.{◌≡◌, map, string_bytes, take}
+use Rattle.program_arguments.proofs.values.copied.Given as goal
+
+abbrev pub invariant-loop-text : goal.invariant-loop-text
+invariant-loop-text l = record {
+  same : map string_bytes l.copies.items ≡ map (λ text. text.now) (take l.text-index l.texts);
+}

@@ -1,0 +1,35 @@
+-- The forms of output that `--format` gives.
+use Rattle.std.specs.Prelude.{List, Option, Some, None, if◌then◌else◌, bytes_eq, codes, unwrap_or}
+use Rattle.clap.specs.Words.{Row, Text as Word, first_of}
+use Rattle.program_arguments.specs.declared.asked.Format.{Format}
+use Rattle.program_arguments.specs.declared.asked.Format.TheVariants.{Text, Json, Csv}
+use Rattle.program_arguments.specs.declared.asked.DiffForm.{DiffForm}
+use Rattle.program_arguments.specs.declared.asked.DiffForm.TheVariants as diff
+use Rattle.program_arguments.specs.declared.asked.PictureForm.{PictureForm}
+use Rattle.program_arguments.specs.declared.asked.PictureForm.TheVariants as picture
+
+-- the word for a form: that of the option, and `text` where it doesn't stand in the words
+abbrev pub form_word : List Row → Word
+form_word rows = unwrap_or (first_of (codes "format") rows) (codes "text")
+
+-- the form of a survey's output that a word stands for; none where it stands for none
+abbrev pub format_of : Word → Option Format
+format_of word =
+    if bytes_eq word (codes "text") then Some Text
+    else if bytes_eq word (codes "json") then Some Json
+    else if bytes_eq word (codes "csv") then Some Csv
+    else None
+
+-- the form of a picture that it stands for
+abbrev pub picture_form_of : Word → Option PictureForm
+picture_form_of word =
+    if bytes_eq word (codes "text") then Some picture.Text
+    else if bytes_eq word (codes "svg") then Some picture.Svg
+    else None
+
+-- the form in which changes are told that it stands for
+abbrev pub diff_form_of : Word → Option DiffForm
+diff_form_of word =
+    if bytes_eq word (codes "text") then Some diff.Text
+    else if bytes_eq word (codes "json") then Some diff.Json
+    else None

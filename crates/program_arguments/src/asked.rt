@@ -1,0 +1,228 @@
+//! What words may ask for, and why they ask for nothing.
+
+ghost use Rattle.std.specs.Prelude.{◌≡◌, ◌≤◌, ◌↔◌, IfSome, IsTrue, length, option_map};
+ghost use Rattle.program_arguments.specs.Asked.{IsToldAs, WasAskedFor};
+ghost use Rattle.program_arguments.specs.FaultText.{text_of};
+ghost use Rattle.program_arguments.specs.declared.asked.JobFault.TheVariants.{Memory};
+
+use clap::Error as WordsError;
+use clap::error::ErrorKind;
+use std::alloc::AllocError;
+use thiserror::Error;
+
+/// What the words ask for. The names are names of host files, as they stand in the words.
+#[derive(Debug, Drop)]
+pub enum Job {
+    /// Run a script on an image, or on a blank one of so many tracks where there is no name: 35 or 40. Where `resume`
+    /// names a session file, the script runs on its session, and `image` is where `save` stores by default and no more. The script is
+    /// `lines`, each with a line feed after it, or the standard input where there are none; it ends after the first line that is
+    /// refused where `stops_at_refusal` is set.
+    Shell {
+        image: Option<String>,
+        tracks: u8,
+        resume: Option<String>,
+        lines: Vec<String>,
+        stops_at_refusal: bool,
+    },
+    /// List the BASIC program in a file, or in the standard input where there is no name, to the
+    /// file `output`, or to the standard output.
+    Petcat {
+        file: Option<String>,
+        output: Option<String>,
+    },
+    /// Make a BASIC program, loaded at `start`, of the text in a file, or in the standard input,
+    /// and write it so.
+    Crunch {
+        start: u16,
+        file: Option<String>,
+        output: Option<String>,
+    },
+    /// Survey dumps and say what is amiss, with the digest of each where `digest` is set.
+    Check {
+        digest: bool,
+        format: Format,
+        names: Names,
+    },
+    /// Tell of each file on dumps, and whether it is whole.
+    Files {
+        format: Format,
+        names: Names,
+    },
+    /// Write the files on dumps to the host, and tell of each.
+    Extract {
+        extraction: Extraction,
+        format: Format,
+        names: Names,
+    },
+    /// Draw the blocks of one dump.
+    Map {
+        format: PictureForm,
+        file: String,
+    },
+    /// Make one page of what is on dumps.
+    Catalogue {
+        page: Page,
+        names: Names,
+    },
+    /// Say what changed from one dump to another.
+    Diff {
+        format: DiffForm,
+        old: String,
+        new: String,
+    },
+}
+
+/// How files are taken out of images.
+#[derive(Debug, Drop)]
+pub struct Extraction {
+    /// The folder below which each image gets a folder of its own. The name isn't empty.
+    pub into: String,
+    /// Whether what is left of files that have no content is written too.
+    pub part: bool,
+    /// Whether an image whose folder is there is passed over.
+    pub skip_existing: bool,
+}
+
+/// How one page of dumps is made.
+#[derive(Debug, Drop)]
+pub struct Page {
+    /// Whether it has the picture of each dump's blocks.
+    pub maps: bool,
+    /// Its title and heading, or None for the usual one. The text isn't empty.
+    pub title: Option<String>,
+    /// The folder of the extracted files to which their names on the page are links, or None
+    /// without links. The name isn't empty.
+    pub links: Option<String>,
+}
+
+/// The form of a survey's output.
+#[derive(Clone, Copy, Debug, PartialEq, Eq)]
+pub enum Format {
+    /// Lines for people.
+    Text,
+    /// One JSON object a line.
+    Json,
+    /// CSV with one header row.
+    Csv,
+}
+
+/// The form of a picture of blocks.
+#[derive(Clone, Copy, Debug, PartialEq, Eq)]
+pub enum PictureForm {
+    /// A line a track, for people.
+    Text,
+    /// One SVG document.
+    Svg,
+}
+
+/// The form in which changes are told.
+#[derive(Clone, Copy, Debug, PartialEq, Eq)]
+pub enum DiffForm {
+    /// Lines for people.
+    Text,
+    /// One JSON object a line.
+    Json,
+}
+
+/// The names of the files to survey.
+#[derive(Debug, Drop)]
+pub enum Names {
+    /// One name or more, as the words have them.
+    Given(Vec<String>),
+    /// The names that a list holds, each up to the next separator. The list is a host file; `-` is
+    /// the standard input.
+    Listed { list: String, separator: Separator },
+}
+
+/// The byte that ends a name in a list.
+#[derive(Clone, Copy, Debug, PartialEq, Eq)]
+pub enum Separator {
+    LineFeed,
+    Nul,
+}
+
+/// Why the words ask for no job.
+#[derive(Debug, Drop, Error)]
+#[error("{}", self.text().unwrap_or_default())]
+pub enum JobFault {
+    /// The words are none of the program's, or ask for help or the version, which the error's text
+    /// then is.
+    #[error("{0}")]
+    Words(WordsError),
+    /// What follows `--start` is other than one to four hexadecimal digits.
+    Start,
+    Memory,
+    /// What follows `--tracks` is neither 35 nor 40, or there is an image beside it.
+    Tracks,
+    /// There is `--resume` beside `--tracks`.
+    Both,
+    /// What follows `--format` of a survey is neither `text`, `json` nor `csv`.
+    Format,
+    /// There are both FILE and `--files-from`, or neither.
+    Names,
+    /// There is `--null` without `--files-from`.
+    Null,
+    /// What follows `--format` of `map` is neither `text` nor `svg`.
+    Picture,
+    /// What follows `--format` of `diff` is neither `text` nor `json`.
+    Difference,
+    /// What follows `--into` is empty.
+    Folder,
+    /// What follows `--title` is empty.
+    Title,
+    /// What follows `--links` is empty.
+    Links,
+}
+
+impl JobFault {
+    /// Whether the fault is the help or the version that the words asked for.
+    pub fn was_asked_for(&self) -> bool
+        ensures { IsTrue result ↔ WasAskedFor self.now }
+    {
+        match self {
+            JobFault::Words(error) => !error.use_stderr(),
+            _ => false,
+        }
+    }
+
+    /// The text that tells the fault; none for an error of `clap`'s, which has its own.
+    pub fn text(&self) -> Option<&'static str>
+        ensures text { option_map (λ text. text.now) result ≡ text_of self.now }
+        ensures fits { IfSome result (λ text. length text.now ≤ 56) }
+    {
+        match self {
+            JobFault::Words(_) => None,
+            JobFault::Start => Some("usage: --start takes one to four hexadecimal digits"),
+            JobFault::Memory => Some("out of memory"),
+            JobFault::Tracks => Some("usage: --tracks takes 35 or 40 and no IMAGE"),
+            JobFault::Both => Some("usage: --resume and --tracks exclude each other"),
+            JobFault::Format => Some("usage: --format takes text, json or csv"),
+            JobFault::Names => Some("usage: FILE.. or --files-from LIST is wanted, not both"),
+            JobFault::Null => Some("usage: --null goes with --files-from"),
+            JobFault::Picture => Some("usage: --format takes text or svg"),
+            JobFault::Difference => Some("usage: --format takes text or json"),
+            JobFault::Folder => Some("usage: --into takes the name of a folder"),
+            JobFault::Title => Some("usage: --title takes a text"),
+            JobFault::Links => Some("usage: --links takes the name of a folder"),
+        }
+    }
+}
+
+impl From<WordsError> for JobFault {
+    ghost from_gives = { λ error fault. IsToldAs error fault };
+
+    fn from(error: WordsError) -> JobFault {
+        match error.kind() {
+            ErrorKind::OutOfMemory => JobFault::Memory,
+            _ => JobFault::Words(error),
+        }
+    }
+}
+
+impl From<AllocError> for JobFault {
+    ghost from_gives = { λ _ fault. fault ≡ Memory };
+
+    fn from(_error: AllocError) -> JobFault {
+        JobFault::Memory
+    }
+}

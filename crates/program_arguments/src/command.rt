@@ -1,0 +1,418 @@
+//! The program's subcommands and their arguments, with their help.
+
+ghost use Rattle.std.specs.Prelude.{◌≡◌, IfOk, false, option_map};
+ghost use Rattle.clap.specs.Words.{App, Rule, app_of, kind_of, new_app, rule_of, with_rule, with_subcommand};
+ghost use Rattle.clap.specs.declared.builder.command.Command.TheViews.{out-Command as fields_of};
+ghost use Rattle.program_arguments.specs.Commands.{bare_app, d64sh, app_named, shell, petcat, crunch, check, files, extract, map, diff, catalogue, survey, with_names, file_argument, image_argument, required_argument, files_argument, valued_option, output_option, line_option, stop_flag, flag, with_script};
+ghost use Rattle.program_arguments.specs.Making.{IsArgument, IsMade};
+
+use crate::help::help_of;
+use clap::error::ErrorKind;
+use clap::{Arg, ArgAction, Command, Error};
+use std::alloc::{AllocError, Global};
+
+/// The program's version.
+const VERSION: &str = "0.2.0";
+
+/// The command `d64sh`, with its subcommands.
+pub(crate) fn d64sh<'a>(alloc: Global) -> Result<Command<'a>, AllocError>
+    ensures { IsMade d64sh result }
+{
+    let command = with_subcommand(Ok(bare(alloc)), shell(alloc));
+    let command = with_subcommand(command, petcat(alloc));
+    let command = with_subcommand(command, crunch(alloc));
+    let command = with_subcommand(command, check(alloc));
+    let command = with_subcommand(command, files(alloc));
+    let command = with_subcommand(command, extract(alloc));
+    let command = with_subcommand(command, map(alloc));
+    let command = with_subcommand(command, diff(alloc));
+    with_subcommand(command, catalogue(alloc))
+}
+
+/// The subcommand of this name, where there is one. It makes of the words from its name on what
+/// `d64sh` makes of all words, and the options of the other subcommands are not made for it.
+pub(crate) fn named<'a>(alloc: Global, name: &str) -> Result<Option<Command<'a>>, AllocError>
+    ensures { IfOk result (λ command. option_map app_of command ≡ app_named name.now) }
+{
+    let command = match name {
+        "shell" => shell(alloc),
+        "petcat" => petcat(alloc),
+        "crunch" => crunch(alloc),
+        "check" => check(alloc),
+        "files" => files(alloc),
+        "extract" => extract(alloc),
+        "map" => map(alloc),
+        "diff" => diff(alloc),
+        "catalogue" => catalogue(alloc),
+        _ => return Ok(None),
+    };
+    Ok(Some(command?))
+}
+
+/// An error of this kind that says this, with the usage of the subcommand of this name, or of the
+/// program where there is none.
+pub(crate) fn error(
+    alloc: Global,
+    name: &str,
+    kind: ErrorKind,
+    message: &str,
+) -> Result<Error, AllocError>
+    ensures { IfOk result (λ error. kind_of error ≡ kind) }
+{
+    bare(alloc)
+        .override_usage(help_of(name).usage)
+        .error(kind, message)
+}
+
+/// The command `d64sh` without its subcommands.
+fn bare<'a>(alloc: Global) -> Command<'a>
+    ensures app { app_of result ≡ bare_app }
+    ensures local { (fields_of result).has_globals ≡ false }
+{
+    let help = help_of("");
+    Command::new(alloc, "d64sh")
+        .version(VERSION)
+        .about(help.about)
+        .after_help(help.details)
+        .subcommand_required(true)
+        .arg_required_else_help(true)
+}
+
+/// The subcommand of this name, with no arguments yet.
+fn subcommand<'a>(alloc: Global, name: &'a str) -> Command<'a>
+    ensures app { app_of result ≡ new_app name.now }
+    ensures local { (fields_of result).has_globals ≡ false }
+{
+    let help = help_of(name);
+    Command::new(alloc, name)
+        .about(help.about)
+        .override_usage(help.usage)
+        .after_help(help.details)
+}
+
+/// The command with one argument more. A command or the want of memory for it is passed on without
+/// an exit between, since each exit would drop all that is made until then.
+fn with_argument<'a>(
+    command: Result<Command<'a>, AllocError>,
+    argument: Arg<'a>,
+) -> Result<Command<'a>, AllocError>
+    ensures { (app : App) (rule : Rule) → IsMade app command.entry → IsArgument rule argument.entry → IsMade (with_rule app rule) result }
+{
+    match command {
+        Ok(command) => command.arg(argument),
+        Err(error) => Err(error),
+    }
+}
+
+/// The command with one subcommand more.
+fn with_subcommand<'a>(
+    command: Result<Command<'a>, AllocError>,
+    subcommand: Result<Command<'a>, AllocError>,
+) -> Result<Command<'a>, AllocError>
+    ensures { (app below : App) → IsMade app command.entry → IsMade below subcommand.entry → IsMade (with_subcommand app below.top) result }
+{
+    match command {
+        Ok(command) => command.subcommand(subcommand?),
+        Err(error) => Err(error),
+    }
+}
+
+/// `shell [-e] [-c LINE].. [--tracks N] [IMAGE]` and `shell [-e] [-c LINE].. --resume FILE
+/// [IMAGE]`.
+fn shell<'a>(alloc: Global) -> Result<Command<'a>, AllocError>
+    ensures { IsMade shell result }
+{
+    let tracks = valued_option(
+        alloc,
+        "tracks",
+        "N",
+        "Tracks of the blank image: 35 or 40; without it, 35. Not with IMAGE",
+    );
+    let command = with_argument(Ok(subcommand(alloc, "shell")), tracks);
+    let resume = valued_option(
+        alloc,
+        "resume",
+        "FILE",
+        "The session to go on with, as `keep` stored it. Not with --tracks",
+    );
+    let command = with_argument(command, resume);
+    let command = with_argument(command, image_argument(alloc));
+    with_script(alloc, command)
+}
+
+/// The subcommand with the words for a script: `[-c LINE]..` and `[-e]`.
+fn with_script<'a>(
+    alloc: Global,
+    command: Result<Command<'a>, AllocError>,
+) -> Result<Command<'a>, AllocError>
+    ensures { (app : App) → IsMade app command.entry → IsMade (with_script app) result }
+{
+    let command = with_argument(command, line_option(alloc));
+    with_argument(command, stop_flag(alloc))
+}
+
+/// `petcat [-o FILE] [FILE]`.
+fn petcat<'a>(alloc: Global) -> Result<Command<'a>, AllocError>
+    ensures { IsMade petcat result }
+{
+    let output = output_option(alloc, "The text's file; without it, the standard output");
+    let command = with_argument(Ok(subcommand(alloc, "petcat")), output);
+    let file = file_argument(alloc, "The program file; without it, the standard input");
+    with_argument(command, file)
+}
+
+/// `crunch [--start HEX] [-o FILE] [FILE]`.
+fn crunch<'a>(alloc: Global) -> Result<Command<'a>, AllocError>
+    ensures { IsMade crunch result }
+{
+    let start = valued_option(
+        alloc,
+        "start",
+        "HEX",
+        "Load address: one to four hexadecimal digits; without it, 0801",
+    );
+    let command = with_argument(Ok(subcommand(alloc, "crunch")), start);
+    let output = output_option(alloc, "The program file; without it, the standard output");
+    let command = with_argument(command, output);
+    let file = file_argument(alloc, "The text; without it, the standard input");
+    with_argument(command, file)
+}
+
+/// `check [--digest]` with the words of a survey.
+fn check<'a>(alloc: Global) -> Result<Command<'a>, AllocError>
+    ensures { IsMade check result }
+{
+    let digest = flag(
+        alloc,
+        "digest",
+        "Add the SHA-256 digest of each file's bytes",
+    );
+    let command = with_argument(Ok(subcommand(alloc, "check")), digest);
+    survey(alloc, command)
+}
+
+/// `files` with the words of a survey.
+fn files<'a>(alloc: Global) -> Result<Command<'a>, AllocError>
+    ensures { IsMade files result }
+{
+    survey(alloc, Ok(subcommand(alloc, "files")))
+}
+
+/// `extract [--into FOLDER] [--part] [--skip-existing]` with the words of a survey.
+fn extract<'a>(alloc: Global) -> Result<Command<'a>, AllocError>
+    ensures { IsMade extract result }
+{
+    let into = valued_option(
+        alloc,
+        "into",
+        "FOLDER",
+        "Put the images' folders into this one, which is there; without it, `.`",
+    );
+    let command = with_argument(Ok(subcommand(alloc, "extract")), into);
+    let part = flag(
+        alloc,
+        "part",
+        "Also write what is left of files that have no content, as NAME.part",
+    );
+    let command = with_argument(command, part);
+    let skip = flag(
+        alloc,
+        "skip-existing",
+        "Pass over images whose folders are there and complete",
+    );
+    let command = with_argument(command, skip);
+    survey(alloc, command)
+}
+
+/// `map [--format FORMAT] FILE`.
+fn map<'a>(alloc: Global) -> Result<Command<'a>, AllocError>
+    ensures { IsMade map result }
+{
+    let format = valued_option(
+        alloc,
+        "format",
+        "FORMAT",
+        "Form of the map: text or svg; without it, text",
+    );
+    let command = with_argument(Ok(subcommand(alloc, "map")), format);
+    let file = required_argument(alloc, "file", "FILE", "The image to draw");
+    with_argument(command, file)
+}
+
+/// `diff [--format FORMAT] OLD NEW`.
+fn diff<'a>(alloc: Global) -> Result<Command<'a>, AllocError>
+    ensures { IsMade diff result }
+{
+    let format = valued_option(
+        alloc,
+        "format",
+        "FORMAT",
+        "Form of the output: text or json; without it, text",
+    );
+    let command = with_argument(Ok(subcommand(alloc, "diff")), format);
+    let old = required_argument(alloc, "old", "OLD", "The image as it was");
+    let command = with_argument(command, old);
+    let new = required_argument(alloc, "new", "NEW", "The image as it is now");
+    with_argument(command, new)
+}
+
+/// `catalogue [--maps] [--title TEXT] [--links FOLDER]` with the names of files.
+fn catalogue<'a>(alloc: Global) -> Result<Command<'a>, AllocError>
+    ensures { IsMade catalogue result }
+{
+    let maps = flag(alloc, "maps", "Add a picture of the blocks of each image");
+    let command = with_argument(Ok(subcommand(alloc, "catalogue")), maps);
+    let title = valued_option(
+        alloc,
+        "title",
+        "TEXT",
+        "Title and heading of the page; without it, Disks",
+    );
+    let command = with_argument(command, title);
+    let links = valued_option(
+        alloc,
+        "links",
+        "FOLDER",
+        "Make names links to the files that `extract --into FOLDER` wrote",
+    );
+    let command = with_argument(command, links);
+    with_names(alloc, command)
+}
+
+/// The subcommand with the words of a survey: `[--format FORMAT]` and the names of files.
+fn survey<'a>(
+    alloc: Global,
+    command: Result<Command<'a>, AllocError>,
+) -> Result<Command<'a>, AllocError>
+    ensures { (app : App) → IsMade app command.entry → IsMade (survey app) result }
+{
+    let format = valued_option(
+        alloc,
+        "format",
+        "FORMAT",
+        "Form of the output: text, json or csv; without it, text",
+    );
+    let command = with_argument(command, format);
+    with_names(alloc, command)
+}
+
+/// The subcommand with the names of files: `FILE..`, and `--files-from LIST [--null]` in its place.
+fn with_names<'a>(
+    alloc: Global,
+    command: Result<Command<'a>, AllocError>,
+) -> Result<Command<'a>, AllocError>
+    ensures { (app : App) → IsMade app command.entry → IsMade (with_names app) result }
+{
+    let list = valued_option(
+        alloc,
+        "files-from",
+        "LIST",
+        "Take the names from the lines of a file; `-` is the standard input",
+    );
+    let command = with_argument(command, list);
+    let null = flag(
+        alloc,
+        "null",
+        "Names in LIST end with NUL bytes, and not with line feeds",
+    );
+    let command = with_argument(command, null);
+    with_argument(command, files_argument(alloc))
+}
+
+/// `[IMAGE]`.
+fn image_argument<'a>(alloc: Global) -> Arg<'a>
+    ensures rule { rule_of result ≡ image_argument }
+    ensures local { result.global ≡ false }
+{
+    Arg::new(alloc, "image")
+        .value_name("IMAGE")
+        .help("The D64 image to work on; without it, a blank image")
+}
+
+/// `[FILE]..`.
+fn files_argument<'a>(alloc: Global) -> Arg<'a>
+    ensures rule { rule_of result ≡ files_argument }
+    ensures local { result.global ≡ false }
+{
+    Arg::new(alloc, "file")
+        .value_name("FILE")
+        .num_args(1..)
+        .help("The images to survey, in this order")
+}
+
+/// `[FILE]`.
+fn file_argument<'a>(alloc: Global, help: &'a str) -> Arg<'a>
+    ensures rule { rule_of result ≡ file_argument }
+    ensures local { result.global ≡ false }
+{
+    Arg::new(alloc, "file").value_name("FILE").help(help)
+}
+
+/// `-o FILE` and `--output FILE`.
+fn output_option<'a>(alloc: Global, help: &'a str) -> Arg<'a>
+    ensures rule { rule_of result ≡ output_option }
+    ensures local { result.global ≡ false }
+{
+    valued_option(alloc, "output", "FILE", help).short('o')
+}
+
+/// `-c LINE` and `--command LINE`, any number of times.
+fn line_option<'a>(alloc: Global) -> Arg<'a>
+    ensures rule { rule_of result ≡ line_option }
+    ensures local { result.global ≡ false }
+{
+    valued_option(
+        alloc,
+        "command",
+        "LINE",
+        "A line to run, in place of the standard input; more of them run in turn",
+    )
+    .short('c')
+    .action(ArgAction::Append)
+}
+
+/// `-e` and `--stop-at-refusal`.
+fn stop_flag<'a>(alloc: Global) -> Arg<'a>
+    ensures rule { rule_of result ≡ stop_flag }
+    ensures local { result.global ≡ false }
+{
+    flag(
+        alloc,
+        "stop-at-refusal",
+        "End the script after the first line that is refused",
+    )
+    .short('e')
+}
+
+/// `NAME`, which must be given.
+fn required_argument<'a>(alloc: Global, id: &'a str, name: &'a str, help: &'a str) -> Arg<'a>
+    ensures rule { rule_of result ≡ required_argument id.now }
+    ensures local { result.global ≡ false }
+{
+    Arg::new(alloc, id)
+        .value_name(name)
+        .required(true)
+        .help(help)
+}
+
+/// `--NAME VALUE`.
+fn valued_option<'a>(alloc: Global, name: &'a str, value: &'a str, help: &'a str) -> Arg<'a>
+    ensures rule { rule_of result ≡ valued_option name.now }
+    ensures local { result.global ≡ false }
+{
+    Arg::new(alloc, name)
+        .long(name)
+        .value_name(value)
+        .help(help)
+}
+
+/// `--NAME`.
+fn flag<'a>(alloc: Global, name: &'a str, help: &'a str) -> Arg<'a>
+    ensures rule { rule_of result ≡ flag name.now }
+    ensures local { result.global ≡ false }
+{
+    Arg::new(alloc, name)
+        .long(name)
+        .action(ArgAction::SetTrue)
+        .help(help)
+}

@@ -1,0 +1,54 @@
+//! The forms of output that the words give.
+
+ghost use Rattle.std.specs.Prelude.{◌≡◌, IfOk, IfErr, Some, None};
+ghost use Rattle.clap.specs.Words.{found_of, rows_of};
+ghost use Rattle.program_arguments.specs.Format.{diff_form_of, form_word, format_of, picture_form_of};
+ghost use Rattle.program_arguments.specs.declared.asked.JobFault.TheVariants.{Difference as NoDifference, Format as NoFormat, Picture as NoPicture};
+
+use crate::asked::{DiffForm, Format, JobFault, PictureForm};
+use crate::values::given;
+use clap::ArgMatches;
+
+/// The form of a survey's output that the words give.
+pub(crate) fn format(arguments: &ArgMatches) -> Result<Format, JobFault>
+    ensures form { IfOk result (λ form. format_of (form_word (rows_of (found_of arguments.now))) ≡ Some form) }
+    ensures fault { IfErr result (λ fault. (fault ≡ NoFormat) × (format_of (form_word (rows_of (found_of arguments.now))) ≡ None)) }
+{
+    match form_word(arguments) {
+        "text" => Ok(Format::Text),
+        "json" => Ok(Format::Json),
+        "csv" => Ok(Format::Csv),
+        _ => Err(JobFault::Format),
+    }
+}
+
+/// The form of a picture that the words give.
+pub(crate) fn picture_form(arguments: &ArgMatches) -> Result<PictureForm, JobFault>
+    ensures form { IfOk result (λ form. picture_form_of (form_word (rows_of (found_of arguments.now))) ≡ Some form) }
+    ensures fault { IfErr result (λ fault. (fault ≡ NoPicture) × (picture_form_of (form_word (rows_of (found_of arguments.now))) ≡ None)) }
+{
+    match form_word(arguments) {
+        "text" => Ok(PictureForm::Text),
+        "svg" => Ok(PictureForm::Svg),
+        _ => Err(JobFault::Picture),
+    }
+}
+
+/// The form in which the words want changes told.
+pub(crate) fn diff_form(arguments: &ArgMatches) -> Result<DiffForm, JobFault>
+    ensures form { IfOk result (λ form. diff_form_of (form_word (rows_of (found_of arguments.now))) ≡ Some form) }
+    ensures fault { IfErr result (λ fault. (fault ≡ NoDifference) × (diff_form_of (form_word (rows_of (found_of arguments.now))) ≡ None)) }
+{
+    match form_word(arguments) {
+        "text" => Ok(DiffForm::Text),
+        "json" => Ok(DiffForm::Json),
+        _ => Err(JobFault::Difference),
+    }
+}
+
+/// The word for a form of output that the words give, or `text`.
+fn form_word<'a>(arguments: &ArgMatches<'a>) -> &'a str
+    ensures { result.now ≡ form_word (rows_of (found_of arguments.now)) }
+{
+    given(arguments, "format").unwrap_or("text")
+}

@@ -1,0 +1,197 @@
+//! From words to the job that they ask for.
+
+ghost use Rattle.std.specs.Prelude.{◌≡◌, IfOk, IfErr, MatchOption, codes, map};
+ghost use Rattle.std.specs.Char.{is_ascii_hexdigit};
+ghost use Rattle.std.specs.List.{list_all};
+ghost use Rattle.clap.specs.Words.{found_of, first_of, kind_of, rows_of};
+ghost use Rattle.program_arguments.specs.Asked.{IsWhole, IsJob, IsJobOf, IsFault, IsFaultOf};
+ghost use Rattle.program_arguments.specs.Start.{IsAddress, address_of, IsStartBy, HasNoAddress};
+ghost use Rattle.program_arguments.specs.Tracks.{track_count, IsTracksBy, HasNoTracks};
+ghost use Rattle.program_arguments.specs.declared.asked.JobFault.TheVariants.{Start, Tracks};
+
+use crate::asked::{Job, JobFault};
+use crate::command;
+use crate::dumps::{diff_job, map_job};
+use crate::surveys::{catalogue_job, check_job, extract_job, files_job};
+use crate::tips::{message_of, with_tip};
+use crate::values::{given, has_flag, value, values};
+use clap::error::ErrorKind;
+use clap::{ArgMatches, Error};
+use std::alloc::{AllocError, Global};
+
+/// The address at which programs are loaded, where the words say no other.
+const DEFAULT_START: u16 = 0x0801;
+
+/// The tracks of a blank image, where the words say no other number.
+const DEFAULT_TRACKS: u8 = 35;
+
+/// The most digits of an address.
+const ADDRESS_DIGITS: usize = 4;
+
+/// The job that the words of the process ask for, of which the first is the program's name.
+///
+/// `Words` comes exactly where the words are none of the program's, or ask for help or the version;
+/// else `Start` exactly where what follows `--start` is other than one to four hexadecimal digits;
+/// else `Tracks` exactly where what follows `--tracks` is neither 35 nor 40, or there is an image
+/// beside it; else `Both` exactly where there is `--resume` beside `--tracks`; else `Format`
+/// exactly where what follows `--format` of a survey is neither `text`, `json` nor `csv`; else
+/// `Folder` exactly where what follows `--into` of `extract` is empty, `Title` exactly where what
+/// follows `--title` of `catalogue` is empty, or else `Links` exactly where what follows `--links`
+/// is empty; else `Names` exactly where there are both FILE and `--files-from`, or neither; else
+/// `Null` exactly where there is `--null` without `--files-from`; else `Picture` exactly where what
+/// follows `--format` of `map` is neither `text` nor `svg`, or `Difference` exactly where what
+/// follows `--format` of `diff` is neither `text` nor `json`; and `Memory` in place of any answer.
+pub fn job(alloc: Global, words: &[&str]) -> Result<Job, JobFault>
+    ensures job { IfOk result (IsJob (map (λ word. word.now) words.now)) }
+    ensures fault { IfErr result (IsFault (map (λ word. word.now) words.now)) }
+{
+    let Some(name) = words.get(1) else {
+        return program_job(alloc, words);
+    };
+    let Some(command) = command::named(alloc, name)? else {
+        return program_job(alloc, words);
+    };
+    match command.try_get_matches_from(&words[1..]) {
+        Ok(arguments) => job_of(alloc, name, &arguments),
+        Err(error) => Err(JobFault::from(explained(alloc, words, name, error)?)),
+    }
+}
+
+/// The same for words that name no subcommand first, read by the command with all of them.
+fn program_job(alloc: Global, words: &[&str]) -> Result<Job, JobFault>
+    ensures job { IfOk result (IsJob (map (λ word. word.now) words.now)) }
+    ensures fault { IfErr result (IsFault (map (λ word. word.now) words.now)) }
+{
+    let matches = match command::d64sh(alloc)?.try_get_matches_from(words) {
+        Ok(matches) => matches,
+        Err(error) => return Err(JobFault::from(with_tip(alloc, words, error)?)),
+    };
+    let Some((name, arguments)) = matches.subcommand() else {
+        unreachable!()
+    };
+    job_of(alloc, name, arguments)
+}
+
+/// The error of a subcommand, with its usage where `clap` tells none, or with a tip where `shell`
+/// was probably meant otherwise.
+fn explained(alloc: Global, words: &[&str], name: &str, error: Error) -> Result<Error, AllocError>
+    ensures { IfOk result (λ told. kind_of told ≡ kind_of error) }
+{
+    if error.kind() == ErrorKind::InvalidValue {
+        with_usage(alloc, name, &error)
+    } else {
+        with_tip(alloc, words, error)
+    }
+}
+
+/// The error that an option lacks its value, with the usage of the subcommand of this name: `clap`
+/// tells no usage of that one.
+fn with_usage(alloc: Global, name: &str, error: &Error) -> Result<Error, AllocError>
+    ensures { IfOk result (λ told. kind_of told ≡ kind_of error.now) }
+{
+    let text = format!(in alloc; "{error}")?;
+    command::error(alloc, name, error.kind(), message_of(text.as_str()))
+}
+
+/// The job that a subcommand with these matches asks for.
+fn job_of(alloc: Global, name: &str, arguments: &ArgMatches) -> Result<Job, JobFault>
+    requires { IsWhole (name.now, rows_of (found_of arguments.now)) }
+    ensures job { IfOk result (IsJobOf (name.now, rows_of (found_of arguments.now))) }
+    ensures fault { IfErr result (IsFaultOf (name.now, rows_of (found_of arguments.now))) }
+{
+    match name {
+        "shell" => shell_job(alloc, arguments),
+        "petcat" => Ok(Job::Petcat {
+            file: value(alloc, arguments, "file")?,
+            output: value(alloc, arguments, "output")?,
+        }),
+        "crunch" => Ok(Job::Crunch {
+            start: start(arguments)?,
+            file: value(alloc, arguments, "file")?,
+            output: value(alloc, arguments, "output")?,
+        }),
+        "check" => check_job(alloc, arguments),
+        "files" => files_job(alloc, arguments),
+        "extract" => extract_job(alloc, arguments),
+        "map" => map_job(alloc, arguments),
+        "diff" => diff_job(alloc, arguments),
+        _ => catalogue_job(alloc, arguments),
+    }
+}
+
+/// The job that `shell` with these matches asks for.
+fn shell_job(alloc: Global, arguments: &ArgMatches) -> Result<Job, JobFault>
+    ensures job { IfOk result (IsJobOf (codes "shell", rows_of (found_of arguments.now))) }
+    ensures fault { IfErr result (IsFaultOf (codes "shell", rows_of (found_of arguments.now))) }
+{
+    let tracks = tracks(arguments)?;
+    let resume = value(alloc, arguments, "resume")?;
+    if resume.is_some() && given(arguments, "tracks").is_some() {
+        return Err(JobFault::Both);
+    }
+    Ok(Job::Shell {
+        image: value(alloc, arguments, "image")?,
+        tracks,
+        resume,
+        lines: values(alloc, arguments, "command")?,
+        stops_at_refusal: has_flag(arguments, "stop-at-refusal"),
+    })
+}
+
+/// The tracks that the words give, or the default number.
+fn tracks(arguments: &ArgMatches) -> Result<u8, JobFault>
+    ensures tracks { IfOk result (IsTracksBy (first_of (codes "tracks") (rows_of (found_of arguments.now)))
+        (first_of (codes "image") (rows_of (found_of arguments.now)))) }
+    ensures fault { IfErr result (λ fault. (fault ≡ Tracks) × HasNoTracks (first_of (codes "tracks") (rows_of (found_of arguments.now)))
+        (first_of (codes "image") (rows_of (found_of arguments.now)))) }
+{
+    let Some(text) = given(arguments, "tracks") else {
+        return Ok(DEFAULT_TRACKS);
+    };
+    match given(arguments, "image") {
+        Some(_) => Err(JobFault::Tracks),
+        None => track_count(text).ok_or(JobFault::Tracks),
+    }
+}
+
+/// The number of tracks that a text says; None where no disk has so many.
+fn track_count(text: &str) -> Option<u8>
+    ensures { result ≡ track_count text.now }
+{
+    match text {
+        "35" => Some(35),
+        "40" => Some(40),
+        _ => None,
+    }
+}
+
+/// The start that the words give, or the default one.
+fn start(arguments: &ArgMatches) -> Result<u16, JobFault>
+    ensures start { IfOk result (IsStartBy (first_of (codes "start") (rows_of (found_of arguments.now)))) }
+    ensures fault { IfErr result (λ fault. (fault ≡ Start) × HasNoAddress (first_of (codes "start") (rows_of (found_of arguments.now)))) }
+{
+    match given(arguments, "start") {
+        Some(hex) => address(hex).ok_or(JobFault::Start),
+        None => Ok(DEFAULT_START),
+    }
+}
+
+/// The address that one to four hexadecimal digits write; None where the text is anything else.
+fn address(hex: &str) -> Option<u16>
+    ensures { MatchOption result (¬ IsAddress hex.now) (λ address. IsAddress hex.now × (address ≡ address_of hex.now)) }
+{
+    if hex.len() > ADDRESS_DIGITS || !is_hexadecimal(hex) {
+        return None;
+    }
+    match u16::from_str_radix(hex, 16) {
+        Ok(address) => Some(address),
+        Err(_) => None,
+    }
+}
+
+/// Whether the text has hexadecimal digits alone.
+fn is_hexadecimal(text: &str) -> bool
+    ensures { result ≡ list_all is_ascii_hexdigit text.now }
+{
+    text.bytes().all(|byte| byte.is_ascii_hexdigit())
+}

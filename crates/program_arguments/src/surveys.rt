@@ -1,0 +1,132 @@
+//! The jobs that survey files: what their words have in common.
+
+ghost use Rattle.std.specs.Prelude.{◌≡◌, ◌⊎◌, IfOk, IfErr, codes};
+ghost use Rattle.clap.specs.Words.{found_of, first_of, rows_of};
+ghost use Rattle.program_arguments.specs.Asked.{IsJobOf, IsFaultOf};
+ghost use Rattle.program_arguments.specs.Extraction.{HasNoFolder, IsExtractionBy};
+ghost use Rattle.program_arguments.specs.Names.{IsNamesBy, IsNamesFault};
+ghost use Rattle.program_arguments.specs.Page.{is_left_empty, IsPageBy, IsPageFault};
+ghost use Rattle.program_arguments.specs.declared.asked.JobFault.TheVariants.{Folder, Memory};
+
+use crate::asked::{Extraction, Job, JobFault, Names, Page, Separator};
+use crate::forms::format;
+use crate::values::{given, has_flag, value, values};
+use clap::ArgMatches;
+use std::alloc::Global;
+
+/// The job that `check` with these matches asks for.
+pub(crate) fn check_job(alloc: Global, arguments: &ArgMatches) -> Result<Job, JobFault>
+    ensures job { IfOk result (IsJobOf (codes "check", rows_of (found_of arguments.now))) }
+    ensures fault { IfErr result (IsFaultOf (codes "check", rows_of (found_of arguments.now))) }
+{
+    let format = format(arguments)?;
+    Ok(Job::Check {
+        digest: has_flag(arguments, "digest"),
+        format,
+        names: names(alloc, arguments)?,
+    })
+}
+
+/// The job that `files` with these matches asks for.
+pub(crate) fn files_job(alloc: Global, arguments: &ArgMatches) -> Result<Job, JobFault>
+    ensures job { IfOk result (IsJobOf (codes "files", rows_of (found_of arguments.now))) }
+    ensures fault { IfErr result (IsFaultOf (codes "files", rows_of (found_of arguments.now))) }
+{
+    Ok(Job::Files {
+        format: format(arguments)?,
+        names: names(alloc, arguments)?,
+    })
+}
+
+/// The job that `extract` with these matches asks for.
+pub(crate) fn extract_job(alloc: Global, arguments: &ArgMatches) -> Result<Job, JobFault>
+    ensures job { IfOk result (IsJobOf (codes "extract", rows_of (found_of arguments.now))) }
+    ensures fault { IfErr result (IsFaultOf (codes "extract", rows_of (found_of arguments.now))) }
+{
+    let format = format(arguments)?;
+    Ok(Job::Extract {
+        extraction: extraction(alloc, arguments)?,
+        format,
+        names: names(alloc, arguments)?,
+    })
+}
+
+/// How the words want files taken out.
+fn extraction(alloc: Global, arguments: &ArgMatches) -> Result<Extraction, JobFault>
+    ensures extraction { IfOk result (IsExtractionBy (rows_of (found_of arguments.now))) }
+    ensures fault { IfErr result (λ fault. (fault ≡ Memory) ⊎ ((fault ≡ Folder) × HasNoFolder (first_of (codes "into") (rows_of (found_of arguments.now))))) }
+{
+    let into = given(arguments, "into").unwrap_or(".");
+    if into.is_empty() {
+        return Err(JobFault::Folder);
+    }
+    Ok(Extraction {
+        into: String::from_str(alloc, into)?,
+        part: has_flag(arguments, "part"),
+        skip_existing: has_flag(arguments, "skip-existing"),
+    })
+}
+
+/// The job that `catalogue` with these matches asks for.
+pub(crate) fn catalogue_job(alloc: Global, arguments: &ArgMatches) -> Result<Job, JobFault>
+    ensures job { IfOk result (IsJobOf (codes "catalogue", rows_of (found_of arguments.now))) }
+    ensures fault { IfErr result (IsFaultOf (codes "catalogue", rows_of (found_of arguments.now))) }
+{
+    Ok(Job::Catalogue {
+        page: page(alloc, arguments)?,
+        names: names(alloc, arguments)?,
+    })
+}
+
+/// Whether the words give an argument an empty value.
+fn is_left_empty(arguments: &ArgMatches, id: &str) -> bool
+    ensures { result ≡ is_left_empty id.now (rows_of (found_of arguments.now)) }
+{
+    match given(arguments, id) {
+        Some(text) => text.is_empty(),
+        None => false,
+    }
+}
+
+/// How the words want a page made.
+fn page(alloc: Global, arguments: &ArgMatches) -> Result<Page, JobFault>
+    ensures page { IfOk result (IsPageBy (rows_of (found_of arguments.now))) }
+    ensures fault { IfErr result (IsPageFault (rows_of (found_of arguments.now))) }
+{
+    if is_left_empty(arguments, "title") {
+        return Err(JobFault::Title);
+    }
+    if is_left_empty(arguments, "links") {
+        return Err(JobFault::Links);
+    }
+    Ok(Page {
+        maps: has_flag(arguments, "maps"),
+        title: value(alloc, arguments, "title")?,
+        links: value(alloc, arguments, "links")?,
+    })
+}
+
+/// The names that the words give, or the list that holds them.
+fn names(alloc: Global, arguments: &ArgMatches) -> Result<Names, JobFault>
+    ensures names { IfOk result (IsNamesBy (rows_of (found_of arguments.now))) }
+    ensures fault { IfErr result (IsNamesFault (rows_of (found_of arguments.now))) }
+{
+    let files = values(alloc, arguments, "file")?;
+    let list = given(arguments, "files-from");
+    let null = has_flag(arguments, "null");
+    if files.is_empty() == list.is_none() {
+        return Err(JobFault::Names);
+    }
+    match list {
+        Some(list) => Ok(Names::Listed {
+            list: String::from_str(alloc, list)?,
+            separator: if null {
+                Separator::Nul
+            } else {
+                Separator::LineFeed
+            },
+        }),
+        None if null => Err(JobFault::Null),
+        None => Ok(Names::Given(files)),
+    }
+}

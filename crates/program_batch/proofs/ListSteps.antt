@@ -1,0 +1,158 @@
+-- How far a list has come, byte by byte.
+use Rattle.std.proofs.Common.{◌≡◌, ◌≢◌, ℕ, ◌+◌, ◌<◌, Bool, true, false, if◌then◌else◌, List, [], ◌∷◌, ◌++◌, Result, Ok, Err, refl, sym, ap, ◌∙◌, subst, append_assoc, append-nil, map, take, drop, get_or, length, arith, inl, inr}
+use Rattle.std.specs.Prelude.{All, IfErr}
+use Rattle.std.proofs.lemmas.List.{map-append, take_more, take-append-drop}
+use Rattle.std.proofs.lemmas.List.Elements.{All-append, All-cons}
+use Rattle.program_batch.specs.Names.{Asked, File, NoFile, kept_name, is_name, is_file_name, name_reason, shortened_name, names_in, listed_name, asked_by}
+use Rattle.program_batch.specs.Answers.{Conduct}
+use Rattle.program_batch.specs.declared.reason.Reason.{Reason}
+use Rattle.program_batch.specs.Runs.{Stand, Steps, Runs, StopsIn, EndsAt}
+use Rattle.program_batch.specs.Lists.{HasCome, IsEnded, StopsInList}
+use Rattle.program_batch.specs.declared.desk.RunFault.{RunFault}
+use Rattle.program_batch.proofs.RunSteps.{Steps-none, Runs-one, Runs-append, StopsIn-more}
+use Rattle.program_batch.proofs.ListNames.{names_in-ended, names_in-append, names_in-nil, asked_by-piece, kept_name-push}
+
+-- a list without elements has none
+no_element : (k : ℕ) → k < 0 → ⊥
+no_element k within = omega (arith, within)
+
+-- a byte alone that isn't the separator
+one_other : (separator byte : ℕ) → byte ≢ separator → All (λ y. y ≢ separator) (byte ∷ [])
+one_other separator byte other = All-cons (λ y. y ≢ separator) byte [] other (λ k d within. absurd (no_element k within))
+
+-- what the ended names ask for, and then the piece at the end
+asks_last : (separator : ℕ) (ended raw : List ℕ) → IsEnded separator ended → All (λ byte. byte ≢ separator) raw
+    → map listed_name (names_in separator (ended ++ raw)) ≡ map listed_name (names_in separator ended) ++ asked_by (kept_name raw)
+asks_last separator ended raw is_ended none =
+    ap (map listed_name) (names_in-ended separator ended raw is_ended)
+    ∙ map-append listed_name (names_in separator ended) (names_in separator raw)
+    ∙ ap (λ (l : List Asked). map listed_name (names_in separator ended) ++ l) (asked_by-piece separator raw none)
+
+-- a separator ends the piece: what came until then asks for the same, and what comes after it for
+-- more
+asks_ended : (separator : ℕ) (came more : List ℕ)
+    → map listed_name (names_in separator (came ++ separator ∷ more)) ≡ map listed_name (names_in separator came) ++ map listed_name (names_in separator more)
+asks_ended separator came more =
+    ap (map listed_name) (names_in-append separator came more) ∙ map-append listed_name (names_in separator came) (names_in separator more)
+
+-- nothing has come
+pub HasCome-none : (conduct : Conduct) (separator : ℕ) (a : Stand) (held : List ℕ) → held ≡ [] → HasCome conduct separator a a held []
+HasCome-none conduct separator a held is_nil = record {
+  ended = [];
+  raw = [];
+  parts = refl;
+  is_ended = inl refl;
+  unended = λ k d within. absurd (no_element k within);
+  keeps = is_nil;
+  answered = subst (λ (l : List (List ℕ)). Steps conduct (map listed_name l) a a) (sym (names_in-nil separator)) (Steps-none conduct a);
+}
+
+-- a byte of a name has come
+pub HasCome-byte : (conduct : Conduct) (separator byte : ℕ) (a b : Stand) (held new came : List ℕ)
+    → HasCome conduct separator a b held came → byte ≢ separator → new ≡ take 4097 (held ++ byte ∷ []) → HasCome conduct separator a b new (came ++ byte ∷ [])
+HasCome-byte conduct separator byte a b held new came come other pushed = record {
+  ended = come.ended;
+  raw = come.raw ++ byte ∷ [];
+  parts = sym (append_assoc come.ended come.raw (byte ∷ [])) ∙ ap (λ (l : List ℕ). l ++ byte ∷ []) come.parts;
+  is_ended = come.is_ended;
+  unended = All-append (λ byte. byte ≢ separator) come.raw (byte ∷ []) come.unended (one_other separator byte other);
+  keeps = pushed ∙ ap (λ (l : List ℕ). take 4097 (l ++ byte ∷ [])) come.keeps ∙ kept_name-push come.raw byte;
+  answered = come.answered;
+}
+
+-- all that has come asks for what was answered, and for what is held
+asks_came : (conduct : Conduct) (separator : ℕ) (a b : Stand) (held came : List ℕ) (come : HasCome conduct separator a b held came)
+    → map listed_name (names_in separator came) ≡ map listed_name (names_in separator come.ended) ++ asked_by held
+asks_came conduct separator a b held came come =
+    ap (λ (l : List ℕ). map listed_name (names_in separator l)) (sym come.parts)
+    ∙ asks_last separator come.ended come.raw come.is_ended come.unended
+    ∙ ap (λ (l : List ℕ). map listed_name (names_in separator come.ended) ++ asked_by l) (sym come.keeps)
+
+-- what is held is answered too
+pub Runs-came : {A : Type 0} (conduct same : Conduct) (separator : ℕ) (a b c : Stand) (held came : List ℕ) (result : Result A RunFault)
+    → HasCome conduct separator a b held came → same ≡ conduct → Runs same (asked_by held) b c result → Runs conduct (map listed_name (names_in separator came)) a c result
+Runs-came {A} conduct same separator a b c held came result come is_same ran =
+    subst (λ (l : List Asked). Runs conduct l a c result) (sym (asks_came conduct separator a b held came come))
+    (Runs-append conduct (map listed_name (names_in separator come.ended)) (asked_by held) a b c result come.answered
+    (subst (λ (r : Conduct). Runs r (asked_by held) b c result) is_same ran))
+
+-- a separator has come, and the name before it is answered
+pub HasCome-separator : {A : Type 0} (conduct : Conduct) (separator byte : ℕ) (a b c : Stand) (held new came : List ℕ) (result : Result A RunFault) (done : A)
+    → HasCome conduct separator a b held came → byte ≡ separator → Runs conduct (asked_by held) b c result → result ≡ Ok done → new ≡ []
+    → HasCome conduct separator a c new (came ++ byte ∷ [])
+HasCome-separator {A} conduct separator byte a b c held new came result done come is ran is_ok cleared =
+    let whole = Runs-came conduct conduct separator a b c held came result come refl ran in
+    let steps : Steps conduct (map listed_name (names_in separator came)) a c = subst (λ (r : Result A RunFault). Runs conduct (map listed_name (names_in separator came)) a c r) is_ok whole in
+    subst (λ (y : ℕ). HasCome conduct separator a c new (came ++ y ∷ [])) (sym is) record {
+      ended = came ++ separator ∷ [];
+      raw = [];
+      parts = append-nil (came ++ separator ∷ []);
+      is_ended = inr (came, refl);
+      unended = λ k d within. absurd (no_element k within);
+      keeps = cleared;
+      answered = subst (λ (l : List Asked). Steps conduct l a c)
+          (sym (asks_ended separator came [] ∙ ap (λ (l : List (List ℕ)). map listed_name (names_in separator came) ++ map listed_name l) (names_in-nil separator)
+          ∙ append-nil (map listed_name (names_in separator came))))
+          steps;
+    }
+
+-- the run stops at the name before a separator, whatever would come after it
+pub Stops-separator : {A B : Type 0} (conduct : Conduct) (separator byte : ℕ) (a b c : Stand) (held came : List ℕ) (result : Result A RunFault) (answer : Result B RunFault) (fault : RunFault)
+    → HasCome conduct separator a b held came → byte ≡ separator → Runs conduct (asked_by held) b c result → result ≡ Err fault → answer ≡ Err fault
+    → IfErr answer (λ fault. (more : List ℕ) → StopsInList conduct separator ((came ++ byte ∷ []) ++ more) fault a c)
+Stops-separator {A} {B} conduct separator byte a b c held came result answer fault come is ran is_err answers =
+    let whole = Runs-came conduct conduct separator a b c held came result come refl ran in
+    let stops : StopsIn conduct (map listed_name (names_in separator came)) fault a c =
+    subst (λ (r : Result A RunFault). Runs conduct (map listed_name (names_in separator came)) a c r) is_err whole in
+    subst (λ (r : Result B RunFault). IfErr r (λ fault. (more : List ℕ) → StopsInList conduct separator ((came ++ byte ∷ []) ++ more) fault a c)) (sym answers)
+    (λ more. subst (λ (l : List Asked). StopsIn conduct l fault a c)
+    (sym (ap (λ (l : List ℕ). map listed_name (names_in separator l)) (append_assoc came (byte ∷ []) more ∙ ap (λ (y : ℕ). came ++ y ∷ more) is) ∙ asks_ended separator came more))
+    (StopsIn-more conduct (map listed_name (names_in separator came)) (map listed_name (names_in separator more)) fault a c stops))
+
+-- what is no name asks for nothing
+pub Runs-no_name : (conduct : Conduct) (a : Stand) (held : List ℕ) → is_name held ≡ false → Steps conduct (asked_by held) a a
+Runs-no_name conduct a held none = subst (λ (t : Bool). Steps conduct (if t then listed_name held ∷ [] else []) a a) (sym none) (Steps-none conduct a)
+
+-- a name asks for one file
+pub Runs-name : {A : Type 0} (conduct : Conduct) (asked : Asked) (a b : Stand) (held : List ℕ) (result : Result A RunFault)
+    → is_name held ≡ true → listed_name held ≡ asked → EndsAt conduct asked a b result → Runs conduct (asked_by held) a b result
+Runs-name conduct asked a b held result named is ends =
+    subst (λ (l : List Asked). Runs conduct l a b result) (sym (ap (λ (t : Bool). if t then listed_name held ∷ [] else []) named ∙ ap (λ (y : Asked). y ∷ []) is))
+    (Runs-one conduct asked a b result ends)
+
+-- what a name asks for that can be a file's
+pub listed_name-file : (held name : List ℕ) → is_file_name held ≡ true → name ≡ held → listed_name held ≡ File name
+listed_name-file held name can is = ap (λ (t : Bool). if t then File held else NoFile (shortened_name held) (name_reason held)) can ∙ ap File (sym is)
+
+-- and what another one asks for
+pub listed_name-no_file : (held name : List ℕ) (reason : Reason) → is_file_name held ≡ false → name ≡ shortened_name held → reason ≡ name_reason held → listed_name held ≡ NoFile name reason
+listed_name-no_file held name reason cannot is why =
+    ap (λ (t : Bool). if t then File held else NoFile (shortened_name held) (name_reason held)) cannot
+    ∙ ap (λ (r : Reason). NoFile (shortened_name held) r) (sym why) ∙ ap (λ (n : List ℕ). NoFile n reason) (sym is)
+
+-- the next bytes up to one more have come
+came_next : (came bytes : List ℕ) (i : ℕ) (byte : ℕ) → i < length bytes → byte ≡ get_or bytes i 0
+    → (came ++ take i bytes) ++ byte ∷ [] ≡ came ++ take (i + 1) bytes
+came_next came bytes i byte within is =
+    append_assoc came (take i bytes) (byte ∷ [])
+    ∙ ap (λ (l : List ℕ). came ++ l) (ap (λ (y : ℕ). take i bytes ++ y ∷ []) is ∙ sym (take_more bytes i 0 within))
+
+-- those up to one more, and then the others
+came_all : (came bytes more : List ℕ) (i : ℕ) (byte : ℕ) → i < length bytes → byte ≡ get_or bytes i 0
+    → ((came ++ take i bytes) ++ byte ∷ []) ++ (drop (i + 1) bytes ++ more) ≡ (came ++ bytes) ++ more
+came_all came bytes more i byte within is =
+    ap (λ (l : List ℕ). l ++ (drop (i + 1) bytes ++ more)) (came_next came bytes i byte within is)
+    ∙ append_assoc came (take (i + 1) bytes) (drop (i + 1) bytes ++ more)
+    ∙ ap (λ (l : List ℕ). came ++ l) (sym (append_assoc (take (i + 1) bytes) (drop (i + 1) bytes) more) ∙ ap (λ (l : List ℕ). l ++ more) (take-append-drop (i + 1) bytes))
+    ∙ sym (append_assoc came bytes more)
+
+-- the run stops in one of the bytes, whatever would come after them
+pub Stops-next : {B : Type 0} (conduct same : Conduct) (separator other : ℕ) (a c : Stand) (came bytes : List ℕ) (i byte : ℕ) (answer : Result B RunFault) (fault : RunFault)
+    → i < length bytes → byte ≡ get_or bytes i 0 → same ≡ conduct → other ≡ separator
+    → ((more : List ℕ) → StopsInList same other (((came ++ take i bytes) ++ byte ∷ []) ++ more) fault a c) → answer ≡ Err fault
+    → IfErr answer (λ fault. (more : List ℕ) → StopsInList conduct separator ((came ++ bytes) ++ more) fault a c)
+Stops-next {B} conduct same separator other a c came bytes i byte answer fault within is is_same is_other stops answers =
+    subst (λ (r : Result B RunFault). IfErr r (λ fault. (more : List ℕ) → StopsInList conduct separator ((came ++ bytes) ++ more) fault a c)) (sym answers)
+    (λ more. subst (λ (l : List ℕ). StopsInList conduct separator l fault a c) (came_all came bytes more i byte within is)
+    (subst (λ (s : ℕ). StopsInList conduct s (((came ++ take i bytes) ++ byte ∷ []) ++ (drop (i + 1) bytes ++ more)) fault a c) is_other
+    (subst (λ (r : Conduct). StopsInList r other (((came ++ take i bytes) ++ byte ∷ []) ++ (drop (i + 1) bytes ++ more)) fault a c) is_same (stops (drop (i + 1) bytes ++ more)))))

@@ -1,0 +1,77 @@
+-- Runs over the names of a list, as its bytes come.
+use Rattle.std.specs.Prelude.{◌≡◌, ◌≢◌, ◌<◌, ◌≤◌, ℕ, Bool, true, List, [], ◌∷◌, ◌++◌, ◌⊎◌, length, All, map, Option, IfSome, Result, Ok, Err}
+use Rattle.std.specs.Io.KnownBytes.{Consumes}
+use Rattle.script_text.specs.Input.{read_limit}
+use Rattle.program_batch.specs.Names.{kept_name, listed_name, names_in}
+use Rattle.program_batch.specs.Answers.{Conduct}
+use Rattle.program_batch.specs.Runs.{Stand, Steps, StopsIn}
+use Rattle.program_batch.specs.declared.desk.RunFault.{RunFault}
+use Rattle.program_batch.specs.declared.desk.RunFault.TheVariants as faults
+
+-- the names in these bytes of a list are answered
+abbrev pub AnswersList : Conduct → ℕ → List ℕ → Stand → Stand → Type 0
+AnswersList conduct separator bytes old new = Steps conduct (map listed_name (names_in separator bytes)) old new
+
+-- a run stops at one of the names in these bytes
+abbrev pub StopsInList : Conduct → ℕ → List ℕ → RunFault → Stand → Stand → Type 0
+StopsInList conduct separator bytes fault old new = StopsIn conduct (map listed_name (names_in separator bytes)) fault old new
+
+-- the bytes end with a separator, or there are none
+abbrev pub IsEnded : ℕ → List ℕ → Type 0
+IsEnded separator bytes = (bytes ≡ []) ⊎ ((before : List ℕ) × (bytes ≡ before ++ separator ∷ []))
+
+-- how far a list has come with these bytes: the names that are ended are answered, and of the one
+-- that is not this is kept
+pub record HasCome (conduct : Conduct) (separator : ℕ) (first now : Stand) (held came : List ℕ) : Type 0 where
+  pub ended : List ℕ
+  pub raw : List ℕ
+  pub parts : ended ++ raw ≡ came
+  pub is_ended : IsEnded separator ended
+  pub unended : All (λ byte. byte ≢ separator) raw
+  pub keeps : held ≡ kept_name raw
+  pub answered : AnswersList conduct separator ended first now
+
+-- the most bytes of a list that is read as it comes
+abbrev pub list_limit : ℕ
+list_limit = 16777216
+
+-- the most reads that are made of a list, of which each gives a byte at least
+abbrev pub reads_limit : ℕ
+reads_limit = 1000000
+
+-- why a list cannot be read to its end, of which so many bytes came: a read of it failed, or it is
+-- longer than as many reads may find
+abbrev pub IsCutShort : Bool → ℕ → Type 0
+IsCutShort has_failed came = (has_failed ≡ true) ⊎ (reads_limit ≤ came)
+
+-- the whole of a list was read, and all of its names are answered
+pub record AnswersStream (conduct : Conduct) (separator : ℕ) (reader : Option (List ℕ)) (old new : Stand) : Type 0 where
+  pub list : List ℕ
+  pub all : IfSome reader (λ bytes. list ≡ bytes)
+  pub answered : AnswersList conduct separator list old new
+
+-- a list cannot be read to its end: all names that were ended before are answered; of the bytes of
+-- the one read that passes the limit nothing is looked at
+pub record LosesStream (conduct : Conduct) (separator : ℕ) (reader left : Option (List ℕ)) (has_failed : Bool) (old new : Stand) : Type 0 where
+  pub consumed : List ℕ
+  pub lost : Consumes reader left consumed
+  pub cause : IsCutShort has_failed (length consumed)
+  pub came : List ℕ
+  pub beyond : List ℕ
+  pub parts : came ++ beyond ≡ consumed
+  pub limit : (beyond ≡ []) ⊎ ((list_limit < length consumed) × (length beyond ≤ read_limit))
+  pub held : List ℕ
+  pub has_come : HasCome conduct separator old new held came
+
+-- a run stops at a name of a list that is read as it comes
+pub record StopsInStream (conduct : Conduct) (separator : ℕ) (reader : Option (List ℕ)) (fault : RunFault) (old new : Stand) : Type 0 where
+  pub list : List ℕ
+  pub all : IfSome reader (λ bytes. list ≡ bytes)
+  pub stopped : StopsInList conduct separator list fault old new
+
+-- how a run over a list that is read as it comes ends, of which a read has failed or not
+abbrev pub RunsStream : {A : Type 0} → Conduct → ℕ → Option (List ℕ) → Option (List ℕ) → Bool → Stand → Stand → Result A RunFault → Type 0
+RunsStream conduct separator reader left has_failed old new (Ok done) = AnswersStream conduct separator reader old new
+RunsStream conduct separator reader left has_failed old new (Err faults.List) = LosesStream conduct separator reader left has_failed old new
+RunsStream conduct separator reader left has_failed old new (Err faults.Write) = StopsInStream conduct separator reader faults.Write old new
+RunsStream conduct separator reader left has_failed old new (Err faults.Memory) = StopsInStream conduct separator reader faults.Memory old new

@@ -1,0 +1,258 @@
+//! Where files are answered, one after another.
+ghost use Rattle.std.specs.Prelude.{◌≡◌, [], true, map, string_bytes, IfOk, OnErr, OnOk};
+ghost use Rattle.program_batch.specs.Names.{File, NoFile as no_file};
+ghost use Rattle.program_batch.specs.Answers.{KeepsQuiet, answer_of};
+ghost use Rattle.program_batch.specs.Runs.{Begins, EndsAt, EndsServing, EndsUnread, Runs, Tells, account_at, stand_at, told_at};
+
+use crate::clerk::Clerk;
+use crate::reason::{Reason, push_known_reason, reason_of};
+use crate::report::{AnswerRoom, Verdict};
+use host_storage::{Host, HostFault};
+use script_text::output::{OutputStream, WriteFault};
+use std::alloc::{AllocError, Global};
+use std::io::Write;
+use thiserror::Error;
+
+/// The most bytes of an image, a program or a text that are read from a file.
+pub const FILE_BYTES: usize = 16_777_216;
+
+/// Why a run stopped before its last file.
+#[derive(Clone, Copy, Debug, PartialEq, Eq, Error)]
+pub enum RunFault {
+    /// The list of names cannot be read to its end. All names that were ended before are answered.
+    #[error("the list of names cannot be read")]
+    List,
+    /// The output takes no more bytes.
+    #[error("write fault")]
+    Write,
+    #[error("out of memory")]
+    Memory,
+}
+
+impl From<AllocError> for RunFault {
+    ghost use Rattle.std.specs.Prelude.{◌≡◌};
+    ghost use Rattle.program_batch.specs.declared.desk.RunFault.TheVariants.{Memory};
+
+    ghost from_gives = { λ _ fault. fault ≡ Memory };
+
+    fn from(_error: AllocError) -> RunFault {
+        RunFault::Memory
+    }
+}
+
+impl From<WriteFault> for RunFault {
+    ghost use Rattle.std.specs.Prelude.{◌≡◌};
+    ghost use Rattle.program_batch.specs.declared.desk.RunFault.TheVariants.{Write};
+
+    ghost from_gives = { λ _ fault. fault ≡ Write };
+
+    fn from(_fault: WriteFault) -> RunFault {
+        RunFault::Write
+    }
+}
+
+/// A name that can be no file's: how it is shown, and why it is none.
+#[derive(Clone, Copy, Debug)]
+pub(crate) struct NoFile<'n> {
+    pub(crate) shown: &'n [u8],
+    pub(crate) reason: Reason,
+}
+
+/// The memory of a run, which is kept from file to file, and its worst verdict so far.
+#[derive(Drop)]
+pub struct Desk {
+    bytes: Vec<u8>,
+    /// The answer that `tell` tells.
+    pub room: AnswerRoom,
+    worst: Verdict,
+}
+
+impl Desk {
+    /// A desk at which nothing was answered, which has no memory yet.
+    pub fn new(alloc: Global) -> Desk
+        ensures { result.worst ≡ Verdict.Clean }
+    {
+        Desk {
+            bytes: Vec::new(alloc),
+            room: AnswerRoom::new(alloc),
+            worst: Verdict::Clean,
+        }
+    }
+
+    /// The worst verdict on the files that were answered.
+    pub fn worst(&self) -> Verdict
+        ensures { result ≡ self.now.worst }
+    {
+        self.worst
+    }
+
+    /// Prints what stands before all answers.
+    pub fn begin<C: Clerk, W: Write>(
+        &mut self,
+        clerk: &mut C,
+        output: &mut OutputStream<'_, W>,
+    ) -> Result<(), RunFault>
+        ensures output { output.new.writer.ghost_name ≡ output.old.writer.ghost_name }
+        ensures manner { C.manner clerk.new ≡ C.manner clerk.old }
+        ensures delivered { OnOk result (output.new.is_delivered ≡ true) }
+        ensures unfailed { OnOk result (output.new.has_failed ≡ output.old.has_failed) }
+        ensures worst { self.new.worst ≡ self.old.worst }
+        ensures begun { Begins (C.heading clerk.old) (account_at W.contents output.old) (account_at W.contents output.new) result }
+    {
+        clerk.head(&mut self.room)?;
+        output.write(self.room.printed.as_slice())?;
+        output.flush()?;
+        Ok(())
+    }
+
+    /// Answers a file of the host.
+    pub(crate) fn answer_file<H: Host, C: Clerk, W: Write, F: Write>(
+        &mut self,
+        name: &str,
+        host: &mut H,
+        clerk: &mut C,
+        output: &mut OutputStream<'_, W>,
+        faults: &mut OutputStream<'_, F>,
+    ) -> Result<(), RunFault>
+        ensures output { output.new.writer.ghost_name ≡ output.old.writer.ghost_name }
+        ensures faults { faults.new.writer.ghost_name ≡ faults.old.writer.ghost_name }
+        ensures manner { C.manner clerk.new ≡ C.manner clerk.old }
+        ensures delivered { OnOk result (output.new.is_delivered ≡ true) }
+        ensures unfailed { OnOk result (output.new.has_failed ≡ output.old.has_failed) }
+        ensures silent { KeepsQuiet (C.conduct (C.manner clerk.old)) → self.new.worst ≡ Verdict.Clean → (self.old.worst ≡ Verdict.Clean) × (faults.new ≡ faults.old) }
+        ensures answered { EndsAt (C.conduct (C.manner clerk.old)) (File name.now)
+            (stand_at H.state host.old W.contents output.old F.contents faults.old self.old.worst)
+            (stand_at H.state host.new W.contents output.new F.contents faults.new self.new.worst) result }
+    {
+        let verdict = self.serve(name, host, clerk)?;
+        self.tell(verdict, output, faults)?;
+        Ok(())
+    }
+
+    /// Reads a file of the host, and lets the clerk put the answer into the room.
+    #[tactic(auto, using(crate::proofs::Serving::serves_read, crate::proofs::Serving::halts_read, crate::proofs::Serving::ends_unread))]
+    fn serve<H: Host, C: Clerk>(
+        &mut self,
+        name: &str,
+        host: &mut H,
+        clerk: &mut C,
+    ) -> Result<Verdict, RunFault>
+        ensures manner { C.manner clerk.new ≡ C.manner clerk.old }
+        ensures worst { self.new.worst ≡ self.old.worst }
+        ensures quiet { IfOk result (λ verdict. KeepsQuiet (C.conduct (C.manner clerk.old)) → verdict ≡ Verdict.Clean → self.new.room.complaint.items ≡ []) }
+        ensures served { EndsServing (C.conduct (C.manner clerk.old)) (File name.now) (H.state host.old) (H.state host.new)
+            (answer_of self.new.room.printed.items self.new.room.complaint.items) result }
+    {
+        match host.fill(name, FILE_BYTES, &mut self.bytes) {
+            Ok(()) => {
+                let bytes = Some(self.bytes.as_slice());
+                Ok(clerk.answer(name.as_bytes(), bytes, host, &mut self.room)?)
+            }
+            Err(HostFault::Memory(_)) => Err(RunFault::Memory),
+            Err(fault) => {
+                let reason = reason_of(host, name, fault);
+                self.serve_unread(name.as_bytes(), reason, host, clerk)
+            }
+        }
+    }
+
+    /// Puts into the room what is printed of a file that could not be read, and the reason behind
+    /// it, if one is known.
+    fn serve_unread<H: Host, C: Clerk>(
+        &mut self,
+        name: &[u8],
+        reason: Option<Reason>,
+        host: &mut H,
+        clerk: &mut C,
+    ) -> Result<Verdict, RunFault>
+        ensures manner { C.manner clerk.new ≡ C.manner clerk.old }
+        ensures worst { self.new.worst ≡ self.old.worst }
+        ensures quiet { IfOk result (λ verdict. KeepsQuiet (C.conduct (C.manner clerk.old)) → verdict ≡ Verdict.Clean → self.new.room.complaint.items ≡ []) }
+        ensures served { EndsUnread (C.conduct (C.manner clerk.old)) name.now reason (H.state host.old) (H.state host.new)
+            (answer_of self.new.room.printed.items self.new.room.complaint.items) result }
+    {
+        let verdict = clerk.answer(name, None, host, &mut self.room)?;
+        push_known_reason(&mut self.room.complaint, reason)?;
+        Ok(verdict)
+    }
+
+    /// Answers a name that can be no file's.
+    #[tactic(auto, using(crate::proofs::Serving::serves_no_file, crate::proofs::Serving::halts_no_file))]
+    pub(crate) fn answer_no_file<H: Host, C: Clerk, W: Write, F: Write>(
+        &mut self,
+        name: NoFile<'_>,
+        host: &mut H,
+        clerk: &mut C,
+        output: &mut OutputStream<'_, W>,
+        faults: &mut OutputStream<'_, F>,
+    ) -> Result<(), RunFault>
+        ensures output { output.new.writer.ghost_name ≡ output.old.writer.ghost_name }
+        ensures faults { faults.new.writer.ghost_name ≡ faults.old.writer.ghost_name }
+        ensures manner { C.manner clerk.new ≡ C.manner clerk.old }
+        ensures delivered { OnOk result (output.new.is_delivered ≡ true) }
+        ensures unfailed { OnOk result (output.new.has_failed ≡ output.old.has_failed) }
+        ensures silent { KeepsQuiet (C.conduct (C.manner clerk.old)) → self.new.worst ≡ Verdict.Clean → (self.old.worst ≡ Verdict.Clean) × (faults.new ≡ faults.old) }
+        ensures answered { EndsAt (C.conduct (C.manner clerk.old)) (no_file name.entry.shown.now name.entry.reason)
+            (stand_at H.state host.old W.contents output.old F.contents faults.old self.old.worst)
+            (stand_at H.state host.new W.contents output.new F.contents faults.new self.new.worst) result }
+    {
+        let verdict = self.serve_unread(name.shown, Some(name.reason), host, clerk)?;
+        self.tell(verdict, output, faults)?;
+        Ok(())
+    }
+
+    /// Answers files of the host, one after another, and returns the worst verdict. `Write` comes
+    /// where the output fails, and nothing is answered after that; a file that cannot be read stops
+    /// nothing.
+    pub fn answer_files<H: Host, C: Clerk, W: Write, F: Write>(
+        &mut self,
+        names: &[String],
+        host: &mut H,
+        clerk: &mut C,
+        output: &mut OutputStream<'_, W>,
+        faults: &mut OutputStream<'_, F>,
+    ) -> Result<(), RunFault>
+        ensures output { output.new.writer.ghost_name ≡ output.old.writer.ghost_name }
+        ensures faults { faults.new.writer.ghost_name ≡ faults.old.writer.ghost_name }
+        ensures manner { C.manner clerk.new ≡ C.manner clerk.old }
+        ensures delivered { output.old.is_delivered ≡ true → OnOk result (output.new.is_delivered ≡ true) }
+        ensures unfailed { OnOk result (output.new.has_failed ≡ output.old.has_failed) }
+        ensures silent { KeepsQuiet (C.conduct (C.manner clerk.old)) → self.new.worst ≡ Verdict.Clean → (self.old.worst ≡ Verdict.Clean) × (faults.new ≡ faults.old) }
+        ensures answered { Runs (C.conduct (C.manner clerk.old)) (map (λ name. File (string_bytes name)) names.now)
+            (stand_at H.state host.old W.contents output.old F.contents faults.old self.old.worst)
+            (stand_at H.state host.new W.contents output.new F.contents faults.new self.new.worst) result }
+    {
+        for name in names {
+            self.answer_file(name.as_str(), host, clerk, output, faults)?;
+        }
+        Ok(())
+    }
+
+    /// Writes and delivers what is in the room, and counts the verdict. Where there is no
+    /// complaint, the standard error is left alone; where that fails, the rest of a complaint is
+    /// dropped.
+    pub fn tell<W: Write, F: Write>(
+        &mut self,
+        verdict: Verdict,
+        output: &mut OutputStream<'_, W>,
+        faults: &mut OutputStream<'_, F>,
+    ) -> Result<(), WriteFault>
+        ensures output { output.new.writer.ghost_name ≡ output.old.writer.ghost_name }
+        ensures faults { faults.new.writer.ghost_name ≡ faults.old.writer.ghost_name }
+        ensures delivered { OnOk result (output.new.is_delivered ≡ true) }
+        ensures unfailed { OnOk result (output.new.has_failed ≡ output.old.has_failed) }
+        ensures silent { self.old.room.complaint.items ≡ [] → faults.new ≡ faults.old }
+        ensures stopped { OnErr result (faults.new ≡ faults.old) }
+        ensures told { Tells (answer_of self.old.room.printed.items self.old.room.complaint.items verdict)
+            (told_at W.contents output.old F.contents faults.old self.old.worst)
+            (told_at W.contents output.new F.contents faults.new self.new.worst) result }
+    {
+        output.write(self.room.printed.as_slice())?;
+        output.flush()?;
+        if !self.room.complaint.is_empty() {
+            let _ = faults.write(self.room.complaint.as_slice());
+        }
+        self.worst = self.worst.worse(verdict);
+        Ok(())
+    }
+}

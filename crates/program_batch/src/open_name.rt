@@ -1,0 +1,109 @@
+//! The name of a list that is being read.
+ghost use Rattle.std.specs.Prelude.{◌≡◌, ◌≤◌, ◌<◌, if◌then◌else◌, [], ◌∷◌, ◌++◌, length, take, MatchOption, true, false, ◌==◌};
+ghost use Rattle.program_batch.specs.Names.{is_file_name, is_name, name_reason, shortened_name};
+
+use crate::reason::Reason;
+use arrayvec::ArrayVec;
+use std::marker::Model;
+
+/// The most bytes of a name.
+const NAME_BYTES: usize = 4096;
+
+/// One byte more than a name has, so that one that is too long is known.
+const KEPT_BYTES: usize = 4097;
+
+/// How many bytes are shown of a name that is too long.
+const SHOWN_BYTES: usize = 64;
+
+/// The bytes of a name as far as they have come, or the first 4,097 of more.
+#[derive(Drop)]
+pub(crate) struct OpenName {
+    bytes: ArrayVec<u8, KEPT_BYTES>,
+}
+
+impl Model for OpenName {
+    ghost use Rattle.std.specs.Prelude.{ℕ, List, ◌≤◌, length};
+
+    ghost Value = { List ℕ };
+
+    ghost view = { λ name. name.bytes.items };
+
+    ghost invariant = { λ name. length name.bytes.items ≤ 4097 };
+}
+
+impl OpenName {
+    /// A name of which nothing has come.
+    pub(crate) fn new() -> OpenName
+        ensures { result ≡ [] }
+    {
+        OpenName {
+            bytes: ArrayVec::new(),
+        }
+    }
+
+    /// Forgets the name for the next one.
+    pub(crate) fn clear(&mut self)
+        ensures { self.new ≡ [] }
+    {
+        self.bytes.clear();
+    }
+
+    /// Takes the next byte of the name.
+    pub(crate) fn push(&mut self, byte: u8)
+        ensures { self.new ≡ take 4097 (self.old ++ byte ∷ []) }
+    {
+        if self.bytes.len() < KEPT_BYTES {
+            self.bytes.push(byte);
+        }
+    }
+
+    /// Whether something has come.
+    pub(crate) fn is_name(&self) -> bool
+        ensures { result ≡ is_name self.now }
+    {
+        !self.bytes.is_empty()
+    }
+
+    /// The name as a file's, or None where it can be no file's: it is no UTF-8, or has more than
+    /// 4,096 bytes.
+    pub(crate) fn file_name(&self) -> Option<&str>
+        ensures { MatchOption result (is_file_name self.now ≡ false) (λ name. (is_file_name self.now ≡ true) × (name.now ≡ self.now)) }
+    {
+        if self.bytes.len() > NAME_BYTES {
+            return None;
+        }
+        match str::from_utf8(self.bytes.as_slice()) {
+            Ok(name) => Some(name),
+            Err(_) => None,
+        }
+    }
+
+    /// Why the name can be no file's, where it can be none.
+    pub(crate) fn reason(&self) -> Reason
+        ensures { result ≡ name_reason self.now }
+    {
+        if self.bytes.len() > NAME_BYTES {
+            Reason::LongName
+        } else {
+            Reason::NotUtf8
+        }
+    }
+
+    /// Keeps what is shown of a name: all of it, or the first 64 bytes of one that is too long, and
+    /// two full stops.
+    pub(crate) fn shorten(&mut self)
+        ensures { self.new ≡ shortened_name self.old }
+    {
+        if self.bytes.len() > NAME_BYTES {
+            self.bytes.truncate(SHOWN_BYTES);
+            let _ = self.bytes.try_extend_from_slice(b"..");
+        }
+    }
+
+    /// The bytes of the name.
+    pub(crate) fn as_bytes(&self) -> &[u8]
+        ensures { result.now ≡ self.now }
+    {
+        self.bytes.as_slice()
+    }
+}

@@ -1,0 +1,20 @@
+//! The files of the host that jobs read.
+ghost use Rattle.program_batch.specs.Runs.{file_limit};
+ghost use Rattle.host_storage.specs.Host.{fetched_bytes};
+ghost use Rattle.script_commands.specs.Act.{FetchesFile};
+
+use host_storage::{Host, HostFault};
+use program_batch::FILE_BYTES;
+use script_commands::host_file::fetch;
+use std::alloc::Global;
+
+/// The bytes of a host file that is an image, a program or a text: `TooLong` where it has more than
+/// 16,777,216.
+pub fn fetch_file<H: Host>(alloc: Global, host: &mut H, name: &str) -> Result<Vec<u8>, HostFault>
+    ensures { FetchesFile
+        (H.state host.old)
+        name.now file_limit (fetched_bytes result)
+        (H.state host.new) }
+{
+    fetch(alloc, host, name, FILE_BYTES)
+}

@@ -1,0 +1,87 @@
+-- What a survey leaves, by what its run leaves.
+use Rattle.std.proofs.Common.{◌≡◌, ℕ, List, map, true, false, Bool, Option, Result, Ok, Err, refl, sym, subst, Bor, String, Global, string_bytes}
+use Rattle.std.proofs.lemmas.Simd.{map-map}
+use Rattle.std.specs.Prelude.{MatchBool}
+use Rattle.script_text.specs.Output.{Account}
+use Rattle.program_batch.specs.Names.{Asked, File}
+use Rattle.program_batch.specs.Answers.{Conduct}
+use Rattle.host_storage.specs.Files.{HostState}
+use Rattle.program_batch.specs.Runs.{Begins, Runs, Stand, stand_of, told_of}
+use Rattle.program_batch.specs.Lists.{RunsStream}
+use Rattle.program_batch.specs.declared.desk.RunFault.{RunFault}
+use Rattle.program_batch.specs.declared.desk.RunFault.TheVariants as stops
+use Rattle.program_batch.specs.declared.report.Verdict.{Verdict}
+use Rattle.program_batch.specs.declared.report.Verdict.TheVariants.{Clean}
+use Rattle.program_surveys.specs.JobEnds.{EndedSurvey, first_stand}
+use Rattle.program_exit.specs.Outside.{Outside}
+use Rattle.program_exit.specs.Faults.{Reports}
+use Rattle.program_exit.specs.declared.program_fault.ProgramFault.TheVariants.{Memory}
+use Rattle.program_surveys.specs.SurveyFiles.{SurveyFiles, files_in}
+use Rattle.program_surveys.specs.Surveys.{RunsListFile, RunsOver, Surveys, is_input}
+use Rattle.program_surveys.specs.declared.file_names.FileNames.{FileNames}
+use Rattle.program_surveys.specs.declared.file_names.FileNames.TheVariants.{Given, Listed}
+
+-- one of the two cases that a test decides
+pub first_case : (test : Bool) (P Q : Type 0) → test ≡ true → P → MatchBool test P Q
+first_case true P Q is p = p
+first_case false P Q is p = cc
+
+pub second_case : (test : Bool) (P Q : Type 0) → test ≡ false → Q → MatchBool test P Q
+second_case true P Q is q = cc
+second_case false P Q is q = q
+
+-- a run over given names
+pub over_given : (conduct : Conduct) (names : FileNames) (given : Bor (List (String Global))) (reader : Option (List ℕ)) (has_failed : Bool) (a b : Stand) (ended : Result (Unit {0}) RunFault)
+    → names ≡ Given given → Runs conduct (map (λ name. File (string_bytes name)) given.now) a b ended → RunsOver conduct (files_in names) reader reader has_failed a b ended
+over_given conduct names given reader has_failed a b ended is ran =
+    let whole : RunsOver conduct (files_in (Given given)) reader reader has_failed a b ended =
+    (refl, subst (λ (l : List Asked). Runs conduct l a b ended) (sym (map-map File string_bytes given.now)) ran) in
+    subst (λ (n : FileNames). RunsOver conduct (files_in n) reader reader has_failed a b ended) (sym is) whole
+
+-- a run over the names of the input
+pub over_input : (conduct : Conduct) (names : FileNames) (list : Bor (List ℕ)) (separator byte : ℕ) (reader left : Option (List ℕ)) (has_failed : Bool) (a b : Stand) (ended : Result (Unit {0}) RunFault)
+    → names ≡ Listed list separator → is_input list.now ≡ true → byte ≡ separator → RunsStream conduct byte reader left has_failed a b ended
+    → RunsOver conduct (files_in names) reader left has_failed a b ended
+over_input conduct names list separator byte reader left has_failed a b ended is input bytes ran =
+    let whole : RunsOver conduct (files_in (Listed list separator)) reader left has_failed a b ended =
+    first_case (is_input list.now) _ _ input (subst (λ (s : ℕ). RunsStream conduct s reader left has_failed a b ended) bytes ran) in
+    subst (λ (n : FileNames). RunsOver conduct (files_in n) reader left has_failed a b ended) (sym is) whole
+
+-- a run over the names of a list of the host
+pub over_file : (conduct : Conduct) (names : FileNames) (list : Bor (List ℕ)) (separator byte : ℕ) (reader : Option (List ℕ)) (has_failed : Bool) (a b : Stand) (ended : Result (Unit {0}) RunFault)
+    → names ≡ Listed list separator → is_input list.now ≡ false → byte ≡ separator → RunsListFile conduct byte list.now a b ended
+    → RunsOver conduct (files_in names) reader reader has_failed a b ended
+over_file conduct names list separator byte reader has_failed a b ended is file bytes ran =
+    let whole : RunsOver conduct (files_in (Listed list separator)) reader reader has_failed a b ended =
+    second_case (is_input list.now) _ _ file (refl, subst (λ (s : ℕ). RunsListFile conduct s list.now a b ended) bytes ran) in
+    subst (λ (n : FileNames). RunsOver conduct (files_in n) reader reader has_failed a b ended) (sym is) whole
+
+-- a survey that was begun goes on as its run
+pub surveyed : (conduct same : Conduct) (heading : List ℕ) (files : SurveyFiles) (reader left : Option (List ℕ)) (has_failed : Bool) (host : HostState) (before after error : Account) (worst : Verdict) (last : Stand)
+    (done : Unit {0}) (ended : Result (Unit {0}) RunFault)
+    → Begins {A = Unit {0}} heading before after (Ok done) → worst ≡ Clean → same ≡ conduct → RunsOver same files reader left has_failed (stand_of host (told_of after error worst)) last ended
+    → Surveys conduct heading files reader left has_failed (stand_of host (told_of before error Clean)) last ended
+surveyed conduct same heading files reader left has_failed host before after error worst last done ended begins clean is_same ran = record {
+  begun = Ok done;
+  output = after;
+  begins = begins;
+  goes_on = subst (λ (r : Conduct). RunsOver r files reader left has_failed (stand_of host (told_of after error Clean)) last ended) is_same
+      (subst (λ (w : Verdict). RunsOver same files reader left has_failed (stand_of host (told_of after error w)) last ended) clean ran);
+}
+
+-- where there is no memory to begin a survey, it has ended with nothing printed
+pub not_begun : (conduct : Conduct) (heading : List ℕ) (files : SurveyFiles) (old : Outside) (faults told : Account) (status : ℕ)
+    → Reports Memory faults told status → EndedSurvey conduct heading files old old faults told status
+not_begun conduct heading files old faults told status reports = record {
+  ended = Err stops.Memory;
+  last = first_stand old faults;
+  surveyed = record {
+    begun = Err stops.Memory;
+    output = old.output;
+    begins = refl;
+    goes_on = (refl, refl, refl);
+  };
+  host = refl;
+  output = refl;
+  tells = reports;
+}

@@ -1,0 +1,75 @@
+-- How a survey of files ends.
+use Rattle.std.specs.Prelude.{◌≡◌, ℕ, List, Bool, true, false, MatchBool, bytes_eq, map, codes, Option, Result, Ok, Err}
+use Rattle.host_storage.specs.declared.host.HostFault.{HostFault}
+use Rattle.host_storage.specs.declared.host.HostFault.TheVariants as refusals
+use Rattle.script_text.specs.Output.{Account}
+use Rattle.program_batch.specs.Names.{File}
+use Rattle.program_batch.specs.Answers.{Conduct}
+use Rattle.host_storage.specs.Files.{HostState}
+use Rattle.host_storage.specs.Host.{CountsDevice, Opens, one_more_failure}
+use Rattle.program_batch.specs.Runs.{Begins, Runs, Stand, stand_of, told_of}
+use Rattle.program_batch.specs.Lists.{RunsStream}
+use Rattle.program_batch.specs.declared.desk.RunFault.{RunFault}
+use Rattle.program_batch.specs.declared.desk.RunFault.TheVariants as faults
+use Rattle.program_batch.specs.declared.report.Verdict.{Verdict}
+use Rattle.program_surveys.specs.SurveyFiles.{SurveyFiles, Named, ListedIn}
+
+-- the list is the standard input
+abbrev pub is_input : List ℕ → Bool
+is_input list = bytes_eq list (codes "-")
+
+-- how the fault of a list that cannot be opened is told: there is no memory, or the list cannot be
+-- read
+abbrev pub fault_of_list : HostFault → RunFault
+fault_of_list (refusals.Memory error) = faults.Memory
+fault_of_list fault = faults.List
+
+-- a file was opened of the host, which keeps its files; the answer has the bytes that it tells
+abbrev pub IsOpened : List ℕ → HostState → Result (Option (List ℕ)) HostFault → HostState → Type 0
+IsOpened name old answer new =
+    Opens old.files name answer × (new.files ≡ old.files) × CountsDevice old.failures new.failures answer
+
+-- the host after a list of it was read, of which a read has failed or not: a failed one is counted
+abbrev pub after_reading : Bool → HostState → HostState
+after_reading true host = record host { failures = one_more_failure host.failures }
+after_reading false host = host
+
+-- how a run over the names of a list of the host ends, which was opened so: it is read as it comes,
+-- and some of it may be left; a failed read ends the run, and is counted; or nothing is answered
+abbrev pub RunsOpened : {A : Type 0} → Conduct → ℕ → Result (Option (List ℕ)) HostFault → Stand → Stand → Result A RunFault → Type 0
+RunsOpened conduct separator (Ok reader) first last result =
+    (left : Option (List ℕ)) × (has_failed : Bool) × (read : Stand) × RunsStream conduct separator reader left has_failed first read result
+    × (has_failed ≡ true → result ≡ Err faults.List) × (last ≡ stand_of (after_reading has_failed read.host) read.told)
+RunsOpened conduct separator (Err fault) first last result = (result ≡ Err (fault_of_list fault)) × (last ≡ first)
+
+-- how a run over the names of a list of the host ends
+abbrev pub RunsListFile : {A : Type 0} → Conduct → ℕ → List ℕ → Stand → Stand → Result A RunFault → Type 0
+RunsListFile conduct separator list first last result =
+    (answer : Result (Option (List ℕ)) HostFault) × (host : HostState) × IsOpened list first.host answer host × RunsOpened conduct separator answer (stand_of host first.told) last result
+
+-- how a run over the files of a survey ends, what it leaves of the input, and whether a read of the
+-- input has failed
+abbrev pub RunsOver : {A : Type 0} → Conduct → SurveyFiles → Option (List ℕ) → Option (List ℕ) → Bool → Stand → Stand → Result A RunFault → Type 0
+RunsOver conduct (Named names) reader left has_failed first last result = (left ≡ reader) × Runs conduct (map File names) first last result
+RunsOver conduct (ListedIn list separator) reader left has_failed first last result =
+    MatchBool (is_input list)
+    (RunsStream conduct separator reader left has_failed first last result)
+    ((left ≡ reader) × RunsListFile conduct separator list first last result)
+
+-- how a survey goes on after what stands before all answers: over the files, or not at all where
+-- that was not printed
+abbrev pub GoesOn : {A B : Type 0} → Conduct → SurveyFiles → Option (List ℕ) → Option (List ℕ) → Bool → Result B RunFault → Stand → Stand → Result A RunFault → Type 0
+GoesOn conduct files reader left has_failed (Ok done) first last result = RunsOver conduct files reader left has_failed first last result
+GoesOn conduct files reader left has_failed (Err fault) first last result = (left ≡ reader) × (last ≡ first) × (result ≡ Err fault)
+
+-- how a survey ends: what stands before all answers is printed, and then the files are answered
+pub record Surveys (conduct : Conduct) (heading : List ℕ) (files : SurveyFiles) (reader left : Option (List ℕ)) (has_failed : Bool) (first last : Stand) (ended : Result (Unit {0}) RunFault) : Type 0 where
+  pub begun : Result (Unit {0}) RunFault
+  pub output : Account
+  pub begins : Begins heading first.told.output output begun
+  pub goes_on : GoesOn conduct files reader left has_failed begun (stand_of first.host (told_of output first.told.error first.told.worst)) last ended
+
+-- a survey that ended so says this: the worst verdict, or the fault
+abbrev pub Says : Verdict → Result (Unit {0}) RunFault → Result Verdict RunFault → Type 0
+Says worst (Ok done) said = said ≡ Ok worst
+Says worst (Err fault) said = said ≡ Err fault

@@ -1,0 +1,270 @@
+//! The jobs that survey files: a report on each, by the names that the words give.
+ghost use Rattle.std.specs.Prelude.{◌≡◌, ◌≤◌, ℕ, List, [], Err, IfErr, IfOk, Ok, OnOk, Result, true, false};
+ghost use Rattle.host_storage.specs.declared.host.HostFault.{HostFault};
+ghost use Rattle.script_text.specs.Input.{IsUnread, reading_of};
+ghost use Rattle.program_batch.specs.Answers.{KeepsQuiet, Rule, by_rule};
+ghost use Rattle.program_batch.specs.Reasons.{with_known_reason};
+ghost use Rattle.out_messages.specs.FaultLines.{unread_line};
+ghost use Rattle.program_batch.specs.Runs.{account_at, stand_at};
+ghost use Rattle.program_surveys.specs.JobEnds.{EndedSurvey, IsListReason, TellsFault};
+ghost use Rattle.program_exit.specs.Outside.{outside_at};
+ghost use Rattle.program_surveys.specs.SurveyFiles.{files_in, list_name};
+ghost use Rattle.program_surveys.specs.Surveys.{IsOpened, RunsListFile, Says, Surveys, fault_of_list};
+ghost use Rattle.program_batch.specs.declared.desk.RunFault.{RunFault};
+ghost use Rattle.program_batch.specs.declared.report.Verdict.{Verdict};
+
+use crate::file_names::FileNames;
+use host_storage::{Host, HostFault};
+use out_messages::unread_line;
+use program_batch::{
+    Clerk, Desk, ListDesk, Reason, Report, RunFault, Verdict, push_known_reason, reason_of,
+};
+use program_exit::{NOT_RUN, ProgramFault};
+use script_text::input::InputStream;
+use script_text::output::OutputStream;
+use std::alloc::{AllocError, Global};
+use std::io::{Read, Write};
+
+/// How the fault of a list that cannot be opened is told.
+fn fault_of_list(fault: HostFault) -> RunFault
+    ensures { result ≡ fault_of_list fault }
+{
+    match fault {
+        HostFault::Memory(_) => RunFault::Memory,
+        HostFault::Missing | HostFault::Device | HostFault::TooLong => RunFault::List,
+    }
+}
+
+/// Opens a list of the host.
+fn open_list<H: Host>(list: &str, host: &mut H) -> Result<H::File, RunFault>
+    ensures opened { IfOk result (λ file. IsOpened list.now (H.state host.old)
+        (Ok (H.File.remaining file)) (H.state host.new)) }
+    ensures refused { IfErr result (λ told. (fault : HostFault) × IsOpened list.now (H.state host.old)
+        (Err fault) (H.state host.new) × (told ≡ fault_of_list fault)) }
+{
+    match host.open(list) {
+        Ok(file) => Ok(file),
+        Err(fault) => Err(fault_of_list(fault)),
+    }
+}
+
+/// Why a list cannot be read, as far as the host can say: nothing of the standard input.
+fn reason_of_list<H: Host>(list: &str, host: &H) -> Option<Reason>
+    ensures { IsListReason (H.state host.now).files list.now result }
+{
+    match list {
+        "-" => None,
+        list => reason_of(host, list, HostFault::Device),
+    }
+}
+
+/// Answers at a desk the files that a list of the host names. A failed read of the list is counted.
+fn answer_list_file<H: Host, C: Clerk, W: Write, F: Write>(
+    list: &str,
+    desk: &mut ListDesk,
+    host: &mut H,
+    clerk: &mut C,
+    output: &mut OutputStream<'_, W>,
+    faults: &mut OutputStream<'_, F>,
+) -> Result<(), RunFault>
+    requires delivered { output.old.is_delivered ≡ true }
+    ensures output { output.new.writer.ghost_name ≡ output.old.writer.ghost_name }
+    ensures faults { faults.new.writer.ghost_name ≡ faults.old.writer.ghost_name }
+    ensures delivered { OnOk result (output.new.is_delivered ≡ true) }
+    ensures unfailed { OnOk result (output.new.has_failed ≡ output.old.has_failed) }
+    ensures silent { KeepsQuiet (C.conduct (C.manner clerk.old)) → desk.new.desk.worst ≡ Verdict.Clean → (desk.old.desk.worst ≡ Verdict.Clean) × (faults.new ≡ faults.old) }
+    ensures answered { desk.old.name ≡ [] → RunsListFile (C.conduct (C.manner clerk.old)) desk.old.separator list.now
+        (stand_at H.state host.old W.contents output.old F.contents faults.old desk.old.desk.worst)
+        (stand_at H.state host.new W.contents output.new F.contents faults.new desk.new.desk.worst) result }
+{
+    let mut file = open_list(list, host)?;
+    let mut list = InputStream::new(&mut file);
+    match desk.answer_stream(&mut list, host, clerk, output, faults) {
+        Ok(()) => return Ok(()),
+        Err(RunFault::List) => {}
+        Err(RunFault::Write) => return Err(RunFault::Write),
+        Err(RunFault::Memory) => return Err(RunFault::Memory),
+    }
+    if list.has_failed() {
+        host.count_failed_read();
+    }
+    Err(RunFault::List)
+}
+
+/// Adds the line of a list that cannot be read to an empty text, and the reason, if one is known.
+fn push_unread_list(
+    line: &mut Vec<u8>,
+    list: &str,
+    reason: Option<Reason>,
+) -> Result<(), AllocError>
+    ensures { line.old.items ≡ [] → OnOk result (line.new.items ≡ with_known_reason reason (unread_line list.now)) }
+{
+    unread_line(line, list.as_bytes())?;
+    push_known_reason(line, reason)
+}
+
+/// A survey of the files of these names.
+#[derive(Drop)]
+pub struct SurveyJob<'n> {
+    alloc: Global,
+    names: FileNames<'n>,
+}
+
+impl<'n> SurveyJob<'n> {
+    /// A survey of the files of these names.
+    pub fn new(alloc: Global, names: FileNames<'n>) -> SurveyJob<'n>
+        ensures { result.names ≡ names.entry }
+    {
+        SurveyJob { alloc, names }
+    }
+
+    /// Answers the files by a report, where there was memory to make one, and returns the exit
+    /// status: that of the worst verdict, or 2 where the list cannot be read, the output takes no
+    /// more bytes, or memory is wanting.
+    pub fn run<R: Read, W: Write, F: Write, H: Host, P: Report + Drop>(
+        &self,
+        report: Result<P, AllocError>,
+        input: &mut InputStream<'_, R>,
+        output: &mut OutputStream<'_, W>,
+        faults: &mut OutputStream<'_, F>,
+        host: &mut H,
+    ) -> u8
+        requires unread { IsUnread (reading_of input.old.reads input.old.came input.old.has_failed) }
+        requires unfailed { output.old.has_failed ≡ false }
+        requires delivered { output.old.is_delivered ≡ true }
+        ensures input { input.new.reader.ghost_name ≡ input.old.reader.ghost_name }
+        ensures output { output.new.writer.ghost_name ≡ output.old.writer.ghost_name }
+        ensures faults { faults.new.writer.ghost_name ≡ faults.old.writer.ghost_name }
+        ensures status { result ≤ 2 }
+        ensures delivered { result ≡ 0 → (output.new.is_delivered ≡ true) × (output.new.has_failed ≡ false) }
+        ensures silent { result ≡ 0 → faults.new ≡ faults.old }
+        ensures ended { (rule : Rule) (heading : List ℕ) → IfOk report (λ report. (P.rule report ≡ rule) × (P.heading report ≡ heading))
+            → EndedSurvey (by_rule rule) heading (files_in self.now.names)
+            (outside_at R.remaining input.old W.contents output.old H.state host.old)
+            (outside_at R.remaining input.new W.contents output.new H.state host.new)
+            (account_at F.contents faults.old) (account_at F.contents faults.new) result }
+    {
+        self.run_by(report, input, output, faults, host)
+    }
+
+    /// Answers the files by a clerk, where there was memory to make one, and returns the exit
+    /// status: that of the worst verdict, or 2 where the list cannot be read, the output takes no
+    /// more bytes, or memory is wanting.
+    pub fn run_by<R: Read, W: Write, F: Write, H: Host, C: Clerk + Drop>(
+        &self,
+        clerk: Result<C, AllocError>,
+        input: &mut InputStream<'_, R>,
+        output: &mut OutputStream<'_, W>,
+        faults: &mut OutputStream<'_, F>,
+        host: &mut H,
+    ) -> u8
+        requires unread { IsUnread (reading_of input.old.reads input.old.came input.old.has_failed) }
+        requires unfailed { output.old.has_failed ≡ false }
+        requires delivered { output.old.is_delivered ≡ true }
+        ensures input { input.new.reader.ghost_name ≡ input.old.reader.ghost_name }
+        ensures output { output.new.writer.ghost_name ≡ output.old.writer.ghost_name }
+        ensures faults { faults.new.writer.ghost_name ≡ faults.old.writer.ghost_name }
+        ensures status { result ≤ 2 }
+        ensures delivered { result ≡ 0 → (output.new.is_delivered ≡ true) × (output.new.has_failed ≡ false) }
+        ensures silent { IfOk clerk (λ clerk. KeepsQuiet (C.conduct (C.manner clerk))) → result ≡ 0 → faults.new ≡ faults.old }
+        ensures ended { (manner : C.Manner) (heading : List ℕ) → IfOk clerk (λ clerk. (C.manner clerk ≡ manner) × (C.heading clerk ≡ heading))
+            → EndedSurvey (C.conduct manner) heading (files_in self.now.names)
+            (outside_at R.remaining input.old W.contents output.old H.state host.old)
+            (outside_at R.remaining input.new W.contents output.new H.state host.new)
+            (account_at F.contents faults.old) (account_at F.contents faults.new) result }
+    {
+        let mut clerk = match clerk {
+            Ok(clerk) => clerk,
+            Err(_) => return ProgramFault::Memory.report_on(faults),
+        };
+        match self.answer(&mut clerk, input, output, faults, host) {
+            Ok(verdict) => verdict.exit_status(),
+            Err(fault) => self.tell(fault, host, faults),
+        }
+    }
+
+    /// Answers the files by a clerk, and returns the worst verdict.
+    fn answer<R: Read, W: Write, F: Write, H: Host, C: Clerk>(
+        &self,
+        clerk: &mut C,
+        input: &mut InputStream<'_, R>,
+        output: &mut OutputStream<'_, W>,
+        faults: &mut OutputStream<'_, F>,
+        host: &mut H,
+    ) -> Result<Verdict, RunFault>
+        requires unread { IsUnread (reading_of input.old.reads input.old.came input.old.has_failed) }
+        requires unfailed { output.old.has_failed ≡ false }
+        requires delivered { output.old.is_delivered ≡ true }
+        ensures input { input.new.reader.ghost_name ≡ input.old.reader.ghost_name }
+        ensures output { output.new.writer.ghost_name ≡ output.old.writer.ghost_name }
+        ensures faults { faults.new.writer.ghost_name ≡ faults.old.writer.ghost_name }
+        ensures delivered { OnOk result ((output.new.is_delivered ≡ true) × (output.new.has_failed ≡ false)) }
+        ensures silent { KeepsQuiet (C.conduct (C.manner clerk.old)) → result ≡ Ok Verdict.Clean → faults.new ≡ faults.old }
+        ensures surveyed { (worst : Verdict) × (ended : Result (Unit {0}) RunFault) × Surveys (C.conduct (C.manner clerk.old)) (C.heading clerk.old) (files_in self.now.names) (R.remaining input.old.reader.now) (R.remaining input.new.reader.now) input.new.has_failed
+            (stand_at H.state host.old W.contents output.old F.contents faults.old Verdict.Clean)
+            (stand_at H.state host.new W.contents output.new F.contents faults.new worst) ended × Says worst ended result }
+    {
+        let mut desk = Desk::new(self.alloc);
+        desk.begin(clerk, output)?;
+        match self.names {
+            FileNames::Given(names) => {
+                desk.answer_files(names, host, clerk, output, faults)?;
+                Ok(desk.worst())
+            }
+            FileNames::Listed { list, separator } => {
+                let mut desk = ListDesk::new(desk, separator);
+                match list {
+                    "-" => {
+                        desk.answer_stream(input, host, clerk, output, faults)?;
+                        Ok(desk.worst())
+                    }
+                    list => {
+                        answer_list_file(list, &mut desk, host, clerk, output, faults)?;
+                        Ok(desk.worst())
+                    }
+                }
+            }
+        }
+    }
+
+    /// Tells the fault of a run, and returns the exit status. Where a write fails, the rest of the
+    /// line is dropped.
+    fn tell<H: Host, F: Write>(
+        &self,
+        fault: RunFault,
+        host: &H,
+        faults: &mut OutputStream<'_, F>,
+    ) -> u8
+        ensures faults { faults.new.writer.ghost_name ≡ faults.old.writer.ghost_name }
+        ensures status { result ≡ 2 }
+        ensures told { TellsFault (H.state host.now).files (list_name (files_in self.now.names)) fault (account_at F.contents faults.old) (account_at F.contents faults.new) result }
+    {
+        match fault {
+            RunFault::List => self.tell_list(self.names.list_name(), host, faults),
+            RunFault::Write => ProgramFault::Write.report_on(faults),
+            RunFault::Memory => ProgramFault::Memory.report_on(faults),
+        }
+    }
+
+    /// Tells that a list cannot be read, and why, if that is known.
+    fn tell_list<H: Host, F: Write>(
+        &self,
+        list: &str,
+        host: &H,
+        faults: &mut OutputStream<'_, F>,
+    ) -> u8
+        ensures faults { faults.new.writer.ghost_name ≡ faults.old.writer.ghost_name }
+        ensures status { result ≡ 2 }
+        ensures told { TellsFault (H.state host.now).files list.now RunFault.List (account_at F.contents faults.old) (account_at F.contents faults.new) result }
+    {
+        let mut line = Vec::new(self.alloc);
+        let reason = reason_of_list(list, host);
+        match push_unread_list(&mut line, list, reason) {
+            Ok(()) => {
+                let _ = faults.write(line.as_slice());
+                NOT_RUN
+            }
+            Err(_) => ProgramFault::Memory.report_on(faults),
+        }
+    }
+}

@@ -1,0 +1,19 @@
+use Rattle.script_commands.proofs.answer.answer.Goals as goal
+
+pub returns-in-ListHistory : goal.returns-in-ListHistory
+returns-in-ListHistory g c = rw c.in-ListHistory.is (c.history.ensures _)
+
+pub returns-in-ListDirectory : goal.returns-in-ListDirectory
+returns-in-ListDirectory g c = rw c.in-ListDirectory.is (c.list.ensures _)
+
+pub returns-in-Petcat : goal.returns-in-Petcat
+returns-in-Petcat g c = rw c.in-Petcat.is (c.petcat.ensures _)
+
+pub returns-in-Quit : goal.returns-in-Quit
+returns-in-Quit g c = rw c.in-Quit.is (c.quit.ensures _)
+
+pub returns-in-Rename : goal.returns-in-Rename
+returns-in-Rename g c = rw c.in-Rename.is (c.rename.ensures _)
+
+pub returns-in-Validate : goal.returns-in-Validate
+returns-in-Validate g c = rw c.in-Validate.is (c.validate.ensures _)

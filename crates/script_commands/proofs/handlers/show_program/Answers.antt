@@ -1,0 +1,39 @@
+use Rattle.std.proofs.Common.{◌≡◌, ◌∙◌, ℕ, List, None, Ok, false, refl, sym, subst, rules}
+use Rattle.d64_dos.specs.Reading.{read_refusal}
+use Rattle.script_text.specs.declared.status.Status.TheVariants.{Done}
+use Rattle.script_commands.specs.Act.{Expand, Does, LineAnswer, World}
+use Rattle.script_commands.specs.FoundFile.{found_content}
+use Rattle.script_commands.specs.Line.{show, show_program}
+use Rattle.d64_undo.specs.History.{present_image}
+use Rattle.script_commands.proofs.Acts.{Does-given, Does-refused, Does-refuse_by}
+use Rattle.script_commands.proofs.FoundFiles.{found_content-read}
+use Rattle.script_commands.proofs.handlers.show_program.Goals as goal
+
+pub returns-in-Ok : goal.returns-in-Ok
+unfolding Does
+returns-in-Ok c = λ host.
+    let history = c.args.session.now in
+    let pattern = c.args.pattern.now in
+    let got : c.read.result ≡ Ok c.in_ok-file.file = search rules in
+    let refused : None ≡ read_refusal (present_image history) pattern = rw (c.image.ensures.present, got) at c.read.ensures.refused in
+    let bytes : c.as_slice.result.now ≡ found_content (present_image history) pattern =
+    c.as_slice.ensures.value ∙ found_content-read (present_image history) pattern _ _ (rw (c.image.ensures.present, got) at c.read.ensures.back) in
+    let text : List ℕ = c.in-Ok.text.items in
+    let world : World = record { host = host; history = history } in
+    let answer : LineAnswer = record { output = text; status = Done; closes = false } in
+    let shown : Does (show text history) world answer world = (refl, refl) in
+    subst (λ (given : LineAnswer). Does (show_program history pattern) world given world) (sym (c.text.ensures (present_image history)))
+    (Does-refuse_by _ _ _ _ _ refused
+    (Does-given (Expand (found_content (present_image history) pattern)) (λ listing. show listing history) text host host history answer world
+    (rw bytes at c.in-Ok.ensures, refl) shown))
+
+pub returns : goal.returns
+returns c = λ host.
+    let history = c.args.session.now in
+    let pattern = c.args.pattern.now in
+    let got : c.read.result ≡ Ok c.in_ok-file.file = search rules in
+    let refused : None ≡ read_refusal (present_image history) pattern = rw (c.image.ensures.present, got) at c.read.ensures.refused in
+    let bytes : c.as_slice.result.now ≡ found_content (present_image history) pattern =
+    c.as_slice.ensures.value ∙ found_content-read (present_image history) pattern _ _ (rw (c.image.ensures.present, got) at c.read.ensures.back) in
+    rw c.of_list_fault.ensures
+    (Does-refuse_by _ _ _ _ _ refused (Does-refused _ _ _ host host _ ((c.in-Err.fault, rw bytes at c.in-Err.ensures, refl), refl)))

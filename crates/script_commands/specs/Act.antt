@@ -1,0 +1,147 @@
+-- What a line asks for, as an act of one step after another, and how an act is done.
+use Rattle.std.specs.Prelude.{◌≡◌, ℕ, List, [], ◌∷◌, ◌++◌, Bool, true, false, if◌then◌else◌, Result, MatchResult, Ok, Err, IfOk, ◌⊎◌}
+use Rattle.d64_image.specs.Disk.{Bytes}
+use Rattle.d64_effects.specs.Laws.{AreBytes}
+use Rattle.petscii.specs.TextForm.{IsTextOf}
+use Rattle.host_storage.specs.Files.{HostState}
+use Rattle.host_storage.specs.Host.{fault_number, Fetches, Stores, CountsDevice}
+use Rattle.d64_undo.specs.History.{History}
+use Rattle.host_storage.specs.declared.host.HostFault.{HostFault}
+use Rattle.host_storage.specs.declared.host.HostFault.TheVariants.{Memory}
+use Rattle.script_commands.specs.BasicFiles.{Crunches, Expands}
+use Rattle.script_text.specs.Status.{status_line}
+use Rattle.script_text.specs.declared.status.Status.{Status}
+use Rattle.script_text.specs.declared.status.Status.TheVariants.{BadName, HostFile, OutOfMemory}
+
+-- what a line is answered: its output, its status, and whether it ends the run
+pub record LineAnswer : Type 0 where
+  pub output : Bytes
+  pub status : Status
+  pub closes : Bool
+
+-- a status with no output
+abbrev pub plain_answer : Status → LineAnswer
+plain_answer status = record { output = []; status = status; closes = false }
+
+-- what an answer prints: its output, and then its status line
+abbrev pub printed_bytes : LineAnswer → Bytes
+printed_bytes answer = answer.output ++ status_line answer.status
+
+-- what the script works on: the host and the history
+pub record World : Type 0 where
+  pub host : HostState
+  pub history : History
+
+abbrev pub world_of : HostState → History → World
+world_of host history = record { host = host; history = history }
+
+-- a call of what may refuse, whatever the session is; it gives bytes
+pub data Call : Type 0 where
+  -- the bytes that a word stands for in text form, where they pass a test
+  Text : (Bytes → Bool) → Bytes → Call
+  -- a host file of at most so many bytes
+  Fetch : Bytes → ℕ → Call
+  -- bytes stored under a name of the host; what it gives is no matter
+  Store : Bytes → Bytes → Call
+  -- the program file of a BASIC text
+  Crunch : Bytes → Call
+  -- the text of a program file
+  Expand : Bytes → Call
+  -- room for what comes next; it gives no bytes
+  Room : Call
+
+-- an act: it gives a value, it is refused with a status, or a call comes first and the rest goes by
+-- what that gives
+pub data Act (A : Type 0) : Type 0 where
+  Give : A → Act A
+  Refuse : Status → Act A
+  Then : Call → (Bytes → Act A) → Act A
+
+-- one act, and then what its value asks for
+infixl 10 ◌>>=◌
+abbrev pub ◌>>=◌ : {A B : Type 0} → Act A → (A → Act B) → Act B
+Give value >>= next = next value
+Refuse status >>= next = Refuse status
+Then call more >>= next = Then call (λ bytes. more bytes >>= next)
+
+-- one act, and then another
+infixl 10 ◌>>◌
+abbrev pub ◌>>◌ : {A B : Type 0} → Act A → Act B → Act B
+act >> next = act >>= (λ _. next)
+
+-- what was read, or the first fault in it
+abbrev pub value_or_refusal : {A : Type 0} → Result A Status → Act A
+value_or_refusal (Ok value) = Give value
+value_or_refusal (Err status) = Refuse status
+
+-- refused with a status unless a test passes
+abbrev pub need : Bool → Status → Act (Unit {0})
+need test status = if test then Give tt else Refuse status
+
+-- a call alone, and what it gives
+abbrev pub ask : Call → Act Bytes
+ask what = Then what Give
+
+-- the bytes that words stand for in text form, from left to right
+abbrev pub each_text : (Bytes → Bool) → List Bytes → Act (List Bytes)
+each_text test [] = Give []
+each_text test (word ∷ words) = do
+  bytes ← ask (Text test word)
+  more ← each_text test words
+  Give (bytes ∷ more)
+
+-- what an accepted line comes to: its answer, and the history after it
+pub record Ending : Type 0 where
+  pub answer : LineAnswer
+  pub history : History
+
+-- a word stands for bytes in text form, and they pass a test
+abbrev pub IsSpelled : (Bytes → Bool) → Bytes → Bytes → Type 0
+IsSpelled test word bytes = IsTextOf bytes word × (test bytes ≡ true)
+
+-- what a host may answer to a fetch, and what it shows then; whatever it tells of its files, a file
+-- is made of bytes
+pub record FetchesFile (old : HostState) (name : Bytes) (limit : ℕ) (fetched : Result Bytes HostFault) (new : HostState) : Type 0 where
+  pub answer : Fetches old.files name limit fetched
+  pub bytes : IfOk fetched AreBytes
+  pub counted : CountsDevice old.failures new.failures fetched
+  pub kept : new.files ≡ old.files
+
+-- what a host may answer to a store, and what it shows then
+pub record StoresFile (old : HostState) (name bytes : Bytes) (stored : Result (Unit {0}) HostFault) (new : HostState) : Type 0 where
+  pub answer : Stores old.files name bytes stored new.files
+  pub counted : CountsDevice old.failures new.failures stored
+
+-- how a fault of the host is answered
+abbrev pub status_of_fault : HostFault → Status
+status_of_fault (Memory error) = OutOfMemory
+status_of_fault fault = HostFile (fault_number fault)
+
+-- what the host gave, or how its fault is answered
+abbrev pub given_by : {A : Type 0} → (A → Bytes) → Result A HostFault → Result Bytes Status
+given_by bytes (Ok value) = Ok (bytes value)
+given_by bytes (Err fault) = Err (status_of_fault fault)
+
+-- what a call may give, and what the host shows then
+abbrev pub Gives : Call → HostState → Result Bytes Status → HostState → Type 0
+Gives (Text test word) old (Ok bytes) new = IsSpelled test word bytes × (new ≡ old)
+Gives (Text test word) old (Err status) new = (status ≡ BadName) × ((bytes : Bytes) → IsSpelled test word bytes → ⊥) × (new ≡ old)
+Gives (Fetch name limit) old given new =
+    (fetched : Result Bytes HostFault) × FetchesFile old name limit fetched new × (given ≡ given_by (λ bytes. bytes) fetched)
+Gives (Store name bytes) old given new =
+    (stored : Result (Unit {0}) HostFault) × StoresFile old name bytes stored new × (given ≡ given_by (λ _. []) stored)
+Gives (Crunch text) old given new = Crunches text given × (new ≡ old)
+Gives (Expand file) old given new = Expands file given × (new ≡ old)
+Gives Room old given new = (given ≡ Ok []) × (new ≡ old)
+
+-- an act of a line is done: from a world, with an answer, to a world. Before each call memory may
+-- be wanting
+unfoldable pub Does : Act Ending → World → LineAnswer → World → Type 0
+Does (Give ending) world answer after = (answer ≡ ending.answer) × (after ≡ record world { history = ending.history })
+Does (Refuse status) world answer after = (answer ≡ plain_answer status) × (after ≡ world)
+Does (Then call next) world answer after =
+    ((given : Result Bytes Status) × (host : HostState) × Gives call world.host given host
+    × MatchResult given
+    (λ bytes. Does (next bytes) (record world { host = host }) answer after)
+    (λ status. (answer ≡ plain_answer status) × (after ≡ record world { host = host })))
+    ⊎ ((answer ≡ plain_answer OutOfMemory) × (after ≡ world))

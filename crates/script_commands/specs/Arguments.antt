@@ -1,0 +1,76 @@
+-- What the words of a line stand for, or the status that refuses them.
+use Rattle.std.specs.Prelude.{ℕ, ◌+◌, ◌==◌, nat_lt, nat_le, List, [], ◌∷◌, length, take, drop, find, position, codes, ◌&&◌, Bool, not, if◌then◌else◌, Option, Some, None, option_map, unwrap_or, Result, Ok, Err, ok_or}
+use Rattle.d64_image.specs.Disk.{Bytes, Disk}
+use Rattle.std.specs.List.{after_last}
+use Rattle.std.specs.Option.{option_map_or}
+use Rattle.std.specs.Str.{bytes_eq}
+use Rattle.d64_files.specs.Chain as chains
+use Rattle.d64_files.specs.Label.{holds_any_of}
+use Rattle.d64_files.specs.Name.{forbidden_in_names}
+use Rattle.d64_files.specs.declared.kind.Kind.{Kind}
+use Rattle.d64_files.specs.declared.kind.Kind.TheVariants.{Seq, Prg, Usr, Rel}
+use Rattle.petscii.specs.declared.fault.TextFault.{TextFault}
+use Rattle.petscii.specs.declared.fault.TextFault.TheVariants.{Memory}
+use Rattle.script_text.specs.Number.{number_of}
+use Rattle.script_text.specs.declared.status.Status.{Status}
+use Rattle.script_text.specs.declared.status.Status.TheVariants.{SyntaxError, BadName, IllegalBlock, OutOfMemory}
+
+-- a word that names a host file has 1 to 255 bytes
+unfoldable pub host_in : Bytes → Result Bytes Status
+host_in word = if nat_lt 0 (length word) && nat_le (length word) 255 then Ok word else Err BadName
+
+-- a number in a word
+unfoldable pub number_in : Bytes → Result ℕ Status
+number_in word = ok_or (number_of word) SyntaxError
+
+-- the block of a track and a sector, where both are numbers and the image has that block
+abbrev pub block_at : Disk → Result ℕ Status → Result ℕ Status → Result ℕ Status
+block_at image (Err status) sector = Err status
+block_at image (Ok track) (Err status) = Err status
+block_at image (Ok track) (Ok sector) = ok_or (chains.block_in image track sector) (IllegalBlock track sector)
+
+-- the block of an image at a track and a sector, each in a word
+unfoldable pub block_in : Disk → Bytes → Bytes → Result ℕ Status
+block_in image track sector = block_at image (number_in track) (number_in sector)
+
+-- how a fault of a word in text form is answered
+abbrev pub status_of_text : TextFault → Status
+status_of_text (Memory error) = OutOfMemory
+status_of_text fault = BadName
+
+-- a word in two at its first comma
+unfoldable pub at_comma : Bytes → Option (Bytes × Bytes)
+at_comma word = option_map (λ place. (take place word, drop (place + 1) word)) (position (λ byte. byte == 44) word)
+
+-- bytes that a word may give a disk as its id: two, and none that no name holds
+abbrev pub can_be_id : Bytes → Bool
+can_be_id bytes = (length bytes == 2) && not (holds_any_of forbidden_in_names bytes)
+
+-- the letters that stand for kinds
+abbrev pub kind_letters : List (Bytes × Kind)
+kind_letters = (codes "p", Prg) ∷ (codes "s", Seq) ∷ (codes "u", Usr) ∷ (codes "l", Rel) ∷ []
+
+-- the kind that a letter stands for
+abbrev pub kind_of_letter : Bytes → Option Kind
+kind_of_letter word = option_map (λ row. row.1) (find (λ row. bytes_eq word row.0) kind_letters)
+
+-- the two parts of a word: a name, and the letter of a kind
+abbrev pub with_kind : Bytes → Option (Bytes × Bytes) → Result (Bytes × Kind) Status
+with_kind word None = Ok (word, Prg)
+with_kind word (Some parts) = ok_or (option_map (λ kind. (parts.0, kind)) (kind_of_letter parts.1)) SyntaxError
+
+-- a name and a kind in a word that may be split at its first comma; PRG where it has none
+abbrev pub name_and_kind_in : Bytes → Result (Bytes × Kind) Status
+name_and_kind_in word = with_kind word (at_comma word)
+
+-- what stands after the last `/` of a word, or all of it
+unfoldable pub after_slash : Bytes → Bytes
+after_slash word = after_last (λ byte. byte == 47) word
+
+-- the word that names a new file; by default the name of its host file without folders
+abbrev pub name_word : Bytes → Option Bytes → Bytes
+name_word host word = unwrap_or word (after_slash host)
+
+-- the name and the kind of a new file, from a word or by default the host file's own name, and PRG
+abbrev pub name_and_kind_of : Bytes → Option Bytes → Result (Bytes × Kind) Status
+name_and_kind_of host word = option_map_or name_and_kind_in word (Ok (after_slash host, Prg))

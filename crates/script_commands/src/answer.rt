@@ -1,0 +1,190 @@
+//! What a line of a script does and answers.
+#![tactic(auto, unfolding(crate::specs::Act::Does, crate::specs::Line::act_of_line))]
+
+ghost use Rattle.std.specs.Prelude.{◌≡◌, ◌≤◌, ℕ, List, All, map, length, MatchOption};
+ghost use Rattle.script_text.specs.HeldLine.{Says};
+ghost use Rattle.script_text.specs.Words.{IsPrintable};
+ghost use Rattle.d64_undo.specs.History.{present_image};
+ghost use Rattle.script_commands.specs.Act.{world_of};
+ghost use Rattle.script_commands.specs.Response.{shown_answer, Responds};
+ghost use Rattle.script_commands.specs.Line.{act_of_words, act_of_text, act_of_line, IsSkipped, IsAnswered};
+ghost use Rattle.script_commands.specs.LineValue.{act_of};
+
+use crate::handlers;
+use crate::line::Line;
+use crate::response::Response;
+use arrayvec::ArrayVec;
+use d64_undo::Session;
+use host_storage::Host;
+use script_text::held_line::HeldLine;
+use script_text::raw_lines;
+use script_text::status::Status;
+use script_text::words::{MAX_WORDS, Words};
+use std::alloc::Global;
+use std::str;
+
+/// The most words that a command takes, its own counted, but for `delete`. A room for so many is
+/// made sooner than one for all that a line may have.
+const FEW_WORDS: usize = 4;
+
+/// The response to a line that has come to its end, or None where it is skipped: an empty line, or
+/// a comment.
+///
+/// `home` is the name of the host file in which `save` stores by default, or empty.
+pub fn answer_line<H: Host>(
+    alloc: Global,
+    host: &mut H,
+    home: &str,
+    session: &mut Session,
+    line: &HeldLine,
+) -> Option<Response>
+    ensures { (raw : List ℕ) → Says line.now raw → MatchOption result
+        (IsSkipped home.now session.old raw
+        (world_of (H.state host.old) session.old)
+        (world_of (H.state host.new) session.new))
+        (λ response. IsAnswered home.now session.old raw
+        (world_of (H.state host.old) session.old)
+        (shown_answer (present_image session.new) response)
+        (world_of (H.state host.new) session.new)) }
+{
+    let Some(text) = line.text() else {
+        return Some(Response::plain(Status::LongLine));
+    };
+    if raw_lines::is_skipped(text) {
+        return None;
+    }
+    let answer = answer_text(alloc, host, home, session, text);
+    Some(Response::of(answer))
+}
+
+/// The response to the text of a line that is not skipped.
+fn answer_text<H: Host>(
+    alloc: Global,
+    host: &mut H,
+    home: &str,
+    session: &mut Session,
+    text: &[u8],
+) -> Result<Response, Status>
+    requires { length text.now ≤ 1024 }
+    ensures { Responds (act_of_text home.now session.old text.now)
+        (world_of (H.state host.old) session.old)
+        result
+        (world_of (H.state host.new) session.new) }
+{
+    let Ok(words) = Words::of(text) else {
+        return Err(Status::SyntaxError);
+    };
+    if words.len() <= FEW_WORDS {
+        let few = held::<FEW_WORDS>(words);
+        answer_words(alloc, host, home, session, few.as_slice())
+    } else {
+        answer_many(alloc, host, home, session, words)
+    }
+}
+
+/// The response to the words of a line, as many as it may have.
+///
+/// It is a call of its own: room for so many words would else be cleared for each line.
+#[inline(never)]
+fn answer_many<H: Host>(
+    alloc: Global,
+    host: &mut H,
+    home: &str,
+    session: &mut Session,
+    words: Words,
+) -> Result<Response, Status>
+    requires len { length words ≤ 512 }
+    requires printable { All (All IsPrintable) words }
+    ensures { Responds (act_of_words home.now session.old words.entry)
+        (world_of (H.state host.old) session.old)
+        result
+        (world_of (H.state host.new) session.new) }
+{
+    let many = held::<MAX_WORDS>(words);
+    answer_words(alloc, host, home, session, many.as_slice())
+}
+
+/// The words in a row, in a room that is large enough.
+fn held<'a, const ROOM: usize>(words: Words<'a>) -> ArrayVec<&'a str, ROOM>
+    requires room { length words ≤ ROOM }
+    requires printable { All (All IsPrintable) words }
+    ensures { map (λ word. word.now) result.items ≡ words.entry }
+{
+    let mut found = ArrayVec::new();
+    for word in words {
+        found.push(as_text(word));
+    }
+    found
+}
+
+/// A word, whose bytes are ASCII, as a text.
+fn as_text(word: &[u8]) -> &str
+    requires { All IsPrintable word.now }
+    ensures { result.now ≡ word.now }
+{
+    str::from_utf8(word).unwrap()
+}
+
+/// The response to the words of a line.
+fn answer_words<H: Host>(
+    alloc: Global,
+    host: &mut H,
+    home: &str,
+    session: &mut Session,
+    words: &[&str],
+) -> Result<Response, Status>
+    ensures { Responds (act_of_words home.now session.old (map (λ word. word.now) words.now))
+        (world_of (H.state host.old) session.old)
+        result
+        (world_of (H.state host.new) session.new) }
+{
+    match Line::of(words) {
+        Ok(line) => answer(alloc, host, home, session, line),
+        Err(status) => Err(status),
+    }
+}
+
+/// The response to what a line asks for.
+fn answer<H: Host>(
+    alloc: Global,
+    host: &mut H,
+    home: &str,
+    session: &mut Session,
+    line: Line,
+) -> Result<Response, Status>
+    ensures { Responds (act_of home.now session.old line.entry)
+        (world_of (H.state host.old) session.old)
+        result
+        (world_of (H.state host.new) session.new) }
+{
+    match line {
+        Line::Block { track, sector } => handlers::block(session, track, sector),
+        Line::BlockRead {
+            host: name,
+            track,
+            sector,
+        } => handlers::block_read(alloc, host, session, name, track, sector),
+        Line::BlockWrite {
+            host: name,
+            track,
+            sector,
+        } => handlers::block_write(alloc, host, session, name, track, sector),
+        Line::Crunch { host: source, name } => {
+            handlers::crunch(alloc, host, session, source, name)
+        }
+        Line::Delete { patterns } => handlers::delete(alloc, session, patterns),
+        Line::Format { name_and_id } => handlers::format(alloc, session, name_and_id),
+        Line::ListHistory => handlers::history(alloc, session),
+        Line::Keep { host: name } => handlers::keep(alloc, host, session, name),
+        Line::ListDirectory => handlers::list(alloc, session),
+        Line::Petcat { name } => handlers::petcat(alloc, session, name),
+        Line::Quit => handlers::quit(session),
+        Line::Read { name, host: target } => handlers::read(alloc, host, session, name, target),
+        Line::Redo => handlers::redo(session),
+        Line::Rename { old, new } => handlers::rename(alloc, session, old, new),
+        Line::Save { host: name } => handlers::save(alloc, host, home, session, name),
+        Line::Undo => handlers::undo(session),
+        Line::Validate => handlers::validate(session),
+        Line::Write { host: source, name } => handlers::write(alloc, host, session, source, name),
+    }
+}

@@ -1,0 +1,420 @@
+//! What each command word does: a handler a word.
+#![tactic(auto, unfolding(crate::specs::Act::Does))]
+
+ghost use Rattle.std.specs.Prelude.{◌≡◌, ◌<◌, ◌≤◌, All, Some, None, map, option_map, length};
+ghost use Rattle.d64_dos.specs.Change.{change_of};
+ghost use Rattle.d64_dos.specs.Command.{IsWithin};
+ghost use Rattle.script_commands.specs.Act.{world_of};
+ghost use Rattle.script_commands.specs.Response.{Responds, RespondsAlone};
+ghost use Rattle.petscii.specs.Spelling.{spelling};
+ghost use Rattle.script_commands.specs.FoundFile.{is_file_name};
+ghost use Rattle.d64_undo.specs.History.{History, present_image};
+ghost use Rattle.script_commands.specs.Line.{put, host_file_limit, block_act, block_read_act, block_write_act, crunch_act, write_program, delete_act, format_act, history_act, keep_act, list_act, petcat_act, show_program, quit_act, read_act, read_to, redo_act, rename_act, save_act, undo_act, validate_act, write_act, run, write_one_block};
+
+use crate::arguments::{
+    at_comma, block_in, host_in, id_in, name_and_kind_of, name_in, name_word, pattern_in,
+    patterns_in,
+};
+use crate::history_text::history_text;
+use crate::host_file::fetch;
+use crate::listing_text::listing_text;
+use crate::response::{Output, Response};
+use crate::status_from::{
+    of_basic_fault, of_fault, of_list_fault, of_nothing_to_redo, of_nothing_to_undo, of_refusal,
+    of_reply,
+};
+use cbm_text::to_text;
+use d64_dos::Command;
+use d64_files::{Kind, Name, Pattern};
+use d64_image::BlockNo;
+use d64_undo::Session;
+use host_storage::Host;
+use script_text::status::Status;
+use std::alloc::Global;
+use std::str;
+
+/// The most bytes that a command takes of a host file.
+pub const HOST_FILE_BYTES: usize = 1_048_576;
+
+/// Where a BASIC program stands in the machine's memory.
+const PROGRAM_START: u16 = 0x0801;
+
+/// `block`: the sixteen lines that show a block.
+pub(crate) fn block(session: &Session, track: &str, sector: &str) -> Result<Response, Status>
+    ensures { RespondsAlone (block_act session.now (track.now, sector.now)) session.now result session.now }
+{
+    let block = block_in(session.image(), track, sector)?;
+    Ok(Response {
+        output: Output::Block(block),
+        status: Status::Done,
+        closes: false,
+    })
+}
+
+/// `bread`: a block stored in a host file.
+pub(crate) fn block_read<H: Host>(
+    alloc: Global,
+    host: &mut H,
+    session: &Session,
+    name: &str,
+    track: &str,
+    sector: &str,
+) -> Result<Response, Status>
+    ensures { Responds (block_read_act session.now (name.now, (track.now, sector.now)))
+        (world_of (H.state host.old) session.now)
+        result
+        (world_of (H.state host.new) session.now) }
+{
+    let name = host_in(name)?;
+    let image = session.image();
+    let block = block_in(image, track, sector)?;
+    store(alloc, host, name, image.sector(block))
+}
+
+/// `bwrite`: a block replaced by a host file of one block.
+pub(crate) fn block_write<H: Host>(
+    alloc: Global,
+    host: &mut H,
+    session: &mut Session,
+    name: &str,
+    track: &str,
+    sector: &str,
+) -> Result<Response, Status>
+    ensures { Responds (block_write_act session.old (name.now, (track.now, sector.now)))
+        (world_of (H.state host.old) session.old)
+        result
+        (world_of (H.state host.new) session.new) }
+{
+    let name = host_in(name)?;
+    let at = block_in(session.image(), track, sector)?;
+    match fetch(alloc, host, name, HOST_FILE_BYTES) {
+        Ok(bytes) => write_one_block(session, at, bytes.as_slice()),
+        Err(fault) => Err(of_fault(fault)),
+    }
+}
+
+/// A block of the image replaced by the bytes of a host file.
+fn write_one_block(session: &mut Session, at: BlockNo, bytes: &[u8]) -> Result<Response, Status>
+    requires { at < length (present_image session.old) }
+    ensures { RespondsAlone (write_one_block session.old at bytes.now) session.old result session.new }
+{
+    match bytes.as_array() {
+        Some(block) => run_command(session, &Command::BlockWrite { at, block: *block }),
+        None => Err(Status::NotOneBlock),
+    }
+}
+
+/// A command given to the session. The image has the block that a block write names.
+fn run_command(session: &mut Session, command: &Command) -> Result<Response, Status>
+    requires { IsWithin (present_image session.old) (change_of command.now) }
+    ensures { RespondsAlone (run session.old (change_of command.now)) session.old result session.new }
+{
+    match session.run(command) {
+        Ok(reply) => Ok(Response::plain(of_reply(reply))),
+        Err(refusal) => Err(of_refusal(refusal)),
+    }
+}
+
+/// `crunch`: a BASIC text of the host written to the disk as a program, by default under its own
+/// name.
+pub(crate) fn crunch<H: Host>(
+    alloc: Global,
+    host: &mut H,
+    session: &mut Session,
+    source: &str,
+    name: Option<&str>,
+) -> Result<Response, Status>
+    ensures { Responds (crunch_act session.old (source.now, option_map (λ word. word.now) name.entry))
+        (world_of (H.state host.old) session.old)
+        result
+        (world_of (H.state host.new) session.new) }
+{
+    let file = host_in(source)?;
+    let name = name_in(alloc, name_word(source, name))?;
+    match fetch(alloc, host, file, HOST_FILE_BYTES) {
+        Ok(text) => write_program(alloc, session, name, text.as_slice()),
+        Err(fault) => Err(of_fault(fault)),
+    }
+}
+
+/// The program that a BASIC text stands for, written to the disk as PRG.
+fn write_program(
+    alloc: Global,
+    session: &mut Session,
+    name: Name,
+    text: &[u8],
+) -> Result<Response, Status>
+    requires { length text.now ≤ host_file_limit }
+    ensures { RespondsAlone (write_program session.old name text.now) session.old result session.new }
+{
+    match cbm_text::crunch(alloc, PROGRAM_START, text) {
+        Ok(bytes) => run_command(
+            session,
+            &Command::Write {
+                name,
+                kind: Kind::Prg,
+                bytes,
+            },
+        ),
+        Err(fault) => Err(of_basic_fault(fault)),
+    }
+}
+
+/// `delete`: the files deleted that one of the patterns matches or more, a pattern a word.
+pub(crate) fn delete(
+    alloc: Global,
+    session: &mut Session,
+    patterns: &[&str],
+) -> Result<Response, Status>
+    ensures { RespondsAlone (delete_act session.old (map (λ word. word.now) patterns.now)) session.old result session.new }
+{
+    let patterns = patterns_in(alloc, patterns)?;
+    run_command(session, &Command::Delete { patterns })
+}
+
+/// `format`: the disk made an empty one. The word is cut at its first comma, into the name and the
+/// id.
+pub(crate) fn format(alloc: Global, session: &mut Session, word: &str) -> Result<Response, Status>
+    ensures { RespondsAlone (format_act session.old word.now) session.old result session.new }
+{
+    let Some((name, id)) = at_comma(word.as_bytes()) else {
+        return Err(Status::SyntaxError);
+    };
+    let name = name_in(alloc, name)?;
+    let id = id_in(alloc, id)?;
+    run_command(session, &Command::Format { name, id })
+}
+
+/// `history`: the lines that show the records.
+pub(crate) fn history(alloc: Global, session: &Session) -> Result<Response, Status>
+    ensures { RespondsAlone (history_act session.now) session.now result session.now }
+{
+    let text = history_text(alloc, session)?;
+    Ok(Response::text(text))
+}
+
+/// `keep`: the session stored in a host file.
+pub(crate) fn keep<H: Host>(
+    alloc: Global,
+    host: &mut H,
+    session: &Session,
+    name: &str,
+) -> Result<Response, Status>
+    ensures { Responds (keep_act session.now name.now)
+        (world_of (H.state host.old) session.now)
+        result
+        (world_of (H.state host.new) session.now) }
+{
+    let name = host_in(name)?;
+    let file = session.keep(alloc)?;
+    store(alloc, host, name, file.as_slice())
+}
+
+/// `list`: the lines that show the directory.
+pub(crate) fn list(alloc: Global, session: &Session) -> Result<Response, Status>
+    ensures { RespondsAlone (list_act session.now) session.now result session.now }
+{
+    let listing = d64_dos::listing(alloc, session.image()).map_err(of_refusal)?;
+    let text = listing_text(alloc, &listing)?;
+    Ok(Response::text(text))
+}
+
+/// `petcat`: the text of a BASIC program of the disk.
+pub(crate) fn petcat(alloc: Global, session: &Session, name: &str) -> Result<Response, Status>
+    ensures { RespondsAlone (petcat_act session.now name.now) session.now result session.now }
+{
+    let pattern = pattern_in(alloc, name)?;
+    show_program(alloc, session, &pattern)
+}
+
+/// The text of the BASIC program that a pattern finds.
+fn show_program(alloc: Global, session: &Session, pattern: &Pattern) -> Result<Response, Status>
+    ensures { RespondsAlone (show_program session.now pattern.now) session.now result session.now }
+{
+    let file = d64_dos::read(alloc, session.image(), pattern).map_err(of_refusal)?;
+    match cbm_text::list(alloc, file.bytes.as_slice()) {
+        Ok(text) => Ok(Response::text(text)),
+        Err(fault) => Err(of_list_fault(fault)),
+    }
+}
+
+/// `quit`: the end of the run.
+pub(crate) fn quit(session: &Session) -> Result<Response, Status>
+    ensures { RespondsAlone (quit_act session.now) session.now result session.now }
+{
+    let _ = session;
+    Ok(Response {
+        output: Output::Nothing,
+        status: Status::Done,
+        closes: true,
+    })
+}
+
+/// `read`: a file of the disk stored in a host file, by default in the one of the file's own name.
+pub(crate) fn read<H: Host>(
+    alloc: Global,
+    host: &mut H,
+    session: &Session,
+    name: &str,
+    target: Option<&str>,
+) -> Result<Response, Status>
+    ensures { Responds (read_act session.now (name.now, option_map (λ word. word.now) target.entry))
+        (world_of (H.state host.old) session.now)
+        result
+        (world_of (H.state host.new) session.now) }
+{
+    let pattern = pattern_in(alloc, name)?;
+    match target {
+        Some(word) => read_to(alloc, host, session, &pattern, word),
+        None => read_as_found(alloc, host, session, &pattern),
+    }
+}
+
+/// The file that a pattern finds, stored in the host file that a word names.
+fn read_to<H: Host>(
+    alloc: Global,
+    host: &mut H,
+    session: &Session,
+    pattern: &Pattern,
+    word: &str,
+) -> Result<Response, Status>
+    ensures { Responds (read_to session.now pattern.now (Some word.now))
+        (world_of (H.state host.old) session.now)
+        result
+        (world_of (H.state host.new) session.now) }
+{
+    let name = host_in(word)?;
+    match d64_dos::read(alloc, session.image(), pattern) {
+        Ok(file) => store(alloc, host, name, file.bytes.as_slice()),
+        Err(refusal) => Err(of_refusal(refusal)),
+    }
+}
+
+/// The file that a pattern finds, stored in the host file of its own name in text form.
+fn read_as_found<H: Host>(
+    alloc: Global,
+    host: &mut H,
+    session: &Session,
+    pattern: &Pattern,
+) -> Result<Response, Status>
+    ensures { Responds (read_to session.now pattern.now None)
+        (world_of (H.state host.old) session.now)
+        result
+        (world_of (H.state host.new) session.now) }
+{
+    let file = d64_dos::read(alloc, session.image(), pattern).map_err(of_refusal)?;
+    let name = to_text(alloc, file.name.as_slice())?;
+    spelling_is_ascii(file.name.as_slice());
+    if !is_file_name(name.as_slice()) {
+        return Err(Status::BadName);
+    }
+    let name = str::from_utf8(name.as_slice()).unwrap();
+    store(alloc, host, name, file.bytes.as_slice())
+}
+
+/// `redo`: the next image of the history.
+pub(crate) fn redo(session: &mut Session) -> Result<Response, Status>
+    ensures { RespondsAlone (redo_act session.old) session.old result session.new }
+{
+    session.redo().map_err(of_nothing_to_redo)?;
+    Ok(Response::plain(Status::Done))
+}
+
+/// `rename`: the first file of one name given another.
+pub(crate) fn rename(
+    alloc: Global,
+    session: &mut Session,
+    old: &str,
+    new: &str,
+) -> Result<Response, Status>
+    ensures { RespondsAlone (rename_act session.old (old.now, new.now)) session.old result session.new }
+{
+    let old = name_in(alloc, old.as_bytes())?;
+    let new = name_in(alloc, new.as_bytes())?;
+    run_command(session, &Command::Rename { old, new })
+}
+
+/// `save`: the image stored in a host file, by default its own. Where it has none, a word is
+/// missed.
+pub(crate) fn save<H: Host>(
+    alloc: Global,
+    host: &mut H,
+    home: &str,
+    session: &Session,
+    name: Option<&str>,
+) -> Result<Response, Status>
+    ensures { Responds (save_act home.now session.now (option_map (λ word. word.now) name.entry))
+        (world_of (H.state host.old) session.now)
+        result
+        (world_of (H.state host.new) session.now) }
+{
+    let name = match name {
+        Some(word) => host_in(word)?,
+        None if home.is_empty() => return Err(Status::MissingWord),
+        None => home,
+    };
+    store(alloc, host, name, session.image().bytes())
+}
+
+/// `undo`: the image before.
+pub(crate) fn undo(session: &mut Session) -> Result<Response, Status>
+    ensures { RespondsAlone (undo_act session.old) session.old result session.new }
+{
+    session.undo().map_err(of_nothing_to_undo)?;
+    Ok(Response::plain(Status::Done))
+}
+
+/// `validate`: the files dropped that were never closed, and the map written anew.
+pub(crate) fn validate(session: &mut Session) -> Result<Response, Status>
+    ensures { RespondsAlone (validate_act session.old) session.old result session.new }
+{
+    run_command(session, &Command::Validate)
+}
+
+/// `write`: a host file written to the disk, by default under its own name and as PRG.
+pub(crate) fn write<H: Host>(
+    alloc: Global,
+    host: &mut H,
+    session: &mut Session,
+    source: &str,
+    name: Option<&str>,
+) -> Result<Response, Status>
+    ensures { Responds (write_act session.old (source.now, option_map (λ word. word.now) name.entry))
+        (world_of (H.state host.old) session.old)
+        result
+        (world_of (H.state host.new) session.new) }
+{
+    let file = host_in(source)?;
+    let (name, kind) = name_and_kind_of(source, name)?;
+    let name = name_in(alloc, name)?;
+    match fetch(alloc, host, file, HOST_FILE_BYTES) {
+        Ok(bytes) => run_command(session, &Command::Write { name, kind, bytes }),
+        Err(fault) => Err(of_fault(fault)),
+    }
+}
+
+/// Bytes stored in a host file.
+fn store<H: Host>(alloc: Global, host: &mut H, name: &str, bytes: &[u8]) -> Result<Response, Status>
+    ensures { (history : History) → Responds (put history name.now bytes.now)
+        (world_of (H.state host.old) history)
+        result
+        (world_of (H.state host.new) history) }
+{
+    match host.store(alloc, name, bytes) {
+        Ok(()) => Ok(Response::plain(Status::Done)),
+        Err(fault) => Err(of_fault(fault)),
+    }
+}
+
+/// The text form of bytes is ASCII.
+fn spelling_is_ascii(bytes: &[u8])
+    ensures { All (λ byte. byte < 128) (spelling bytes.now) }
+{}
+
+/// Whether a text can name a host file: it isn't empty, `.` or `..`, and has no `/`.
+#[tactic(auto, unfolding(crate::specs::FoundFile::is_file_name))]
+fn is_file_name(text: &[u8]) -> bool
+    ensures { result ≡ is_file_name text.now }
+{
+    !matches!(text, b"" | b"." | b"..") && !text.contains(&b'/')
+}

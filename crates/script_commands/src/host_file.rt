@@ -1,0 +1,29 @@
+//! Files of the host, as they are fetched.
+ghost use Rattle.d64_effects.specs.Laws.{AreBytes};
+ghost use Rattle.host_storage.specs.Host.{fetched_bytes};
+ghost use Rattle.script_commands.specs.Act.{FetchesFile};
+
+use host_storage::{Host, HostFault};
+use std::alloc::Global;
+
+/// The bytes of a host file, of which there are at most `limit`.
+pub fn fetch<H: Host>(
+    alloc: Global,
+    host: &mut H,
+    name: &str,
+    limit: usize,
+) -> Result<Vec<u8>, HostFault>
+    ensures { FetchesFile
+        (H.state host.old)
+        name.now limit (fetched_bytes result)
+        (H.state host.new) }
+{
+    let bytes = host.fetch(alloc, name, limit)?;
+    known_bytes(&bytes);
+    Ok(bytes)
+}
+
+/// The bytes of a slice are known to be bytes.
+fn known_bytes(_bytes: &[u8])
+    ensures { AreBytes _bytes.now }
+{}

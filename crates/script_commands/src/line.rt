@@ -1,0 +1,278 @@
+//! A line of a script as a value, made from its words.
+ghost use Rattle.std.specs.Prelude.{◌≡◌, ◌++◌, map, option_map};
+ghost use Rattle.d64_image.specs.Disk.{Bytes};
+ghost use Rattle.d64_undo.specs.History.{History};
+ghost use Rattle.script_commands.specs.Line.{act_in, row_of, after_no_word, lone_commands, disk_commands, file_commands, host_commands};
+ghost use Rattle.script_commands.specs.LineValue.{act_of, act_of_result, words_or_refusal};
+ghost use Rattle.script_commands.specs.WordCounts.{one_word, at_most_one, word_and, some_words};
+
+use script_text::status::Status;
+use script_text::words::MAX_WORDS;
+
+/// What a line asks for: its command, and the words after that one as they were written.
+#[derive(Clone, Copy)]
+pub(crate) enum Line<'a> {
+    /// `block t s`: shows a block.
+    Block {
+        track: &'a str,
+        sector: &'a str,
+    },
+    /// `bread host t s`: stores a block in a host file.
+    BlockRead {
+        host: &'a str,
+        track: &'a str,
+        sector: &'a str,
+    },
+    /// `bwrite host t s`: replaces a block by a host file.
+    BlockWrite {
+        host: &'a str,
+        track: &'a str,
+        sector: &'a str,
+    },
+    /// `crunch host [name]`: writes the program that a BASIC text of the host stands for.
+    Crunch {
+        host: &'a str,
+        name: Option<&'a str>,
+    },
+    /// `delete pattern ..`: deletes the files that the patterns match.
+    Delete {
+        patterns: &'a [&'a str],
+    },
+    /// `format name,id`: makes the disk an empty one.
+    Format {
+        name_and_id: &'a str,
+    },
+    /// `history`: shows the records of what was done and undone.
+    ListHistory,
+    /// `keep host`: stores the session.
+    Keep {
+        host: &'a str,
+    },
+    /// `list`: shows the directory.
+    ListDirectory,
+    /// `petcat name`: shows a BASIC program of the disk as text.
+    Petcat {
+        name: &'a str,
+    },
+    /// `quit`: ends the run.
+    Quit,
+    /// `read name [host]`: stores a file in a host file.
+    Read {
+        name: &'a str,
+        host: Option<&'a str>,
+    },
+    /// `redo`: takes an undo back.
+    Redo,
+    /// `rename old new`: gives a file another name.
+    Rename {
+        old: &'a str,
+        new: &'a str,
+    },
+    /// `save [host]`: stores the image.
+    Save {
+        host: Option<&'a str>,
+    },
+    /// `undo`: takes the last command back.
+    Undo,
+    /// `validate`: drops the files that were never closed, and writes the map anew.
+    Validate,
+    /// `write host [name[,t]]`: writes a host file to the disk.
+    Write {
+        host: &'a str,
+        name: Option<&'a str>,
+    },
+}
+
+impl<'a> Line<'a> {
+    ghost use Rattle.script_commands.specs.Line.{act_of_words};
+
+    /// What the words of a line ask for. The first stands for a command, in small letters, and then
+    /// so many follow as that takes.
+    pub(crate) fn of(words: &'a [&'a str]) -> Result<Line<'a>, Status>
+        ensures { (home : Bytes) (history : History) → act_of_result home history result ≡ act_of_words home history (map (λ word. word.now) words.now) }
+    {
+        let Some((command, words)) = words.split_first() else {
+            return Err(Status::UnknownCommand);
+        };
+        match alone(command) {
+            Some(line) => with_no_word(line, words),
+            None => on_the_disk(command, words),
+        }
+    }
+}
+
+/// What a command asks for that takes no arguments.
+fn alone<'a>(command: &str) -> Option<Line<'a>>
+    ensures { (home : Bytes) (history : History) → option_map (act_of home history) result ≡ option_map (λ row. row.1) (row_of command.now (lone_commands history)) }
+{
+    match command {
+        "history" => Some(Line::ListHistory),
+        "list" => Some(Line::ListDirectory),
+        "quit" => Some(Line::Quit),
+        "redo" => Some(Line::Redo),
+        "undo" => Some(Line::Undo),
+        "validate" => Some(Line::Validate),
+        _ => None,
+    }
+}
+
+/// A line whose command takes no arguments.
+fn with_no_word<'a>(line: Line<'a>, words: &[&str]) -> Result<Line<'a>, Status>
+    ensures { (home : Bytes) (history : History) → act_of_result home history result ≡ after_no_word (map (λ word. word.now) words.now) (act_of home history line.entry) }
+{
+    match words {
+        [] => Ok(line),
+        _ => Err(Status::SyntaxError),
+    }
+}
+
+/// What a command with arguments asks for that has no use for the host, or else one of those below.
+fn on_the_disk<'a>(command: &str, words: &'a [&'a str]) -> Result<Line<'a>, Status>
+    ensures { (home : Bytes) (history : History) → act_of_result home history result ≡ act_in (disk_commands history (map (λ word. word.now) words.now) ++ file_commands history (map (λ word. word.now) words.now) ++ host_commands home history (map (λ word. word.now) words.now)) command.now }
+{
+    match command {
+        "block" => match two_words(words) {
+            Ok((track, sector)) => Ok(Line::Block { track, sector }),
+            Err(status) => Err(status),
+        },
+        "delete" => match some_words(words) {
+            Ok(patterns) => Ok(Line::Delete { patterns }),
+            Err(status) => Err(status),
+        },
+        "format" => match one_word(words) {
+            Ok(name_and_id) => Ok(Line::Format { name_and_id }),
+            Err(status) => Err(status),
+        },
+        "petcat" => match one_word(words) {
+            Ok(name) => Ok(Line::Petcat { name }),
+            Err(status) => Err(status),
+        },
+        "rename" => match two_words(words) {
+            Ok((old, new)) => Ok(Line::Rename { old, new }),
+            Err(status) => Err(status),
+        },
+        _ => with_a_file(command, words),
+    }
+}
+
+/// What a command asks for that takes a file from the host to the disk or back, or else one of
+/// those below.
+fn with_a_file<'a>(command: &str, words: &[&'a str]) -> Result<Line<'a>, Status>
+    ensures { (home : Bytes) (history : History) → act_of_result home history result ≡ act_in (file_commands history (map (λ word. word.now) words.now) ++ host_commands home history (map (λ word. word.now) words.now)) command.now }
+{
+    match command {
+        "crunch" => match one_or_two(words) {
+            Ok((host, name)) => Ok(Line::Crunch { host, name }),
+            Err(status) => Err(status),
+        },
+        "read" => match one_or_two(words) {
+            Ok((name, host)) => Ok(Line::Read { name, host }),
+            Err(status) => Err(status),
+        },
+        "write" => match one_or_two(words) {
+            Ok((host, name)) => Ok(Line::Write { host, name }),
+            Err(status) => Err(status),
+        },
+        _ => with_the_host(command, words),
+    }
+}
+
+/// What a command asks for that fetches or stores a block, the image or the session.
+fn with_the_host<'a>(command: &str, words: &[&'a str]) -> Result<Line<'a>, Status>
+    ensures { (home : Bytes) (history : History) → act_of_result home history result ≡ act_in (host_commands home history (map (λ word. word.now) words.now)) command.now }
+{
+    match command {
+        "bread" => match three_words(words) {
+            Ok((host, track, sector)) => Ok(Line::BlockRead {
+                host,
+                track,
+                sector,
+            }),
+            Err(status) => Err(status),
+        },
+        "bwrite" => match three_words(words) {
+            Ok((host, track, sector)) => Ok(Line::BlockWrite {
+                host,
+                track,
+                sector,
+            }),
+            Err(status) => Err(status),
+        },
+        "keep" => match one_word(words) {
+            Ok(host) => Ok(Line::Keep { host }),
+            Err(status) => Err(status),
+        },
+        "save" => match at_most_one(words) {
+            Ok(host) => Ok(Line::Save { host }),
+            Err(status) => Err(status),
+        },
+        _ => Err(Status::UnknownCommand),
+    }
+}
+
+/// Exactly one word.
+fn one_word<'a>(words: &[&'a str]) -> Result<&'a str, Status>
+    ensures { words_or_refusal (λ word. word.now) result ≡ one_word (map (λ word. word.now) words.now) }
+{
+    match words {
+        [] => Err(Status::MissingWord),
+        [word] => Ok(word),
+        _ => Err(Status::SyntaxError),
+    }
+}
+
+/// Exactly two words.
+fn two_words<'a>(words: &[&'a str]) -> Result<(&'a str, &'a str), Status>
+    ensures { words_or_refusal (λ pair. (pair.0.now, pair.1.now)) result ≡ word_and one_word (map (λ word. word.now) words.now) }
+{
+    match words {
+        [] | [_] => Err(Status::MissingWord),
+        [first, second] => Ok((first, second)),
+        _ => Err(Status::SyntaxError),
+    }
+}
+
+/// Exactly three words.
+fn three_words<'a>(words: &[&'a str]) -> Result<(&'a str, &'a str, &'a str), Status>
+    ensures { words_or_refusal (λ three. (three.0.now, (three.1.now, three.2.now))) result ≡ word_and (word_and one_word) (map (λ word. word.now) words.now) }
+{
+    match words {
+        [] | [_] | [_, _] => Err(Status::MissingWord),
+        [first, second, third] => Ok((first, second, third)),
+        _ => Err(Status::SyntaxError),
+    }
+}
+
+/// One word or none.
+fn at_most_one<'a>(words: &[&'a str]) -> Result<Option<&'a str>, Status>
+    ensures { words_or_refusal (option_map (λ word. word.now)) result ≡ at_most_one (map (λ word. word.now) words.now) }
+{
+    match words {
+        [] => Ok(None),
+        [word] => Ok(Some(word)),
+        _ => Err(Status::SyntaxError),
+    }
+}
+
+/// One word, and perhaps another.
+fn one_or_two<'a>(words: &[&'a str]) -> Result<(&'a str, Option<&'a str>), Status>
+    ensures { words_or_refusal (λ pair. (pair.0.now, option_map (λ word. word.now) pair.1)) result ≡ word_and at_most_one (map (λ word. word.now) words.now) }
+{
+    match words {
+        [] => Err(Status::MissingWord),
+        [first] => Ok((first, None)),
+        [first, second] => Ok((first, Some(second))),
+        _ => Err(Status::SyntaxError),
+    }
+}
+
+/// One word or more, up to as many as a line holds.
+fn some_words<'a>(words: &'a [&'a str]) -> Result<&'a [&'a str], Status>
+    ensures { words_or_refusal (λ some. map (λ word. word.now) some.now) result ≡ some_words (map (λ word. word.now) words.now) }
+{
+    match words.len() {
+        0 => Err(Status::MissingWord),
+        1..=MAX_WORDS => Ok(words),
+        _ => Err(Status::SyntaxError),
+    }
+}

@@ -1,0 +1,104 @@
+//! How faults, refusals and replies are answered: each has its status.
+ghost use Rattle.std.specs.Prelude.{◌≡◌, ◌<◌, ◌^◌, IfSome};
+ghost use Rattle.cbm_text.specs.BasicText.{fault_line};
+ghost use Rattle.script_commands.specs.BasicFiles.{status_of_basic, status_of_listing};
+ghost use Rattle.script_commands.specs.Act.{status_of_fault};
+ghost use Rattle.script_commands.specs.Arguments.{status_of_text};
+ghost use Rattle.script_commands.specs.Line.{status_of_refusal, status_of_reply};
+ghost use Rattle.script_text.specs.declared.status.Status.TheVariants.{NothingToUndo, NothingToRedo};
+
+use cbm_text::{BasicFault, ListFault, TextFault};
+use d64_dos::{Refusal, Reply};
+use host_storage::HostFault;
+use script_text::status::Status;
+
+/// The status of a fault of the host.
+pub(crate) fn of_fault(fault: HostFault) -> Status
+    ensures { result ≡ status_of_fault fault }
+{
+    match fault {
+        HostFault::Memory(_) => Status::OutOfMemory,
+        fault => Status::HostFile {
+            fault: fault.number(),
+        },
+    }
+}
+
+/// The status of a fault of a word in text form.
+pub(crate) fn of_text_fault(fault: TextFault) -> Status
+    ensures { result ≡ status_of_text fault }
+{
+    match fault {
+        TextFault::Memory(_) => Status::OutOfMemory,
+        TextFault::UnknownName { .. } | TextFault::OpenBrace { .. } | TextFault::BadByte { .. } => {
+            Status::BadName
+        }
+    }
+}
+
+/// The status of a fault of a BASIC text.
+pub fn of_basic_fault(fault: BasicFault) -> Status
+    requires { IfSome (fault_line fault) (λ line. line < 2 ^ 32) }
+    ensures { result ≡ status_of_basic fault }
+{
+    match fault.line() {
+        Some(line) => Status::BasicText {
+            fault: fault.number(),
+            line: line as u32,
+        },
+        None => Status::OutOfMemory,
+    }
+}
+
+/// The status of a fault of a program that was to be listed.
+pub fn of_list_fault(fault: ListFault) -> Status
+    ensures { result ≡ status_of_listing fault }
+{
+    match fault {
+        ListFault::Memory(_) => Status::OutOfMemory,
+        fault => Status::NotBasic {
+            fault: fault.number(),
+        },
+    }
+}
+
+/// The status of a refusal of a command.
+pub(crate) fn of_refusal(refusal: Refusal) -> Status
+    ensures { result ≡ status_of_refusal refusal }
+{
+    match refusal {
+        Refusal::NotClosed => Status::WriteFileOpen,
+        Refusal::NotFound => Status::FileNotFound,
+        Refusal::Exists => Status::FileExists,
+        Refusal::WrongType => Status::FileTypeMismatch,
+        Refusal::Directory(fault) => Status::DirectoryError {
+            condition: fault.number(),
+        },
+        Refusal::DiskFull => Status::DiskFull,
+        Refusal::Memory => Status::OutOfMemory,
+    }
+}
+
+/// The status of a reply to a command.
+pub(crate) fn of_reply(reply: Reply) -> Status
+    ensures { result ≡ status_of_reply reply }
+{
+    match reply {
+        Reply::Done => Status::Done,
+        Reply::Scratched(count) => Status::FilesScratched { count },
+    }
+}
+
+/// The status of an undo that was refused.
+pub(crate) fn of_nothing_to_undo(_refusal: d64_undo::NothingToUndo) -> Status
+    ensures { result ≡ NothingToUndo }
+{
+    Status::NothingToUndo
+}
+
+/// The status of a redo that was refused.
+pub(crate) fn of_nothing_to_redo(_refusal: d64_undo::NothingToRedo) -> Status
+    ensures { result ≡ NothingToRedo }
+{
+    Status::NothingToRedo
+}

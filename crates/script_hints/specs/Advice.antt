@@ -1,0 +1,162 @@
+-- What is wrong with a refused line, in plain words.
+use Rattle.std.specs.Prelude.{ℕ, ◌==◌, ◌-◌, nat_lt, if◌then◌else◌, List, [], ◌∷◌, ◌++◌, length, map, flat_map, codes}
+use Rattle.std.specs.Option.{option_map_or}
+use Rattle.d64_image.specs.Disk.{Bytes}
+use Rattle.script_text.specs.Number.{number_of}
+use Rattle.script_text.specs.declared.status.Status.{Status}
+use Rattle.script_text.specs.declared.status.Status.TheVariants.{Done, FilesScratched, SyntaxError, UnknownCommand, LongLine, BadName, MissingWord, WriteFileOpen, FileNotFound, FileExists, FileTypeMismatch, IllegalBlock, DirectoryError, DiskFull, HostFile, NothingToUndo, NothingToRedo, NotOneBlock, BasicText, NotBasic, OutOfMemory}
+use Rattle.script_hints.specs.Said.{Said}
+use Rattle.script_hints.specs.Command.{command_of, most_words, usage}
+use Rattle.script_hints.specs.Hint.{hint_of, hint_text}
+use Rattle.script_hints.specs.Faults.{basic_fault, condition_text, list_fault}
+use Rattle.script_hints.specs.declared.command.Command.{Command}
+use Rattle.script_hints.specs.declared.command.Command.TheVariants.{Block, BlockRead, BlockWrite, Crunch, Delete, Format, Keep, Petcat, Read, Rename, Save, Write}
+use Rattle.script_hints.specs.declared.advice.Advice.{Advice}
+use Rattle.script_hints.specs.declared.advice.Piece.{Piece as CodePiece}
+use Rattle.script_hints.specs.declared.advice.Piece.TheVariants as code
+
+-- a piece of what is told: a text, or a word of the line
+pub data Piece : Type 0 where
+  Text : Bytes → Piece
+  Word : Piece
+  First : Piece
+  Second : Piece
+  Third : Piece
+  Fourth : Piece
+
+-- the same as the code has it
+abbrev pub piece_of : CodePiece → Piece
+piece_of (code.Text text) = Text text.now
+piece_of code.Word = Word
+piece_of code.First = First
+piece_of code.Second = Second
+piece_of code.Third = Third
+piece_of code.Fourth = Fourth
+
+abbrev pub pieces : Advice → List Piece
+pieces advice = map piece_of advice.pieces
+
+-- the bytes of a piece, of these words
+abbrev pub said_piece : Said → Piece → Bytes
+said_piece said (Text text) = text
+said_piece said Word = said.word
+said_piece said First = said.first
+said_piece said Second = said.second
+said_piece said Third = said.third
+said_piece said Fourth = said.fourth
+
+-- two pieces among three texts
+abbrev pub two_pieces : Bytes → Piece → Bytes → Piece → Bytes → List Piece
+two_pieces before piece between other after = Text before ∷ piece ∷ Text between ∷ other ∷ Text after ∷ []
+
+-- a piece between two texts
+abbrev pub one_piece : Bytes → Piece → Bytes → List Piece
+one_piece before piece after = two_pieces before piece after (Text []) []
+
+-- a text alone
+abbrev pub plain_pieces : Bytes → List Piece
+plain_pieces text = two_pieces text (Text []) [] (Text []) []
+
+-- the second word of a line; the first where that is empty
+abbrev pub second_or_first : Said → Piece
+second_or_first said = if length said.second == 0 then First else Second
+
+-- the word of a line that gives the name of a file on the disk
+abbrev pub file_piece : Said → Command → Piece
+file_piece said Rename = Second
+file_piece said Crunch = second_or_first said
+file_piece said Write = second_or_first said
+file_piece said command = First
+
+-- the word of a line that gives the name of a file of the host
+abbrev pub host_piece : Said → Command → Piece
+host_piece said Read = second_or_first said
+host_piece said command = First
+
+-- the first word of a line that is one too many, where so many may follow its command
+abbrev pub surplus_piece : ℕ → Piece
+surplus_piece most = if most == 0 then First else if most == 1 then Second else if most == 2 then Third else Fourth
+
+-- of the words of a track and a sector the first that is no number
+abbrev pub not_number : Bytes → Piece → Piece → Piece
+not_number track first second = option_map_or (λ _. second) (number_of track) first
+
+-- a line of as many words as its command takes, of which one is not what that takes
+abbrev pub wrong_line : Said → Command → List Piece
+wrong_line said Block = one_piece (codes "\"") (not_number said.first First Second) (codes "\" is no number from 0 to 255: block T S")
+wrong_line said BlockRead = one_piece (codes "\"") (not_number said.second Second Third) (codes "\" is no number from 0 to 255")
+wrong_line said BlockWrite = one_piece (codes "\"") (not_number said.second Second Third) (codes "\" is no number from 0 to 255")
+wrong_line said Format = one_piece (codes "\"") First (codes "\" has no comma between a name and an id: format NAME,ID")
+wrong_line said Write = one_piece (codes "\"") Second (codes "\" ends with no type of a file, which is p, s or u: write HOST NAME,T")
+wrong_line said command = one_piece (codes "the line is typed so: ") (Text (usage command)) []
+
+-- a line whose words are not what its command takes
+abbrev pub wrong_words : Said → Command → List Piece
+wrong_words said command =
+    if said.count == 0 then plain_pieces (codes "a quote stands only at the begin and the end of a word, and other characters than printable ASCII nowhere")
+    else if nat_lt (most_words command) (said.count - 1)
+    then two_pieces (codes "\"") (surplus_piece (most_words command)) (codes "\" is a word too many: ") (Text (usage command)) []
+    else wrong_line said command
+
+-- a line in which a word cannot be a name
+abbrev pub wrong_name : Said → Command → List Piece
+wrong_name said BlockRead = one_piece (codes "\"") First (codes "\" is no name of a host file, which has 1 to 255 characters")
+wrong_name said BlockWrite = one_piece (codes "\"") First (codes "\" is no name of a host file, which has 1 to 255 characters")
+wrong_name said Keep = one_piece (codes "\"") First (codes "\" is no name of a host file, which has 1 to 255 characters")
+wrong_name said Save = one_piece (codes "\"") First (codes "\" is no name of a host file, which has 1 to 255 characters")
+wrong_name said Format = one_piece (codes "\"") First (codes "\" has no name of 1 to 16 characters with an id of 2, without * ? = : and quotes")
+wrong_name said Petcat = one_piece (codes "\"") First (codes "\" is no name, which has 1 to 16 characters without = : , and quotes")
+wrong_name said Delete = one_piece (codes "of the names from \"") First (codes "\" on, one is none: a name has 1 to 16 characters without = : , and quotes")
+wrong_name said Read = two_pieces (codes "\"") First (codes "\" is no name on a disk, which has 1 to 16 characters without = : , and quotes, or the host can have no file \"") (host_piece said Read) (codes "\": read NAME HOST")
+wrong_name said Rename = two_pieces (codes "\"") First (codes "\" or \"") Second (codes "\" is no name on a disk, which has 1 to 16 characters without * ? = : , and quotes")
+wrong_name said command = two_pieces (codes "\"") (file_piece said command) (codes "\" gives no name on a disk, which has 1 to 16 characters without * ? = : , and quotes, or the host can have no file \"") First (codes "\"")
+
+-- a line that lacks a word
+abbrev pub missing_word : Said → Command → List Piece
+missing_word said Save = plain_pieces (codes "the session began without an image file, so save takes a name: save HOST")
+missing_word said command = one_piece (codes "a word is missing: ") (Text (usage command)) []
+
+-- a line that names a block which the disk hasn't
+abbrev pub wrong_block : Said → Command → List Piece
+wrong_block said Block = two_pieces (codes "the disk has no track ") First (codes " with a sector ") Second (codes ": sectors count from 0, and are 21 on tracks 1 to 17, 19 on 18 to 24, 18 on 25 to 30, then 17")
+wrong_block said command = two_pieces (codes "the disk has no track ") Second (codes " with a sector ") Third (codes ": sectors count from 0, and are 21 on tracks 1 to 17, 19 on 18 to 24, 18 on 25 to 30, then 17")
+
+-- a line whose host file has the fault of this number
+abbrev pub wrong_host_file : Said → Command → ℕ → List Piece
+wrong_host_file said command fault =
+    if said.count == 1 then plain_pieces (codes "the image file cannot be written")
+    else if fault == 1 then one_piece (codes "the host has no file \"") (host_piece said command) (codes "\"")
+    else if fault == 3 then one_piece (codes "the file \"") (host_piece said command) (codes "\" has more than 1048576 bytes")
+    else one_piece (codes "the file \"") (host_piece said command) (codes "\" cannot be read or written")
+
+-- what is told of a line of a command that was refused with a status
+abbrev pub advice_by : Said → Command → Status → List Piece
+advice_by said command SyntaxError = wrong_words said command
+advice_by said command UnknownCommand = two_pieces (codes "there is no command \"") Word (codes "\"") (Text (hint_text (hint_of said.word))) []
+advice_by said command LongLine = plain_pieces (codes "a line has at most 1024 characters")
+advice_by said command BadName = wrong_name said command
+advice_by said command MissingWord = missing_word said command
+advice_by said command WriteFileOpen = one_piece (codes "the file \"") First (codes "\" was never closed, so it cannot be read")
+advice_by said command FileNotFound = one_piece (codes "the disk has no file \"") First (codes "\"")
+advice_by said command FileExists = one_piece (codes "the disk has a file already of the name that \"") (file_piece said command) (codes "\" gives")
+advice_by said command FileTypeMismatch = one_piece (codes "the type of the file \"") (file_piece said command) (codes "\" is none that this line takes")
+advice_by said command (IllegalBlock track sector) = wrong_block said command
+advice_by said command (DirectoryError condition) = one_piece (codes "the disk is damaged: ") (Text (condition_text condition)) (codes "; d64sh check says where")
+advice_by said command DiskFull = plain_pieces (codes "the disk or its directory has no room for that")
+advice_by said command (HostFile fault) = wrong_host_file said command fault
+advice_by said command NothingToUndo = plain_pieces (codes "there is no change to take back")
+advice_by said command NothingToRedo = plain_pieces (codes "no change was taken back that could be made again")
+advice_by said command NotOneBlock = one_piece (codes "the file \"") First (codes "\" has not the 256 bytes of a block")
+advice_by said command (BasicText fault line) = two_pieces (codes "the text \"") First (codes "\" is no program: ") (Text (basic_fault fault)) []
+advice_by said command (NotBasic fault) = two_pieces (codes "the file \"") First (codes "\" is no BASIC program: ") (Text (list_fault fault)) []
+advice_by said command OutOfMemory = plain_pieces (codes "there is no memory for that")
+advice_by said command Done = plain_pieces []
+advice_by said command (FilesScratched count) = plain_pieces []
+
+-- what is told of a line of these words that was refused with a status
+abbrev pub advice : Said → Status → List Piece
+advice said status = advice_by said (command_of said.word) status
+
+-- the words of it, with the line's end
+abbrev pub advice_words : Said → List Piece → Bytes
+advice_words said told = flat_map (said_piece said) told ++ codes "\n"

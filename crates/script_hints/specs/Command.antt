@@ -1,0 +1,78 @@
+-- The commands of a line: their words, how many more follow, and how the line is typed.
+use Rattle.std.specs.Prelude.{ℕ, List, [], ◌∷◌, find, codes}
+use Rattle.std.specs.Option.{option_map_or}
+use Rattle.std.specs.Str.{bytes_eq}
+use Rattle.d64_image.specs.Disk.{Bytes}
+use Rattle.script_hints.specs.declared.command.Command.{Command}
+use Rattle.script_hints.specs.declared.command.Command.TheVariants.{Block, BlockRead, BlockWrite, Crunch, Delete, Format, ListHistory, Keep, ListDirectory, Petcat, Quit, Read, Redo, Rename, Save, Undo, Validate, Write, Unknown}
+
+-- the words of the commands
+abbrev pub command_words : List (Bytes × Command)
+command_words =
+    (codes "block", Block)
+    ∷ (codes "bread", BlockRead)
+    ∷ (codes "bwrite", BlockWrite)
+    ∷ (codes "crunch", Crunch)
+    ∷ (codes "delete", Delete)
+    ∷ (codes "format", Format)
+    ∷ (codes "history", ListHistory)
+    ∷ (codes "keep", Keep)
+    ∷ (codes "list", ListDirectory)
+    ∷ (codes "petcat", Petcat)
+    ∷ (codes "quit", Quit)
+    ∷ (codes "read", Read)
+    ∷ (codes "redo", Redo)
+    ∷ (codes "rename", Rename)
+    ∷ (codes "save", Save)
+    ∷ (codes "undo", Undo)
+    ∷ (codes "validate", Validate)
+    ∷ (codes "write", Write)
+    ∷ []
+
+-- the command that a word stands for
+abbrev pub command_of : Bytes → Command
+command_of word = option_map_or (λ row. row.1) (find (λ row. bytes_eq word row.0) command_words) Unknown
+
+-- the most words that follow the word of a command
+abbrev pub most_words : Command → ℕ
+most_words Block = 2
+most_words BlockRead = 3
+most_words BlockWrite = 3
+most_words Crunch = 2
+most_words Delete = 511
+most_words Format = 1
+most_words ListHistory = 0
+most_words Keep = 1
+most_words ListDirectory = 0
+most_words Petcat = 1
+most_words Quit = 0
+most_words Read = 2
+most_words Redo = 0
+most_words Rename = 2
+most_words Save = 1
+most_words Undo = 0
+most_words Validate = 0
+most_words Write = 2
+most_words Unknown = 0
+
+-- how the line of a command is typed
+abbrev pub usage : Command → Bytes
+usage Block = codes "block T S"
+usage BlockRead = codes "bread HOST T S"
+usage BlockWrite = codes "bwrite HOST T S"
+usage Crunch = codes "crunch HOST [NAME]"
+usage Delete = codes "delete PATTERN .."
+usage Format = codes "format NAME,ID"
+usage ListHistory = codes "history"
+usage Keep = codes "keep HOST"
+usage ListDirectory = codes "list"
+usage Petcat = codes "petcat NAME"
+usage Quit = codes "quit"
+usage Read = codes "read NAME [HOST]"
+usage Redo = codes "redo"
+usage Rename = codes "rename OLD NEW"
+usage Save = codes "save [HOST]"
+usage Undo = codes "undo"
+usage Validate = codes "validate"
+usage Write = codes "write HOST [NAME[,T]]"
+usage Unknown = codes "d64sh help shell lists the commands"

@@ -1,0 +1,78 @@
+-- What stands here for the commands of `c1541`, and for other words that people try.
+use Rattle.std.specs.Prelude.{List, [], ◌∷◌, find, codes}
+use Rattle.std.specs.Option.{option_map_or}
+use Rattle.std.specs.Str.{bytes_eq}
+use Rattle.d64_image.specs.Disk.{Bytes}
+use Rattle.script_hints.specs.declared.hint.Hint.{Hint}
+use Rattle.script_hints.specs.declared.hint.Hint.TheVariants.{Fault, Image, Map, CopyBlock, FillBlock, ShowBlock, ChangeBlock, Folder, Chain, Copy, Directory, Entry, End, Extract, Help, Check, Label, Scratch, Version, Absent, Unknown}
+
+-- the words that are no commands here
+abbrev pub hint_words : List (Bytes × Hint)
+hint_words =
+    (codes "@", Fault)
+    ∷ (codes "attach", Image)
+    ∷ (codes "unit", Image)
+    ∷ (codes "bam", Map)
+    ∷ (codes "bcopy", CopyBlock)
+    ∷ (codes "bfill", FillBlock)
+    ∷ (codes "bpeek", ShowBlock)
+    ∷ (codes "bpoke", ChangeBlock)
+    ∷ (codes "cd", Folder)
+    ∷ (codes "pwd", Folder)
+    ∷ (codes "chain", Chain)
+    ∷ (codes "copy", Copy)
+    ∷ (codes "dir", Directory)
+    ∷ (codes "ls", Directory)
+    ∷ (codes "$", Directory)
+    ∷ (codes "entry", Entry)
+    ∷ (codes "exit", End)
+    ∷ (codes "x", End)
+    ∷ (codes "extract", Extract)
+    ∷ (codes "help", Help)
+    ∷ (codes "?", Help)
+    ∷ (codes "info", Check)
+    ∷ (codes "verify", Check)
+    ∷ (codes "name", Label)
+    ∷ (codes "scratch", Scratch)
+    ∷ (codes "rm", Scratch)
+    ∷ (codes "version", Version)
+    ∷ (codes "geosextract", Absent)
+    ∷ (codes "geosread", Absent)
+    ∷ (codes "geoswrite", Absent)
+    ∷ (codes "p00save", Absent)
+    ∷ (codes "parse", Absent)
+    ∷ (codes "silent", Absent)
+    ∷ (codes "tape", Absent)
+    ∷ (codes "unlynx", Absent)
+    ∷ (codes "unzip", Absent)
+    ∷ (codes "verbose", Absent)
+    ∷ (codes "zcreate", Absent)
+    ∷ []
+
+-- what a word asks for
+abbrev pub hint_of : Bytes → Hint
+hint_of word = option_map_or (λ row. row.1) (find (λ row. bytes_eq word row.0) hint_words) Unknown
+
+-- what stands for it here
+abbrev pub hint_text : Hint → Bytes
+hint_text Fault = codes "; delete, rename, format and validate do what it did"
+hint_text Image = codes "; name the image at the start: d64sh shell IMAGE"
+hint_text Map = codes "; block 18 0 shows the map, and d64sh map draws it"
+hint_text CopyBlock = codes "; bread and bwrite copy a block"
+hint_text FillBlock = codes "; bwrite fills a block from a file of 256 bytes"
+hint_text ShowBlock = codes "; block shows a block"
+hint_text ChangeBlock = codes "; bread and bwrite change a block"
+hint_text Folder = codes "; names count from the folder in which d64sh was started"
+hint_text Chain = codes "; d64sh map draws the blocks of each file"
+hint_text Copy = codes "; read and then write copy a file"
+hint_text Directory = codes "; the directory is shown by list"
+hint_text Entry = codes "; block 18 1 shows the first entries"
+hint_text End = codes "; the session ends by quit"
+hint_text Extract = codes "; read takes a file off the disk"
+hint_text Help = codes "; d64sh help shell lists the commands"
+hint_text Check = codes "; d64sh check tells of a disk"
+hint_text Label = codes "; format gives a disk a name, and bread and bwrite change block 18 0"
+hint_text Scratch = codes "; files are deleted by delete"
+hint_text Version = codes "; d64sh --version tells it"
+hint_text Absent = codes "; d64sh has none that does this"
+hint_text Unknown = codes "; d64sh help shell lists the commands"

@@ -1,0 +1,26 @@
+-- What becomes of changes that are not saved where a session is left.
+use Rattle.std.specs.Prelude.{◌≡◌, ◌≢◌, [], ◌++◌, false, option_map, codes}
+use Rattle.std.specs.FinMap.{insert}
+use Rattle.d64_image.specs.Disk.{Bytes}
+use Rattle.host_storage.specs.Files.{HostState}
+use Rattle.host_storage.specs.Folders.{Looks}
+use Rattle.d64_undo.specs.History.{History}
+use Rattle.d64_undo.specs.SessionFile.{file_of}
+use Rattle.out_messages.specs.Shown.{shown_name}
+
+-- the file that keeps the session of an image
+abbrev pub session_name : Bytes → Bytes
+session_name home = home ++ codes ".session"
+
+-- the line that says in which file changes are kept
+abbrev pub kept_line : Bytes → Bytes
+kept_line name =
+    codes "d64sh: changes are not saved; they are kept in "
+    ++ (shown_name name ++ (codes " (d64sh shell --resume " ++ (shown_name name ++ codes ")\n")))
+
+-- the session is kept beside its image, at a name at which nothing was, and this line says so
+pub record IsKeptUnder (old : HostState) (home : Bytes) (history : History) (line : Bytes) (new : HostState) : Type 0 where
+  pub named : home ≢ []
+  pub fresh : Looks old.files (session_name home) false
+  pub stored : new.files ≡ option_map (λ all. insert all (session_name home) (file_of history)) old.files
+  pub says : line ≡ kept_line (session_name home)

@@ -1,0 +1,14 @@
+-- What comes before what is wrong with a refused line of a script.
+use Rattle.std.specs.Prelude.{ℕ, ◌++◌, codes, decimal}
+use Rattle.d64_image.specs.Disk.{Bytes}
+use Rattle.out_messages.specs.Shown.{shown_name}
+use Rattle.out_messages.specs.ShownStart.{shown_start}
+
+-- a line as it is shown: as the name of a host file is
+abbrev pub shown_line : Bytes → Bytes
+shown_line text = shown_name text
+
+-- what comes before what is wrong with the line of this number and text: the number of the line, and
+-- its first characters
+unfoldable pub line_start : ℕ → Bytes → Bytes
+line_start number text = codes "d64sh: line " ++ (decimal number ++ (codes ": " ++ (shown_start text ++ codes ": ")))

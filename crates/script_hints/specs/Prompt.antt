@@ -1,0 +1,17 @@
+-- The prompt: which image a session is of, and whether it has changes that are not saved.
+use Rattle.std.specs.Prelude.{◌++◌, Bool, ◌==◌, length, if◌then◌else◌, codes}
+use Rattle.d64_image.specs.Disk.{Bytes}
+use Rattle.script_commands.specs.Arguments.{after_slash}
+use Rattle.out_messages.specs.Shown.{shown_name}
+
+-- the name in the prompt: that of the image file, without its folders, as names are shown
+abbrev pub name_in_prompt : Bytes → Bytes
+name_in_prompt home = if length home == 0 then codes "d64sh" else shown_name (after_slash home)
+
+-- what comes after the name
+abbrev pub mark : Bool → Bytes
+mark is_unsaved = if is_unsaved then codes "*> " else codes "> "
+
+-- the prompt
+abbrev pub prompt : Bytes → Bool → Bytes
+prompt name is_unsaved = name ++ mark is_unsaved

@@ -1,0 +1,38 @@
+-- The words of a line, as far as there is something to say of them.
+use Rattle.std.specs.Prelude.{ℕ, List, [], ◌∷◌, length, drop, if◌then◌else◌, unwrap_or}
+use Rattle.d64_image.specs.Disk.{Bytes}
+use Rattle.script_text.specs.RawLines.{is_too_long, text_of}
+use Rattle.script_text.specs.Words.{words_of}
+
+-- the words of a line; those that it hasn't are empty
+pub record Said : Type 0 where
+  pub word : Bytes
+  pub first : Bytes
+  pub second : Bytes
+  pub third : Bytes
+  pub fourth : Bytes
+  pub count : ℕ
+
+-- the first of some words; empty where there is none
+abbrev pub first_of : List Bytes → Bytes
+first_of [] = []
+first_of (word ∷ words) = word
+
+-- what these words say
+abbrev pub said_of : List Bytes → Said
+said_of words = record {
+  word = first_of words;
+  first = first_of (drop 1 words);
+  second = first_of (drop 1 (drop 1 words));
+  third = first_of (drop 1 (drop 1 (drop 1 words)));
+  fourth = first_of (drop 1 (drop 1 (drop 1 (drop 1 words))));
+  count = length words;
+}
+
+-- what the words of a text say: nothing where it has a byte or a quote that no line holds
+abbrev pub said_in : Bytes → Said
+said_in text = said_of (unwrap_or (words_of text) [])
+
+-- what a line says: nothing where it is too long
+abbrev pub said_by : Bytes → Said
+said_by line = if is_too_long line then said_of [] else said_in (text_of line)

@@ -1,0 +1,353 @@
+//! What is wrong with a refused line, in plain words.
+ghost use Rattle.std.specs.Prelude.{◌≡◌};
+ghost use Rattle.script_hints.specs.Advice.{advice, file_piece, host_piece, missing_word, not_number, one_piece, piece_of, pieces, plain_pieces, said_piece, surplus_piece, two_pieces, wrong_block, wrong_host_file, wrong_line, wrong_name, wrong_words};
+
+use crate::command::Command;
+use crate::faults::{basic_fault, condition_text, list_fault};
+use crate::hint::Hint;
+use crate::said::Said;
+use script_text::number::number;
+use script_text::status::Status;
+
+/// A piece of what is told: a text, or a word of the line.
+#[derive(Clone, Copy)]
+pub(crate) enum Piece {
+    Text(&'static [u8]),
+    Word,
+    First,
+    Second,
+    Third,
+    Fourth,
+}
+
+impl Piece {
+    /// Its bytes, of these words.
+    pub(crate) fn of<'a>(self, said: &Said<'a>) -> &'a [u8]
+        ensures { result.now ≡ said_piece said.now (piece_of self) }
+    {
+        match self {
+            Piece::Text(text) => text,
+            Piece::Word => said.word.as_bytes(),
+            Piece::First => said.first,
+            Piece::Second => said.second,
+            Piece::Third => said.third,
+            Piece::Fourth => said.fourth,
+        }
+    }
+}
+
+/// What is told of a line.
+#[derive(Clone, Copy)]
+pub(crate) struct Advice {
+    pub(crate) pieces: [Piece; 5],
+}
+
+impl Advice {
+    /// A text alone.
+    fn plain(text: &'static [u8]) -> Advice
+        ensures { pieces result ≡ plain_pieces text.now }
+    {
+        Advice::two(text, Piece::Text(b""), b"", Piece::Text(b""), b"")
+    }
+
+    /// A piece between two texts.
+    fn one(before: &'static [u8], piece: Piece, after: &'static [u8]) -> Advice
+        ensures { pieces result ≡ one_piece before.now (piece_of piece) after.now }
+    {
+        Advice::two(before, piece, after, Piece::Text(b""), b"")
+    }
+
+    /// Two pieces among three texts.
+    fn two(
+        before: &'static [u8],
+        piece: Piece,
+        between: &'static [u8],
+        other: Piece,
+        after: &'static [u8],
+    ) -> Advice
+        ensures { pieces result ≡ two_pieces before.now (piece_of piece) between.now (piece_of other) after.now }
+    {
+        Advice {
+            pieces: [
+                Piece::Text(before),
+                piece,
+                Piece::Text(between),
+                other,
+                Piece::Text(after),
+            ],
+        }
+    }
+
+    /// What is told of a line of these words that was refused with this status.
+    pub(crate) fn of(said: &Said<'_>, status: &Status) -> Advice
+        ensures { pieces result ≡ advice said.now status.now }
+    {
+        let command = Command::of(said.word);
+        match *status {
+            Status::SyntaxError => wrong_words(said, command),
+            Status::UnknownCommand => Advice::two(
+                b"there is no command \"",
+                Piece::Word,
+                b"\"",
+                Piece::Text(Hint::of(said.word).text()),
+                b"",
+            ),
+            Status::LongLine => Advice::plain(b"a line has at most 1024 characters"),
+            Status::BadName => wrong_name(said, command),
+            Status::MissingWord => missing_word(said, command),
+            Status::WriteFileOpen => Advice::one(
+                b"the file \"",
+                Piece::First,
+                b"\" was never closed, so it cannot be read",
+            ),
+            Status::FileNotFound => Advice::one(b"the disk has no file \"", Piece::First, b"\""),
+            Status::FileExists => Advice::one(
+                b"the disk has a file already of the name that \"",
+                file_piece(said, command),
+                b"\" gives",
+            ),
+            Status::FileTypeMismatch => Advice::one(
+                b"the type of the file \"",
+                file_piece(said, command),
+                b"\" is none that this line takes",
+            ),
+            Status::IllegalBlock { .. } => wrong_block(said, command),
+            Status::DirectoryError { condition } => Advice::one(
+                b"the disk is damaged: ",
+                Piece::Text(condition_text(condition)),
+                b"; d64sh check says where",
+            ),
+            Status::DiskFull => Advice::plain(b"the disk or its directory has no room for that"),
+            Status::HostFile { fault } => wrong_host_file(said, command, fault),
+            Status::NothingToUndo => Advice::plain(b"there is no change to take back"),
+            Status::NothingToRedo => Advice::plain(
+                b"no change was taken back that could be made again",
+            ),
+            Status::NotOneBlock => Advice::one(
+                b"the file \"",
+                Piece::First,
+                b"\" has not the 256 bytes of a block",
+            ),
+            Status::BasicText { fault, .. } => Advice::two(
+                b"the text \"",
+                Piece::First,
+                b"\" is no program: ",
+                Piece::Text(basic_fault(fault)),
+                b"",
+            ),
+            Status::NotBasic { fault } => Advice::two(
+                b"the file \"",
+                Piece::First,
+                b"\" is no BASIC program: ",
+                Piece::Text(list_fault(fault)),
+                b"",
+            ),
+            Status::OutOfMemory => Advice::plain(b"there is no memory for that"),
+            Status::Done | Status::FilesScratched { .. } => Advice::plain(b""),
+        }
+    }
+}
+
+/// The word of a line that gives the name of a file on the disk.
+fn file_piece(said: &Said<'_>, command: Command) -> Piece
+    ensures { piece_of result ≡ file_piece said.now command }
+{
+    match command {
+        Command::Rename => Piece::Second,
+        Command::Crunch | Command::Write => {
+            if said.second.is_empty() {
+                Piece::First
+            } else {
+                Piece::Second
+            }
+        }
+        _ => Piece::First,
+    }
+}
+
+/// The word of a line that gives the name of a file of the host.
+fn host_piece(said: &Said<'_>, command: Command) -> Piece
+    ensures { piece_of result ≡ host_piece said.now command }
+{
+    match command {
+        Command::Read => {
+            if said.second.is_empty() {
+                Piece::First
+            } else {
+                Piece::Second
+            }
+        }
+        _ => Piece::First,
+    }
+}
+
+/// The first word of a line that is one too many, where so many may follow its command.
+fn surplus_piece(most: usize) -> Piece
+    ensures { piece_of result ≡ surplus_piece most }
+{
+    match most {
+        0 => Piece::First,
+        1 => Piece::Second,
+        2 => Piece::Third,
+        _ => Piece::Fourth,
+    }
+}
+
+/// Of a track and a sector the first that is no number: this one is the word of the track.
+fn not_number(track: &[u8], first: Piece, second: Piece) -> Piece
+    ensures { piece_of result ≡ not_number track.now (piece_of first) (piece_of second) }
+{
+    match number(track) {
+        Some(_) => second,
+        None => first,
+    }
+}
+
+/// A line whose words are not what its command takes.
+fn wrong_words(said: &Said<'_>, command: Command) -> Advice
+    ensures { pieces result ≡ wrong_words said.now command }
+{
+    let most = command.most_words();
+    if said.count == 0 {
+        Advice::plain(
+            b"a quote stands only at the begin and the end of a word, and other characters than printable ASCII nowhere",
+        )
+    } else if said.count - 1 > most {
+        Advice::two(
+            b"\"",
+            surplus_piece(most),
+            b"\" is a word too many: ",
+            Piece::Text(command.usage()),
+            b"",
+        )
+    } else {
+        wrong_line(said, command)
+    }
+}
+
+/// A line whose host file has this fault.
+fn wrong_host_file(said: &Said<'_>, command: Command, fault: u8) -> Advice
+    ensures { pieces result ≡ wrong_host_file said.now command fault }
+{
+    if said.count == 1 {
+        return Advice::plain(b"the image file cannot be written");
+    }
+    let piece = host_piece(said, command);
+    match fault {
+        1 => Advice::one(b"the host has no file \"", piece, b"\""),
+        3 => Advice::one(b"the file \"", piece, b"\" has more than 1048576 bytes"),
+        _ => Advice::one(b"the file \"", piece, b"\" cannot be read or written"),
+    }
+}
+
+/// A line of as many words as its command takes, of which one is not what that takes.
+fn wrong_line(said: &Said<'_>, command: Command) -> Advice
+    ensures { pieces result ≡ wrong_line said.now command }
+{
+    match command {
+        Command::Block => Advice::one(
+            b"\"",
+            not_number(said.first, Piece::First, Piece::Second),
+            b"\" is no number from 0 to 255: block T S",
+        ),
+        Command::BlockRead | Command::BlockWrite => Advice::one(
+            b"\"",
+            not_number(said.second, Piece::Second, Piece::Third),
+            b"\" is no number from 0 to 255",
+        ),
+        Command::Format => Advice::one(
+            b"\"",
+            Piece::First,
+            b"\" has no comma between a name and an id: format NAME,ID",
+        ),
+        Command::Write => Advice::one(
+            b"\"",
+            Piece::Second,
+            b"\" ends with no type of a file, which is p, s or u: write HOST NAME,T",
+        ),
+        _ => Advice::one(b"the line is typed so: ", Piece::Text(command.usage()), b""),
+    }
+}
+
+/// A line in which a word cannot be a name.
+fn wrong_name(said: &Said<'_>, command: Command) -> Advice
+    ensures { pieces result ≡ wrong_name said.now command }
+{
+    match command {
+        Command::BlockRead | Command::BlockWrite | Command::Keep | Command::Save => Advice::one(
+            b"\"",
+            Piece::First,
+            b"\" is no name of a host file, which has 1 to 255 characters",
+        ),
+        Command::Format => Advice::one(
+            b"\"",
+            Piece::First,
+            b"\" has no name of 1 to 16 characters with an id of 2, without * ? = : and quotes",
+        ),
+        Command::Petcat => Advice::one(
+            b"\"",
+            Piece::First,
+            b"\" is no name, which has 1 to 16 characters without = : , and quotes",
+        ),
+        Command::Delete => Advice::one(
+            b"of the names from \"",
+            Piece::First,
+            b"\" on, one is none: a name has 1 to 16 characters without = : , and quotes",
+        ),
+        Command::Read => Advice::two(
+            b"\"",
+            Piece::First,
+            b"\" is no name on a disk, which has 1 to 16 characters without = : , and quotes, or the host can have no file \"",
+            host_piece(said, command),
+            b"\": read NAME HOST",
+        ),
+        Command::Rename => Advice::two(
+            b"\"",
+            Piece::First,
+            b"\" or \"",
+            Piece::Second,
+            b"\" is no name on a disk, which has 1 to 16 characters without * ? = : , and quotes",
+        ),
+        _ => Advice::two(
+            b"\"",
+            file_piece(said, command),
+            b"\" gives no name on a disk, which has 1 to 16 characters without * ? = : , and quotes, or the host can have no file \"",
+            Piece::First,
+            b"\"",
+        ),
+    }
+}
+
+/// A line that lacks a word.
+fn missing_word(said: &Said<'_>, command: Command) -> Advice
+    ensures { pieces result ≡ missing_word said.now command }
+{
+    match command {
+        Command::Save => Advice::plain(
+            b"the session began without an image file, so save takes a name: save HOST",
+        ),
+        _ => Advice::one(b"a word is missing: ", Piece::Text(command.usage()), b""),
+    }
+}
+
+/// A line that names a block which the disk hasn't.
+fn wrong_block(said: &Said<'_>, command: Command) -> Advice
+    ensures { pieces result ≡ wrong_block said.now command }
+{
+    match command {
+        Command::Block => Advice::two(
+            b"the disk has no track ",
+            Piece::First,
+            b" with a sector ",
+            Piece::Second,
+            b": sectors count from 0, and are 21 on tracks 1 to 17, 19 on 18 to 24, 18 on 25 to 30, then 17",
+        ),
+        _ => Advice::two(
+            b"the disk has no track ",
+            Piece::Second,
+            b" with a sector ",
+            Piece::Third,
+            b": sectors count from 0, and are 21 on tracks 1 to 17, 19 on 18 to 24, 18 on 25 to 30, then 17",
+        ),
+    }
+}

@@ -1,0 +1,405 @@
+//! Who says to a person what is wrong with a refused line, and what becomes of changes that are not
+//! saved.
+ghost use Rattle.std.specs.Prelude.{◌≡◌, ◌⊎◌, ℕ, List, [], Some, None, IfSome, if◌then◌else◌, ◌++◌, ◌&&◌, ◌||◌, codes, not, false, true};
+ghost use Rattle.host_storage.specs.Files.{HostState};
+ghost use Rattle.script_text.specs.HeldLine.{Says};
+ghost use Rattle.script_text.specs.Output.{Writes, account_of};
+ghost use Rattle.script_text.specs.Status.{is_accepted};
+ghost use Rattle.d64_undo.specs.History.{present_image};
+ghost use Rattle.script_hints.specs.Advice.{advice, advice_words, pieces};
+ghost use Rattle.std.specs.Option.{option_map_or};
+ghost use Rattle.script_hints.specs.LineStart.{line_start};
+ghost use Rattle.script_hints.specs.Ear.{MayStart, named_text, stops_at_refusal};
+ghost use Rattle.script_hints.specs.Kept.{effect_of, is_unsaved, kept_after, kept_in, unsaved_line};
+ghost use Rattle.script_hints.specs.Leaving.{IsKeptUnder};
+ghost use Rattle.script_hints.specs.Prompt.{name_in_prompt, prompt};
+ghost use Rattle.script_hints.specs.Said.{said_by};
+ghost use Rattle.script_hints.specs.TextCause.{MaySay};
+
+use crate::advice::Advice;
+use crate::command::Command;
+use crate::found::{default_name, file_count};
+use crate::help::ROWS;
+use crate::hint::Hint;
+use crate::kept::{Kept, is_unsaved, kept_after};
+use crate::leaving::keep_session;
+use crate::line_start::line_start;
+use crate::more::more_about;
+use crate::past::Past;
+use crate::prompt::{prompt_name, write_prompt};
+use crate::said::Said;
+use crate::text_cause::text_line;
+use crate::unfit::unfit_line;
+use arrayvec::ArrayVec;
+use d64_image::Image;
+use d64_undo::Session;
+use host_storage::{Host, HostFault};
+use script_run::{Listener, Opening, Refusals};
+use script_text::held_line::HeldLine;
+use script_text::output::{OutputStream, WriteFault};
+use script_text::raw_lines::LINE_BYTES;
+use script_text::status::Status;
+use std::alloc::Global;
+use std::io::Write;
+use std::mem;
+
+/// The line that says that the last image is held by no file.
+const UNSAVED: &[u8] = b"d64sh: changes are not saved\n";
+
+/// Says on an output what is wrong with each refused line: with the number of the line where the
+/// arguments give the script or end it at refusals, and else where lines are typed at a terminal.
+/// There it writes the prompt, too, and says what is shown nowhere else: the commands, which line
+/// was taken back, and what becomes of changes that are not saved.
+#[derive(Drop)]
+pub struct Advisor<'w, W: Write, H: Host> {
+    alloc: Global,
+    output: OutputStream<'w, W>,
+    /// Where a session is kept that is left with changes.
+    host: H,
+    /// Whether the input and the output are a terminal.
+    is_terminal: bool,
+    /// Whether it is said there why no session begins.
+    is_shown: bool,
+    /// The line that says it.
+    unfit: Option<Vec<u8>>,
+    /// Whether lines are typed there.
+    is_typed: bool,
+    /// Whether refused lines are named by their numbers.
+    is_numbered: bool,
+    /// How many lines of the script have come.
+    lines: usize,
+    /// The first bytes of the line that comes, where lines are named by their numbers.
+    first_bytes: ArrayVec<u8, LINE_BYTES>,
+    /// Whether the prompt was the last that was written.
+    is_prompting: bool,
+    /// Whether the session was left by `quit`, or by the script's end.
+    is_left: bool,
+    /// The name in the prompt.
+    name: Option<Vec<u8>>,
+    kept: Option<Kept>,
+    /// How many files the disk lists.
+    files: usize,
+    /// How many changes are made.
+    done: usize,
+    past: Past,
+}
+
+impl<'w, W: Write, H: Host> Advisor<'w, W, H> {
+    /// One who speaks on this writer, which may be a terminal at which lines are typed.
+    pub fn new(alloc: Global, is_terminal: bool, writer: &'w mut W, host: H) -> Advisor<'w, W, H>
+        ensures lent { result.output.writer.ghost_name ≡ writer.entry.ghost_name }
+        ensures same { result.output.writer.now ≡ writer.old }
+        ensures terminal { result.is_terminal ≡ is_terminal }
+    {
+        Advisor {
+            alloc,
+            output: OutputStream::new(writer),
+            host,
+            is_terminal,
+            is_shown: false,
+            unfit: None,
+            is_typed: false,
+            is_numbered: false,
+            lines: 0,
+            first_bytes: ArrayVec::new(),
+            is_prompting: false,
+            is_left: false,
+            name: None,
+            kept: None,
+            files: 0,
+            done: 0,
+            past: Past::new(alloc),
+        }
+    }
+
+    /// It is to be said why no session begins, where none does.
+    pub fn explain_misses(&mut self)
+        ensures output { self.new.output ≡ self.old.output }
+        ensures shown { self.new.is_shown ≡ true }
+    {
+        self.is_shown = true;
+    }
+
+    /// Says why no session began, where that is known.
+    pub fn end_without_session(&mut self)
+        ensures lent { self.new.output.writer.ghost_name ≡ self.old.output.writer.ghost_name }
+        ensures told { Writes
+            (account_of (W.contents self.old.output.writer.now) self.old.output.has_failed)
+            (account_of (W.contents self.new.output.writer.now) self.new.output.has_failed)
+            (option_map_or (λ line. line.items) self.old.unfit []) }
+    {
+        let _ = self.output.write(bytes_of(&self.unfit, b""));
+    }
+
+    /// The session begins: of that nothing is said.
+    pub fn begin_with(&mut self, opening: &Opening<'_>, session: &Session)
+        ensures output { self.new.output ≡ self.old.output }
+        ensures typed { self.new.is_typed ≡ (self.old.is_terminal && not opening.now.is_given) }
+        ensures numbered { self.new.is_numbered ≡ (opening.now.is_given || stops_at_refusal opening.now.refusals) }
+        ensures kept { self.new.is_typed ≡ true → self.new.kept ≡ Some (kept_in (present_image session.now) opening.now.held_in.now) }
+        ensures name { self.new.is_typed ≡ true → IfSome self.new.name (λ name. name.items ≡ name_in_prompt opening.now.home.now) }
+    {
+        self.is_typed = self.is_terminal && !opening.is_given;
+        self.is_numbered = opening.is_given || matches!(opening.refusals, Refusals::Stop);
+        if self.is_typed {
+            self.kept = Some(Kept::of(session.image(), opening.held_in.as_bytes()));
+            self.name = prompt_name(self.alloc, opening.home).ok();
+            self.files = file_count(session.image());
+            self.done = session.done();
+        }
+    }
+
+    /// Asks for the next line, where this is the image.
+    pub fn ask_with(&mut self, image: &Image)
+        ensures lent { self.new.output.writer.ghost_name ≡ self.old.output.writer.ghost_name }
+        ensures asked { Writes
+            (account_of (W.contents self.old.output.writer.now) self.old.output.has_failed)
+            (account_of (W.contents self.new.output.writer.now) self.new.output.has_failed)
+            (prompt (option_map_or (λ name. name.items) self.old.name (codes "d64sh")) (is_unsaved self.old.kept image.now)) }
+    {
+        let is_unsaved = is_unsaved(self.kept, image);
+        let name = self.name.take();
+        let _ = write_prompt(&mut self.output, bytes_of(&name, b"d64sh"), is_unsaved);
+        self.name = name;
+        self.is_prompting = true;
+    }
+
+    /// What an answered line does to what is held; and where it was refused, what is wrong is said.
+    pub fn tell(&mut self, home: &str, line: &HeldLine, status: &Status, image: &Image)
+        ensures lent { self.new.output.writer.ghost_name ≡ self.old.output.writer.ghost_name }
+        ensures typed { self.new.is_typed ≡ self.old.is_typed }
+        ensures numbered { self.new.is_numbered ≡ self.old.is_numbered }
+        ensures lines { self.new.lines ≡ self.old.lines }
+        ensures kept { (raw : List ℕ) → Says line.now raw → self.old.is_typed ≡ true → is_accepted status.now ≡ true → (found : List ℕ) × (self.new.kept ≡ kept_after self.old.kept (effect_of home.now found (said_by raw)) image.now) }
+        ensures held { is_accepted status.now ≡ false → self.new.kept ≡ self.old.kept }
+        ensures told { (raw : List ℕ) → Says line.now raw → is_accepted status.now ≡ false → (start words : List ℕ)
+            × MayStart self.old.is_numbered self.old.lines (named_text raw self.old.first_bytes.items) start
+            × MaySay (H.state self.old.host) start (said_by raw) status.now words
+            × Writes
+            (account_of (W.contents self.old.output.writer.now) self.old.output.has_failed)
+            (account_of (W.contents self.new.output.writer.now) self.new.output.has_failed)
+            words }
+        ensures silent { is_accepted status.now ≡ true → self.new.output ≡ self.old.output }
+    {
+        let said = Said::of(line);
+        if status.is_accepted() {
+            if self.is_typed {
+                let found = default_name(self.alloc, image, said.first);
+                self.kept = kept_after(self.kept, home, bytes_of(&found, b""), &said, image);
+            }
+        } else {
+            let advice = Advice::of(&said, status);
+            let start = self.start_of(line);
+            let start = bytes_of(&start, b"d64sh: ");
+            let _ = match text_line(self.alloc, &mut self.host, start, said.first, status) {
+                Some(line) => self.output.write(line.as_slice()),
+                None => write_advice(&mut self.output, start, &said, advice),
+            };
+        }
+    }
+
+    /// Holds the first bytes of the line that comes.
+    fn hold(&mut self, bytes: &[u8]) {
+        let room = LINE_BYTES - self.first_bytes.len();
+        let _ = self
+            .first_bytes
+            .try_extend_from_slice(&bytes[..bytes.len().min(room)]);
+    }
+
+    /// What comes before what is wrong with a line, if lines are named by their numbers. Of one that
+    /// is too long the first bytes are shown.
+    fn start_of(&self, line: &HeldLine) -> Option<Vec<u8>>
+        ensures { IfSome result (λ start. (self.now.is_numbered ≡ true)
+            × ((raw : List ℕ) → Says line.now raw → start.items ≡ line_start self.now.lines (named_text raw self.now.first_bytes.items))) }
+    {
+        if !self.is_numbered {
+            return None;
+        }
+        let text = line.text().unwrap_or(self.first_bytes.as_slice());
+        match line_start(self.alloc, self.lines, text) {
+            Ok(start) => Some(start),
+            Err(_) => None,
+        }
+    }
+
+    /// The session ends: where its image is not what is held, that is said, and it is kept where it
+    /// was left by `quit` or by the end of what is typed.
+    pub fn end_with(&mut self, home: &str, session: &Session)
+        ensures lent { self.new.output.writer.ghost_name ≡ self.old.output.writer.ghost_name }
+        ensures told { is_unsaved self.old.kept (present_image session.now) ≡ true → (line : List ℕ)
+            × ((line ≡ unsaved_line) ⊎ ((self.old.is_left ≡ true) × IsKeptUnder (H.state self.old.host) home.now session.now line (H.state self.new.host)))
+            × Writes
+            (account_of (W.contents self.old.output.writer.now) self.old.output.has_failed)
+            (account_of (W.contents self.new.output.writer.now) self.new.output.has_failed)
+            line }
+        ensures silent { is_unsaved self.old.kept (present_image session.now) ≡ false → self.new ≡ self.old }
+    {
+        if !is_unsaved(self.kept, session.image()) {
+            return;
+        }
+        let kept = if self.is_left {
+            keep_session(self.alloc, &mut self.host, home, session)
+        } else {
+            None
+        };
+        let _ = self.output.write(bytes_of(&kept, UNSAVED));
+    }
+
+    /// Follows a session along an accepted line: its changes, of which it says which one was taken
+    /// back or made again, and its end.
+    fn follow(&mut self, line: &HeldLine, session: &Session)
+        ensures { self.new.output.writer.ghost_name ≡ self.old.output.writer.ghost_name }
+    {
+        let before = self.done;
+        self.done = session.done();
+        let mut past = mem::replace(&mut self.past, Past::new(self.alloc));
+        match Command::of(Said::of(line).word) {
+            Command::Undo => self.name_change(b"  taken back: ", past.line_of(self.done)),
+            Command::Redo => self.name_change(b"  done again: ", past.line_of(before)),
+            Command::Quit => self.is_left = true,
+            _ if self.done > before => past.record(before, line.text().unwrap_or(b"")),
+            _ => {}
+        }
+        self.past = past;
+    }
+
+    /// Says which line was taken back or made again.
+    fn name_change(&mut self, start: &[u8], line: Option<&[u8]>)
+        ensures { self.new.output.writer.ghost_name ≡ self.old.output.writer.ghost_name }
+    {
+        let _ = write_past(&mut self.output, start, line);
+    }
+}
+
+impl<'w, W: Write, H: Host> Advisor<'w, W, H> {
+    /// Says what more there is to say of a line that left this image.
+    fn explain(&mut self, line: &HeldLine, status: &Status, image: &Image)
+        ensures { self.new.output.writer.ghost_name ≡ self.old.output.writer.ghost_name }
+    {
+        if self.is_numbered && !status.is_accepted() {
+            return;
+        }
+        let text = line.text().unwrap_or(b"");
+        let said = Said::of(line);
+        let more = more_about(self.alloc, text, &said, status, image, self.files);
+        let _ = self.output.write(bytes_of(&more, b""));
+        self.files = file_count(image);
+    }
+}
+
+/// The bytes of a text, or these where there is none.
+fn bytes_of<'a>(text: &'a Option<Vec<u8>>, other: &'a [u8]) -> &'a [u8]
+    ensures { result.now ≡ option_map_or (λ bytes. bytes.items) text.now other.now }
+{
+    match text {
+        Some(text) => text.as_slice(),
+        None => other,
+    }
+}
+
+/// Whether a line asks what can be typed.
+fn asks_for_help(line: &HeldLine, status: &Status) -> bool {
+    match *status {
+        Status::UnknownCommand => matches!(Hint::of(Said::of(line).word), Hint::Help),
+        _ => false,
+    }
+}
+
+impl<'w, W: Write, H: Host> Listener for Advisor<'w, W, H> {
+    fn miss(&mut self, name: &str, contents: Result<&[u8], HostFault>) {
+        if self.is_shown {
+            self.unfit = unfit_line(self.alloc, &self.host, name, contents);
+        }
+    }
+
+    fn begin(&mut self, opening: &Opening<'_>, session: &Session) {
+        self.begin_with(opening, session);
+    }
+
+    fn wait(&mut self, image: &Image) {
+        if self.is_typed {
+            self.ask_with(image);
+        }
+    }
+
+    fn take(&mut self, bytes: &[u8]) {
+        if self.is_numbered {
+            self.hold(bytes);
+        }
+    }
+
+    fn reach_end(&mut self) {
+        self.is_left = true;
+        if self.is_prompting {
+            let _ = self.output.write(b"\n");
+        }
+    }
+
+    fn skip(&mut self) {
+        self.lines = self.lines.saturating_add(1);
+        self.is_prompting = false;
+        self.first_bytes.clear();
+    }
+
+    fn needs_delivery(&self, status: &Status) -> bool {
+        self.is_typed || self.is_numbered && !status.is_accepted()
+    }
+
+    fn hear(&mut self, home: &str, line: &HeldLine, status: &Status, session: &Session) {
+        self.lines = self.lines.saturating_add(1);
+        self.is_prompting = false;
+        let asks = self.is_typed && asks_for_help(line, status);
+        if self.is_numbered || self.is_typed && !asks {
+            self.tell(home, line, status, session.image());
+        }
+        if asks {
+            let _ = self.output.write(ROWS);
+        }
+        if self.is_typed {
+            self.explain(line, status, session.image());
+        }
+        if self.is_typed && status.is_accepted() {
+            self.follow(line, session);
+        }
+        self.first_bytes.clear();
+    }
+
+    fn end(&mut self, home: &str, session: &Session) {
+        if self.is_typed {
+            self.end_with(home, session);
+        }
+    }
+}
+
+/// Writes what is wrong with a line after the start of what is said.
+fn write_advice<W: Write>(
+    output: &mut OutputStream<'_, W>,
+    start: &[u8],
+    said: &Said<'_>,
+    advice: Advice,
+) -> Result<(), WriteFault>
+    ensures same { output.new.writer.ghost_name ≡ output.old.writer.ghost_name }
+    ensures either { Writes
+        (account_of (W.contents output.old.writer.now) output.old.has_failed)
+        (account_of (W.contents output.new.writer.now) output.new.has_failed)
+        (start.now ++ advice_words said.now (pieces advice)) }
+{
+    output.write(start)?;
+    for piece in advice.pieces.iter() {
+        output.write(piece.of(said))?;
+    }
+    output.write(b"\n")
+}
+
+/// Writes which line was taken back or made again.
+fn write_past<W: Write>(
+    output: &mut OutputStream<'_, W>,
+    start: &[u8],
+    line: Option<&[u8]>,
+) -> Result<(), WriteFault>
+    ensures { output.new.writer.ghost_name ≡ output.old.writer.ghost_name }
+{
+    output.write(start)?;
+    output.write(line.unwrap_or(b"a change whose line is not known"))?;
+    output.write(b"\n")
+}

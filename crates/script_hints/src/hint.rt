@@ -1,0 +1,108 @@
+//! What stands here for the commands of `c1541`, and for other words that people try.
+ghost use Rattle.std.specs.Prelude.{◌≡◌};
+ghost use Rattle.script_hints.specs.Hint.{hint_of, hint_text};
+
+/// What a word that is no command asks for.
+#[derive(Clone, Copy)]
+pub(crate) enum Hint {
+    Fault,
+    Image,
+    Map,
+    CopyBlock,
+    FillBlock,
+    ShowBlock,
+    ChangeBlock,
+    Folder,
+    Chain,
+    Copy,
+    Directory,
+    Entry,
+    End,
+    Extract,
+    Help,
+    Check,
+    Label,
+    Scratch,
+    Version,
+    Absent,
+    /// Nothing that is known.
+    Unknown,
+}
+
+impl Hint {
+    /// What a word asks for.
+    pub(crate) fn of(word: &str) -> Hint
+        ensures { result ≡ hint_of word.now }
+    {
+        match word {
+            "@" => Hint::Fault,
+            "attach" => Hint::Image,
+            "unit" => Hint::Image,
+            "bam" => Hint::Map,
+            "bcopy" => Hint::CopyBlock,
+            "bfill" => Hint::FillBlock,
+            "bpeek" => Hint::ShowBlock,
+            "bpoke" => Hint::ChangeBlock,
+            "cd" => Hint::Folder,
+            "pwd" => Hint::Folder,
+            "chain" => Hint::Chain,
+            "copy" => Hint::Copy,
+            "dir" => Hint::Directory,
+            "ls" => Hint::Directory,
+            "$" => Hint::Directory,
+            "entry" => Hint::Entry,
+            "exit" => Hint::End,
+            "x" => Hint::End,
+            "extract" => Hint::Extract,
+            "help" => Hint::Help,
+            "?" => Hint::Help,
+            "info" => Hint::Check,
+            "verify" => Hint::Check,
+            "name" => Hint::Label,
+            "scratch" => Hint::Scratch,
+            "rm" => Hint::Scratch,
+            "version" => Hint::Version,
+            "geosextract" => Hint::Absent,
+            "geosread" => Hint::Absent,
+            "geoswrite" => Hint::Absent,
+            "p00save" => Hint::Absent,
+            "parse" => Hint::Absent,
+            "silent" => Hint::Absent,
+            "tape" => Hint::Absent,
+            "unlynx" => Hint::Absent,
+            "unzip" => Hint::Absent,
+            "verbose" => Hint::Absent,
+            "zcreate" => Hint::Absent,
+            _ => Hint::Unknown,
+        }
+    }
+
+    /// What stands for it here.
+    pub(crate) fn text(self) -> &'static [u8]
+        ensures { result.now ≡ hint_text self }
+    {
+        match self {
+            Hint::Fault => b"; delete, rename, format and validate do what it did",
+            Hint::Image => b"; name the image at the start: d64sh shell IMAGE",
+            Hint::Map => b"; block 18 0 shows the map, and d64sh map draws it",
+            Hint::CopyBlock => b"; bread and bwrite copy a block",
+            Hint::FillBlock => b"; bwrite fills a block from a file of 256 bytes",
+            Hint::ShowBlock => b"; block shows a block",
+            Hint::ChangeBlock => b"; bread and bwrite change a block",
+            Hint::Folder => b"; names count from the folder in which d64sh was started",
+            Hint::Chain => b"; d64sh map draws the blocks of each file",
+            Hint::Copy => b"; read and then write copy a file",
+            Hint::Directory => b"; the directory is shown by list",
+            Hint::Entry => b"; block 18 1 shows the first entries",
+            Hint::End => b"; the session ends by quit",
+            Hint::Extract => b"; read takes a file off the disk",
+            Hint::Help => b"; d64sh help shell lists the commands",
+            Hint::Check => b"; d64sh check tells of a disk",
+            Hint::Label => b"; format gives a disk a name, and bread and bwrite change block 18 0",
+            Hint::Scratch => b"; files are deleted by delete",
+            Hint::Version => b"; d64sh --version tells it",
+            Hint::Absent => b"; d64sh has none that does this",
+            Hint::Unknown => b"; d64sh help shell lists the commands",
+        }
+    }
+}

@@ -1,0 +1,62 @@
+//! What becomes of changes that are not saved where a session is left.
+ghost use Rattle.std.specs.Prelude.{◌≡◌, IfOk, IfSome};
+ghost use Rattle.script_hints.specs.Leaving.{IsKeptUnder, kept_line, session_name};
+
+use d64_undo::Session;
+use host_storage::Host;
+use out_messages::push_shown;
+use std::alloc::{AllocError, Global};
+
+/// Stores a session under its image's name with `.session` added, where there is an image and
+/// nothing is at that name, and returns the line that says so.
+pub(crate) fn keep_session<H: Host>(
+    alloc: Global,
+    host: &mut H,
+    home: &str,
+    session: &Session,
+) -> Option<Vec<u8>>
+    ensures { IfSome result (λ line. IsKeptUnder (H.state host.old) home.now session.now line.items (H.state host.new)) }
+{
+    if home.is_empty() {
+        return None;
+    }
+    let Ok(name) = session_name(alloc, home) else {
+        return None;
+    };
+    if host.is_there(name.as_str()) {
+        return None;
+    }
+    let Ok(line) = kept_line(alloc, name.as_bytes()) else {
+        return None;
+    };
+    let Ok(file) = session.keep(alloc) else {
+        return None;
+    };
+    match host.store(alloc, name.as_str(), file.as_slice()) {
+        Ok(()) => Some(line),
+        Err(_) => None,
+    }
+}
+
+/// The name of an image with `.session` added.
+fn session_name(alloc: Global, home: &str) -> Result<String, AllocError>
+    ensures { IfOk result (λ name. name.bytes.items ≡ session_name home.now) }
+{
+    let mut name = String::new(alloc);
+    name.push_str(home)?;
+    name.push_str(".session")?;
+    Ok(name)
+}
+
+/// The line that says that changes are kept in the file of this name.
+fn kept_line(alloc: Global, name: &[u8]) -> Result<Vec<u8>, AllocError>
+    ensures { IfOk result (λ line. line.items ≡ kept_line name.now) }
+{
+    let mut line = Vec::new(alloc);
+    line.extend_from_slice(b"d64sh: changes are not saved; they are kept in ")?;
+    push_shown(&mut line, name)?;
+    line.extend_from_slice(b" (d64sh shell --resume ")?;
+    push_shown(&mut line, name)?;
+    line.extend_from_slice(b")\n")?;
+    Ok(line)
+}

@@ -1,0 +1,122 @@
+//! What more there is to say of a line where lines are typed: which command or name was meant, why
+//! nothing was deleted, what is gone, and where a file was stored that may be in the way.
+
+use crate::command::Command;
+use crate::found::{Found, default_name};
+use crate::near::near_command;
+use crate::said::Said;
+use d64_files::Entry;
+use d64_image::Image;
+use out_messages::{push_count, push_quoted};
+use script_text::status::Status;
+use std::alloc::{AllocError, Global};
+
+/// What more there is to say of a line of this text and these words that left this image, where so many files were there before.
+pub(crate) fn more_about(
+    alloc: Global,
+    text: &[u8],
+    said: &Said<'_>,
+    status: &Status,
+    image: &Image,
+    files: usize,
+) -> Option<Vec<u8>> {
+    let mut line = Vec::new(alloc);
+    let pushed = match (Command::of(said.word), *status) {
+        (_, Status::SyntaxError) if said.count == 0 => push_odd(&mut line, text),
+        (_, Status::UnknownCommand) => push_near(&mut line, near_command(said.word.as_bytes())),
+        (_, Status::FileNotFound) => push_meant(&mut line, &Found::of(alloc, image, said.first)),
+        (Command::Delete, Status::FilesScratched { count: 0 }) => {
+            push_undeleted(&mut line, &Found::of(alloc, image, said.first))
+        }
+        (Command::Read, Status::Done) if said.second.is_empty() => {
+            push_place(&mut line, &default_name(alloc, image, said.first))
+        }
+        (Command::Format, Status::Done) if files > 0 => push_gone(&mut line, files),
+        _ => Ok(()),
+    };
+    match pushed {
+        Ok(()) if !line.is_empty() => Some(line),
+        _ => None,
+    }
+}
+
+/// Adds what a byte comes from that no line has.
+fn push_odd(line: &mut Vec<u8>, text: &[u8]) -> Result<(), AllocError> {
+    for byte in text {
+        let what: &[u8] = match *byte {
+            9 => b"d64sh: the line has a tab\n",
+            27 =>
+                b"d64sh: an arrow or another key that edits was typed; rlwrap d64sh shell edits lines\n",
+            128..=255 => b"d64sh: the line has an umlaut or another character that is not ASCII\n",
+            _ => continue,
+        };
+        return line.extend_from_slice(what);
+    }
+    Ok(())
+}
+
+/// Adds which command is near to the word.
+fn push_near(line: &mut Vec<u8>, near: Option<&[u8]>) -> Result<(), AllocError> {
+    match near {
+        Some(command) => {
+            line.extend_from_slice(b"d64sh: a similar command is ")?;
+            line.extend_from_slice(command)?;
+            line.extend_from_slice(b"\n")
+        }
+        None => Ok(()),
+    }
+}
+
+/// Adds which file has this name in other letters.
+fn push_meant(line: &mut Vec<u8>, found: &Found<'_>) -> Result<(), AllocError> {
+    match &found.in_other_letters {
+        Some(entry) => {
+            line.extend_from_slice(b"d64sh: the disk has ")?;
+            push_quoted(line, entry.name())?;
+            line.extend_from_slice(b"; there capitals and small letters are different\n")
+        }
+        None => Ok(()),
+    }
+}
+
+/// Adds why no file was deleted.
+fn push_undeleted(line: &mut Vec<u8>, found: &Found<'_>) -> Result<(), AllocError> {
+    line.extend_from_slice(b"d64sh: nothing was deleted: ")?;
+    match &found.entry {
+        Some(entry) => {
+            push_quoted(line, entry.name())?;
+            line.extend_from_slice(why_kept(entry))?;
+        }
+        None => line.extend_from_slice(b"the disk has no file of such a name\n")?,
+    }
+    push_meant(line, found)
+}
+
+/// Why `delete` leaves a file.
+fn why_kept(entry: &Entry<'_>) -> &'static [u8] {
+    if entry.locked() {
+        b" is locked\n"
+    } else {
+        b" was never closed; validate drops it\n"
+    }
+}
+
+/// Adds under which name a file was stored that may be in the way there.
+fn push_place(line: &mut Vec<u8>, name: &Option<Vec<u8>>) -> Result<(), AllocError> {
+    match name {
+        Some(name) if matches!(name.first(), Some(b'.' | b'-')) => {
+            line.extend_from_slice(b"d64sh: the file was stored as \"")?;
+            line.extend_from_slice(name.as_slice())?;
+            line.extend_from_slice(b"\"; read NAME HOST gives it another name\n")
+        }
+        _ => Ok(()),
+    }
+}
+
+/// Adds how many files are gone.
+fn push_gone(line: &mut Vec<u8>, files: usize) -> Result<(), AllocError> {
+    line.extend_from_slice(b"d64sh: of the disk before ")?;
+    push_count(line, files, b"file")?;
+    line.extend_from_slice(if files == 1 { b" is" } else { b" are" })?;
+    line.extend_from_slice(b" gone; undo brings it back\n")
+}

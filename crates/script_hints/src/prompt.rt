@@ -1,0 +1,56 @@
+//! The prompt: which image a session is of, and whether it has changes that are not saved.
+ghost use Rattle.std.specs.Prelude.{◌≡◌, ◌++◌, IfOk, OnOk, OnErr};
+ghost use Rattle.script_text.specs.Output.{Writes, account_of};
+ghost use Rattle.script_commands.specs.Arguments.{after_slash};
+ghost use Rattle.script_hints.specs.Prompt.{mark, name_in_prompt, prompt};
+
+use out_messages::push_shown;
+use script_text::output::{OutputStream, WriteFault};
+use std::alloc::{AllocError, Global};
+use std::io::Write;
+
+/// The name in the prompt of a session whose image lies in this host file, or in none.
+pub(crate) fn prompt_name(alloc: Global, home: &str) -> Result<Vec<u8>, AllocError>
+    ensures { IfOk result (λ name. name.items ≡ name_in_prompt home.now) }
+{
+    let mut name = Vec::new(alloc);
+    if home.is_empty() {
+        name.extend_from_slice(b"d64sh")?;
+    } else {
+        push_shown(&mut name, last_part(home.as_bytes()))?;
+    }
+    Ok(name)
+}
+
+/// The part of a host file's name after its last `/`.
+fn last_part(name: &[u8]) -> &[u8]
+    ensures { result.now ≡ after_slash name.now }
+{
+    match name.rsplit(|byte| *byte == b'/').next() {
+        Some(part) => part,
+        None => name,
+    }
+}
+
+/// Writes the prompt.
+pub(crate) fn write_prompt<W: Write>(
+    output: &mut OutputStream<'_, W>,
+    name: &[u8],
+    is_unsaved: bool,
+) -> Result<(), WriteFault>
+    ensures same { output.new.writer.ghost_name ≡ output.old.writer.ghost_name }
+    ensures either { Writes
+        (account_of (W.contents output.old.writer.now) output.old.has_failed)
+        (account_of (W.contents output.new.writer.now) output.new.has_failed)
+        (prompt name.now is_unsaved) }
+{
+    output.write(name)?;
+    output.write(mark(is_unsaved))
+}
+
+/// What comes after the name.
+fn mark(is_unsaved: bool) -> &'static [u8]
+    ensures { result.now ≡ mark is_unsaved }
+{
+    if is_unsaved { b"*> " } else { b"> " }
+}

@@ -1,0 +1,109 @@
+//! The words of a line, as far as there is something to say of them.
+ghost use Rattle.std.specs.Prelude.{◌≡◌, ◌≤◌, ℕ, List, [], All, length, drop};
+ghost use Rattle.script_text.specs.HeldLine.{Says};
+ghost use Rattle.script_text.specs.Words.{IsPrintable};
+ghost use Rattle.script_hints.specs.Said.{first_of, said_of, said_in, said_by};
+
+use script_text::held_line::HeldLine;
+use script_text::words::Words;
+use std::marker::Model;
+use std::str;
+
+/// The words of a line; those that it hasn't are empty.
+#[derive(Drop)]
+pub(crate) struct Said<'a> {
+    /// The word of the command.
+    pub(crate) word: &'a str,
+    pub(crate) first: &'a [u8],
+    pub(crate) second: &'a [u8],
+    pub(crate) third: &'a [u8],
+    pub(crate) fourth: &'a [u8],
+    /// How many words the line has, its command counted.
+    pub(crate) count: usize,
+}
+
+impl<'a> Model for Said<'a> {
+    ghost use Rattle.script_hints.specs.Said.{Said};
+
+    ghost Value = { Said };
+
+    ghost view = { λ s. record { word = s.word.now; first = s.first.now; second = s.second.now; third = s.third.now; fourth = s.fourth.now; count = s.count } };
+}
+
+impl<'a> Said<'a> {
+    /// No words.
+    fn nothing() -> Said<'a>
+        ensures { result ≡ said_of [] }
+    {
+        Said {
+            word: "",
+            first: b"",
+            second: b"",
+            third: b"",
+            fourth: b"",
+            count: 0,
+        }
+    }
+
+    /// The words of a line that has come to its end: none where it is too long, or where a byte or
+    /// a quote stands that no line holds.
+    pub(crate) fn of(line: &'a HeldLine) -> Said<'a>
+        ensures { (raw : List ℕ) → Says line.now raw → result ≡ said_by raw }
+    {
+        match line.text() {
+            Some(text) => Said::in_text(text),
+            None => Said::nothing(),
+        }
+    }
+
+    /// The words of a text: none where a byte or a quote stands that no line holds.
+    fn in_text(text: &'a [u8]) -> Said<'a>
+        requires { length text.now ≤ 1024 }
+        ensures { result ≡ said_in text.now }
+    {
+        match Words::of(text) {
+            Ok(words) => Said::of_words(words),
+            Err(_) => Said::nothing(),
+        }
+    }
+
+    /// These words.
+    fn of_words(words: Words<'a>) -> Said<'a>
+        requires { All (All IsPrintable) words }
+        ensures { result ≡ said_of words.entry }
+    {
+        let mut words = words;
+        let count = words.len();
+        let word = match words.next() {
+            Some(word) => as_text(word),
+            None => "",
+        };
+        Said {
+            word,
+            first: next_word(&mut words),
+            second: next_word(&mut words),
+            third: next_word(&mut words),
+            fourth: next_word(&mut words),
+            count,
+        }
+    }
+}
+
+/// The next word, which is empty where there is none.
+fn next_word<'a>(words: &mut Words<'a>) -> &'a [u8]
+    ensures word { result.now ≡ first_of words.old }
+    ensures rest { words.new ≡ drop 1 words.old }
+{
+    match words.next() {
+        Some(word) => word,
+        None => b"",
+    }
+}
+
+/// A word, whose bytes are ASCII, as a text.
+fn as_text(word: &[u8]) -> &str
+    requires { All IsPrintable word.now }
+    ensures { result.now ≡ word.now }
+{
+    str::from_utf8(word).unwrap()
+}

@@ -1,0 +1,36 @@
+-- What follows from the definition of a transcript.
+use Rattle.std.specs.Prelude.{◌≡◌, ℕ, ◌≤◌, List, ◌∷◌, length, All, Some, codes}
+use Rattle.d64_undo.specs.History.{History}
+use Rattle.d64_undo.specs.Request.{Asked, Run}
+use Rattle.d64_undo.specs.SoundHistory.{HoldsSoundDisks}
+use Rattle.d64_undo.specs.declared.request.Answer.{Answer}
+use Rattle.script_text.specs.RawLines.{text_of}
+use Rattle.script_text.specs.Words.{words_of}
+use Rattle.script_run.specs.Transcript.{Manner, Progress, Transcript}
+
+-- a run of at most so many requests leads from one history to another
+pub record IsReachedIn (most : ℕ) (before after : History) : Type 0 where
+  pub requests : List Asked
+  pub answers : List Answer
+  pub few : length requests ≤ most
+  pub run : Run before requests answers after
+
+-- what the lines of a script leave of the history is what a run of requests leaves, at most one a
+-- line
+abbrev pub ScriptsAreRuns : Type 0
+ScriptsAreRuns =
+    (manner : Manner) (lines : List (List ℕ)) (progress : Progress) (out : List ℕ) (after : Progress)
+    → Transcript manner lines progress out after
+    → IsReachedIn (length lines) progress.world.history after.world.history
+
+-- the first word of a line is that of a block write
+pub record IsBlockWrite (line : List ℕ) : Type 0 where
+  pub words : List (List ℕ)
+  pub cut : words_of (text_of line) ≡ Some (codes "bwrite" ∷ words)
+
+-- lines of which none is a block write leave sound disks, whatever the host does
+abbrev pub ScriptsKeepDisksSound : Type 0
+ScriptsKeepDisksSound =
+    (manner : Manner) (lines : List (List ℕ)) (progress : Progress) (out : List ℕ) (after : Progress)
+    → Transcript manner lines progress out after → All (λ line. ¬ (IsBlockWrite line)) lines
+    → HoldsSoundDisks progress.world.history → HoldsSoundDisks after.world.history

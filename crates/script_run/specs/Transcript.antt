@@ -1,0 +1,61 @@
+-- What a script prints and leaves: its lines, one after another.
+use Rattle.std.specs.Prelude.{◌≡◌, ℕ, ◌+◌, List, [], ◌∷◌, ◌++◌, Bool, MatchBool, MatchOption, if◌then◌else◌, ◌||◌, false, not}
+use Rattle.script_commands.specs.Act.{Does, LineAnswer, World, printed_bytes}
+use Rattle.script_commands.specs.Line.{act_of_line}
+use Rattle.script_text.specs.Status.{is_accepted}
+use Rattle.script_text.specs.declared.status.Status.{Status}
+use Rattle.script_run.specs.declared.manners.Refusals.{Refusals}
+use Rattle.script_run.specs.declared.manners.Refusals.TheVariants.{GoOn, Stop}
+
+-- how a script is run: with the name of the host file in which `save` stores by default, and with
+-- what a refused line does
+pub record Manner : Type 0 where
+  pub home : List ℕ
+  pub refusals : Refusals
+
+-- a script that goes on after refused lines
+abbrev pub going_on : List ℕ → Manner
+going_on home = record { home = home; refusals = GoOn }
+
+-- a line of this status ends its script, since it is refused
+abbrev pub ends_script : Refusals → Status → Bool
+ends_script GoOn status = false
+ends_script Stop status = not (is_accepted status)
+
+-- how far a run has come: the world, whether it has ended, by an accepted `quit` or a refused line,
+-- and how many lines were accepted and refused
+pub record Progress : Type 0 where
+  pub world : World
+  pub closed : Bool
+  pub accepted : ℕ
+  pub refused : ℕ
+
+-- the run after an answer
+abbrev pub counted_progress : Refusals → Progress → LineAnswer → World → Progress
+counted_progress refusals progress answer world = record {
+  world = world;
+  closed = answer.closes || ends_script refusals answer.status;
+  accepted = progress.accepted + (if is_accepted answer.status then 1 else 0);
+  refused = progress.refused + (if is_accepted answer.status then 0 else 1);
+}
+
+-- nothing is printed and nothing changes
+abbrev pub IsSilent : Progress → List ℕ → Progress → Type 0
+IsSilent progress out after = (out ≡ []) × (after ≡ progress)
+
+-- a line of a run that has not ended: it is skipped, or what it asks for is done and answered
+unfoldable pub Line : Manner → List ℕ → Progress → List ℕ → Progress → Type 0
+Line manner line progress out after =
+    MatchOption (act_of_line manner.home progress.world.history line)
+    (IsSilent progress out after)
+    (λ act. (answer : LineAnswer) × (world : World)
+    × Does act progress.world answer world × (out ≡ printed_bytes answer) × (after ≡ counted_progress manner.refusals progress answer world))
+
+-- lines in turn, each with what it prints; after the run's end they are silent
+unfoldable pub Transcript : Manner → List (List ℕ) → Progress → List ℕ → Progress → Type 0
+Transcript manner [] progress out after = IsSilent progress out after
+Transcript manner (line ∷ lines) progress out after =
+    (said : List ℕ) × (more : List ℕ) × (middle : Progress)
+    × (out ≡ said ++ more)
+    × MatchBool progress.closed (IsSilent progress said middle) (Line manner line progress said middle)
+    × Transcript manner lines middle more after

@@ -1,0 +1,35 @@
+//! How a script is run.
+ghost use Rattle.std.specs.Prelude.{◌≡◌};
+ghost use Rattle.script_run.specs.Transcript.{ends_script};
+
+use script_text::status::Status;
+
+/// How a script is run.
+#[derive(Clone, Copy, Debug)]
+pub struct Manner<'n> {
+    /// The name of the host file in which `save` stores by default, or empty.
+    pub home: &'n str,
+    /// What a refused line does.
+    pub refusals: Refusals,
+}
+
+/// What a refused line does to its script.
+#[derive(Clone, Copy, Debug, PartialEq, Eq)]
+pub enum Refusals {
+    /// The script goes on with the next line.
+    GoOn,
+    /// The script ends: what follows doesn't run.
+    Stop,
+}
+
+impl Refusals {
+    /// Whether a line of this status ends its script, since it is refused.
+    pub(crate) fn ends_script(self, status: &Status) -> bool
+        ensures { result ≡ ends_script self status.now }
+    {
+        match self {
+            Refusals::GoOn => false,
+            Refusals::Stop => !status.is_accepted(),
+        }
+    }
+}

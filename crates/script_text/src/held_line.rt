@@ -1,0 +1,89 @@
+//! The line of a script that is being read, held in a fixed room.
+
+ghost use Rattle.std.specs.Prelude.{◌≡◌, ◌≤◌, ◌++◌, ◌∷◌, [], ◌==◌, ℕ, List, true, false, length, IfSome, MatchOption};
+ghost use Rattle.std.specs.Io.BufRead.{ends_with_byte};
+ghost use Rattle.script_text.specs.RawLines.{is_too_long, line_limit, text_of};
+ghost use Rattle.script_text.specs.HeldLine.{Holds, IsOpen, Says};
+
+use crate::raw_lines::LINE_BYTES;
+use arrayvec::ArrayVec;
+
+/// The bytes of a line before its LF, as far as they have come. A line of more than `LINE_BYTES`
+/// bytes is passed over, and only that it is too long is held.
+#[derive(Drop)]
+pub struct HeldLine {
+    bytes: ArrayVec<u8, LINE_BYTES>,
+    is_long: bool,
+}
+
+impl HeldLine {
+    /// A line of which nothing has come.
+    pub fn new() -> HeldLine
+        ensures { Holds result [] }
+    {
+        HeldLine {
+            bytes: ArrayVec::new(),
+            is_long: false,
+        }
+    }
+
+    /// Forgets the line for the next one.
+    pub fn clear(&mut self)
+        ensures { Holds self.new [] }
+    {
+        self.bytes.clear();
+        self.is_long = false;
+    }
+
+    /// Whether nothing has come.
+    pub fn is_empty(&self) -> bool
+        ensures { (before : List ℕ) → Holds self.now before → result ≡ (length before == 0) }
+    {
+        self.bytes.is_empty() && !self.is_long
+    }
+
+    /// Takes the next bytes of the line.
+    pub fn push(&mut self, bytes: &[u8])
+        ensures { (before : List ℕ) → Holds self.old before → Holds self.new (before ++ bytes.now) }
+    {
+        if self.bytes.try_extend_from_slice(bytes).is_err() {
+            self.is_long = true;
+        }
+    }
+
+    /// Ends the line with its LF: a CR right before it is no part of the text.
+    pub fn end_with_line_feed(&mut self)
+        ensures { (before : List ℕ) → Holds self.old before → IsOpen before → Says self.new (before ++ 10 ∷ []) }
+    {
+        if ends_with_carriage_return(self.bytes.as_slice()) {
+            let _ = self.bytes.pop();
+        }
+    }
+
+    /// Ends the line with the script's end: all of it is text, a CR at its end too.
+    pub fn end_with_script(&self)
+        ensures { (before : List ℕ) → Holds self.now before → IsOpen before → Says self.now before }
+    {
+        let _fits = self.bytes.len() <= LINE_BYTES;
+    }
+
+    /// What the line says, or None where it is too long.
+    pub fn text(&self) -> Option<&[u8]>
+        ensures fits { IfSome result (λ text. length text.now ≤ line_limit) }
+        ensures says { (raw : List ℕ) → Says self.now raw → MatchOption result
+            (is_too_long raw ≡ true)
+            (λ text. (is_too_long raw ≡ false) × (text_of raw ≡ text.now)) }
+    {
+        if self.is_long {
+            return None;
+        }
+        Some(self.bytes.as_slice())
+    }
+}
+
+/// Whether the last byte is a CR.
+fn ends_with_carriage_return(bytes: &[u8]) -> bool
+    ensures { result ≡ ends_with_byte 13 bytes.now }
+{
+    bytes.last() == Some(&b'\r')
+}

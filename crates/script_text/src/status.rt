@@ -1,0 +1,175 @@
+//! Status lines, which answer the lines of a script.
+ghost use Rattle.std.specs.Prelude.{◌≡◌, ◌+◌, ◌≤◌, ◌++◌, length};
+ghost use Rattle.arrayvec.specs.ArrayVec.{array_vec_len};
+ghost use Rattle.script_text.specs.Status.{is_accepted, status_row, status_details, status_line, two_digits};
+
+use arrayvec::ArrayVec;
+use itoa::Buffer;
+use std::alloc::AllocError;
+
+/// The room for a status line, in bytes.
+pub const MAX_STATUS_LINE: usize = 128;
+
+/// The least number of a refusal.
+const FIRST_REFUSAL: u8 = 30;
+
+/// What a line of a script is answered. The numbers to 72 are those of the drive's error channel
+/// (1541 User's Guide); those from 80 on are this project's own.
+#[derive(Clone, Copy, Debug, PartialEq, Eq)]
+pub enum Status {
+    /// 00: the line was accepted.
+    Done,
+    /// 01: the line was accepted, and so many files were deleted.
+    FilesScratched { count: usize },
+    /// 30: a byte or a quote that no line holds, too many words, or a word that isn't what its
+    /// command takes.
+    SyntaxError,
+    /// 31: the first word is no command.
+    UnknownCommand,
+    /// 32: the line has more than 1,024 bytes.
+    LongLine,
+    /// 33: a name, a pattern, an id or the name of a host file that can't be one.
+    BadName,
+    /// 34: the command takes more words.
+    MissingWord,
+    /// 60: the file was never closed.
+    WriteFileOpen,
+    /// 62: there is no such file on the disk.
+    FileNotFound,
+    /// 63: there is a file of this name on the disk.
+    FileExists,
+    /// 64: files of this type can't be written or read.
+    FileTypeMismatch,
+    /// 66: the disk has no such block.
+    IllegalBlock { track: u8, sector: u8 },
+    /// 71: the directory or the block map fails this condition of a sound disk, from 1 to 6.
+    DirectoryError { condition: u8 },
+    /// 72: there is no room on the disk or in its directory.
+    DiskFull,
+    /// 80: the host file is missing (1), its device fails (2), or it is too long (3).
+    HostFile { fault: u8 },
+    /// 81: no command stands before the present image.
+    NothingToUndo,
+    /// 82: no command was undone.
+    NothingToRedo,
+    /// 83: the host file isn't 256 bytes long.
+    NotOneBlock,
+    /// 84: the text isn't a BASIC program, for this fault in this line of the text, from 1.
+    BasicText { fault: u8, line: u32 },
+    /// 85: the file isn't a BASIC program, for this fault.
+    NotBasic { fault: u8 },
+    /// 90: there is no memory.
+    OutOfMemory,
+}
+
+impl From<AllocError> for Status {
+    ghost use Rattle.std.specs.Prelude.{◌≡◌};
+    ghost use Rattle.script_text.specs.declared.status.Status.TheVariants.{OutOfMemory};
+
+    ghost from_gives = { λ _ status. status ≡ OutOfMemory };
+
+    fn from(_error: AllocError) -> Status {
+        Status::OutOfMemory
+    }
+}
+
+impl Status {
+    /// The number that the status line begins with.
+    pub fn number(&self) -> u8
+        ensures { result ≡ (status_row self.now).0 }
+    {
+        self.row().0
+    }
+
+    /// Whether the line was accepted: the numbers below 30.
+    pub fn is_accepted(&self) -> bool
+        ensures { result ≡ is_accepted self.now }
+    {
+        self.number() < FIRST_REFUSAL
+    }
+
+    /// The status line `NN,TEXT,TT,SS` with its line feed. It takes no memory.
+    pub fn line(&self) -> ArrayVec<u8, MAX_STATUS_LINE>
+        ensures { result.items ≡ status_line self.now }
+    {
+        let (number, text) = self.row();
+        let (first, second) = self.details();
+        let mut line = ArrayVec::new();
+        push_number(&mut line, u64::from(number));
+        push_bytes(&mut line, b",");
+        push_bytes(&mut line, text);
+        push_bytes(&mut line, b",");
+        push_number(&mut line, first);
+        push_bytes(&mut line, b",");
+        push_number(&mut line, second);
+        push_bytes(&mut line, b"\n");
+        line
+    }
+
+    /// The number that the status line begins with, and its text.
+    fn row(&self) -> (u8, &'static [u8])
+        ensures number { result.0 ≡ (status_row self.now).0 }
+        ensures text { result.1.now ≡ (status_row self.now).1 }
+        ensures short { length result.1.now ≤ 24 }
+    {
+        match self {
+            Status::Done => (0, b" OK"),
+            Status::FilesScratched { .. } => (1, b"FILES SCRATCHED"),
+            Status::SyntaxError => (30, b"SYNTAX ERROR"),
+            Status::UnknownCommand => (31, b"SYNTAX ERROR"),
+            Status::LongLine => (32, b"SYNTAX ERROR"),
+            Status::BadName => (33, b"SYNTAX ERROR"),
+            Status::MissingWord => (34, b"SYNTAX ERROR"),
+            Status::WriteFileOpen => (60, b"WRITE FILE OPEN"),
+            Status::FileNotFound => (62, b"FILE NOT FOUND"),
+            Status::FileExists => (63, b"FILE EXISTS"),
+            Status::FileTypeMismatch => (64, b"FILE TYPE MISMATCH"),
+            Status::IllegalBlock { .. } => (66, b"ILLEGAL TRACK AND SECTOR"),
+            Status::DirectoryError { .. } => (71, b"DIR ERROR"),
+            Status::DiskFull => (72, b"DISK FULL"),
+            Status::HostFile { .. } => (80, b"HOST FILE"),
+            Status::NothingToUndo => (81, b"NOTHING TO UNDO"),
+            Status::NothingToRedo => (82, b"NOTHING TO REDO"),
+            Status::NotOneBlock => (83, b"NOT ONE BLOCK"),
+            Status::BasicText { .. } => (84, b"BASIC TEXT"),
+            Status::NotBasic { .. } => (85, b"NOT BASIC"),
+            Status::OutOfMemory => (90, b"OUT OF MEMORY"),
+        }
+    }
+
+    /// The numbers in the last two columns.
+    fn details(&self) -> (u64, u64)
+        ensures { result ≡ status_details self.now }
+    {
+        match *self {
+            Status::FilesScratched { count } => (count as u64, 0),
+            Status::IllegalBlock { track, sector } => (u64::from(track), u64::from(sector)),
+            Status::DirectoryError { condition } => (u64::from(condition), 0),
+            Status::HostFile { fault } | Status::NotBasic { fault } => (u64::from(fault), 0),
+            Status::BasicText { fault, line } => (u64::from(fault), u64::from(line)),
+            _ => (0, 0),
+        }
+    }
+}
+
+/// Appends a number in decimal with at least two digits.
+fn push_number(line: &mut ArrayVec<u8, MAX_STATUS_LINE>, number: u64)
+    requires { array_vec_len line.old + 20 ≤ 128 }
+    ensures digits { line.new.items ≡ line.old.items ++ two_digits number }
+    ensures short { array_vec_len line.new ≤ array_vec_len line.old + 20 }
+{
+    if number < 10 {
+        push_bytes(line, b"0");
+    }
+    let mut buffer = Buffer::new();
+    push_bytes(line, buffer.format(number).as_bytes());
+}
+
+/// Appends bytes for which there is room.
+fn push_bytes(line: &mut ArrayVec<u8, MAX_STATUS_LINE>, bytes: &[u8])
+    requires { array_vec_len line.old + length bytes.now ≤ 128 }
+    ensures bytes { line.new.items ≡ line.old.items ++ bytes.now }
+    ensures len { array_vec_len line.new ≡ array_vec_len line.old + length bytes.now }
+{
+    let _ = line.try_extend_from_slice(bytes);
+}
