@@ -1,5 +1,5 @@
-//! Tests of the program's arguments through the public calls of `program_arguments`: what no contract says,
-//! such as texts, and examples whose values come from outside.
+//! Tests of the program's arguments through the public calls of `program_arguments`: what no
+//! contract says, such as texts, and examples whose values come from outside.
 //!
 //! They stand in a crate of their own, since a crate with tests is proved twice.
 #![tactic(auto)]
