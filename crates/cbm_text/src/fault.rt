@@ -1,4 +1,4 @@
-//! Why a text stands for no program, and why bytes are none.
+//! Why a text is no program, and why bytes are none.
 
 ghost use Rattle.std.specs.Prelude.{◌≡◌, alloc_error};
 ghost use Rattle.cbm_text.specs.declared.fault.BasicFault.TheVariants.{Memory};

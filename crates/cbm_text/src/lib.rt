@@ -1,4 +1,5 @@
-//! BASIC V2 programs as text, and the text form of the bytes that they are made of.
+//! BASIC V2 programs as text, both ways: keywords and tokens, the lines of a program, and what is
+//! wrong with a faulty text.
 //!
 //! `crunch` makes a program file of a text, as the tokeniser of a Commodore 64 does, and `list`
 //! writes the text of a program file, as the command `LIST` shows it. Keywords and their tokens are

@@ -1,5 +1,5 @@
-//! The job of the tools: the listing of a BASIC program and the program of a BASIC text, from a file
-//! or the input to a file or the output.
+//! `d64sh petcat` and `d64sh crunch`: from a file or the input to a file or the output, and what is
+//! printed of an input that is refused.
 #![tactic(auto)]
 
 mod refusal_line;

@@ -1,5 +1,5 @@
-//! The tools' job where the result goes to a host file: it is stored whole or not at all, and a
-//! refused input is reported in the form of compilers.
+//! A tool whose result goes to a host file: it is stored whole or not at all, and a refused input
+//! is reported in the form of compilers.
 ghost use Rattle.std.specs.Prelude.{◌≡◌, ◌≤◌, ◌⊎◌, IfErr, IfOk, Ok, Err, Option, None, length, option_copied};
 ghost use Rattle.script_text.specs.Input.{IsUnread, IsUnreadable, reading_of};
 ghost use Rattle.script_text.specs.Output.{Account};

@@ -1,4 +1,4 @@
-//! The tools' job: a tool on the input or on a file, and how its answer is told.
+//! A tool on the input or on a file, to the output, and its exit status.
 ghost use Rattle.std.specs.Prelude.{◌≡◌, ◌≤◌, false, IfErr, IsOk, None, OnOk, option_copied, true};
 ghost use Rattle.script_text.specs.Input.{IsUnread, reading_of};
 ghost use Rattle.script_text.specs.Output.{Writes};

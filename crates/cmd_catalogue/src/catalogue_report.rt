@@ -1,4 +1,4 @@
-//! What `catalogue` says of each file of a run.
+//! The report of `catalogue`: the section that is printed for each file of a run.
 ghost use Rattle.std.specs.Prelude.{◌≡◌, List, ℕ, Option, Some, None, IfOk, OnOk, option_map, [], ◌++◌};
 ghost use Rattle.cmd_catalogue.specs.Catalogue.{answer_of, catalogue_rule, catalogue_heading};
 ghost use Rattle.cmd_catalogue.specs.Quiet.{catalogue_rule-is_quiet};

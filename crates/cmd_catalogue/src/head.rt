@@ -1,5 +1,5 @@
-//! What stands before the sections. The end tags of what it leaves open, `body` and `html`, may be
-//! left out in HTML.
+//! The page down to its first section: the policy, the title, the style, the script and the search.
+//! The end tags of what it leaves open, `body` and `html`, may be left out in HTML.
 ghost use Rattle.std.specs.Prelude.{◌≡◌, ◌++◌, option_map, OnOk};
 ghost use Rattle.cmd_catalogue.specs.Head.{opening, head_end, search_head, header, page_head};
 ghost use Rattle.cmd_catalogue.specs.Title.{page_title};

@@ -1,5 +1,5 @@
-//! A collection of disks as one page of HTML: a section for each image, with its state, its files
-//! and, if wanted, its picture.
+//! `d64sh catalogue`: a collection of disks as one page of HTML, with a section for each image: its
+//! state, its files and, if wanted, its picture.
 #![tactic(auto)]
 
 mod catalogue_report;

@@ -1,4 +1,4 @@
-//! What `check` says of each file of a run.
+//! The report of `check`: what is printed of each file of a run, and its verdict.
 ghost use Rattle.std.specs.Prelude.{◌≡◌, List, ℕ, Option, Some, IfOk, OnOk, option_map, [], ◌++◌};
 ghost use Rattle.program_batch.specs.Answers.{Answer};
 ghost use Rattle.cmd_check.specs.Check.{answer_of, check_rule, heading_of};

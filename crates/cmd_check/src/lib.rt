@@ -1,5 +1,5 @@
-//! What `d64sh check` says of a file: it reads the dump, inspects it, and prints what it found in
-//! the form that is asked for.
+//! `d64sh check`: what it prints of a file as text, as JSON and as CSV, and when something is
+//! amiss.
 #![tactic(auto)]
 
 mod check_report;

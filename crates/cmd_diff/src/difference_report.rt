@@ -1,4 +1,4 @@
-//! What `diff` says of two files.
+//! The report of `diff`: what is printed of two files, and the verdict.
 ghost use Rattle.std.specs.Prelude.{◌≡◌, ◌++◌, [], Ok, IfOk, OnOk};
 ghost use Rattle.program_batch.specs.Answers.{Answer};
 ghost use Rattle.cmd_diff.specs.Differences.{contents_by, printed_difference, unanswered_pair, difference_rule, difference_by};

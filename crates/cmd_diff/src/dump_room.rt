@@ -1,4 +1,4 @@
-//! A dump with what is told of it, in memory that is kept.
+//! A dump with its faults and read errors, in memory that is kept.
 ghost use Rattle.std.specs.Prelude.{◌≡◌, if◌then◌else◌, Some, None, IfOk};
 ghost use Rattle.out_json_csv.specs.DumpOf.{dump_of};
 

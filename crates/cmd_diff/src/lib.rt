@@ -1,5 +1,5 @@
-//! What changed from one dump of a disk to another: in the disk's label, its files, its blocks and
-//! their read codes.
+//! `d64sh diff`: what changed from one dump to another, in label, files, blocks and read codes, as
+//! text and as JSON.
 #![tactic(auto)]
 
 mod blocks;

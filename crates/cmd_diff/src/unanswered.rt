@@ -1,4 +1,4 @@
-//! What is said of a file that isn't answered.
+//! What is printed of a file that cannot be compared.
 ghost use Rattle.std.specs.Prelude.{◌≡◌, ◌++◌, [], Ok, length, is_some, IfOk, OnOk};
 ghost use Rattle.d64_survey.specs.Dump.{image_bytes};
 ghost use Rattle.out_json_csv.specs.DumpOf.{dump_of};

@@ -1,4 +1,4 @@
-//! What is answered of an image.
+//! What is printed of an image, and its verdict.
 ghost use Rattle.std.specs.Prelude.{◌≡◌, ◌++◌, [], IfOk, OnOk, is_some, if◌then◌else◌};
 ghost use Rattle.out_messages.specs.FaultLines.{unwritten_line};
 ghost use Rattle.d64_inventory.specs.ListingAmiss.{is_listing_amiss};

@@ -1,4 +1,5 @@
-//! The folder of an image on a host: the files that are written, and what is told of them.
+//! `d64sh extract`: the folder of an image on the host, its files and the list of them, in which
+//! order they are made, and what is printed of them.
 #![tactic(auto)]
 
 mod answering;

@@ -1,4 +1,4 @@
-//! The paths at which an image is unpacked.
+//! The paths of the folder of an image, and of what is in it.
 ghost use Rattle.std.specs.Prelude.{◌≡◌, ◌++◌, map, string_bytes, IfOk, OnOk};
 ghost use Rattle.host_names.specs.ImagePlace.{finished_name, unfinished_name};
 ghost use Rattle.cmd_extract.specs.Paths.{ends_in_slash, path_inside, place_below, path_in, list_in};

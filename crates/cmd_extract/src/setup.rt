@@ -1,4 +1,5 @@
-//! What an extraction is asked for, and an image that is unpacked.
+//! `Setup`: what the arguments of `extract` ask for; and `Task`: an image whose folder is to be
+//! made.
 
 use d64_survey::Inspection;
 use program_arguments::Format;

@@ -1,4 +1,4 @@
-//! An image is unpacked, call by call of the host.
+//! The folder of an image, made call by call of the host.
 ghost use Rattle.std.specs.Prelude.{map};
 ghost use Rattle.d64_inventory.specs.Rows.{rows};
 ghost use Rattle.cmd_extract.specs.Paths.{path_inside};

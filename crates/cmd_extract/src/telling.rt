@@ -1,4 +1,4 @@
-//! What is told of the files of an image.
+//! What is printed of the files of an image, collected as they are written.
 ghost use Rattle.std.specs.Prelude.{◌≡◌, ◌++◌, [], Option, option_map, false, true, OnOk};
 ghost use Rattle.cmd_files.specs.Files.{before_rows, after_rows};
 ghost use Rattle.cmd_files.specs.Extracts.{printed_file};

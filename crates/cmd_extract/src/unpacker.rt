@@ -1,4 +1,4 @@
-//! What is done with each file of a run: its image is unpacked.
+//! `Unpacker`: it makes the folder of each image of a run.
 ghost use Rattle.std.specs.Prelude.{◌≡◌, Some, option_map, string_bytes, IfOk};
 ghost use Rattle.out_json_csv.specs.DumpOf.{dump_of};
 ghost use Rattle.cmd_extract.specs.Work.{Ends};

@@ -1,4 +1,4 @@
-//! What stands in blocks of an image.
+//! The bytes of a file along its blocks.
 ghost use Rattle.std.specs.Prelude.{◌≡◌, ◌++◌, OnOk};
 ghost use Rattle.d64_files.specs.Chain.{LieIn};
 ghost use Rattle.d64_files.specs.FileData.{data_along};

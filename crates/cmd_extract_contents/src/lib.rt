@@ -1,5 +1,8 @@
-//! What of an image is written to a host: the content of each file, or what is there of it, and not
-//! too much of all.
+//! What `extract` writes of each file of an image: its content, or the part that is there, and how
+//! many bytes of all files together.
+//!
+//! A crate apart from `cmd_extract` for the gate's time: it needs no library of output, and so it
+//! is proved, and its wrong bodies are tried, beside those libraries and not after them.
 #![tactic(auto)]
 
 mod data;

@@ -1,4 +1,4 @@
-//! What is told of a file as members of a JSON object.
+//! A file on a disk as members of a JSON object.
 ghost use Rattle.std.specs.Prelude.{◌≡◌, [], ◌∷◌, ◌++◌, map, codes, OnOk};
 ghost use Rattle.json.specs.Json.{string};
 ghost use Rattle.json.specs.Tree.{json_tokens};

@@ -1,4 +1,4 @@
-//! What `files` says of each file of a run.
+//! The report of `files`: what is printed of each file of a run, and its verdict.
 ghost use Rattle.std.specs.Prelude.{◌≡◌, List, ℕ, Option, Some, None, IfOk, OnOk, option_map, [], ◌++◌};
 ghost use Rattle.program_batch.specs.Answers.{Answer};
 ghost use Rattle.out_json_csv.specs.DumpOf.{dump_of};

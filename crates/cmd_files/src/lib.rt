@@ -1,5 +1,5 @@
-//! The files on a disk, told one by one: as objects of JSON, as rows of CSV, and as a table for
-//! people.
+//! `d64sh files`: what it prints of the files on a disk, as a table, as JSON and as CSV; and the
+//! same with the path of the host file, as `extract` prints it.
 #![tactic(auto)]
 
 mod csv_line;

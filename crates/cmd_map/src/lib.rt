@@ -1,5 +1,5 @@
-//! The map of a disk as a picture: which blocks are free, whose the others are, and where something
-//! is wrong.
+//! `d64sh map`: the blocks of a disk as text and as a picture in SVG, with whose each is and where
+//! something is wrong; and the pictures of a catalogue.
 #![tactic(auto)]
 
 mod block_state;

@@ -1,4 +1,4 @@
-//! What `map` says of a file.
+//! The report of `map`: the text or the picture of a dump, and its verdict.
 ghost use Rattle.std.specs.Prelude.{◌≡◌, [], ◌++◌, IfOk, OnOk};
 ghost use Rattle.cmd_map.specs.Pictures.{picture_of, answer_of, map_rule};
 ghost use Rattle.cmd_map.specs.Quiet.{map_rule-is_quiet};

@@ -1,5 +1,5 @@
-//! The job of the shell: a script on the image of a file, on a blank one, or on a session that was
-//! kept.
+//! `d64sh shell`: a script, from the input or the arguments, on the image of a file, on a blank
+//! one, or on a session that was kept.
 #![tactic(auto)]
 
 mod shell_job;

@@ -1,4 +1,4 @@
-//! Commands on an image, and what they answer.
+//! Commands on an image, their replies, and how they are applied.
 ghost use Rattle.std.specs.Prelude.{◌≡◌, ◌↔◌, true, [], length, IfOk, OnOk, OnErr};
 ghost use Rattle.d64_dos.specs.Change.{change_of};
 ghost use Rattle.d64_dos.specs.Command.{image_after, reply_to, refusal_of, IsFileCommand, IsWithin, StartsFrom};

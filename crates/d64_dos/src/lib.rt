@@ -1,4 +1,5 @@
-//! The commands of a disk: what each makes of an image, and when it is refused.
+//! The commands on an image, such as write, delete and validate: when each is refused, what it
+//! writes into the image, and what it reads and lists.
 //!
 //! A command is one of a D64 image as the VICE manual describes it for `c1541`, with the meaning
 //! that the 1541 User's Guide gives it.

@@ -1,5 +1,5 @@
-//! What commands make of an image, block by block, and of what the disk shows: its view. No code
-//! stands here: the crate holds definitions and their laws.
+//! What each command makes of an image, block by block, and of what the disk shows, its view:
+//! definitions and their laws, without code.
 #![tactic(auto)]
 
 pub mod laws;

@@ -1,5 +1,5 @@
-//! The files of a D64 image: their names, and the patterns that select them; their chains of
-//! blocks, and the data in those; the directory and its entries.
+//! The files of a D64 image: names and the patterns that match them, chains of blocks and the data
+//! in them, the directory and its entries, and the six conditions of a sound disk.
 #![tactic(auto)]
 
 mod block_bytes;

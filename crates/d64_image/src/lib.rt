@@ -1,4 +1,5 @@
-//! Disk images of the Commodore 1541 as blocks of 256 bytes.
+//! Disk images of the Commodore 1541 as blocks of 256 bytes, sets of blocks, and patches, which
+//! keep what blocks had before.
 //!
 //! A D64 image is the plain copy of a disk of 35 or 40 tracks: its 683 or 768 blocks, track by
 //! track (the VICE manual, "The D64 disk image format"). Nothing here knows what the blocks mean.

@@ -1,4 +1,4 @@
-//! What is told of contents, kept for the first blocks of their ways.
+//! The lengths and the digests of contents, found once for each first block.
 ghost use Rattle.std.specs.Prelude.{◌≡◌, ◌≤◌, length, option_map};
 ghost use Rattle.d64_image.specs.declared.block.TheConstants.{BLOCKS};
 ghost use Rattle.d64_files.specs.Chain.{LieIn};

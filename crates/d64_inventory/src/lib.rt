@@ -1,5 +1,4 @@
-//! The inventory of a disk: what is told of each file in its directory, with the digest of its
-//! content.
+//! The inventory of a disk: a row for each file of its directory, with the digest of its content.
 #![tactic(auto)]
 
 mod conditions;

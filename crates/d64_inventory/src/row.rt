@@ -1,4 +1,4 @@
-//! What is told of a used slot.
+//! The row of a used slot: all that the inventory has of a file.
 
 use arrayvec::ArrayVec;
 use d64_files::Kind;

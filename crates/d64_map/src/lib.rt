@@ -1,7 +1,7 @@
 //! The block allocation map of a 1541 disk, and the order in which free blocks are searched.
 //!
-//! The map stands in track 18, sector 0: for each track a count of its free sectors and a bit for
-//! each sector (the 1541 User's Guide, "Block allocation map"; the VICE manual, "The D64 disk image
+//! The map is in track 18, sector 0: for each track a count of its free sectors and a bit for each
+//! sector (the 1541 User's Guide, "Block allocation map"; the VICE manual, "The D64 disk image
 //! format").
 #![tactic(auto)]
 

@@ -1,4 +1,4 @@
-//! The label of a disk: its name, its id and its DOS version, as they stand in the map's block.
+//! The label of a disk: its name, its id and its DOS version, as the map's block has them.
 ghost use Rattle.std.specs.Prelude.{◌≡◌};
 ghost use Rattle.d64_image.specs.Image.{IsBlock, sector_at};
 ghost use Rattle.d64_map.specs.Map.{map_block};

@@ -1,4 +1,5 @@
-//! The names on a disk: its own, its id and its DOS version, and those of its files.
+//! The names in an image, as bytes: those of the disk, its id and its DOS version, and those of its
+//! files.
 #![tactic(auto)]
 
 mod label;

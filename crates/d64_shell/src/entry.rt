@@ -1,4 +1,4 @@
-//! The program `d64sh`, from its words to its exit status.
+//! The program `d64sh`, from its arguments to its exit status.
 ghost use Rattle.std.specs.Prelude.{◌≡◌, ◌≢◌, ◌≤◌, Bool, false, map, option_copied, true};
 ghost use Rattle.script_text.specs.Input.{IsUnread, Reading, reading_of};
 ghost use Rattle.script_text.specs.Output.{account_of};

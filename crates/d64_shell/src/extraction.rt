@@ -1,4 +1,4 @@
-//! What an extraction is asked for.
+//! What the arguments of `extract` ask for.
 ghost use Rattle.std.specs.Prelude.{◌≡◌};
 ghost use Rattle.d64_shell.specs.Jobs.{setup_of};
 

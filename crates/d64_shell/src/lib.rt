@@ -1,4 +1,5 @@
-//! The shell over disk images: the program, from its words to its exit status.
+//! The program as a function, from its arguments to its exit status: it chooses what each
+//! subcommand runs, and exports what its callers need of the libraries below.
 #![tactic(auto)]
 
 mod asking;

@@ -1,4 +1,5 @@
-//! All that is told of a dump.
+//! The inspection of a dump: its survey, its faults and read errors, its doubts, and how many files
+//! are whole.
 ghost use Rattle.std.specs.Prelude.{◌≡◌, nat_lt, not, length, option_map, IfOk};
 ghost use Rattle.d64_survey.specs.Way.{way};
 ghost use Rattle.d64_survey.specs.Owners.{pair_of, unowned_count};

@@ -1,5 +1,5 @@
-//! The survey of a D64 image: what is on a disk, what is wrong with it and where, and which files
-//! are whole. It is total: noise is surveyed like a sound disk.
+//! The survey of a D64 image or a dump: who owns each block, which faults, read errors and doubts
+//! there are, and which files are whole. Any image has one: noise is surveyed like a sound disk.
 #![tactic(auto)]
 
 mod doubt;

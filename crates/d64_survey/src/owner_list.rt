@@ -1,4 +1,4 @@
-//! What is told of the owners of a block.
+//! The owners of a block: the first eight, and how many there are.
 ghost use Rattle.std.specs.Prelude.{◌≡◌, length, take};
 ghost use Rattle.d64_survey.specs.Owners.{owners_of};
 

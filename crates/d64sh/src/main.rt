@@ -1,4 +1,5 @@
-//! The program `d64sh`: hands its words, its streams and the files of the system to the shell.
+//! The program `d64sh`: gives its arguments, its streams and the files of the system to
+//! `d64_shell`, and shows the progress of a long run.
 #![tactic(auto)]
 
 mod progress;

@@ -1,4 +1,5 @@
-//! Where the files of an image go.
+//! `ImagePlace`: the folders on the host that the files of an image go to, by the path of the
+//! image.
 ghost use Rattle.std.specs.Prelude.{◌≡◌, ◌++◌, map, string_bytes, IfOk, OnOk};
 ghost use Rattle.host_names.specs.ImagePlace.{is_folder, folders_of, last_part, finished_name, unfinished_name};
 

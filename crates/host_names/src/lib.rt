@@ -1,5 +1,5 @@
-//! The names that the files of images get on a host, the folders that they lie in, and how names of
-//! the host are shown.
+//! The names and the folders that the files of images get on a host, and how names of the host are
+//! shown.
 #![tactic(auto)]
 
 mod ending;

@@ -1,4 +1,4 @@
-//! What a host name begins with.
+//! The stem of a host name: the name on the disk in text form, by the rules of hosts.
 ghost use Rattle.std.specs.Prelude.{◌≡◌, OnOk, OnErr, if◌then◌else◌, slice_index, slice_set, ◌-◌, ◌==◌, length, position};
 ghost use Rattle.std.specs.List.{list_any};
 ghost use Rattle.host_names.specs.HostName.{is_forbidden, allowed_name, unhidden_name, closed_name, filled_name, is_loose, is_same_name, before_dot, without_last_spaces, device_name, full_stop, ports, is_port, is_reserved, unreserved_name, stem};

@@ -1,4 +1,4 @@
-//! Where the shell's files lie, and why a host refuses them.
+//! `Host`, which reads and stores files by their names, and why it refuses to.
 
 ghost use Rattle.std.specs.Prelude.{◌≡◌, true, IfSome, OnOk};
 ghost use Rattle.std.specs.FinMap.{contains_key};

@@ -1,6 +1,7 @@
-//! Where the shell's files lie: a host, which fetches and stores files by their names.
+//! Hosts, which read and store the files of the shell by their names: one in memory, and one over
+//! the folders of the system, whose stores are whole or not at all.
 //!
-//! A host in memory tells its files to a proof; one over the folders of a system tells nothing.
+//! Contracts show the files of a host in memory, and none of a host over folders.
 #![tactic(auto)]
 
 mod access;

@@ -1,4 +1,4 @@
-//! What a look at a path of the system shows.
+//! What keeps a file of the system from being read or written, by its path.
 
 ghost use Rattle.std.specs.Prelude.{◌≡◌, ◌≢◌, ◌⊎◌, ◌↔◌, Some};
 

@@ -1,4 +1,5 @@
-//! What is told of one image on a line of its own: as an object of JSON, and as a row of CSV.
+//! A dump as an object of JSON and as a row of CSV, as `check` prints it, and the members and
+//! fields that other subcommands print too.
 #![tactic(auto)]
 
 mod csv_line;

@@ -1,4 +1,4 @@
-//! Rows of CSV: the header, and the rows of files that aren't answered.
+//! Rows of CSV: the header, and the rows of files that cannot be read or have a wrong length.
 ghost use Rattle.std.specs.Prelude.{◌≡◌, [], ◌∷◌, ◌++◌, codes, OnOk, IfOk};
 ghost use Rattle.csv.specs.Records.{fields_of, partial_of};
 ghost use Rattle.csv.specs.Writing.{row_text, default_writer};

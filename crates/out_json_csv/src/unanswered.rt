@@ -1,4 +1,4 @@
-//! What is printed of a file that isn't answered.
+//! What is printed as JSON of a file that cannot be read or has a wrong length.
 ghost use Rattle.std.specs.Prelude.{◌≡◌, [], ◌∷◌, ◌++◌, length, OnOk, IfOk};
 ghost use Rattle.out_json_csv.specs.Values.{line_of, member_tokens, printed_line};
 ghost use Rattle.out_json_csv.specs.Unanswered.{host_value, image_member, unanswered_object, unread_object, wrong_length_object};

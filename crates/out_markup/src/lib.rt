@@ -1,4 +1,4 @@
-//! Elements of XML and HTML, and texts in them that make no markup.
+//! Elements of XML and HTML, and texts in them, escaped so that they make no markup.
 #![tactic(auto)]
 
 pub mod laws;

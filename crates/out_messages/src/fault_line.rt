@@ -1,5 +1,5 @@
-//! The lines on standard error of files that are not answered, or not written, and what the
-//! catalogue says of a file that is no dump.
+//! The lines on standard error of files that cannot be read, have a wrong length or cannot be
+//! written, and what the catalogue says of a file that is no dump.
 ghost use Rattle.std.specs.Prelude.{◌≡◌, ◌++◌, [], codes, OnOk};
 ghost use Rattle.std.specs.Option.{option_map_or};
 ghost use Rattle.host_names.specs.Shown.{shown_name};

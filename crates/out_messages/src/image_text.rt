@@ -1,4 +1,4 @@
-//! What is told of an image for people.
+//! The text of an image, as `check` prints it.
 ghost use Rattle.std.specs.Prelude.{◌≡◌, ◌++◌, nat_lt, if◌then◌else◌, [], OnOk};
 ghost use Rattle.out_messages.specs.CheckText.{label_text, contents_text, faults_text, joining, and_so_many, is_read_sound, is_clean, state_text, image_line, fault_line, most_lines, more_text, more_line, first_lines, faults_of, fault_lines, read_error_lines, unowned_by, unowned_line, check_text as check_text_of};
 ghost use Rattle.out_messages.specs.FaultText.{read_error_text};

@@ -1,5 +1,6 @@
-//! What is told of an image in plain words: the text for people, and the lines of faults on
-//! standard error.
+//! Plain English about images and files: the text of `check`, what faults, doubts and files that
+//! are not whole are called, and the lines on standard error of files that cannot be read or
+//! written.
 #![tactic(auto)]
 
 mod doubt_text;

@@ -1,4 +1,4 @@
-//! Small wordings: names, numbers of things, and blocks.
+//! Names, numbers of things, and blocks, in text.
 ghost use Rattle.std.specs.Prelude.{◌≡◌, ◌++◌, OnOk};
 ghost use Rattle.petscii.specs.Spelling.{spelling};
 ghost use Rattle.out_messages.specs.Names.{quoted_name};

@@ -1,4 +1,4 @@
-//! Why a text stands for no bytes.
+//! Why a text is the text form of no bytes.
 
 ghost use Rattle.std.specs.Prelude.{◌≡◌, alloc_error};
 ghost use Rattle.petscii.specs.declared.fault.TextFault.TheVariants.{Memory};

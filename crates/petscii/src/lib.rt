@@ -1,5 +1,5 @@
-//! Text for bytes of PETSCII, as listings and scripts write it, and the bytes that such a text
-//! stands for.
+//! The text form of PETSCII, as listings and scripts write it: text for bytes, and the bytes of a
+//! text.
 //!
 //! A byte that shows as a character of its own is that character: `$41` is `a` and `$C1` is `A`, as
 //! on a Commodore 64 in its second character set. A control code is a name in braces, as `{clr}`,

@@ -1,4 +1,4 @@
-//! What words may ask for, and why they ask for nothing.
+//! `Job`: what arguments may ask for; and `JobFault`: why they ask for nothing.
 
 ghost use Rattle.std.specs.Prelude.{◌≡◌, ◌≤◌, ◌↔◌, IfSome, IsTrue, length, option_map};
 ghost use Rattle.program_arguments.specs.Asked.{IsToldAs, WasAskedFor};

@@ -1,4 +1,4 @@
-//! The jobs on dumps that the words name one by one.
+//! The jobs of `map` and `diff`, whose files are arguments of their own.
 
 ghost use Rattle.std.specs.Prelude.{IfOk, IfErr, IsSome, codes};
 ghost use Rattle.clap.specs.Words.{found_of, first_of, rows_of};

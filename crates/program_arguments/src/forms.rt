@@ -1,4 +1,4 @@
-//! The forms of output that the words give.
+//! The forms of output that `--format` names.
 
 ghost use Rattle.std.specs.Prelude.{◌≡◌, IfOk, IfErr, Some, None};
 ghost use Rattle.clap.specs.Words.{found_of, rows_of};

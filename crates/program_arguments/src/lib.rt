@@ -1,4 +1,5 @@
-//! The words of the program `d64sh`, read by `clap`: which of its jobs they ask for, and with what.
+//! The arguments of `d64sh`, read by `clap`: its subcommands, their options and help, and why
+//! arguments are refused.
 #![tactic(auto)]
 
 mod asked;

@@ -1,4 +1,4 @@
-//! From words to the job that they ask for.
+//! From the arguments to the job that they ask for.
 
 ghost use Rattle.std.specs.Prelude.{◌≡◌, IfOk, IfErr, MatchOption, codes, map};
 ghost use Rattle.std.specs.Char.{is_ascii_hexdigit};

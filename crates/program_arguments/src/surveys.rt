@@ -1,4 +1,4 @@
-//! The jobs that survey files: what their words have in common.
+//! The jobs that survey files: what their arguments have in common.
 
 ghost use Rattle.std.specs.Prelude.{◌≡◌, ◌⊎◌, IfOk, IfErr, codes};
 ghost use Rattle.clap.specs.Words.{found_of, first_of, rows_of};

@@ -1,4 +1,4 @@
-//! The values that the words give to the arguments of a subcommand.
+//! The values that were given for an argument of a subcommand.
 
 ghost use Rattle.std.specs.Prelude.{◌≡◌, IfOk, IsSome, Some, map, option_map, string_bytes};
 ghost use Rattle.clap.specs.Words.{found_of, first_of, rows_of};

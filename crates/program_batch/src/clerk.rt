@@ -1,4 +1,4 @@
-//! What is done with one file, and told of it.
+//! `Clerk`: what is done with a file of a run where the host may change, and what is printed of it.
 ghost use Rattle.std.specs.Prelude.{◌≡◌, IfOk, OnErr, OnOk, List, ℕ, option_map};
 ghost use Rattle.program_batch.specs.Answers.{Conduct, Rule, answer_of, by_rule};
 

@@ -1,4 +1,4 @@
-//! Where files are answered, one after another.
+//! `Desk`: files are read, reported and flushed, one after another.
 ghost use Rattle.std.specs.Prelude.{◌≡◌, [], true, map, string_bytes, IfOk, OnErr, OnOk};
 ghost use Rattle.program_batch.specs.Names.{File, NoFile as no_file};
 ghost use Rattle.program_batch.specs.Answers.{KeepsQuiet, answer_of};

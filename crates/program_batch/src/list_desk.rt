@@ -1,4 +1,4 @@
-//! Where the files that a list names are answered, as the list's bytes come.
+//! `ListDesk`: the same for the names of a list, as its bytes come.
 ghost use Rattle.std.specs.Prelude.{◌≡◌, ◌≢◌, Err, [], ◌∷◌, ◌++◌, List, ℕ, true, map, OnOk, IfErr};
 ghost use Rattle.script_text.specs.Input.{IsUnread, IsUnreadable, reading_of};
 ghost use Rattle.program_batch.specs.Answers.{KeepsQuiet};

@@ -1,4 +1,4 @@
-//! What is told of one file.
+//! `Report`: what is printed of a file, and its verdict.
 ghost use Rattle.std.specs.Prelude.{◌≡◌, [], IfOk, OnOk, List, ℕ, Option, option_map};
 ghost use Rattle.program_batch.specs.Answers.{Answer, IsQuiet, worse_verdict, status_of};
 

@@ -1,5 +1,7 @@
-//! What the jobs of the program share: the files of the host that they read, the exit statuses, and
-//! what stops the program, with the lines that say so.
+//! The exit statuses of `d64sh`, the faults that stop it, with their lines on standard error, and
+//! the reading of its host files.
+//!
+//! A crate below those that run the subcommands, which share it.
 #![tactic(auto)]
 
 mod exit_status;

@@ -1,4 +1,4 @@
-//! What stops the program, and how it is told.
+//! `ProgramFault`: what stops the program, and the lines that say so.
 ghost use Rattle.std.specs.Prelude.{◌≡◌, ◌≤◌, ◌+◌, ◌++◌, Bool, false, length};
 ghost use Rattle.arrayvec.specs.ArrayVec.{array_vec_len};
 ghost use Rattle.program_batch.specs.Runs.{account_at};

@@ -1,4 +1,4 @@
-//! How words are answered that ask for no job.
+//! What is printed for arguments that ask for no job.
 ghost use Rattle.std.specs.Prelude.{◌≡◌, OnOk, OnErr, false, true};
 ghost use Rattle.std.specs.Io.KnownBytes.{Appends};
 ghost use Rattle.script_text.specs.Output.{AppendsPart, FailsWith};

@@ -1,4 +1,4 @@
-//! The job that compares two files.
+//! The run of `diff`: the comparison of two files.
 ghost use Rattle.std.specs.Prelude.{◌≡◌, ◌≤◌, ℕ, List, Option, IfErr, IfOk, OnOk, true, false};
 ghost use Rattle.script_text.specs.Input.{Reading};
 ghost use Rattle.program_batch.specs.Runs.{account_at, stand_at};

@@ -1,5 +1,9 @@
-//! The jobs that look at files: a survey of those that the words give or list, and a comparison of
-//! two.
+//! Running `check`, `files`, `extract`, `map` and `catalogue` over the files of the arguments or of
+//! a list, and `diff` over two, each to its exit status.
+//!
+//! A crate apart from `d64_shell` for the gate's time: `d64_shell` needs every library; what is
+//! here needs few, so it is proved, and its wrong bodies are tried, beside the crates of the other
+//! subcommands.
 #![tactic(auto)]
 
 mod difference_job;

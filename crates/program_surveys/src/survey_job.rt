@@ -1,4 +1,4 @@
-//! The jobs that survey files: a report on each, by the names that the words give.
+//! The run of a survey: a report on each file that the arguments or a list name.
 ghost use Rattle.std.specs.Prelude.{◌≡◌, ◌≤◌, ℕ, List, [], Err, IfErr, IfOk, Ok, OnOk, Result, true, false};
 ghost use Rattle.host_storage.specs.declared.host.HostFault.{HostFault};
 ghost use Rattle.script_text.specs.Input.{IsUnread, reading_of};

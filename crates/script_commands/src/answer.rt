@@ -1,4 +1,4 @@
-//! What a line of a script does and answers.
+//! What a line of a script does and prints, and which handler does it.
 #![tactic(auto, unfolding(crate::specs::Act::Does, crate::specs::Line::act_of_line))]
 
 ghost use Rattle.std.specs.Prelude.{◌≡◌, ◌≤◌, ℕ, List, All, map, length, MatchOption};

@@ -1,4 +1,4 @@
-//! What each command word does: a handler a word.
+//! What each command does: a handler for each.
 #![tactic(auto, unfolding(crate::specs::Act::Does))]
 
 ghost use Rattle.std.specs.Prelude.{◌≡◌, ◌<◌, ◌≤◌, All, Some, None, map, option_map, length};

@@ -1,4 +1,5 @@
-//! A line of a script over a disk image: what it asks for, what it does, and what it answers.
+//! The commands of a script: which there are, the arguments of each, what it does to the session
+//! and the host, its status, and the lines that it prints.
 #![tactic(auto)]
 
 mod answer;

@@ -1,4 +1,4 @@
-//! A line of a script as a value, made from its words.
+//! `Line`: a line of a script as a value, made from its command and arguments.
 ghost use Rattle.std.specs.Prelude.{◌≡◌, ◌++◌, map, option_map};
 ghost use Rattle.d64_image.specs.Disk.{Bytes};
 ghost use Rattle.d64_undo.specs.History.{History};

@@ -1,4 +1,4 @@
-//! What a line answers.
+//! What a handler returns: the status of a line, and what it prints.
 ghost use Rattle.std.specs.Prelude.{◌≡◌, OnOk, OnErr};
 ghost use Rattle.std.specs.Io.KnownBytes.{Appends};
 ghost use Rattle.script_text.specs.Output.{AppendsPart, FailsWith};

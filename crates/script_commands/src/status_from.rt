@@ -1,4 +1,4 @@
-//! How faults, refusals and replies are answered: each has its status.
+//! The status of each fault, refusal and reply.
 ghost use Rattle.std.specs.Prelude.{◌≡◌, ◌<◌, ◌^◌, IfSome};
 ghost use Rattle.cbm_text.specs.BasicText.{fault_line};
 ghost use Rattle.script_commands.specs.BasicFiles.{status_of_basic, status_of_listing};

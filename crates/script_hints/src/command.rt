@@ -1,4 +1,4 @@
-//! The commands of a line: their words, how many more follow, and how the line is typed.
+//! The commands of a line: their names, how many arguments follow, and how the line is typed.
 ghost use Rattle.std.specs.Prelude.{◌≡◌};
 ghost use Rattle.script_hints.specs.Command.{command_of, most_words, usage};
 

@@ -1,4 +1,4 @@
-//! The files of a disk that a word of a line means.
+//! The files of a disk that an argument of a line means.
 
 use d64_files::{Directory, Entry, Pattern};
 use d64_image::Image;

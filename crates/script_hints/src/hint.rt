@@ -1,4 +1,4 @@
-//! What stands here for the commands of `c1541`, and for other words that people try.
+//! What d64sh has for the commands of `c1541`, and for other words that people try.
 ghost use Rattle.std.specs.Prelude.{◌≡◌};
 ghost use Rattle.script_hints.specs.Hint.{hint_of, hint_text};
 

@@ -1,5 +1,5 @@
-//! Plain words for a person: the prompt, what is wrong with a refused line, which change was taken
-//! back, and what becomes of changes that are not saved.
+//! Plain English for a person beside the status lines of a script: the prompt, `help`, what is
+//! wrong with a refused line, and what becomes of changes that are not saved.
 #![tactic(auto)]
 
 mod advice;

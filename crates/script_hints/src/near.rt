@@ -1,4 +1,4 @@
-//! The command to which a word is near that is none.
+//! The command whose name is near to a word that is none.
 
 /// The first command to which a word is near.
 pub(crate) fn near_command(word: &[u8]) -> Option<&'static [u8]> {

@@ -1,4 +1,4 @@
-//! The words of a line, as far as there is something to say of them.
+//! The parts of a line, as far as there is something to say of them.
 ghost use Rattle.std.specs.Prelude.{◌≡◌, ◌≤◌, ℕ, List, [], All, length, drop};
 ghost use Rattle.script_text.specs.HeldLine.{Says};
 ghost use Rattle.script_text.specs.Words.{IsPrintable};

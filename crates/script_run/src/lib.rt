@@ -1,5 +1,5 @@
-//! The run of a script over a disk image, from the bytes of a reader to those of a writer, line by
-//! line.
+//! The run of a script over a disk image, line by line, from the bytes of a reader to those of a
+//! writer, and where it ends.
 #![tactic(auto)]
 
 pub mod laws;

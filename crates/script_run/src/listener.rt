@@ -1,4 +1,4 @@
-//! Who listens to the run of a script.
+//! `Listener`: what is called as a script begins, at each line and at its end.
 
 use crate::manners::Refusals;
 use d64_image::Image;

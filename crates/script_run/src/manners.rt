@@ -1,4 +1,4 @@
-//! How a script is run.
+//! `Manner`: where `save` stores by default, and whether a refused line ends the script.
 ghost use Rattle.std.specs.Prelude.{◌≡◌};
 ghost use Rattle.script_run.specs.Transcript.{ends_script};
 

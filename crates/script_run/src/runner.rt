@@ -1,4 +1,4 @@
-//! A script, from its bytes to the bytes of its answers, line by line.
+//! A script, from its bytes to the bytes of its output, line by line.
 ghost use Rattle.std.specs.Prelude.{◌≡◌, ◌≤◌, ◌<◌, ◌^◌, ◌+◌, ◌++◌, [], true, false, ℕ, List, length, Some, Err, MatchOption, OnOk, OnErr};
 ghost use Rattle.std.specs.Io.KnownBytes.{Keeps};
 ghost use Rattle.script_text.specs.HeldLine.{Holds, Says};

@@ -1,5 +1,5 @@
-//! The text of scripts and of their answers: lines, words, numbers, status lines, and the lines
-//! that show a block.
+//! The text of a script and of its output: its lines, the words and numbers in them, the status
+//! lines, and the lines that show a block.
 //!
 //! Nothing here knows of images, sessions or hosts.
 #![tactic(auto)]

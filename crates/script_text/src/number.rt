@@ -1,4 +1,4 @@
-//! The numbers that the words of a line spell.
+//! The numbers among the words of a line.
 ghost use Rattle.std.specs.Prelude.{◌≡◌};
 ghost use Rattle.std.specs.Char.{is_ascii_digit};
 ghost use Rattle.std.specs.List.{list_all};

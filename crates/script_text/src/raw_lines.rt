@@ -1,4 +1,4 @@
-//! A script cut into raw lines, and what is looked at of one.
+//! A script cut into raw lines, and whether one is skipped or too long.
 
 ghost use Rattle.std.specs.Prelude.{◌≡◌, length};
 ghost use Rattle.std.specs.Io.BufRead.{take_through};

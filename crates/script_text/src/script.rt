@@ -1,4 +1,4 @@
-//! Reading a script.
+//! Reading a whole script or text, within its limits.
 
 ghost use Rattle.std.specs.Prelude.{◌≡◌, ◌≤◌, true, false, IfOk, vec_len, MatchBool};
 ghost use Rattle.script_text.specs.Input.{IsUnread, IsUnreadable, reading_of};

@@ -1,4 +1,4 @@
-//! Status lines, which answer the lines of a script.
+//! The statuses of lines, and the status line of each.
 ghost use Rattle.std.specs.Prelude.{◌≡◌, ◌+◌, ◌≤◌, ◌++◌, length};
 ghost use Rattle.arrayvec.specs.ArrayVec.{array_vec_len};
 ghost use Rattle.script_text.specs.Status.{is_accepted, status_row, status_details, status_line, two_digits};

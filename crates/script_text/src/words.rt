@@ -1,4 +1,4 @@
-//! The words of a line of a script.
+//! The words of a line of a script: what is between its spaces, or in quotes.
 ghost use Rattle.std.specs.Prelude.{◌≡◌, ◌<◌, ◌≤◌, nat_le, if◌then◌else◌, [], length, position, All, Some, None, true, option_map, IfSome, IfOk, OnErr};
 ghost use Rattle.std.specs.Iterator.{YieldsFirstRef, item_count};
 ghost use Rattle.std.specs.List.{list_all};

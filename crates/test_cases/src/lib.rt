@@ -1,4 +1,4 @@
-//! Case files: the steps of a worked example as a file says them, for the program
+//! Case files: the steps of a worked example as a file gives them, for the program
 //! `test_worked_examples`, which plays them.
 //!
 //! docs/TESTING.md says how a case is written.

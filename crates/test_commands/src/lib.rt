@@ -1,7 +1,7 @@
 //! Tests of commands on images through their public calls: what no contract says, such as texts,
 //! and examples whose values come from outside.
 //!
-//! They stand in a crate of their own, since a crate with tests is proved twice. What a script can
+//! They are in a crate of their own, since a crate with tests is proved twice. What a script can
 //! reach is a worked example instead.
 #![tactic(auto)]
 

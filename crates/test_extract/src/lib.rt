@@ -1,6 +1,6 @@
-//! Tests of the files that an image is unpacked to, on a host in memory.
+//! Tests of the files that `extract` writes of an image, on a host in memory.
 //!
-//! They stand in a crate of their own, since a crate with tests is proved twice.
+//! They are in a crate of their own, since a crate with tests is proved twice.
 #![tactic(auto)]
 
 #[cfg(test)]

@@ -1,8 +1,9 @@
-//! Calls of the libraries, each made by its name where a growth of memory may be refused.
+//! A program that makes each call of the libraries by its name, so that each growth of memory in it
+//! can be refused.
 //!
-//! Each word of the program names a call, with what it is given behind a space. First all that the
-//! call is lent is made; then the name is printed, the call is made, and how it ended is printed
-//! behind the name. So what asks for memory between the two prints is the call alone, and
+//! Each argument of the program names a call, with what it is given behind a space. First all that
+//! the call is lent is made; then the name is printed, the call is made, and how it ended is
+//! printed behind the name. So what asks for memory between the two prints is the call alone, and
 //! `scripts/sweep-calls` refuses each such growth in turn. The file `args` has all calls that are
 //! swept.
 #![tactic(auto)]

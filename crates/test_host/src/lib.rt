@@ -1,6 +1,6 @@
 //! Tests of the hosts, in memory and over the files of the system.
 //!
-//! They stand in a crate of their own, since a crate with tests is proved twice.
+//! They are in a crate of their own, since a crate with tests is proved twice.
 #![tactic(auto)]
 
 #[cfg(test)]

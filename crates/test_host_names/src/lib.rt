@@ -1,7 +1,7 @@
 //! Tests of names on a host through their public calls: examples that are worked out by hand from
 //! the rules.
 //!
-//! They stand in a crate of their own, since a crate with tests is proved twice.
+//! They are in a crate of their own, since a crate with tests is proved twice.
 #![tactic(auto)]
 
 #[cfg(test)]

@@ -1,4 +1,4 @@
-//! Dumps to be told of.
+//! The dumps whose lines are compared.
 ghost use Rattle.std.specs.Prelude.{ℕ, List, IfOk};
 ghost use Rattle.d64_dos.specs.Change.{change_of};
 ghost use Rattle.d64_dos.specs.Command.{IsWithin};

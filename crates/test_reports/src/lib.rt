@@ -1,6 +1,7 @@
-//! Tests of the lines that tell of a dump: examples as they must come out, byte by byte.
+//! Tests of what is printed of a dump as JSON and as CSV: examples as they must come out, byte by
+//! byte.
 //!
-//! They stand in a crate of their own, since a crate with tests is proved twice.
+//! They are in a crate of their own, since a crate with tests is proved twice.
 #![tactic(auto)]
 
 #[cfg(test)]

@@ -2,7 +2,7 @@
 //! texts, examples whose values come from outside, and random writes, undos and redos beside plain
 //! copies of the images.
 //!
-//! They stand in a crate of their own, since a crate with tests is proved twice. What a script can
+//! They are in a crate of their own, since a crate with tests is proved twice. What a script can
 //! reach is a worked example instead.
 #![tactic(auto)]
 

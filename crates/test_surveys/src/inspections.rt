@@ -1,4 +1,4 @@
-//! What is told of a dump in all, and of one after another in the same buffers.
+//! The inspection of a dump, and of one after another in the same buffers.
 
 use crate::damage::{block, dump_of};
 use d64_files::SlotNo;

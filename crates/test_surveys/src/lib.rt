@@ -1,7 +1,7 @@
 //! Tests of surveys through the public calls of `d64_survey`, on examples whose faults are known
 //! from how they were made.
 //!
-//! They stand in a crate of their own, since a crate with tests is proved twice.
+//! They are in a crate of their own, since a crate with tests is proved twice.
 #![tactic(auto)]
 
 #[cfg(test)]

@@ -1,4 +1,4 @@
-//! What is told of each file of a disk.
+//! The row of each file of a disk.
 
 use crate::damage::dump_of;
 use d64_files::{Kind, SlotNo};

@@ -1,7 +1,7 @@
 //! Tests of the text form of bytes and of BASIC programs through the public calls of `cbm_text`:
 //! what no contract says, such as texts, and examples whose values come from outside.
 //!
-//! They stand in a crate of their own, since a crate with tests is proved twice. What a script can
+//! They are in a crate of their own, since a crate with tests is proved twice. What a script can
 //! reach is a worked example instead.
 #![tactic(auto)]
 

@@ -1,5 +1,5 @@
-//! Worked examples of the shell, from script bytes to answer bytes, with expected values that were
-//! worked out by hand.
+//! A program that plays the worked examples of the shell, from script bytes to output bytes, with
+//! expected values that were worked out by hand.
 //!
 //! Each file `NAME.case` of the current folder is a case; docs/TESTING.md says how one is written.
 //! A line is printed for each difference and for each case that cannot be read, and at the end how
