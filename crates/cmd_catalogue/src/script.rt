@@ -1,4 +1,7 @@
 //! How the page searches itself. Without the script all of it can be read.
+//!
+//! The policy in `head` has the digest of the script: who changes it changes that too, and
+//! scripts/sweep-catalogue says which it must be.
 ghost use Rattle.std.specs.Prelude.{◌≡◌, ◌++◌, OnOk};
 ghost use Rattle.cmd_catalogue.specs.Script.{gathering, showing, listening, steps, script};
 
