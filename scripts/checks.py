@@ -16,6 +16,7 @@ PAGES = [*sorted(glob.glob("*.md", root_dir=TOP)), *sorted(glob.glob("docs/*.md"
 TEXTS = [
     ["scripts/functions-without-wrong-body"],
     ["scripts/out-of-memory-places"],
+    ["scripts/crates-listed"],
     ["scripts/check-pages", "--names", *PAGES],
     ["scripts/manual-page", "docs/MANUAL.md", "docs/d64sh.1"],
     ["scripts/same-words"],
@@ -29,7 +30,7 @@ SHORT = [
     ["scripts/manual-texts", PROGRAM],
 ]
 
-OF_PAGES = ("scripts/manual-page", "scripts/check-pages")
+OF_PAGES = ("scripts/manual-page", "scripts/check-pages", "scripts/crates-listed")
 
 # The scripts that are run on the program, with it as their only word. Each ends with status 0 where all is well.
 SWEEPS = [
