@@ -2,9 +2,9 @@
 use Rattle.std.proofs.Common.{◌≡◌, ℕ, ◌+◌, ◌-◌, ◌<◌, ◌≤◌, Bool, true, false, List, [], ◌∷◌, ◌++◌, length, drop, get_or, sym, ap, ◌∙◌, append_assoc, append-nil, arith}
 use Rattle.std.specs.Prelude.{map, nat_le, if◌then◌else◌, codes}
 use Rattle.std.specs.List.{range_with_len}
-use Rattle.std.proofs.lemmas.List.{at_drop_more, at_drop_all, map-append}
+use Rattle.std.proofs.lemmas.List.{at_drop_more, at_drop_all}
+use Rattle.std.proofs.lemmas.List.FromFn.{map-range_with_len_more}
 use Rattle.std.proofs.lemmas.Bool.Decides.{nat_tests}
-use Rattle.d64_map.proofs.Ranges.{range_push}
 use Rattle.out_markup.specs.Markup.{escaped_byte, escaped_within}
 
 -- a byte that has room
@@ -65,7 +65,4 @@ held_more f before after old place byte so is more =
     more ∙ ap (λ (t : List ℕ). t ++ byte ∷ []) so
     ∙ append_assoc old (map f (range_with_len 0 place)) (byte ∷ [])
     ∙ ap (λ (t : List ℕ). old ++ t)
-    (ap (λ (b : ℕ). map f (range_with_len 0 place) ++ b ∷ []) is
-    ∙ sym (map-append f (range_with_len 0 place) (place ∷ []))
-    ∙ ap (λ (p : ℕ). map f (range_with_len 0 place ++ p ∷ [])) (sym here)
-    ∙ ap (map f) (sym (range_push 0 place)))
+    (ap (λ (b : ℕ). map f (range_with_len 0 place) ++ b ∷ []) is ∙ sym (map-range_with_len_more f 0 place place here))

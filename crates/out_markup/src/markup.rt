@@ -2,7 +2,7 @@
 ghost use Rattle.std.specs.Prelude.{◌≡◌, ◌<◌, ◌++◌, length, option_map, codes, OnOk};
 ghost use Rattle.out_markup.specs.Markup.{entity_in, entities, escaped_byte, escaped_text, escaped_within, shortened_text, held_byte, held_text, attribute, number_attribute, tag};
 
-use out_messages::push_number;
+use itoa::Buffer;
 use std::alloc::AllocError;
 
 /// The entity of a byte, where it has one.
@@ -123,9 +123,10 @@ pub fn push_number_attribute(
 ) -> Result<(), AllocError>
     ensures { OnOk result (out.new.items ≡ out.old.items ++ number_attribute name.now number) }
 {
+    let mut buffer = Buffer::new();
     out.extend_from_slice(b" ")?;
     out.extend_from_slice(name)?;
     out.extend_from_slice(b"=\"")?;
-    push_number(out, number)?;
+    out.extend_from_slice(buffer.format(number).as_bytes())?;
     out.extend_from_slice(b"\"")
 }
