@@ -1,6 +1,3 @@
-pub use Rattle.petscii.specs.TextForm
-pub use Rattle.petscii.specs.TextFault
-pub use Rattle.petscii.specs.Spelling
 pub mod Keywords
 pub mod Kept
 pub mod Pieces

@@ -25,4 +25,3 @@ pub use fault::{BasicFault, ListFault};
 pub use faulty_text::{FaultyLine, FaultyLines, faulty_lines};
 pub use laws::{line_comes_back, one_program, text_comes_back};
 pub use listing::list;
-pub use petscii::{TextFault, from_text, one_outcome, spelling_reads_back, to_text};

@@ -3,7 +3,8 @@ ghost use Rattle.std.specs.Prelude.{◌≡◌, ◌-◌, ◌++◌, OnOk, [], code
 ghost use Rattle.std.specs.Option.{option_map_or};
 ghost use Rattle.cmd_basic.specs.RefusalLine.{place_of, refusal_line, status_text};
 
-use out_messages::{push_number, push_shown};
+use host_names::push_shown;
+use out_messages::push_number;
 use script_text::status::Status;
 use std::alloc::AllocError;
 

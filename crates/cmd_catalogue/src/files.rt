@@ -14,7 +14,8 @@ use crate::host_files::HostFiles;
 use d64_files::Entry;
 use d64_image::Image;
 use d64_survey::{Flaw, Inspection, wholeness};
-use out_messages::{blocks_there, kind_letters, push_flaws, push_number, push_spelling};
+use out_messages::{blocks_there, kind_letters, push_flaws, push_number};
+use petscii::push_spelling;
 use std::alloc::AllocError;
 
 /// The heads of the columns.

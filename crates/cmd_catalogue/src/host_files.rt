@@ -11,7 +11,7 @@ use cmd_extract_contents::Extraction;
 use d64_files::Entry;
 use d64_survey::Inspection;
 use host_names::{Ending, ImagePlace, TakenNames};
-use out_messages::push_spelling;
+use petscii::push_spelling;
 use std::alloc::{AllocError, Global};
 
 /// The folder of the image of this name, below the one that is asked for; None where none is, or

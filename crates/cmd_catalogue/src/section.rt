@@ -11,10 +11,10 @@ use cmd_map::page_svg;
 use d64_image::Image;
 use d64_names::{disk_id, disk_name};
 use d64_survey::{Fault, Inspection, ReadError, Survey};
+use host_names::push_shown;
 use out_markup::push_held;
-use out_messages::{
-    push_contents, push_fault, push_number, push_read_error, push_shown, push_spelling, push_state,
-};
+use out_messages::{push_contents, push_fault, push_number, push_read_error, push_state};
+use petscii::push_spelling;
 use std::alloc::AllocError;
 
 /// Adds the disk's name.

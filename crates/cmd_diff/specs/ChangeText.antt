@@ -10,7 +10,7 @@ use Rattle.d64_map.specs.Map.{blocks_free}
 use Rattle.d64_survey.specs.Dump.{DumpView}
 use Rattle.d64_names.specs.Names.{disk_dos}
 use Rattle.out_messages.specs.CheckText.{label_text}
-use Rattle.out_messages.specs.Shown.{shown_name}
+use Rattle.host_names.specs.Shown.{shown_name}
 use Rattle.out_messages.specs.Words.{count_of, block_text}
 use Rattle.cmd_files.specs.FileTable.{file_line}
 use Rattle.cmd_diff.specs.Changes.{Change, DiskChanged, Added, Removed, FileChanged, BlocksChanged, CodesChanged}

@@ -10,7 +10,9 @@ use d64_inventory::FileRow;
 use d64_map::blocks_free;
 use d64_names::disk_dos;
 use d64_survey::Inspection;
-use out_messages::{push_block, push_count, push_label, push_number, push_shown, push_spelling};
+use host_names::push_shown;
+use out_messages::{push_block, push_count, push_label, push_number};
+use petscii::push_spelling;
 use std::alloc::AllocError;
 
 /// What a line of the old dump begins with, and one of the new dump.

@@ -7,7 +7,7 @@ use Rattle.d64_inventory.specs.Rows.{RowView}
 use Rattle.out_json_csv.specs.Rows.{host_field}
 use Rattle.out_json_csv.specs.Values.{Field, object_of}
 use Rattle.out_json_csv.specs.Unanswered.{host_value}
-use Rattle.out_messages.specs.Shown.{shown_name}
+use Rattle.host_names.specs.Shown.{shown_name}
 use Rattle.cmd_files.specs.FileObject.{file_members, place_members}
 use Rattle.cmd_files.specs.FileRow.{columns, name_alone, row_fields, row_with}
 use Rattle.cmd_files.specs.FileTable.{file_text}

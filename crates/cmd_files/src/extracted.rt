@@ -11,11 +11,11 @@ use crate::json_line::put_place;
 use crate::table::push_file_text;
 use csv::ByteRecord;
 use d64_inventory::FileRow;
+use host_names::push_shown;
 use json::Writer;
 use out_json_csv::{
     Scratch, end_row, into_line, push_field, push_host_name, put_host_name, put_null,
 };
-use out_messages::push_shown;
 use std::alloc::AllocError;
 
 /// Prints the path of a host file, or null where none was written.

@@ -6,8 +6,9 @@ ghost use Rattle.cmd_files.specs.FileTable.{spaces, right_in, left_in, head_line
 use d64_files::{Kind, name_in};
 use d64_image::Image;
 use d64_inventory::FileRow;
+use host_names::push_shown;
 use itoa::Buffer;
-use out_messages::{kind_letters, push_flaws, push_label, push_quoted, push_shown};
+use out_messages::{kind_letters, push_flaws, push_label, push_quoted};
 use std::alloc::AllocError;
 
 /// How many columns the size has.

@@ -13,7 +13,8 @@ use d64_files::Entry;
 use d64_image::Image;
 use d64_survey::Inspection;
 use out_markup::push_shortened;
-use out_messages::{blocks_there, push_number, push_spelling};
+use out_messages::{blocks_there, push_number};
+use petscii::push_spelling;
 use std::alloc::AllocError;
 
 /// How many files are shown at most.

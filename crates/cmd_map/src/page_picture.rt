@@ -21,7 +21,8 @@ use d64_files::Entry;
 use d64_image::BlockNo;
 use d64_survey::Inspection;
 use out_markup::{push_attribute, push_escaped};
-use out_messages::{push_number, push_spelling};
+use out_messages::push_number;
+use petscii::push_spelling;
 use std::alloc::AllocError;
 
 /// The steps along a square that fills a cell.

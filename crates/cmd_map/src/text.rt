@@ -5,7 +5,8 @@ ghost use Rattle.cmd_map.specs.MapText.{head_line, column_lines, padded_number, 
 use crate::block_state::state_of;
 use d64_image::BlockNo;
 use d64_survey::Inspection;
-use out_messages::{push_label, push_number, push_shown, push_state};
+use host_names::push_shown;
+use out_messages::{push_label, push_number, push_state};
 use std::alloc::AllocError;
 
 /// How many sectors a track has at most.

@@ -1,7 +1,7 @@
 -- What the program does with its words, its streams and a host.
 use Rattle.std.specs.Prelude.{◌≡◌, ℕ, List, ◌∷◌, map, codes, ◌⊎◌, ⊤}
 use Rattle.script_text.specs.Output.{Account}
-use Rattle.out_messages.specs.Shown.{shown_name}
+use Rattle.host_names.specs.Shown.{shown_name}
 use Rattle.program_arguments.specs.Asked.{IsFault, IsJob, WasAskedFor}
 use Rattle.program_arguments.specs.declared.asked.Job.{Job}
 use Rattle.program_arguments.specs.declared.asked.JobFault.{JobFault}

@@ -1,4 +1,3 @@
-pub use Rattle.host_names.specs.Shown
 pub mod ShownStart
 pub mod Guesses
 pub mod FaultLines

@@ -1,22 +1,3 @@
-pub use Rattle.d64_image.specs.Block
-pub use Rattle.d64_image.specs.Image
-pub use Rattle.d64_dos.specs.Refusal
-pub use Rattle.d64_dos.specs.Command
-pub use Rattle.d64_dos.specs.WriteRefusal
-pub use Rattle.d64_dos.specs.Reading
-pub use Rattle.d64_dos.specs.Listing
-pub use Rattle.d64_files.specs.Name
-pub use Rattle.petscii.specs.TextForm
-pub use Rattle.cbm_text.specs.BasicText
-pub use Rattle.cbm_text.specs.Listing as ProgramListing
-pub use Rattle.cbm_text.specs.ListFault
-pub use Rattle.d64_undo.specs.History
-pub use Rattle.host_storage.specs.Files
-pub use Rattle.host_storage.specs.Host
-pub use Rattle.host_storage.specs.MemoryHost
-pub use Rattle.script_text.specs.Dump
-pub use Rattle.script_text.specs.RawLines
-pub use Rattle.script_text.specs.Status
 pub mod Arguments
 pub mod ArgumentTexts
 pub mod ListingText

@@ -9,9 +9,9 @@ ghost use Rattle.d64_files.specs.Name.{is_name};
 ghost use Rattle.d64_files.specs.Pattern.{is_pattern};
 
 use crate::status_from::of_text_fault;
-use cbm_text::{from_text, one_outcome};
 use d64_files::{Kind, Name, Pattern};
 use d64_image::{BlockNo, Image};
+use petscii::{from_text, one_outcome};
 use script_text::number::number;
 use script_text::status::Status;
 use std::alloc::Global;

@@ -23,12 +23,12 @@ use crate::status_from::{
     of_basic_fault, of_fault, of_list_fault, of_nothing_to_redo, of_nothing_to_undo, of_refusal,
     of_reply,
 };
-use cbm_text::to_text;
 use d64_dos::Command;
 use d64_files::{Kind, Name, Pattern};
 use d64_image::BlockNo;
 use d64_undo::Session;
 use host_storage::Host;
+use petscii::to_text;
 use script_text::status::Status;
 use std::alloc::Global;
 use std::str;

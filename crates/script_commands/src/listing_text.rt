@@ -5,10 +5,10 @@ ghost use Rattle.petscii.specs.Spelling.{spelling};
 ghost use Rattle.d64_dos.specs.Listing.{shown_row, shown_listing};
 ghost use Rattle.script_commands.specs.ListingText.{padded_text, kind_text, header_line, row_line, listing_text};
 
-use cbm_text::to_text;
 use d64_dos::{Listing, Row};
 use d64_files::Kind;
 use itoa::Buffer;
+use petscii::to_text;
 use std::alloc::{AllocError, Global};
 
 /// The places of the disk's name.

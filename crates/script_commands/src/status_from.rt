@@ -7,9 +7,10 @@ ghost use Rattle.script_commands.specs.Arguments.{status_of_text};
 ghost use Rattle.script_commands.specs.Line.{status_of_refusal, status_of_reply};
 ghost use Rattle.script_text.specs.declared.status.Status.TheVariants.{NothingToUndo, NothingToRedo};
 
-use cbm_text::{BasicFault, ListFault, TextFault};
+use cbm_text::{BasicFault, ListFault};
 use d64_dos::{Refusal, Reply};
 use host_storage::HostFault;
+use petscii::TextFault;
 use script_text::status::Status;
 
 /// The status of a fault of the host.

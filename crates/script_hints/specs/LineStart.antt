@@ -1,7 +1,7 @@
 -- What comes before what is wrong with a refused line of a script.
 use Rattle.std.specs.Prelude.{ℕ, ◌++◌, codes, decimal}
 use Rattle.d64_image.specs.Disk.{Bytes}
-use Rattle.out_messages.specs.Shown.{shown_name}
+use Rattle.host_names.specs.Shown.{shown_name}
 use Rattle.out_messages.specs.ShownStart.{shown_start}
 
 -- a line as it is shown: as the name of a host file is

@@ -3,8 +3,8 @@ ghost use Rattle.std.specs.Prelude.{◌≡◌, IfOk, IfSome};
 ghost use Rattle.script_hints.specs.Leaving.{IsKeptUnder, kept_line, session_name};
 
 use d64_undo::Session;
+use host_names::push_shown;
 use host_storage::Host;
-use out_messages::push_shown;
 use std::alloc::{AllocError, Global};
 
 /// Stores a session under its image's name with `.session` added, where there is an image and

@@ -4,7 +4,8 @@ ghost use Rattle.std.specs.Prelude.{◌≡◌, ◌++◌, codes, decimal, IfOk};
 ghost use Rattle.out_messages.specs.ShownStart.{shown_start};
 ghost use Rattle.script_hints.specs.LineStart.{line_start, shown_line};
 
-use out_messages::{push_number, push_shown, shown_start};
+use host_names::push_shown;
+use out_messages::{push_number, shown_start};
 use std::alloc::{AllocError, Global};
 
 /// What comes before what is wrong with the line of this number and text.

@@ -4,7 +4,7 @@ ghost use Rattle.script_text.specs.Output.{Writes, account_of};
 ghost use Rattle.script_commands.specs.Arguments.{after_slash};
 ghost use Rattle.script_hints.specs.Prompt.{mark, name_in_prompt, prompt};
 
-use out_messages::push_shown;
+use host_names::push_shown;
 use script_text::output::{OutputStream, WriteFault};
 use std::alloc::{AllocError, Global};
 use std::io::Write;

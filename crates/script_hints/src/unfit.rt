@@ -3,8 +3,9 @@ ghost use Rattle.std.specs.Prelude.{◌≡◌, IfOk, IfSome};
 ghost use Rattle.out_messages.specs.FaultLines.{line_about};
 ghost use Rattle.script_hints.specs.Unfit.{IsUnfitLine, contents_by, look_of, unfit_text};
 
+use host_names::push_shown;
 use host_storage::{Host, HostFault};
-use out_messages::{guess_of, guess_text, push_count, push_shown};
+use out_messages::{guess_of, guess_text, push_count};
 use program_batch::reason_of;
 use std::alloc::{AllocError, Global};
 

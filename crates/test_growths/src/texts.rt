@@ -2,7 +2,8 @@
 
 use crate::disk::PROGRAM;
 use crate::end::{Bench, End};
-use cbm_text::{BasicFault, ListFault, TextFault};
+use cbm_text::{BasicFault, ListFault};
+use petscii::TextFault;
 use std::test::Fail;
 
 /// A BASIC text of one line.
@@ -14,7 +15,7 @@ pub const START: u16 = 0x0801;
 pub fn to_text(bench: &Bench) -> Result<End, Fail> {
     bench.begin()?;
     Ok(
-        match cbm_text::to_text(bench.alloc(), b"HELLO\x93\x07 LONGER") {
+        match petscii::to_text(bench.alloc(), b"HELLO\x93\x07 LONGER") {
             Ok(text) => End::Made(text.len()),
             Err(_) => End::WantOfMemory,
         },
@@ -24,7 +25,7 @@ pub fn to_text(bench: &Bench) -> Result<End, Fail> {
 pub fn from_text(bench: &Bench) -> Result<End, Fail> {
     bench.begin()?;
     Ok(
-        match cbm_text::from_text(bench.alloc(), b"hello{clr}{$07} longer") {
+        match petscii::from_text(bench.alloc(), b"hello{clr}{$07} longer") {
             Ok(bytes) => End::Made(bytes.len()),
             Err(TextFault::Memory(_)) => End::WantOfMemory,
             Err(_) => End::Refused,

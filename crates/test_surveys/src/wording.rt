@@ -1,6 +1,7 @@
 //! Names of the host and files of wrong lengths, in words.
 
-use out_messages::{push_shown, unread_line, wrong_length_line};
+use host_names::push_shown;
+use out_messages::{unread_line, wrong_length_line};
 use std::test::Fail;
 
 #[test]

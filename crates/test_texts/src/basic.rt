@@ -1,6 +1,7 @@
 //! Programs as the machine keeps them, and their texts.
 
-use cbm_text::{BasicFault, Cause, ListFault, TextFault, crunch, faulty_lines, list};
+use cbm_text::{BasicFault, Cause, ListFault, crunch, faulty_lines, list};
+use petscii::TextFault;
 use std::alloc::{AllocError, Global};
 use std::test::Fail;
 

@@ -1,6 +1,6 @@
 //! The text form of bytes.
 
-use cbm_text::{TextFault, from_text, to_text};
+use petscii::{TextFault, from_text, to_text};
 use std::alloc::AllocError;
 use std::test::Fail;
 
