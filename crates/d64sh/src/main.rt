@@ -2,13 +2,11 @@
 //! `d64_shell`, and shows the progress of a long run.
 #![tactic(auto)]
 
-mod progress;
-mod unread_output;
-mod within_limit;
-
 use d64_shell::{FolderHost, HeardProgram, Job, Listener, ProgramFault, job};
 use host_storage::{Retrying, SizeLimit, StandardStream};
-use progress::{ProgressLine, WatchedHost, WipingWriter};
+use program_streams::{
+    MarkingWriter, ProgressLine, QuietWriter, WatchedHost, WipingWriter, WithinLimit,
+};
 use script_hints::Advisor;
 use script_text::input::InputStream;
 use script_text::output::OutputStream;
@@ -17,8 +15,6 @@ use std::cell::Cell;
 use std::env;
 use std::io::{self, BufWriter, ErrorKind, IsTerminal, Write};
 use std::process::ExitCode;
-use unread_output::{MarkingWriter, QuietWriter};
-use within_limit::WithinLimit;
 
 /// The exit status where nothing was done.
 const NOT_RUN: u8 = 2;

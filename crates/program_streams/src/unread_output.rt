@@ -1,5 +1,6 @@
 //! Output that nobody reads any more, as behind `| head`.
 
+ghost use Rattle.std.specs.Prelude.{◌≡◌};
 ghost use Rattle.std.specs.Io.{WritesAtMost};
 ghost use Rattle.std.specs.Io.KnownBytes.{WriteAppends, Keeps};
 
@@ -8,7 +9,7 @@ use std::io::{self, ErrorKind, Write};
 
 /// The output, of which it is marked, if that is wanted, once nobody reads it any more.
 #[derive(Drop)]
-pub(crate) struct MarkingWriter<'a, W> {
+pub struct MarkingWriter<'a, W> {
     is_unread: &'a Cell<bool>,
     is_marking: bool,
     writer: W,
@@ -16,11 +17,10 @@ pub(crate) struct MarkingWriter<'a, W> {
 
 impl<'a, W> MarkingWriter<'a, W> {
     /// A writer to the output.
-    pub(crate) fn new(
-        is_unread: &'a Cell<bool>,
-        is_marking: bool,
-        writer: W,
-    ) -> MarkingWriter<'a, W> {
+    pub fn new(is_unread: &'a Cell<bool>, is_marking: bool, writer: W) -> MarkingWriter<'a, W>
+        ensures marking { result.is_marking ≡ is_marking }
+        ensures writer { result.writer ≡ writer }
+    {
         MarkingWriter {
             is_unread,
             is_marking,
@@ -54,14 +54,16 @@ impl<'a, W: Write> Write for MarkingWriter<'a, W> {
 
 /// A writer that takes nothing once nobody reads the output.
 #[derive(Drop)]
-pub(crate) struct QuietWriter<'a, W> {
+pub struct QuietWriter<'a, W> {
     is_unread: &'a Cell<bool>,
     writer: W,
 }
 
 impl<'a, W> QuietWriter<'a, W> {
     /// A writer beside the output.
-    pub(crate) fn new(is_unread: &'a Cell<bool>, writer: W) -> QuietWriter<'a, W> {
+    pub fn new(is_unread: &'a Cell<bool>, writer: W) -> QuietWriter<'a, W>
+        ensures { result.writer ≡ writer }
+    {
         QuietWriter { is_unread, writer }
     }
 }

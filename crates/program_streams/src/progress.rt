@@ -1,6 +1,7 @@
 //! How many files of a long run are done, on one line of a terminal that is written over and wiped
 //! at the end.
 
+ghost use Rattle.std.specs.Prelude.{◌≡◌};
 ghost use Rattle.std.specs.Io.{WritesAtMost};
 ghost use Rattle.std.specs.Io.KnownBytes.{WriteAppends, Keeps};
 
@@ -17,7 +18,7 @@ const PAUSE: u128 = 100;
 /// The line of a terminal, where one is wanted. It is written over, and wiped before anything else
 /// is written there.
 #[derive(Drop)]
-pub(crate) struct ProgressLine<'a, R> {
+pub struct ProgressLine<'a, R> {
     rt: &'a R,
     is_wanted: bool,
     told: Cell<Option<Instant>>,
@@ -26,7 +27,9 @@ pub(crate) struct ProgressLine<'a, R> {
 
 impl<'a, R: Clock + Eprint> ProgressLine<'a, R> {
     /// A line on which nothing is shown yet.
-    pub(crate) fn new(rt: &'a R, is_wanted: bool) -> ProgressLine<'a, R> {
+    pub fn new(rt: &'a R, is_wanted: bool) -> ProgressLine<'a, R>
+        ensures { result.is_wanted ≡ is_wanted }
+    {
         ProgressLine {
             rt,
             is_wanted,
@@ -61,7 +64,7 @@ impl<'a, R: Clock + Eprint> ProgressLine<'a, R> {
     }
 
     /// Wipes the line where it is shown.
-    pub(crate) fn wipe(&self) {
+    pub fn wipe(&self) {
         if self.is_shown.get() {
             let _ = eprint!(self.rt; "\r\x1b[K");
             self.is_shown.set(false);
@@ -71,7 +74,7 @@ impl<'a, R: Clock + Eprint> ProgressLine<'a, R> {
 
 /// A host of which each file that is read for a survey counts as one that is shown on the line.
 #[derive(Drop)]
-pub(crate) struct WatchedHost<'a, R, H> {
+pub struct WatchedHost<'a, R, H> {
     line: &'a ProgressLine<'a, R>,
     host: H,
     done: u64,
@@ -79,7 +82,9 @@ pub(crate) struct WatchedHost<'a, R, H> {
 
 impl<'a, R, H> WatchedHost<'a, R, H> {
     /// A host of which no file was read.
-    pub(crate) fn new(line: &'a ProgressLine<'a, R>, host: H) -> WatchedHost<'a, R, H> {
+    pub fn new(line: &'a ProgressLine<'a, R>, host: H) -> WatchedHost<'a, R, H>
+        ensures { result.host ≡ host }
+    {
         WatchedHost {
             line,
             host,
@@ -151,13 +156,16 @@ impl<'a, R: Clock + Eprint, H: Host> Host for WatchedHost<'a, R, H> {
 
 /// A writer to the terminal, on which the line is wiped first.
 #[derive(Drop)]
-pub(crate) struct WipingWriter<'a, R, W> {
+pub struct WipingWriter<'a, R, W> {
     line: &'a ProgressLine<'a, R>,
     writer: W,
 }
 
 impl<'a, R, W> WipingWriter<'a, R, W> {
-    pub(crate) fn new(line: &'a ProgressLine<'a, R>, writer: W) -> WipingWriter<'a, R, W> {
+    /// A writer that wipes this line.
+    pub fn new(line: &'a ProgressLine<'a, R>, writer: W) -> WipingWriter<'a, R, W>
+        ensures { result.writer ≡ writer }
+    {
         WipingWriter { line, writer }
     }
 }

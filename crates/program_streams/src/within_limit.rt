@@ -25,7 +25,10 @@ impl<'a, R, W> WithinLimit<'a, R, W> {
         limit: &'a SizeLimit,
         stream: StandardStream,
         writer: W,
-    ) -> WithinLimit<'a, R, W> {
+    ) -> WithinLimit<'a, R, W>
+        ensures stream { result.stream ≡ stream }
+        ensures writer { result.writer ≡ writer }
+    {
         WithinLimit {
             rt,
             limit,
