@@ -7,7 +7,7 @@ use Rattle.cmd_catalogue.specs.Script.{script}
 -- the beginning of the page: its language, and what it may load, of scripts only its own (by its
 -- digest)
 unfoldable pub opening : List ℕ
-opening = codes "<!DOCTYPE html>\n<html lang=\"en\">\n<head>\n<meta charset=\"utf-8\">\n<meta name=\"viewport\" content=\"width=device-width, initial-scale=1\">\n<meta http-equiv=\"Content-Security-Policy\" content=\"default-src 'none'; style-src 'unsafe-inline'; script-src 'sha256-TD4h3keVhuO1sG4/VpmLZV2bySAgO6CpnTw6jgvpkRs='; base-uri 'none'; form-action 'none'\">\n"
+opening = codes "<!DOCTYPE html>\n<html lang=\"en\">\n<head>\n<meta charset=\"utf-8\">\n<meta name=\"viewport\" content=\"width=device-width, initial-scale=1\">\n<meta http-equiv=\"Content-Security-Policy\" content=\"default-src 'none'; style-src 'unsafe-inline'; script-src 'sha256-t0GAwf4aeND4mvEu34xdsTTTSa89vA+KvxshQNC3Rb8='; base-uri 'none'; form-action 'none'\">\n"
 
 -- the end of its head
 unfoldable pub head_end : List ℕ

@@ -17,7 +17,7 @@ const OPENING: &[u8] = b"<!DOCTYPE html>\n\
 <head>\n\
 <meta charset=\"utf-8\">\n\
 <meta name=\"viewport\" content=\"width=device-width, initial-scale=1\">\n\
-<meta http-equiv=\"Content-Security-Policy\" content=\"default-src 'none'; style-src 'unsafe-inline'; script-src 'sha256-TD4h3keVhuO1sG4/VpmLZV2bySAgO6CpnTw6jgvpkRs='; base-uri 'none'; form-action 'none'\">\n";
+<meta http-equiv=\"Content-Security-Policy\" content=\"default-src 'none'; style-src 'unsafe-inline'; script-src 'sha256-t0GAwf4aeND4mvEu34xdsTTTSa89vA+KvxshQNC3Rb8='; base-uri 'none'; form-action 'none'\">\n";
 
 /// The end of its head.
 const HEAD_END: &[u8] = b"</head>\n\

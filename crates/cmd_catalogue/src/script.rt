@@ -29,12 +29,15 @@ const SHOWING: &[u8] = b"  let state = \"\", last = \"\", rest = [], noted = [],
 \x20 };\n\
 \x20 const counted = (number) => number === 1 ? \"1 file\" : `${number} files`;\n\
 \x20 const unfold = (kept, text) => {\n\
-\x20   let room = 400;\n\
+\x20   let room = 400, rows = 4000;\n\
 \x20   for (const disk of disks) disk.box.open = false;\n\
 \x20   for (const part of noted.splice(0)) delete part.dataset.found;\n\
 \x20   for (const disk of text && kept) {\n\
-\x20     if (disk.held) room -= disk.files.filter((file) => file.holds).length;\n\
-\x20     disk.box.open = disk.held ? room >= 0 : kept.length <= 20;\n\
+\x20     if (disk.held) {\n\
+\x20       room -= disk.files.filter((file) => file.holds).length;\n\
+\x20       rows -= disk.files.length;\n\
+\x20     }\n\
+\x20     disk.box.open = disk.held ? room >= 0 && rows >= 0 : kept.length <= 20;\n\
 \x20     if (!disk.held || disk.box.open) continue;\n\
 \x20     const [part] = all(\".contents\", disk.box);\n\
 \x20     part.dataset.found = `${counted(disk.held)} found`;\n\
