@@ -7,7 +7,7 @@ ghost use Rattle.cmd_catalogue.specs.Namings.{naming_of};
 
 use crate::url::put_url;
 use cmd_extract::{done_path, ending_by, put_path};
-use cmd_extract_contents::Extraction;
+use cmd_extract_contents::ContentExtraction;
 use d64_files::Entry;
 use d64_survey::Inspection;
 use host_names::{Ending, ImagePlace, TakenNames};
@@ -48,7 +48,7 @@ fn ending_of(entry: &Entry) -> Ending
 /// is kept from image to image.
 #[derive(Drop)]
 pub(crate) struct HostFiles {
-    pub(crate) extraction: Extraction,
+    pub(crate) extraction: ContentExtraction,
     pub(crate) taken: TakenNames,
     /// The bytes of a file.
     bytes: Vec<u8>,
@@ -66,7 +66,7 @@ impl HostFiles {
     /// No files, and no memory yet.
     pub(crate) fn new(alloc: Global) -> HostFiles {
         HostFiles {
-            extraction: Extraction::new(),
+            extraction: ContentExtraction::new(),
             taken: TakenNames::new(alloc),
             bytes: Vec::new(alloc),
             text: Vec::new(alloc),
@@ -80,7 +80,7 @@ impl HostFiles {
     pub(crate) fn begin(&mut self)
         ensures { naming_of self.new ≡ first_naming }
     {
-        self.extraction = Extraction::new();
+        self.extraction = ContentExtraction::new();
         self.taken.clear();
     }
 

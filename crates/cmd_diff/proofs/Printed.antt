@@ -9,18 +9,18 @@ use Rattle.d64_survey.specs.Dump.{DumpView}
 use Rattle.program_arguments.specs.declared.asked.DiffForm.{DiffForm}
 use Rattle.program_arguments.specs.declared.asked.DiffForm.TheVariants.{Text, Json}
 use Rattle.out_json_csv.specs.Values.{line_of}
-use Rattle.cmd_diff.specs.Changes.{Change, BlocksChanged, CodesChanged, slot_change, slot_changes, where_any}
+use Rattle.cmd_diff.specs.Changes.{DumpChange, BlocksChanged, CodesChanged, slot_change, slot_changes, where_any}
 use Rattle.cmd_diff.specs.ChangeObject.{change_object}
 use Rattle.cmd_diff.specs.ChangeText.{change_lines}
 use Rattle.cmd_diff.specs.Differences.{printed_change, printed_changes, printed_blocks}
 
 -- changes after others
-pub both_printed : (form : DiffForm) (first second : List Change) → printed_changes form (first ++ second) ≡ printed_changes form first ++ printed_changes form second
+pub both_printed : (form : DiffForm) (first second : List DumpChange) → printed_changes form (first ++ second) ≡ printed_changes form first ++ printed_changes form second
 unfolding printed_changes
 both_printed form first second = flat_map-append (printed_change form) first second
 
 -- a text with changes, and then others
-pub then_printed : (form : DiffForm) (old middle last : List ℕ) (first second : List Change) → middle ≡ old ++ printed_changes form first → last ≡ middle ++ printed_changes form second
+pub then_printed : (form : DiffForm) (old middle last : List ℕ) (first second : List DumpChange) → middle ≡ old ++ printed_changes form first → last ≡ middle ++ printed_changes form second
     → last ≡ old ++ printed_changes form (first ++ second)
 then_printed form old middle last first second begun done =
     done
@@ -46,7 +46,7 @@ codes_printed Json (block ∷ blocks) = sym (append-nil (line_of (change_object 
 pub slot_more : (old new : DumpView) (slot : ℕ) → slot_changes old new slot ++ slot_change (row_at old slot) (row_at new slot) ≡ slot_changes old new (slot + 1)
 unfolding slot_changes
 slot_more old new slot =
-    let f : ℕ → List Change = λ n. slot_change (row_at old n) (row_at new n) in
+    let f : ℕ → List DumpChange = λ n. slot_change (row_at old n) (row_at new n) in
     let here : slot ≡ 0 + slot = omega arith in
     flat_map_more f [] (range_with_len 0 slot) slot
     ∙ ap (λ (n : ℕ). flat_map f (range_with_len 0 slot ++ n ∷ [])) here

@@ -10,9 +10,9 @@ use Rattle.d64_image.specs.Image.{IsBlock, IsSize, sector_at, differences}
 use Rattle.d64_image.proofs.Differences.{differences-to, equal_images}
 use Rattle.d64_survey.specs.Dump.{DumpView, IsDump, is_read_error}
 use Rattle.d64_survey.specs.ReadErrors.{code_of}
-use Rattle.d64_inventory.specs.Rows.{RowView, row_at}
+use Rattle.d64_inventory.specs.Rows.{FileRowView, row_at}
 use Rattle.out_json_csv.specs.Values.{line_of}
-use Rattle.cmd_diff.specs.Changes.{Change, DiskChanged, FileChanged, BlocksChanged, CodesChanged, are_alike, entry_object, disk_object, disk_change, slot_change, slot_changes, slot_count, changed_blocks, has_other_code, other_codes, changed_codes, where_any, changes}
+use Rattle.cmd_diff.specs.Changes.{DumpChange, DiskChanged, FileChanged, BlocksChanged, CodesChanged, are_alike, entry_object, disk_object, disk_change, slot_change, slot_changes, slot_count, changed_blocks, has_other_code, other_codes, changed_codes, where_any, changes}
 
 -- bytes are themselves
 pub same_bytes : (bytes : List ℕ) → pointwise nat_eq bytes bytes ≡ true
@@ -23,14 +23,14 @@ alike_itself : (value : Json) → are_alike value value ≡ true
 alike_itself value = same_bytes (line_of value)
 
 -- a change of a slot to itself is none
-no_slot_change : (row : Option RowView) → slot_change row row ≡ []
+no_slot_change : (row : Option FileRowView) → slot_change row row ≡ []
 no_slot_change None = refl
 no_slot_change (Some row) = ap (λ (same : Bool). if same then [] else FileChanged row row ∷ []) (alike_itself (entry_object row))
 
 -- nor are those of slots
 none_of_slots : (dump : DumpView) (slots : List ℕ) → flat_map (λ slot. slot_change (row_at dump slot) (row_at dump slot)) slots ≡ []
 none_of_slots dump [] = refl
-none_of_slots dump (slot ∷ slots) = ap₂ (λ (a b : List Change). a ++ b) (no_slot_change (row_at dump slot)) (none_of_slots dump slots)
+none_of_slots dump (slot ∷ slots) = ap₂ (λ (a b : List DumpChange). a ++ b) (no_slot_change (row_at dump slot)) (none_of_slots dump slots)
 
 no_slot_changes : (dump : DumpView) (count : ℕ) → slot_changes dump dump count ≡ []
 unfolding slot_changes
@@ -76,8 +76,8 @@ no_changes dump =
     let disk : disk_change dump dump ≡ [] = ap (λ (same : Bool). if same then [] else DiskChanged dump dump ∷ []) (alike_itself (disk_object dump)) in
     let blocks : where_any BlocksChanged (changed_blocks dump.image dump.image) ≡ [] = ap (where_any BlocksChanged) (no_changed_blocks dump.image) in
     let read : where_any CodesChanged (changed_codes dump dump) ≡ [] = ap (where_any CodesChanged) (no_changed_codes dump) in
-    ap₂ (λ (a b : List Change). a ++ b) disk
-    (ap₂ (λ (a b : List Change). a ++ b) (no_slot_changes dump (slot_count dump dump)) (ap₂ (λ (a b : List Change). a ++ b) blocks read))
+    ap₂ (λ (a b : List DumpChange). a ++ b) disk
+    (ap₂ (λ (a b : List DumpChange). a ++ b) (no_slot_changes dump (slot_count dump dump)) (ap₂ (λ (a b : List DumpChange). a ++ b) blocks read))
 
 -- parts of an empty list are empty
 no_first : {X : Type 0} (xs ys : List X) → xs ++ ys ≡ [] → xs ≡ []

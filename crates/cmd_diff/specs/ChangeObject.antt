@@ -4,17 +4,17 @@ use Rattle.std.specs.Option.{option_map_or}
 use Rattle.json.specs.Json.{Json, string, null}
 use Rattle.d64_image.specs.Disk.{Blocks}
 use Rattle.d64_survey.specs.Dump.{DumpView}
-use Rattle.d64_inventory.specs.Rows.{RowView}
+use Rattle.d64_inventory.specs.Rows.{FileRowView}
 use Rattle.out_json_csv.specs.Pairs.{block_text}
 use Rattle.out_json_csv.specs.Values.{Field, object_of, array_of, numeral}
-use Rattle.cmd_diff.specs.Changes.{Change, DiskChanged, Added, Removed, FileChanged, BlocksChanged, CodesChanged, disk_object, entry_object}
+use Rattle.cmd_diff.specs.Changes.{DumpChange, DiskChanged, Added, Removed, FileChanged, BlocksChanged, CodesChanged, disk_object, entry_object}
 
 -- what changed
 abbrev pub change_member : List ℕ → Field
 change_member word = (codes "change", string word)
 
 -- what is told of a file; null where there is none
-abbrev pub entry_value : Option RowView → Json
+abbrev pub entry_value : Option FileRowView → Json
 entry_value row = option_map_or entry_object row null
 
 -- the change of a slot
@@ -22,11 +22,11 @@ abbrev pub slot_members : ℕ → List ℕ → List Field
 slot_members slot word = (codes "slot", numeral slot) ∷ change_member word ∷ []
 
 -- the file before and after
-abbrev pub entry_members : Option RowView → Option RowView → List Field
+abbrev pub entry_members : Option FileRowView → Option FileRowView → List Field
 entry_members old new = (codes "old", entry_value old) ∷ (codes "new", entry_value new) ∷ []
 
 -- a change of a slot, with the file before and after, where there is one
-abbrev pub slot_object : ℕ → List ℕ → Option RowView → Option RowView → Json
+abbrev pub slot_object : ℕ → List ℕ → Option FileRowView → Option FileRowView → Json
 slot_object slot word old new = object_of (slot_members slot word ++ entry_members old new)
 
 -- the disk before and after
@@ -46,7 +46,7 @@ abbrev pub blocks_object : List ℕ → Blocks → Json
 blocks_object word blocks = object_of (change_member word ∷ blocks_member blocks ∷ [])
 
 -- what is printed of a change
-abbrev pub change_object : Change → Json
+abbrev pub change_object : DumpChange → Json
 change_object (DiskChanged old new) = object_of (change_member (codes "disk") ∷ disk_members old new)
 change_object (Added new) = slot_object new.slot (codes "added") None (Some new)
 change_object (Removed old) = slot_object old.slot (codes "removed") (Some old) None

@@ -13,7 +13,7 @@ use Rattle.out_messages.specs.CheckText.{label_text}
 use Rattle.host_names.specs.Shown.{shown_name}
 use Rattle.out_messages.specs.Words.{count_of, block_text}
 use Rattle.cmd_files.specs.FileTable.{file_line}
-use Rattle.cmd_diff.specs.Changes.{Change, DiskChanged, Added, Removed, FileChanged, BlocksChanged, CodesChanged}
+use Rattle.cmd_diff.specs.Changes.{DumpChange, DiskChanged, Added, Removed, FileChanged, BlocksChanged, CodesChanged}
 
 -- whether there are read codes
 abbrev pub codes_text : Bool → List ℕ
@@ -64,7 +64,7 @@ unfoldable pub blocks_line : List ℕ → Blocks → List ℕ
 blocks_line word blocks = word ++ (flat_map listed_block blocks ++ codes "\n")
 
 -- what is printed of a change
-abbrev pub change_lines : Change → List ℕ
+abbrev pub change_lines : DumpChange → List ℕ
 change_lines (DiskChanged old new) = old_line (disk_line old) ++ new_line (disk_line new)
 change_lines (Added new) = new_line (file_line new)
 change_lines (Removed old) = old_line (file_line old)

@@ -10,25 +10,25 @@ use Rattle.d64_map.specs.Map.{blocks_free}
 use Rattle.d64_survey.specs.Dump.{DumpView, is_read_error}
 use Rattle.d64_survey.specs.Owners.{way_slots}
 use Rattle.d64_survey.specs.ReadErrors.{code_of}
-use Rattle.d64_inventory.specs.Rows.{RowView, row_at}
+use Rattle.d64_inventory.specs.Rows.{FileRowView, row_at}
 use Rattle.out_json_csv.specs.Checks.{label_members}
 use Rattle.out_json_csv.specs.Values.{Field, object_of, numeral, line_of}
 use Rattle.cmd_files.specs.FileObject.{file_members}
 
 -- a change from an old dump to a new one
-pub data Change : Type 0 where
+pub data DumpChange : Type 0 where
   -- what is told of the disk
-  DiskChanged : DumpView → DumpView → Change
+  DiskChanged : DumpView → DumpView → DumpChange
   -- a file in a slot that is used in the new dump alone
-  Added : RowView → Change
+  Added : FileRowView → DumpChange
   -- a file in a slot that is used in the old dump alone
-  Removed : RowView → Change
+  Removed : FileRowView → DumpChange
   -- what is told of the file in a slot that is used in both
-  FileChanged : RowView → RowView → Change
+  FileChanged : FileRowView → FileRowView → DumpChange
   -- blocks with other bytes, or that one of the dumps hasn't
-  BlocksChanged : Blocks → Change
+  BlocksChanged : Blocks → DumpChange
   -- blocks with another read code
-  CodesChanged : Blocks → Change
+  CodesChanged : Blocks → DumpChange
 
 -- two objects are printed alike
 abbrev pub are_alike : Json → Json → Bool
@@ -47,15 +47,15 @@ unfoldable pub disk_object : DumpView → Json
 disk_object dump = object_of (size_members dump ++ (label_members dump.image ++ free_members dump.image))
 
 -- what is told of a file, but for the image and the slot
-unfoldable pub entry_object : RowView → Json
+unfoldable pub entry_object : FileRowView → Json
 entry_object row = object_of (file_members row)
 
 -- the change of the disk, where something else is told of it
-abbrev pub disk_change : DumpView → DumpView → List Change
+abbrev pub disk_change : DumpView → DumpView → List DumpChange
 disk_change old new = if are_alike (disk_object old) (disk_object new) then [] else DiskChanged old new ∷ []
 
 -- the change of a slot, by the files that it has in both dumps
-abbrev pub slot_change : Option RowView → Option RowView → List Change
+abbrev pub slot_change : Option FileRowView → Option FileRowView → List DumpChange
 slot_change None None = []
 slot_change None (Some new) = Added new ∷ []
 slot_change (Some old) None = Removed old ∷ []
@@ -66,7 +66,7 @@ abbrev pub slot_count : DumpView → DumpView → ℕ
 slot_count old new = max (length (way_slots old.image)) (length (way_slots new.image))
 
 -- the changes of the first slots, so many
-unfoldable pub slot_changes : DumpView → DumpView → ℕ → List Change
+unfoldable pub slot_changes : DumpView → DumpView → ℕ → List DumpChange
 slot_changes old new count = flat_map (λ slot. slot_change (row_at old slot) (row_at new slot)) (range_with_len 0 count)
 
 -- the blocks whose bytes differ, and those that only the larger one of two images has, ascending
@@ -86,12 +86,12 @@ unfoldable pub changed_codes : DumpView → DumpView → Blocks
 changed_codes old new = if is_some old.codes && is_some new.codes then other_codes old new else []
 
 -- the change of blocks, where there are some
-abbrev pub where_any : (Blocks → Change) → Blocks → List Change
+abbrev pub where_any : (Blocks → DumpChange) → Blocks → List DumpChange
 where_any change [] = []
 where_any change (block ∷ blocks) = change (block ∷ blocks) ∷ []
 
 -- all changes
-unfoldable pub changes : DumpView → DumpView → List Change
+unfoldable pub changes : DumpView → DumpView → List DumpChange
 changes old new =
     disk_change old new
     ++ (slot_changes old new (slot_count old new)

@@ -14,7 +14,7 @@ use Rattle.program_batch.specs.declared.reason.Reason.{Reason}
 use Rattle.program_batch.specs.declared.report.Verdict.TheVariants.{Clean, Amiss, Failed}
 use Rattle.program_arguments.specs.declared.asked.DiffForm.{DiffForm}
 use Rattle.program_arguments.specs.declared.asked.DiffForm.TheVariants.{Text, Json}
-use Rattle.cmd_diff.specs.Changes.{Change, changes}
+use Rattle.cmd_diff.specs.Changes.{DumpChange, changes}
 use Rattle.cmd_diff.specs.ChangeObject.{blocks_object, change_object}
 use Rattle.cmd_diff.specs.ChangeText.{blocks_line, change_lines, heading}
 
@@ -28,12 +28,12 @@ contents_by bytes_of (Ok bytes) = Ok (bytes_of bytes)
 contents_by bytes_of (Err reason) = Err reason
 
 -- what is printed of a change
-abbrev pub printed_change : DiffForm → Change → List ℕ
+abbrev pub printed_change : DiffForm → DumpChange → List ℕ
 printed_change Text change = change_lines change
 printed_change Json change = line_of (change_object change)
 
 -- what is printed of changes, in their order
-unfoldable pub printed_changes : DiffForm → List Change → List ℕ
+unfoldable pub printed_changes : DiffForm → List DumpChange → List ℕ
 printed_changes form list = flat_map (printed_change form) list
 
 -- what is printed of blocks: a line that begins with this heading, or an object of the change of

@@ -1,6 +1,6 @@
 //! Printing what changed, in one of the two forms.
 ghost use Rattle.std.specs.Prelude.{◌≡◌, ◌∷◌, ◌++◌, codes, option_map, IfOk, OnOk};
-ghost use Rattle.d64_inventory.specs.Rows.{RowView};
+ghost use Rattle.d64_inventory.specs.Rows.{FileRowView};
 ghost use Rattle.cmd_diff.specs.Changes.{DiskChanged, Added, Removed, FileChanged, disk_change, slot_change, slot_count, slot_changes, changes};
 ghost use Rattle.cmd_diff.specs.Differences.{printed_change, printed_changes, printed_list, printed_blocks, under_names, printed_difference};
 

@@ -4,7 +4,7 @@ use Rattle.std.specs.Prelude.{is_some, nat_lt, length}
 use Rattle.std.specs.Str.{is_utf8}
 use Rattle.host_storage.specs.Files.{HostState}
 use Rattle.d64_survey.specs.Dump.{DumpView}
-use Rattle.d64_inventory.specs.Rows.{RowView, rows}
+use Rattle.d64_inventory.specs.Rows.{FileRowView, rows}
 use Rattle.cmd_extract_contents.specs.Portions.{Portion}
 use Rattle.cmd_extract_contents.specs.Limits.{portion_within}
 use Rattle.out_json_csv.specs.DumpOf.{dump_of}
@@ -102,11 +102,11 @@ listed_quiet task p quiet =
     (λ reason. named_quiet task (unput_progress task reason p) (λ unfailed. absurd (let e : true ≡ false = unfailed in cc))) (named_quiet task (dropped_progress p) quiet)
 
 -- one more file
-told_quiet : (task : TaskView) (row : RowView) (path : Option (List ℕ)) (p : Progress) → IsQuietSoFar p → IsQuietSoFar (told_progress task row path p)
+told_quiet : (task : TaskView) (row : FileRowView) (path : Option (List ℕ)) (p : Progress) → IsQuietSoFar p → IsQuietSoFar (told_progress task row path p)
 unfolding told_progress
 told_quiet task row path p quiet = quiet
 
-file_quiet : (task : TaskView) (row : RowView) (p : Progress) (portion : Option Portion) (rest : Progress → Work) → IsQuietSoFar p → ((q : Progress) → IsQuietSoFar q → IsQuietWork (rest q))
+file_quiet : (task : TaskView) (row : FileRowView) (p : Progress) (portion : Option Portion) (rest : Progress → Work) → IsQuietSoFar p → ((q : Progress) → IsQuietSoFar q → IsQuietWork (rest q))
     → IsQuietWork (file_work task row p portion rest)
 unfolding file_work IsQuietWork
 file_quiet task row p None rest quiet later = later (told_progress task row None p) (told_quiet task row None p quiet)
@@ -123,7 +123,7 @@ file_quiet task row p (Some portion) rest quiet later = by_writing
     by_writing false = λ reason. later (unwritten_progress task row file reason named)
         (told_quiet task row None (failed_at (path_in task.partial file) reason named) (λ unfailed. absurd (let e : true ≡ false = unfailed in cc)))
 
-files_quiet : (task : TaskView) (rows : List RowView) (p : Progress) → IsQuietSoFar p → IsQuietWork (files_work task rows p)
+files_quiet : (task : TaskView) (rows : List FileRowView) (p : Progress) → IsQuietSoFar p → IsQuietWork (files_work task rows p)
 unfolding files_work
 files_quiet task [] p quiet = listed_quiet task (closed_progress task p) (closed_quiet task p quiet)
 files_quiet task (row ∷ rows) p quiet =

@@ -7,7 +7,7 @@ use Rattle.program_batch.specs.Reasons.{IsWriteReason}
 use Rattle.program_batch.specs.declared.reason.Reason.{Reason}
 use Rattle.program_batch.specs.declared.report.Verdict.{Verdict}
 use Rattle.program_batch.specs.declared.report.AnswerRoom.{AnswerRoom}
-use Rattle.cmd_extract.specs.Work.{Work, Done, Then, Why, Call, Says, Does, LeadsTo, Comes, Ends, answer_in}
+use Rattle.cmd_extract.specs.Work.{Work, Done, Then, Why, HostCall, Says, Does, LeadsTo, Comes, Ends, answer_in}
 use Rattle.cmd_extract.specs.Progress.{Progress}
 
 -- memory may be wanting before all
@@ -23,7 +23,7 @@ unfolding Does
 answers answer host = (refl, inl refl)
 
 -- a call was made
-pub asked : (call : Call) (next : Bool → Work) (old now : HostState) (said : Bool) → Says call old said now → LeadsTo (Then call next) old (next said) now
+pub asked : (call : HostCall) (next : Bool → Work) (old now : HostState) (said : Bool) → Says call old said now → LeadsTo (Then call next) old (next said) now
 unfolding Does
 asked call next old now said says = λ given new done. inl (said, now, says, done)
 

@@ -7,7 +7,7 @@ use Rattle.std.proofs.lemmas.Slice.Eq.{bytes_eq-Decides}
 use Rattle.std.proofs.Math.Seq.{drop-append_seam}
 use Rattle.petscii.specs.Spelling.{spelling}
 use Rattle.d64_files.specs.Name.{name_in}
-use Rattle.d64_inventory.specs.Rows.{RowView, rows}
+use Rattle.d64_inventory.specs.Rows.{FileRowView, rows}
 use Rattle.cmd_extract_contents.specs.Portions.{Portion}
 use Rattle.cmd_extract_contents.specs.Limits.{portion_within}
 use Rattle.cmd_extract_contents.specs.declared.extent.Extent.{Extent}
@@ -57,7 +57,7 @@ not_the_list front ending in_part is = by_part in_part refl
         let letter : ◌≡◌ {A = ℕ} 115 46 = by_length 7 size in omega (arith, letter)
 
 -- so the path of a file isn't that of the list
-other_path : (task : TaskView) (taken : List (List ℕ)) (row : RowView) (extent : Extent) → bytes_eq (list_path task) (path_in task.partial (host_name taken row extent)) ≡ false
+other_path : (task : TaskView) (taken : List (List ℕ)) (row : FileRowView) (extent : Extent) → bytes_eq (list_path task) (path_in task.partial (host_name taken row extent)) ≡ false
 unfolding host_name
 other_path task taken row extent =
     let ends = name_ends taken (spelling (name_in row.field)) (ending_by row.kind) (is_part extent) in
@@ -86,10 +86,10 @@ put_into task Begun p rest tried = ap (λ (t : Bool). cond t p.lines [] ++ into_
 put_into task GivenUp p rest tried = absurd tried
 
 -- what the files of rows put into it
-abbrev HasLines : TaskView → List RowView → Progress → Type 0
+abbrev HasLines : TaskView → List FileRowView → Progress → Type 0
 HasLines task later p = into_list task (files_work task later p) ≡ p.lines ++ lines_of task later p.left p.taken
 
-wait_into : (task : TaskView) (later : List RowView) (p : Progress) → IsTried p.list → ((q : Progress) → IsTried q.list → HasLines task later q)
+wait_into : (task : TaskView) (later : List FileRowView) (p : Progress) → IsTried p.list → ((q : Progress) → IsTried q.list → HasLines task later q)
     → into_list task (wait_work task p (files_work task later)) ≡ p.lines ++ lines_of task later p.left p.taken
 unfolding wait_work
 wait_into task later p tried rest = by_length (nat_lt waiting_limit (length p.lines))
@@ -98,7 +98,7 @@ wait_into task later p tried rest = by_length (nat_lt waiting_limit (length p.li
     by_length true = put_into task p.list p (files_work task later) tried ∙ ap (λ (e : List ℕ). p.lines ++ e) (rest (put_progress p) tt)
     by_length false = rest p tried
 
-file_into : (task : TaskView) (row : RowView) (later : List RowView) (p : Progress) (portion : Option Portion) → IsTried p.list → ((q : Progress) → IsTried q.list → HasLines task later q)
+file_into : (task : TaskView) (row : FileRowView) (later : List FileRowView) (p : Progress) (portion : Option Portion) → IsTried p.list → ((q : Progress) → IsTried q.list → HasLines task later q)
     → into_list task (file_work task row p portion (λ (q : Progress). wait_work task q (files_work task later)))
     ≡ p.lines ++ (printed_file Json task.name row (path_of task row p.taken portion) ++ lines_of task later p.left (taken_after row p.taken portion))
 unfolding file_work told_progress all_into
@@ -112,7 +112,7 @@ file_into task row later p (Some portion) tried rest =
     ∙ wait_into task later q tried rest
     ∙ append_assoc p.lines (printed_file Json task.name row (Some (path_in task.done file))) (lines_of task later p.left (p.taken ++ file ∷ []))
 
-files_into : (task : TaskView) (later : List RowView) (p : Progress) → IsTried p.list → HasLines task later p
+files_into : (task : TaskView) (later : List FileRowView) (p : Progress) → IsTried p.list → HasLines task later p
 unfolding files_work lines_of closed_progress
 files_into task [] p tried =
     put_into task p.list (closed_progress task p) (name_work task) tried ∙ ap (λ (e : List ℕ). p.lines ++ e) (naming_none task (put_progress (closed_progress task p)))

@@ -1,17 +1,17 @@
 -- What the list of an image's files has, where each call is accepted.
 use Rattle.std.specs.Prelude.{ℕ, bytes_eq, if◌then◌else◌, List, [], ◌∷◌, ◌++◌, Option, Some, None, true}
-use Rattle.d64_inventory.specs.Rows.{RowView}
+use Rattle.d64_inventory.specs.Rows.{FileRowView}
 use Rattle.cmd_extract_contents.specs.Portions.{Portion}
 use Rattle.cmd_extract_contents.specs.Limits.{left_after, portion_within}
 use Rattle.program_arguments.specs.declared.asked.Format.TheVariants.{Json}
 use Rattle.cmd_files.specs.Extracts.{printed_file}
 use Rattle.cmd_extract.specs.Setup.{TaskView}
 use Rattle.cmd_extract.specs.Paths.{path_in}
-use Rattle.cmd_extract.specs.Work.{Work, Done, Then, Why, Call, Look, Folder, NewFolder, NewFile, MoreOfFile, Rename}
+use Rattle.cmd_extract.specs.Work.{Work, Done, Then, Why, HostCall, Look, Folder, NewFolder, NewFile, MoreOfFile, Rename}
 use Rattle.cmd_extract.specs.Progress.{portion_of, host_name}
 
 -- the bytes that a call puts into the file at a path
-abbrev pub bytes_into : List ℕ → Call → List ℕ
+abbrev pub bytes_into : List ℕ → HostCall → List ℕ
 bytes_into path (NewFile place bytes) = if bytes_eq path place then bytes else []
 bytes_into path (MoreOfFile place bytes) = if bytes_eq path place then bytes else []
 bytes_into path (Look place) = []
@@ -26,18 +26,18 @@ all_into path (Then call next) = bytes_into path call ++ all_into path (next tru
 all_into path (Why next) = all_into path (next None)
 
 -- the path of the host file of a row in the finished folder, if there is something to write of it
-abbrev pub path_of : TaskView → RowView → List (List ℕ) → Option Portion → Option (List ℕ)
+abbrev pub path_of : TaskView → FileRowView → List (List ℕ) → Option Portion → Option (List ℕ)
 path_of task row taken None = None
 path_of task row taken (Some portion) = Some (path_in task.done (host_name taken row portion.extent))
 
 -- the host names that are taken then
-abbrev pub taken_after : RowView → List (List ℕ) → Option Portion → List (List ℕ)
+abbrev pub taken_after : FileRowView → List (List ℕ) → Option Portion → List (List ℕ)
 taken_after row taken None = taken
 taken_after row taken (Some portion) = taken ++ host_name taken row portion.extent ∷ []
 
 -- the lines of rows, one after another, where later files may have so many bytes, and these names
 -- are taken
-unfoldable pub lines_of : TaskView → List RowView → Option ℕ → List (List ℕ) → List ℕ
+unfoldable pub lines_of : TaskView → List FileRowView → Option ℕ → List (List ℕ) → List ℕ
 lines_of task [] left taken = []
 lines_of task (row ∷ rows) left taken =
     let portion = portion_within left (portion_of task row) in

@@ -5,7 +5,7 @@ use Rattle.petscii.specs.Spelling.{spelling}
 use Rattle.d64_files.specs.Name.{name_in}
 use Rattle.d64_files.specs.declared.kind.Kind.{Kind}
 use Rattle.d64_files.specs.declared.kind.Kind.TheVariants as kinds
-use Rattle.d64_inventory.specs.Rows.{RowView}
+use Rattle.d64_inventory.specs.Rows.{FileRowView}
 use Rattle.cmd_extract_contents.specs.Portions.{Portion, portion_at}
 use Rattle.cmd_extract_contents.specs.Limits.{limit, left_after}
 use Rattle.cmd_extract_contents.specs.declared.extent.Extent.{Extent}
@@ -70,22 +70,22 @@ is_part extents.Content = false
 is_part extents.Part = true
 
 -- the host name of the file of a row, where these are taken
-unfoldable pub host_name : List (List ℕ) → RowView → Extent → List ℕ
+unfoldable pub host_name : List (List ℕ) → FileRowView → Extent → List ℕ
 host_name taken row extent = next_name taken (spelling (name_in row.field)) (ending_by row.kind) (is_part extent)
 
 -- what there is to write of the file of a row
-abbrev pub portion_of : TaskView → RowView → Option Portion
+abbrev pub portion_of : TaskView → FileRowView → Option Portion
 portion_of task row = portion_at task.setup.with_parts task.dump.image row.slot
 
 -- a file was told of, with the path of its host file, or that none was written
-unfoldable pub told_progress : TaskView → RowView → Option (List ℕ) → Progress → Progress
+unfoldable pub told_progress : TaskView → FileRowView → Option (List ℕ) → Progress → Progress
 told_progress task row path progress = record progress {
   printed = progress.printed ++ printed_file task.setup.form task.name row path;
   lines = progress.lines ++ printed_file Json task.name row path;
 }
 
 -- of the files that may come after one, fewer bytes are left
-abbrev pub spent_progress : TaskView → RowView → Progress → Progress
+abbrev pub spent_progress : TaskView → FileRowView → Progress → Progress
 spent_progress task row progress = record progress { left = left_after progress.left (portion_of task row) }
 
 -- a host name is taken
@@ -98,11 +98,11 @@ failed_at path reason progress =
     record progress { complaint = with_known_reason reason (progress.complaint ++ unwritten_line path); has_failed = true }
 
 -- the file of a row was written under a host name
-abbrev pub written_progress : TaskView → RowView → List ℕ → Progress → Progress
+abbrev pub written_progress : TaskView → FileRowView → List ℕ → Progress → Progress
 written_progress task row file progress = told_progress task row (Some (path_in task.done file)) progress
 
 -- or it could not be
-abbrev pub unwritten_progress : TaskView → RowView → List ℕ → Option Reason → Progress → Progress
+abbrev pub unwritten_progress : TaskView → FileRowView → List ℕ → Option Reason → Progress → Progress
 unwritten_progress task row file reason progress = told_progress task row None (failed_at (path_in task.partial file) reason progress)
 
 -- the lines that waited are in the list

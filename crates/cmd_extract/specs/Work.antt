@@ -13,25 +13,25 @@ use Rattle.program_batch.specs.declared.report.Verdict.{Verdict}
 use Rattle.program_batch.specs.declared.report.AnswerRoom.{AnswerRoom}
 
 -- a call of the host, which says yes or no
-pub data Call : Type 0 where
+pub data HostCall : Type 0 where
   -- whether something is there at a path
-  Look : List ℕ → Call
+  Look : List ℕ → HostCall
   -- a folder, which may be there already
-  Folder : List ℕ → Call
+  Folder : List ℕ → HostCall
   -- a folder that is new
-  NewFolder : List ℕ → Call
+  NewFolder : List ℕ → HostCall
   -- a file that is new, with these bytes
-  NewFile : List ℕ → List ℕ → Call
+  NewFile : List ℕ → List ℕ → HostCall
   -- these bytes at the end of a file that is there
-  MoreOfFile : List ℕ → List ℕ → Call
+  MoreOfFile : List ℕ → List ℕ → HostCall
   -- another path for a folder
-  Rename : List ℕ → List ℕ → Call
+  Rename : List ℕ → List ℕ → HostCall
 
 -- what is done: nothing more, and this is answered; or a call comes first, and the rest goes by
 -- what it says; or it is asked why the last call was refused, and the rest goes by the reason
 pub data Work : Type 0 where
   Done : Answer → Work
-  Then : Call → (Bool → Work) → Work
+  Then : HostCall → (Bool → Work) → Work
   Why : (Option Reason → Work) → Work
 
 -- a call that makes something new at a path was answered so
@@ -63,7 +63,7 @@ SaysMore true path bytes old said new =
 SaysMore false path bytes old said new = (said ≡ false) × (new ≡ old)
 
 -- what a call may say, and what the host shows then
-abbrev pub Says : Call → HostState → Bool → HostState → Type 0
+abbrev pub Says : HostCall → HostState → Bool → HostState → Type 0
 Says (Look path) old said new = Looks old.files path said × (new ≡ old)
 Says (Folder path) old said new =
     (answer : Result (Unit {0}) FolderFault) × IsTried (with_folder path) old path answer new × (said ≡ is_had answer)

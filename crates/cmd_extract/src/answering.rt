@@ -9,7 +9,7 @@ ghost use Rattle.cmd_extract.specs.Unpacking.{refused_answer, unread_answer, wro
 
 use crate::files::Files;
 use crate::setup::{Setup, Task};
-use cmd_extract_contents::Extraction;
+use cmd_extract_contents::ContentExtraction;
 use cmd_files::{print_error, print_length};
 use d64_inventory::is_amiss;
 use out_json_csv::{IS_THERE, Scratch, UNREAD, UNWRITTEN};
@@ -155,7 +155,7 @@ fn tell_files(files: &mut Files, room: &mut AnswerRoom)
 }
 
 /// The verdict on an image whose files are all written that could be.
-fn verdict_on(task: &Task, extraction: &Extraction) -> Verdict
+fn verdict_on(task: &Task, extraction: &ContentExtraction) -> Verdict
     ensures { result ≡ (if is_some extraction.now then (if is_listing_amiss task.now.dump then Verdict.Amiss else Verdict.Clean) else Verdict.Failed) }
 {
     if extraction.is_over() {

@@ -16,7 +16,7 @@ use crate::list_state::ListState;
 use crate::paths::put_path;
 use crate::setup::Task;
 use crate::telling::Told;
-use cmd_extract_contents::{Extent, Extraction};
+use cmd_extract_contents::{ContentExtraction, Extent};
 use cmd_files::print_after;
 use d64_files::{SlotNo, name_in};
 use d64_inventory::{FileRow, Rows};
@@ -37,7 +37,7 @@ const WAITING_BYTES: usize = 65_536;
 /// image to image.
 #[derive(Drop)]
 pub(crate) struct Files {
-    pub(crate) extraction: Extraction,
+    pub(crate) extraction: ContentExtraction,
     pub(crate) taken: TakenNames,
     pub(crate) told: Told,
     /// The bytes of a file.
@@ -70,7 +70,7 @@ impl Files {
     /// No files, and no memory yet.
     pub(crate) fn new(alloc: Global) -> Files {
         Files {
-            extraction: Extraction::new(),
+            extraction: ContentExtraction::new(),
             taken: TakenNames::new(alloc),
             told: Told::new(alloc),
             bytes: Vec::new(alloc),
@@ -84,7 +84,7 @@ impl Files {
     fn begin(&mut self, task: &Task) -> Result<(), AllocError>
         ensures { OnOk result (progress_of self.new ≡ first_progress task.now) }
     {
-        self.extraction = Extraction::new();
+        self.extraction = ContentExtraction::new();
         self.taken.clear();
         self.told.begin(task)
     }

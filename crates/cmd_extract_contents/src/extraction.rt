@@ -17,12 +17,12 @@ pub const LIMIT: usize = 16_777_216;
 /// The extraction of the files of an image, one after another: what is written of each, as long as
 /// they don't have too many bytes together.
 #[derive(Drop)]
-pub struct Extraction {
+pub struct ContentExtraction {
     /// How many bytes later files may have; None once there were too many.
     left: Option<usize>,
 }
 
-impl Model for Extraction {
+impl Model for ContentExtraction {
     ghost use Rattle.std.specs.Prelude.{ℕ, Option};
 
     ghost Value = { Option ℕ };
@@ -40,12 +40,12 @@ fn less(left: Option<usize>, count: usize) -> Option<usize>
     }
 }
 
-impl Extraction {
+impl ContentExtraction {
     /// The extraction of an image of which nothing is written yet.
-    pub fn new() -> Extraction
+    pub fn new() -> ContentExtraction
         ensures { result ≡ Some 16777216 }
     {
-        Extraction { left: Some(LIMIT) }
+        ContentExtraction { left: Some(LIMIT) }
     }
 
     /// Puts what is written of the file of the next slot into a list, in the place of what that

@@ -12,4 +12,4 @@ mod extraction;
 mod finding;
 
 pub use extent::Extent;
-pub use extraction::{Extraction, LIMIT};
+pub use extraction::{ContentExtraction, LIMIT};

@@ -3,7 +3,7 @@ use Rattle.std.specs.Prelude.{ℕ, List, [], ◌∷◌, ◌++◌, Option, Some, 
 use Rattle.std.specs.Option.{option_map_or}
 use Rattle.json.specs.Json.{Json, null}
 use Rattle.d64_image.specs.Disk.{Bytes}
-use Rattle.d64_inventory.specs.Rows.{RowView}
+use Rattle.d64_inventory.specs.Rows.{FileRowView}
 use Rattle.out_json_csv.specs.Rows.{host_field}
 use Rattle.out_json_csv.specs.Values.{Field, object_of}
 use Rattle.out_json_csv.specs.Unanswered.{host_value}
@@ -17,7 +17,7 @@ abbrev pub path_member : Option Bytes → Field
 path_member path = (codes "file", option_map_or host_value path null)
 
 -- the object of a used slot of an image with this host name, and the path of its host file
-unfoldable pub extracted_object : Bytes → RowView → Option Bytes → Json
+unfoldable pub extracted_object : Bytes → FileRowView → Option Bytes → Json
 extracted_object name row path = object_of (place_members name row ++ (file_members row ++ path_member path ∷ []))
 
 -- the field with the path of the host file; empty where none was written
@@ -25,7 +25,7 @@ abbrev pub path_field : Option Bytes → List ℕ
 path_field path = option_map_or host_field path []
 
 -- the row of it: the path stands before the error, which it has not
-unfoldable pub extracted_row : Bytes → RowView → Option Bytes → List ℕ
+unfoldable pub extracted_row : Bytes → FileRowView → Option Bytes → List ℕ
 extracted_row name row path = row_with (row_fields name row ++ path_field path ∷ []) []
 
 -- where it was written, at the end of a line for people
@@ -34,7 +34,7 @@ path_text None = codes ", not written"
 path_text (Some path) = codes " -> " ++ shown_name path
 
 -- the line of it
-unfoldable pub extracted_line : RowView → Option Bytes → List ℕ
+unfoldable pub extracted_line : FileRowView → Option Bytes → List ℕ
 extracted_line row path = file_text row ++ (path_text path ++ codes "\n")
 
 -- the header row

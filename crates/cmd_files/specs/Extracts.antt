@@ -1,7 +1,7 @@
 -- What is printed of images whose files are written to the host.
 use Rattle.std.specs.Prelude.{ℕ, List, [], Option, codes}
 use Rattle.d64_image.specs.Disk.{Bytes}
-use Rattle.d64_inventory.specs.Rows.{RowView}
+use Rattle.d64_inventory.specs.Rows.{FileRowView}
 use Rattle.program_arguments.specs.declared.asked.Format.{Format}
 use Rattle.program_arguments.specs.declared.asked.Format.TheVariants.{Text, Json, Csv}
 use Rattle.out_json_csv.specs.Values.{line_of}
@@ -9,7 +9,7 @@ use Rattle.out_json_csv.specs.Unanswered.{unanswered_object, wrong_length_object
 use Rattle.cmd_files.specs.Extracted.{extracted_object, extracted_row, extracted_line, extracted_header, unextracted_row}
 
 -- what is printed of a used slot of an image with this host name, and the path of its host file
-abbrev pub printed_file : Format → Bytes → RowView → Option Bytes → List ℕ
+abbrev pub printed_file : Format → Bytes → FileRowView → Option Bytes → List ℕ
 printed_file Text name row path = extracted_line row path
 printed_file Json name row path = line_of (extracted_object name row path)
 printed_file Csv name row path = extracted_row name row path

@@ -7,7 +7,7 @@ use Rattle.hex.specs.Hex.{encode_lower}
 use Rattle.petscii.specs.Spelling.{spelling}
 use Rattle.d64_image.specs.Disk.{Bytes}
 use Rattle.d64_files.specs.Name.{name_in}
-use Rattle.d64_inventory.specs.Rows.{RowView}
+use Rattle.d64_inventory.specs.Rows.{FileRowView}
 use Rattle.d64_inventory.specs.declared.row.Content.{Content}
 use Rattle.out_json_csv.specs.Pairs.{pair_text}
 use Rattle.out_json_csv.specs.Rows.{truth_text, host_field}
@@ -38,33 +38,33 @@ spaced_texts text [] = []
 spaced_texts text (x ∷ xs) = text x ++ flat_map (λ y. after_space (text y)) xs
 
 -- the name, and the field that it stands in
-abbrev pub name_fields : RowView → List (List ℕ)
+abbrev pub name_fields : FileRowView → List (List ℕ)
 name_fields row = spelling (name_in row.field) ∷ encode_lower row.field ∷ []
 
 -- the kind, and the type byte with what it says of the file
-abbrev pub type_fields : RowView → List (List ℕ)
+abbrev pub type_fields : FileRowView → List (List ℕ)
 type_fields row = option_map_or kind_letters row.kind [] ∷ decimal row.type_byte ∷ truth_text row.closed ∷ truth_text row.locked ∷ []
 
 -- the shown size, the pair of the first block, and the length of a record
-abbrev pub entry_fields : RowView → List (List ℕ)
+abbrev pub entry_fields : FileRowView → List (List ℕ)
 entry_fields row = decimal row.size ∷ pair_text row.first ∷ decimal_or_empty row.record_length ∷ []
 
 -- how many blocks the data way and the side way have
-abbrev pub way_fields : RowView → List (List ℕ)
+abbrev pub way_fields : FileRowView → List (List ℕ)
 way_fields row = decimal_or_empty row.blocks ∷ decimal_or_empty row.side ∷ []
 
 -- the content: how many bytes, and their digest
-abbrev pub content_fields : RowView → List (List ℕ)
+abbrev pub content_fields : FileRowView → List (List ℕ)
 content_fields row =
     option_map_or (λ (content : Content). decimal content.bytes) row.content [] ∷ option_map_or (λ (content : Content). encode_lower content.digest) row.content [] ∷ []
 
 -- whether the file is whole, why not, the conditions that it breaks, and how many of its blocks
 -- have a read error
-abbrev pub state_fields : RowView → List (List ℕ)
+abbrev pub state_fields : FileRowView → List (List ℕ)
 state_fields row = truth_or_empty row.whole ∷ spaced_texts flaw_word row.why ∷ spaced_texts decimal row.conditions ∷ decimal row.read_errors ∷ []
 
 -- what is told of a file, but for the image and the slot
-unfoldable pub file_fields : RowView → List (List ℕ)
+unfoldable pub file_fields : FileRowView → List (List ℕ)
 file_fields row = name_fields row ++ (type_fields row ++ (entry_fields row ++ (way_fields row ++ (content_fields row ++ state_fields row))))
 
 -- fields and an error on a line of their own
@@ -72,11 +72,11 @@ abbrev pub row_with : List (List ℕ) → List ℕ → List ℕ
 row_with fields error = row_text default_writer (fields ++ error ∷ [])
 
 -- what is told of a used slot of an image with this host name
-abbrev pub row_fields : Bytes → RowView → List (List ℕ)
+abbrev pub row_fields : Bytes → FileRowView → List (List ℕ)
 row_fields name row = host_field name ∷ decimal row.slot ∷ file_fields row
 
 -- the row of a used slot of an image with this host name; it has no error
-unfoldable pub file_row : Bytes → RowView → List ℕ
+unfoldable pub file_row : Bytes → FileRowView → List ℕ
 file_row name row = row_with (row_fields name row) []
 
 -- the header row

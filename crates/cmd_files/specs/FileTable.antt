@@ -12,7 +12,7 @@ use Rattle.d64_survey.specs.Owners.{directory_way}
 use Rattle.d64_survey.specs.ReadErrors.{read_errors}
 use Rattle.d64_survey.specs.declared.fault.Fault.{Fault}
 use Rattle.d64_survey.specs.declared.read_error.ReadError.{ReadError}
-use Rattle.d64_inventory.specs.Rows.{RowView}
+use Rattle.d64_inventory.specs.Rows.{FileRowView}
 use Rattle.out_messages.specs.CheckText.{label_text}
 use Rattle.out_messages.specs.FaultText.{fault_text, read_error_text}
 use Rattle.out_messages.specs.FileText.{kind_letters, flaws_text}
@@ -38,19 +38,19 @@ head_line name image = shown_name name ++ (codes " " ++ (label_text image ++ cod
 
 -- how many blocks of a file are there: those of its data way and of its side way, as far as 64 bits
 -- count
-abbrev pub blocks_there : RowView → ℕ
+abbrev pub blocks_there : FileRowView → ℕ
 blocks_there row = min (unwrap_or row.blocks 0 + unwrap_or row.side 0) (2 ^ 64 - 1)
 
 -- why the file isn't whole, or why that isn't known
-unfoldable pub reasons : RowView → List ℕ
+unfoldable pub reasons : FileRowView → List ℕ
 reasons row = flaws_text row.size (blocks_there row) row.why
 
 -- that it isn't known whether the file is whole, and why, where there is more to say
-unfoldable pub unknown_text : RowView → List ℕ
+unfoldable pub unknown_text : FileRowView → List ℕ
 unknown_text row = codes "not known" ++ (if length row.why == 0 then [] else codes ": " ++ reasons row)
 
 -- whether the file is whole, or what is amiss, by the answer to that
-abbrev pub state_by : Option Bool → RowView → List ℕ
+abbrev pub state_by : Option Bool → FileRowView → List ℕ
 state_by None row = unknown_text row
 state_by (Some true) row = codes "whole"
 state_by (Some false) row = reasons row
@@ -64,15 +64,15 @@ abbrev pub kind_text : Option Kind → List ℕ
 kind_text kind = option_map_or kind_letters kind (codes "???")
 
 -- what is told of a file after its name
-unfoldable pub state_text : RowView → List ℕ
+unfoldable pub state_text : FileRowView → List ℕ
 state_text row = kind_text row.kind ++ (codes "   " ++ (state_by row.whole row ++ locked_text row.locked))
 
 -- what is told of a used slot on a line: the size, the name, the kind, and whether it is whole
-unfoldable pub file_text : RowView → List ℕ
+unfoldable pub file_text : FileRowView → List ℕ
 file_text row = right_in 5 (decimal row.size) ++ (codes " " ++ (left_in 18 (quoted_name (name_in row.field)) ++ (codes " " ++ state_text row)))
 
 -- the line of a used slot
-unfoldable pub file_line : RowView → List ℕ
+unfoldable pub file_line : FileRowView → List ℕ
 file_line row = file_text row ++ codes "\n"
 
 -- what a line ends in that tells why files may be missing

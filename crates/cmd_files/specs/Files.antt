@@ -3,7 +3,7 @@ use Rattle.std.specs.Prelude.{ℕ, List, [], ◌++◌, length, Option, Some, Non
 use Rattle.std.specs.List.{flat_map}
 use Rattle.d64_image.specs.Disk.{Disk, Bytes}
 use Rattle.d64_survey.specs.Dump.{DumpView}
-use Rattle.d64_inventory.specs.Rows.{RowView, rows}
+use Rattle.d64_inventory.specs.Rows.{FileRowView, rows}
 use Rattle.d64_inventory.specs.ListingAmiss.{is_listing_amiss}
 use Rattle.program_arguments.specs.declared.asked.Format.{Format}
 use Rattle.program_arguments.specs.declared.asked.Format.TheVariants.{Text, Json, Csv}
@@ -18,7 +18,7 @@ use Rattle.cmd_files.specs.FileRow.{file_row, header_row, unanswered_row}
 use Rattle.cmd_files.specs.FileTable.{head_line, file_line, missing_lines}
 
 -- what is printed of a used slot of an image with this host name
-abbrev pub printed_row : Format → Bytes → RowView → List ℕ
+abbrev pub printed_row : Format → Bytes → FileRowView → List ℕ
 printed_row Text name row = file_line row
 printed_row Json name row = line_of (file_object name row)
 printed_row Csv name row = file_row name row

@@ -16,8 +16,8 @@ use Rattle.host_storage.specs.declared.host.HostFault.{HostFault}
 use Rattle.host_storage.specs.declared.host.HostFault.TheVariants as files
 use Rattle.d64_undo.specs.declared.resume_fault.ResumeFault.{ResumeFault}
 use Rattle.d64_undo.specs.declared.resume_fault.ResumeFault.TheVariants as resumes
-use Rattle.script_run.specs.Runner.{Stand, RanLines, StoppedAt, Ran}
-use Rattle.script_run.specs.Transcript.{Manner, Progress}
+use Rattle.script_run.specs.Runner.{ScriptState, RanLines, StoppedAt, Ran}
+use Rattle.script_run.specs.Transcript.{Manner, RunProgress}
 use Rattle.script_run.specs.declared.runner.Outcome.{Outcome}
 use Rattle.script_run.specs.declared.runner.ShellFault.{ShellFault}
 use Rattle.script_run.specs.declared.runner.ShellFault.TheVariants.{Read, Write, Memory}
@@ -28,7 +28,7 @@ home_is None empty e = e
 home_is (Some name) empty e = refl
 
 -- lines have run also after the output was flushed
-RanLines-flushed : (manner : Manner) (old new : Stand) (lines : List (List ℕ)) (after : Progress) (flushed : Option (List ℕ))
+RanLines-flushed : (manner : Manner) (old new : ScriptState) (lines : List (List ℕ)) (after : RunProgress) (flushed : Option (List ℕ))
     → RanLines manner old new lines after → Keeps new.writer flushed → RanLines manner old (record new { writer = flushed }) lines after
 RanLines-flushed manner old new lines after flushed ran kept = record {
   out = ran.out;
@@ -38,7 +38,7 @@ RanLines-flushed manner old new lines after flushed ran kept = record {
 }
 
 -- so have those before a write that failed
-StoppedAt-flushed : (manner : Manner) (old new : Stand) (lines : List (List ℕ)) (flushed : Option (List ℕ))
+StoppedAt-flushed : (manner : Manner) (old new : ScriptState) (lines : List (List ℕ)) (flushed : Option (List ℕ))
     → StoppedAt manner old new lines → Keeps new.writer flushed → StoppedAt manner old (record new { writer = flushed }) lines
 StoppedAt-flushed manner old new lines flushed stopped kept = record {
   before = stopped.before;
@@ -60,7 +60,7 @@ StoppedAt-flushed manner old new lines flushed stopped kept = record {
 }
 
 -- a script has run also after its output was flushed, however it ended
-pub Ran-flushed : (manner : Manner) (reader left : Option (List ℕ)) (old new : Stand) (flushed : Option (List ℕ)) (ended : Result Outcome ShellFault)
+pub Ran-flushed : (manner : Manner) (reader left : Option (List ℕ)) (old new : ScriptState) (flushed : Option (List ℕ)) (ended : Result Outcome ShellFault)
     → Ran manner reader left old new ended → Keeps new.writer flushed → Ran manner reader left old (record new { writer = flushed }) ended
 Ran-flushed manner reader left old new flushed (Ok outcome) ran kept = record {
   script = ran.script;
@@ -85,7 +85,7 @@ Ran-flushed manner reader left old new flushed (Err Write) ran kept = record {
 Ran-flushed manner reader left old new flushed (Err (Memory error)) ran kept = ran
 
 -- a script of some source has run also after its output was flushed
-RanFrom-flushed : (source : Source) (manner : Manner) (reader left : Option (List ℕ)) (old new : Stand) (flushed : Option (List ℕ)) (ended : Result Outcome ShellFault)
+RanFrom-flushed : (source : Source) (manner : Manner) (reader left : Option (List ℕ)) (old new : ScriptState) (flushed : Option (List ℕ)) (ended : Result Outcome ShellFault)
     → RanFrom source manner reader left old new ended → Keeps new.writer flushed → RanFrom source manner reader left old (record new { writer = flushed }) ended
 RanFrom-flushed Input manner reader left old new flushed ended ran kept = Ran-flushed manner reader left old new flushed ended ran kept
 RanFrom-flushed (Given text) manner reader left old new flushed ended ran kept =

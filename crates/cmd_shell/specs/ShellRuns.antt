@@ -13,7 +13,7 @@ use Rattle.d64_undo.specs.History.{History, new_history}
 use Rattle.d64_undo.specs.ResumeFault.{first_fault}
 use Rattle.d64_undo.specs.SessionFile.{IsSession, file_of}
 use Rattle.d64_undo.specs.declared.resume_fault.ResumeFault.{ResumeFault}
-use Rattle.script_run.specs.Runner.{Ran, Stand as RunStand}
+use Rattle.script_run.specs.Runner.{Ran, ScriptState}
 use Rattle.script_run.specs.Transcript.{Manner}
 use Rattle.script_run.specs.declared.runner.Outcome.{Outcome}
 use Rattle.script_run.specs.declared.runner.ShellFault.{ShellFault}
@@ -41,7 +41,7 @@ IsFirstHistory old (SessionFile name) history new = IsSession history × Fetches
 
 -- a script has run that comes from the input, or from the words: then nothing of the input was
 -- read, and the text is all that there was to read
-abbrev pub RanFrom : Source → Manner → Option (List ℕ) → Option (List ℕ) → RunStand → RunStand → Result Outcome ShellFault → Type 0
+abbrev pub RanFrom : Source → Manner → Option (List ℕ) → Option (List ℕ) → ScriptState → ScriptState → Result Outcome ShellFault → Type 0
 RanFrom Input manner reader left old new ended = Ran manner reader left old new ended
 RanFrom (Given text) manner reader left old new ended = (left ≡ reader) × Ran manner (Some text) (Some []) old new ended
 

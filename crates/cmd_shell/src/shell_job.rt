@@ -5,7 +5,7 @@ ghost use Rattle.d64_image.specs.Image.{IsImage, bytes_of};
 ghost use Rattle.d64_undo.specs.SessionFile.{IsSession, file_of};
 ghost use Rattle.script_text.specs.Input.{IsUnread, reading_of};
 ghost use Rattle.script_commands.specs.Act.{FetchesFile, world_of};
-ghost use Rattle.script_run.specs.Runner.{manner_of, stand_of};
+ghost use Rattle.script_run.specs.Runner.{manner_of, script_state};
 ghost use Rattle.cmd_shell.specs.Beginnings.{Given, beginning_of, refusals_of, source_by, source_of, text_of_lines};
 ghost use Rattle.cmd_shell.specs.Scripts.{beginning_in, manner_in, source_in};
 ghost use Rattle.cmd_shell.specs.ShellRuns.{IsDue, IsFirstHistory, IsReadDue, HasNoHistory, GivesNoImage, GivesNoSession, RanFrom, RanShell, StoppedBy, blank_image, session_limit, status_of};
@@ -76,7 +76,7 @@ impl<'n> ShellJob<'n> {
             listener,
         )?;
         listener.begin(&self.opening(), &session);
-        let script = Script {
+        let script = GivenScript {
             alloc,
             text: text.as_deref(),
             manner: Manner {
@@ -130,14 +130,14 @@ fn text_of_lines(alloc: Global, lines: &[String]) -> Result<Vec<u8>, AllocError>
 
 /// A script, and how it is run.
 #[derive(Clone, Copy, Debug)]
-struct Script<'n> {
+struct GivenScript<'n> {
     alloc: Global,
     /// Its text; without one, it is the input.
     text: Option<&'n [u8]>,
     manner: Manner<'n>,
 }
 
-impl<'n> Script<'n> {
+impl<'n> GivenScript<'n> {
     /// Runs it on a session. Where it has a text, nothing of the input is read.
     fn run<R: Read, W: Write, H: Host, L: Listener>(
         self,
@@ -153,8 +153,8 @@ impl<'n> Script<'n> {
         ensures input { input.new.reader.ghost_name ≡ input.old.reader.ghost_name }
         ensures output { output.new.writer.ghost_name ≡ output.old.writer.ghost_name }
         ensures ran { RanFrom (source_by (option_copied self.entry.text)) (manner_of self.entry.manner) (R.remaining input.old.reader.now) (R.remaining input.new.reader.now)
-            (stand_of (W.contents output.old.writer.now) (world_of (H.state host.old) session.old))
-            (stand_of (W.contents output.new.writer.now) (world_of (H.state host.new) session.new))
+            (script_state (W.contents output.old.writer.now) (world_of (H.state host.old) session.old))
+            (script_state (W.contents output.new.writer.now) (world_of (H.state host.new) session.new))
             result }
         ensures unfailed { OnOk result (output.new.has_failed ≡ false) }
         ensures due { result ≡ Err ShellFault.Read → IsReadDue (source_by (option_copied self.entry.text)) (reading_of input.new.reads input.new.came input.new.has_failed) }

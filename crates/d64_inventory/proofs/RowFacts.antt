@@ -7,10 +7,10 @@ use Rattle.d64_survey.specs.Flaws.{why, wholeness}
 use Rattle.d64_survey.specs.declared.owner.Part.TheVariants.{Data, Side}
 use Rattle.d64_inventory.specs.Contents.{content_of, digested_content}
 use Rattle.d64_inventory.specs.Conditions.{conditions}
-use Rattle.d64_inventory.specs.Rows.{RowView, known_kind, record_length_by, way_length, error_count, row_of}
+use Rattle.d64_inventory.specs.Rows.{FileRowView, known_kind, record_length_by, way_length, error_count, row_of}
 
 -- what a row tells is so
-pub record AreTold (dump : DumpView) (numbered : ℕ × List ℕ) (row : RowView) : Type 0 where
+pub record AreTold (dump : DumpView) (numbered : ℕ × List ℕ) (row : FileRowView) : Type 0 where
   pub slot : row.slot ≡ numbered.0
   pub field : row.field ≡ field_of numbered.1
   pub kind : row.kind ≡ known_kind numbered.1
@@ -29,7 +29,7 @@ pub record AreTold (dump : DumpView) (numbered : ℕ × List ℕ) (row : RowView
   pub read_errors : row.read_errors ≡ error_count dump numbered.1
 
 -- so it is the row
-pub row_is : (dump : DumpView) (numbered : ℕ × List ℕ) (row : RowView) → AreTold dump numbered row → row ≡ row_of dump numbered
+pub row_is : (dump : DumpView) (numbered : ℕ × List ℕ) (row : FileRowView) → AreTold dump numbered row → row ≡ row_of dump numbered
 unfolding row_of
 row_is dump numbered row t = λ i. record {
   slot = t.slot i;

@@ -10,7 +10,7 @@ use Rattle.d64_files.specs.Directory.{numbered_slots}
 use Rattle.d64_files.specs.Slot.{is_used}
 use Rattle.d64_survey.specs.Dump.{DumpView}
 use Rattle.d64_survey.specs.Owners.{way_slots}
-use Rattle.d64_inventory.specs.Rows.{RowView, row_of, row_at, rows_among, rows_from, rows}
+use Rattle.d64_inventory.specs.Rows.{FileRowView, row_of, row_at, rows_among, rows_from, rows}
 
 -- past the last slot no row is left
 pub none_left : (dump : DumpView) (slot : ℕ) → length (way_slots dump.image) ≤ slot → rows_from dump slot ≡ []
@@ -22,7 +22,7 @@ abbrev bytes_of : DumpView → ℕ → List ℕ
 bytes_of dump slot = get_or (way_slots dump.image) slot []
 
 -- the rows that are left after one slot
-abbrev later : DumpView → ℕ → List RowView
+abbrev later : DumpView → ℕ → List FileRowView
 later dump slot = rows_from dump (slot + 1)
 
 -- those from a slot on are its own, where it is used, and the later ones
@@ -48,16 +48,16 @@ row_there dump slot within =
     ap (λ (c : Option (List ℕ)). option_and_then (λ cell. cond (is_used cell) (Some (row_of dump (slot, cell))) None) c) (slice_get-get_or (way_slots dump.image) slot [] within)
 
 -- what was found at a slot
-by_use : (used : Bool) (row found : RowView) → Some found ≡ cond used (Some row) None → (rest : List RowView) → cond used (row ∷ rest) rest ≡ found ∷ rest
-by_use true row found e rest = ap (λ (r : RowView). r ∷ rest) (let f : Some found ≡ Some row = e in cc)
+by_use : (used : Bool) (row found : FileRowView) → Some found ≡ cond used (Some row) None → (rest : List FileRowView) → cond used (row ∷ rest) rest ≡ found ∷ rest
+by_use true row found e rest = ap (λ (r : FileRowView). r ∷ rest) (let f : Some found ≡ Some row = e in cc)
 by_use false row found e rest = absurd (let f : Some found ≡ None = e in cc)
 
-by_no_use : (used : Bool) (row : RowView) → None ≡ cond used (Some row) None → (rest : List RowView) → cond used (row ∷ rest) rest ≡ rest
+by_no_use : (used : Bool) (row : FileRowView) → None ≡ cond used (Some row) None → (rest : List FileRowView) → cond used (row ∷ rest) rest ≡ rest
 by_no_use true row e rest = absurd (let f : None ≡ Some row = e in cc)
 by_no_use false row e rest = refl
 
 -- a row at a slot is the first that is left
-pub row_first : (dump : DumpView) (slot : ℕ) (row : RowView) → slot < length (way_slots dump.image) → Some row ≡ row_at dump slot → rows_from dump slot ≡ row ∷ later dump slot
+pub row_first : (dump : DumpView) (slot : ℕ) (row : FileRowView) → slot < length (way_slots dump.image) → Some row ≡ row_at dump slot → rows_from dump slot ≡ row ∷ later dump slot
 row_first dump slot row within is =
     first_and_later dump slot within ∙ by_use (is_used (bytes_of dump slot)) (row_of dump (slot, bytes_of dump slot)) row (is ∙ row_there dump slot within) (later dump slot)
 

@@ -23,7 +23,7 @@ use Rattle.d64_inventory.specs.Conditions.{conditions}
 use Rattle.d64_inventory.specs.declared.row.Content.{Content}
 
 -- what a row tells
-pub record RowView : Type 0 where
+pub record FileRowView : Type 0 where
   pub slot : ℕ
   pub field : Bytes
   pub kind : Option Kind
@@ -63,7 +63,7 @@ abbrev pub error_count : DumpView → Bytes → ℕ
 error_count dump cell = count_by (λ (error : ReadError). is_of_file dump.image cell error.block) (read_errors dump)
 
 -- what is told of a numbered slot of a dump and of its file
-unfoldable pub row_of : DumpView → ℕ × Bytes → RowView
+unfoldable pub row_of : DumpView → ℕ × Bytes → FileRowView
 row_of dump slot = record {
   slot = slot.0;
   field = field_of slot.1;
@@ -85,17 +85,17 @@ row_of dump slot = record {
 
 -- the row of the slot of this number; none where the directory's way has no such slot, or it isn't
 -- used
-abbrev pub row_at : DumpView → ℕ → Option RowView
+abbrev pub row_at : DumpView → ℕ → Option FileRowView
 row_at dump slot = option_and_then (λ cell. if is_used cell then Some (row_of dump (slot, cell)) else None) (slot_cell dump.image slot)
 
 -- the rows of numbered slots of a dump: one for each that is used, in their order
-abbrev pub rows_among : DumpView → List (ℕ × Bytes) → List RowView
+abbrev pub rows_among : DumpView → List (ℕ × Bytes) → List FileRowView
 rows_among dump slots = map (row_of dump) (filter (λ (slot : ℕ × Bytes). is_used slot.1) slots)
 
 -- the rows of the slots of the directory's way from a number on
-abbrev pub rows_from : DumpView → ℕ → List RowView
+abbrev pub rows_from : DumpView → ℕ → List FileRowView
 rows_from dump slot = rows_among dump (drop slot (numbered_slots (way_slots dump.image)))
 
 -- the rows of a dump: those of all slots of the directory's way
-unfoldable pub rows : DumpView → List RowView
+unfoldable pub rows : DumpView → List FileRowView
 rows dump = rows_among dump (numbered_slots (way_slots dump.image))

@@ -47,9 +47,9 @@ pub struct FileRow {
 }
 
 impl Model for FileRow {
-    ghost use Rattle.d64_inventory.specs.Rows.{RowView};
+    ghost use Rattle.d64_inventory.specs.Rows.{FileRowView};
 
-    ghost Value = { RowView };
+    ghost Value = { FileRowView };
 
     ghost view = { λ row. record {
       slot = row.slot;

@@ -1,7 +1,7 @@
 //! The rows of a dump, one at a time.
 ghost use Rattle.std.specs.Prelude.{◌≡◌, ◌∷◌, [], MatchOption};
 ghost use Rattle.std.specs.Iterator.{YieldsFirst, item_count};
-ghost use Rattle.d64_inventory.specs.Rows.{RowView, rows, rows_from};
+ghost use Rattle.d64_inventory.specs.Rows.{FileRowView, rows, rows_from};
 
 use crate::inventory::Inventory;
 use crate::row::FileRow;
@@ -27,9 +27,9 @@ pub struct Rows<'a> {
 
 impl<'a> Model for Rows<'a> {
     ghost use Rattle.std.specs.Prelude.{List};
-    ghost use Rattle.d64_inventory.specs.Rows.{RowView, rows_from};
+    ghost use Rattle.d64_inventory.specs.Rows.{FileRowView, rows_from};
 
-    ghost Value = { List RowView };
+    ghost Value = { List FileRowView };
 
     ghost view = { λ walk. rows_from walk.inventory walk.place };
 }

@@ -10,7 +10,7 @@ use Rattle.cmd_extract.specs.declared.unpacker.Unpacker.{Unpacker}
 use Rattle.cmd_extract.proofs.QuietWork.{clean_is_quiet}
 use Rattle.script_run.specs.Transcript.{Manner}
 use Rattle.cmd_shell.specs.Beginnings.{Beginning, Source}
-use Rattle.d64_shell.specs.Jobs.{Work, Script, Survey, Extraction, PassesOver, work_of}
+use Rattle.d64_shell.specs.Jobs.{JobWork, Script, Survey, Extraction, PassesOver, work_of}
 use Rattle.program_surveys.specs.SurveyFiles.{SurveyFiles}
 use Rattle.program_exit.specs.Outside.{Outside}
 use Rattle.cmd_shell.specs.ShellRuns.{EndedShell}
@@ -22,7 +22,7 @@ pub survey_ended : (job : Job) (rule : Rule) (heading : List ℕ) (files shown :
     → work_of job ≡ Survey rule heading files → shown ≡ files → EndedSurvey (by_rule rule) heading shown old new faults told status
     → EndedWork (work_of job) old new faults told status
 survey_ended job rule heading files shown old new faults told status is same ended =
-    subst (λ (work : Work). EndedWork work old new faults told status) (sym is)
+    subst (λ (work : JobWork). EndedWork work old new faults told status) (sym is)
     (subst (λ (f : SurveyFiles). EndedSurvey (by_rule rule) heading f old new faults told status) same ended)
 
 -- where it is a script, it has ended as that has
@@ -30,7 +30,7 @@ pub script_ended : (job : Job) (beginning begun : Beginning) (source from : Sour
     → work_of job ≡ Script beginning source manner → begun ≡ beginning → from ≡ source → at ≡ manner → EndedShell begun from at old new faults told status
     → EndedWork (work_of job) old new faults told status
 script_ended job beginning begun source from manner at old new faults told status is same_beginning same_source same_manner ended =
-    subst (λ (work : Work). EndedWork work old new faults told status) (sym is)
+    subst (λ (work : JobWork). EndedWork work old new faults told status) (sym is)
     (subst (λ (m : Manner). EndedShell beginning source m old new faults told status) same_manner
     (subst (λ (s : Source). EndedShell beginning s at old new faults told status) same_source
     (subst (λ (b : Beginning). EndedShell b from at old new faults told status) same_beginning ended)))
@@ -40,7 +40,7 @@ pub extraction_ended : (job : Job) (setup : SetupView) (heading : List ℕ) (fil
     → work_of job ≡ Extraction setup heading files → shown ≡ files → EndedSurvey (unpacks setup) heading shown old new faults told status
     → EndedWork (work_of job) old new faults told status
 extraction_ended job setup heading files shown old new faults told status is same ended =
-    subst (λ (work : Work). EndedWork work old new faults told status) (sym is)
+    subst (λ (work : JobWork). EndedWork work old new faults told status) (sym is)
     (subst (λ (f : SurveyFiles). EndedSurvey (unpacks setup) heading f old new faults told status) same ended)
 
 -- an extraction that passes over nothing

@@ -27,15 +27,15 @@ setup_of asked format = record { into = string_bytes asked.into; with_parts = as
 -- the input, or on the host file of a name, to the output, or to the host file of a second name;
 -- surveys files, by a rule, with what stands before all answers; unpacks files, as is asked for,
 -- with what stands before all answers; or compares the files of two names, by a rule
-pub data Work : Type 0 where
-  Script : Beginning → Source → Manner → Work
-  Conversion : Tool → Option (List ℕ) → Option (List ℕ) → Work
-  Survey : Rule → List ℕ → SurveyFiles → Work
-  Extraction : SetupView → List ℕ → SurveyFiles → Work
-  Comparison : PairRule → List ℕ → List ℕ → Work
+pub data JobWork : Type 0 where
+  Script : Beginning → Source → Manner → JobWork
+  Conversion : Tool → Option (List ℕ) → Option (List ℕ) → JobWork
+  Survey : Rule → List ℕ → SurveyFiles → JobWork
+  Extraction : SetupView → List ℕ → SurveyFiles → JobWork
+  Comparison : PairRule → List ℕ → List ℕ → JobWork
 
 -- what each job does
-abbrev pub work_of : Job → Work
+abbrev pub work_of : Job → JobWork
 work_of (Shell image tracks resume lines stops) =
     Script (beginning_of (option_map string_bytes image) tracks (option_map string_bytes resume)) (source_of (map string_bytes lines.items))
     (record { home = home_of (option_map string_bytes image); refusals = refusals_of stops })
@@ -49,7 +49,7 @@ work_of (Catalogue page names) = Survey (catalogue_rule page) (catalogue_heading
 work_of (Diff format old new) = Comparison (difference_rule format) (string_bytes old) (string_bytes new)
 
 -- the work is a script, which tells nothing where it runs to its end
-abbrev pub IsScript : Work → Type 0
+abbrev pub IsScript : JobWork → Type 0
 IsScript (Script beginning source manner) = ⊤
 IsScript (Conversion tool name target) = ⊥
 IsScript (Survey rule heading files) = ⊥
@@ -57,7 +57,7 @@ IsScript (Extraction setup heading files) = ⊥
 IsScript (Comparison rule old_name new_name) = ⊥
 
 -- the work passes over folders that are there, and complains of it though all is well
-abbrev pub PassesOver : Work → Type 0
+abbrev pub PassesOver : JobWork → Type 0
 PassesOver (Script beginning source manner) = ⊥
 PassesOver (Conversion tool name target) = ⊥
 PassesOver (Survey rule heading files) = ⊥

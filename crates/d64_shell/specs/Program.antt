@@ -9,14 +9,14 @@ use Rattle.program_arguments.specs.declared.asked.JobFault.TheVariants.{Words}
 use Rattle.program_batch.specs.Answers.{by_rule}
 use Rattle.cmd_extract.specs.Conduct.{unpacks}
 use Rattle.program_exit.specs.Outside.{Outside}
-use Rattle.program_exit.specs.WordFaults.{AnswersWords}
+use Rattle.program_exit.specs.WordFaults.{ReportsNoJob}
 use Rattle.cmd_basic.specs.ToolRuns.{EndedConversion}
 use Rattle.program_surveys.specs.JobEnds.{EndedSurvey, EndedComparison}
 use Rattle.cmd_shell.specs.ShellRuns.{EndedShell}
-use Rattle.d64_shell.specs.Jobs.{Work, Script, Conversion, Survey, Extraction, Comparison, work_of, IsScript, PassesOver}
+use Rattle.d64_shell.specs.Jobs.{JobWork, Script, Conversion, Survey, Extraction, Comparison, work_of, IsScript, PassesOver}
 
 -- how a job ended that does this work
-abbrev pub EndedWork : Work → Outside → Outside → Account → Account → ℕ → Type 0
+abbrev pub EndedWork : JobWork → Outside → Outside → Account → Account → ℕ → Type 0
 EndedWork (Script beginning source manner) old new faults told status = EndedShell beginning source manner old new faults told status
 EndedWork (Conversion tool name target) old new faults told status = EndedConversion tool name target old new faults told status
 EndedWork (Survey rule heading files) old new faults told status = EndedSurvey (by_rule rule) heading files old new faults told status
@@ -51,4 +51,4 @@ AsksToPassOver after = (job : Job) × IsJob (named_words after) job × PassesOve
 abbrev pub Ended : List (List ℕ) → Outside → Outside → Account → Account → ℕ → Type 0
 Ended after old new faults told status =
     ((job : Job) × IsJob (named_words after) job × EndedWork (work_of job) old new faults told status)
-    ⊎ ((fault : JobFault) × IsFault (named_words after) fault × IsErrorOf (named_words (shown_words after)) fault × (new.reader ≡ old.reader) × (new.host ≡ old.host) × AnswersWords fault old.output new.output faults told status)
+    ⊎ ((fault : JobFault) × IsFault (named_words after) fault × IsErrorOf (named_words (shown_words after)) fault × (new.reader ≡ old.reader) × (new.host ≡ old.host) × ReportsNoJob fault old.output new.output faults told status)

@@ -19,7 +19,7 @@ use cmd_map::MapReport;
 use cmd_shell::{ShellJob, exit_status, refusals_of};
 use host_storage::{Host, HostFault};
 use program_arguments::Job;
-use program_exit::{NOT_RUN, answer_words};
+use program_exit::{NOT_RUN, report_no_job};
 use program_surveys::{DifferenceJob, FileNames, SurveyJob};
 use script_run::{Listener, Nobody};
 use script_text::input::InputStream;
@@ -131,7 +131,7 @@ impl<'l, L: Listener> HeardProgram<'l, L> {
     {
         match asked(self.alloc, words) {
             Ok(job) => self.do_job(job, input, output, faults, host),
-            Err(fault) => answer_words(self.alloc, fault, output, faults),
+            Err(fault) => report_no_job(self.alloc, fault, output, faults),
         }
     }
 

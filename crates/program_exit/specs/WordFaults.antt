@@ -28,6 +28,6 @@ ShowsOrTells fault old new faults told status =
 
 -- how words are answered that ask for no job: by the text of the fault, and, where it is clap's, by
 -- what they asked to see or by what is wrong
-abbrev pub AnswersWords : JobFault → Account → Account → Account → Account → ℕ → Type 0
-AnswersWords fault old new faults told status =
+abbrev pub ReportsNoJob : JobFault → Account → Account → Account → Account → ℕ → Type 0
+ReportsNoJob fault old new faults told status =
     MatchOption (text_of fault) (ShowsOrTells fault old new faults told status) (λ text. (new ≡ old) × ReportsText text faults told status)

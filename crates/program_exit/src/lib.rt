@@ -12,4 +12,4 @@ mod word_faults;
 pub use exit_status::{ALL_ACCEPTED, NOT_RUN, SOME_REFUSED};
 pub use host_file::fetch_file;
 pub use program_fault::ProgramFault;
-pub use word_faults::answer_words;
+pub use word_faults::report_no_job;

@@ -3,7 +3,7 @@ ghost use Rattle.std.specs.Prelude.{◌≡◌, OnOk, OnErr, false, true};
 ghost use Rattle.std.specs.Io.KnownBytes.{Appends};
 ghost use Rattle.script_text.specs.Output.{AppendsPart, FailsWith};
 ghost use Rattle.program_batch.specs.Runs.{account_at};
-ghost use Rattle.program_exit.specs.WordFaults.{AnswersWords, HasShown, HasTold};
+ghost use Rattle.program_exit.specs.WordFaults.{ReportsNoJob, HasShown, HasTold};
 
 use crate::exit_status::{ALL_ACCEPTED, NOT_RUN};
 use crate::program_fault::{ProgramFault, report_text};
@@ -12,9 +12,9 @@ use script_text::output::{OutputStream, WriteFault};
 use std::alloc::Global;
 use std::io::Write;
 
-/// Answers words that ask for no job, and answers the exit status: what they asked to see goes to
-/// the output, and what is wrong with them to `faults`.
-pub fn answer_words<W: Write, F: Write>(
+/// Reports arguments that ask for no job, and returns the exit status: help and version go to the
+/// output, and what is wrong with the arguments to `faults`.
+pub fn report_no_job<W: Write, F: Write>(
     alloc: Global,
     fault: JobFault,
     output: &mut OutputStream<'_, W>,
@@ -23,7 +23,7 @@ pub fn answer_words<W: Write, F: Write>(
     requires unfailed { output.old.has_failed ≡ false }
     ensures output { output.new.writer.ghost_name ≡ output.old.writer.ghost_name }
     ensures faults { faults.new.writer.ghost_name ≡ faults.old.writer.ghost_name }
-    ensures answered { AnswersWords fault (account_at W.contents output.old) (account_at W.contents output.new) (account_at F.contents faults.old) (account_at F.contents faults.new) result }
+    ensures answered { ReportsNoJob fault (account_at W.contents output.old) (account_at W.contents output.new) (account_at F.contents faults.old) (account_at F.contents faults.new) result }
     ensures silent { result ≡ 0 → faults.new ≡ faults.old }
     ensures delivered { result ≡ 0 → (output.new.is_delivered ≡ true) × (output.new.has_failed ≡ false) }
 {

@@ -15,8 +15,8 @@ use Rattle.script_text.proofs.OpenLines.{IsOpen-append, lines_of-ended, lines_of
 use Rattle.script_commands.specs.Act.{printed_bytes, LineAnswer, World}
 use Rattle.script_text.specs.Status.{is_accepted}
 use Rattle.script_run.specs.Transcript.{ends_script, Manner, Transcript, counted_progress}
-use Rattle.script_run.specs.Runner.{Stand, first_progress, RanLines, StoppedAt}
-use Rattle.script_run.specs.LineByLine.{progress_of, AreCutInto, HasCome, HasClosed, RunsLine, StopsInLine}
+use Rattle.script_run.specs.Runner.{ScriptState, first_progress, RanLines, StoppedAt}
+use Rattle.script_run.specs.LineByLine.{progress_of, AreCutInto, ScriptHasCome, HasClosed, RunsLine, StopsInLine}
 use Rattle.script_run.specs.declared.runner.Tally.{Tally}
 use Rattle.script_run.proofs.ScriptRuns.{RanLines-closed}
 use Rattle.script_run.proofs.Transcripts.{Line-answered, Line-skipped, Transcript-line}
@@ -52,7 +52,7 @@ AreCutInto-line bytes part begun lines cut is_open =
     }
 
 -- one line more has run
-RanLines-line : (manner : Manner) (first old new : Stand) (lines : List (List ℕ)) (line : List ℕ) (before after : Tally)
+RanLines-line : (manner : Manner) (first old new : ScriptState) (lines : List (List ℕ)) (line : List ℕ) (before after : Tally)
     → RanLines manner first old lines (progress_of before old.world) → before.closed ≡ false → RunsLine manner line old new before after
     → RanLines manner first new (lines ++ line ∷ []) (progress_of after new.world)
 RanLines-line manner first old new lines line before after ran open_run runs = record {
@@ -63,10 +63,10 @@ RanLines-line manner first old new lines line before after ran open_run runs = r
 }
 
 -- a run that begins
-pub HasCome-none : (manner : Manner) (stand : Stand) (tally : Tally) (line : HeldLine)
-    → tally ≡ record { outcome = record { accepted = 0; refused = 0 }; closed = false } → Holds line [] → HasCome manner stand stand tally line []
+pub ScriptHasCome-none : (manner : Manner) (stand : ScriptState) (tally : Tally) (line : HeldLine)
+    → tally ≡ record { outcome = record { accepted = 0; refused = 0 }; closed = false } → Holds line [] → ScriptHasCome manner stand stand tally line []
 unfolding Transcript
-HasCome-none manner stand tally line none held = record {
+ScriptHasCome-none manner stand tally line none held = record {
   lines = [];
   begun = [];
   cut = AreCutInto-none;
@@ -76,10 +76,10 @@ HasCome-none manner stand tally line none held = record {
 }
 
 -- bytes more, with no LF among them
-pub HasCome-more : (manner : Manner) (first stand : Stand) (tally : Tally) (line longer : HeldLine) (bytes part : List ℕ)
-    → HasCome manner first stand tally line bytes → IsOpen part → ((begun : List ℕ) → Holds line begun → Holds longer (begun ++ part))
-    → HasCome manner first stand tally longer (bytes ++ part)
-HasCome-more manner first stand tally line longer bytes part come is_open held = record {
+pub ScriptHasCome-more : (manner : Manner) (first stand : ScriptState) (tally : Tally) (line longer : HeldLine) (bytes part : List ℕ)
+    → ScriptHasCome manner first stand tally line bytes → IsOpen part → ((begun : List ℕ) → Holds line begun → Holds longer (begun ++ part))
+    → ScriptHasCome manner first stand tally longer (bytes ++ part)
+ScriptHasCome-more manner first stand tally line longer bytes part come is_open held = record {
   lines = come.lines;
   begun = come.begun ++ part;
   cut = AreCutInto-more bytes part come.begun come.lines come.cut is_open;
@@ -89,10 +89,10 @@ HasCome-more manner first stand tally line longer bytes part come is_open held =
 }
 
 -- a line more was ended, and has run
-pub HasCome-line : (manner : Manner) (first old new : Stand) (before after : Tally) (line next : HeldLine) (bytes part : List ℕ)
-    → (come : HasCome manner first old before line bytes) → IsOpen part → RunsLine manner ((come.begun ++ part) ++ 10 ∷ []) old new before after
-    → after.closed ≡ false → Holds next [] → HasCome manner first new after next (bytes ++ (part ++ 10 ∷ []))
-HasCome-line manner first old new before after line next bytes part come is_open runs open_run held = record {
+pub ScriptHasCome-line : (manner : Manner) (first old new : ScriptState) (before after : Tally) (line next : HeldLine) (bytes part : List ℕ)
+    → (come : ScriptHasCome manner first old before line bytes) → IsOpen part → RunsLine manner ((come.begun ++ part) ++ 10 ∷ []) old new before after
+    → after.closed ≡ false → Holds next [] → ScriptHasCome manner first new after next (bytes ++ (part ++ 10 ∷ []))
+ScriptHasCome-line manner first old new before after line next bytes part come is_open runs open_run held = record {
   lines = come.lines ++ ((come.begun ++ part) ++ 10 ∷ []) ∷ [];
   begun = [];
   cut = AreCutInto-line bytes part come.begun come.lines come.cut is_open;
@@ -102,8 +102,8 @@ HasCome-line manner first old new before after line next bytes part come is_open
 }
 
 -- a line more was ended, and ended the run: what comes after it is silent
-pub HasClosed-line : (manner : Manner) (first old new : Stand) (before after : Tally) (line : HeldLine) (bytes part rest : List ℕ)
-    → (come : HasCome manner first old before line bytes) → IsOpen part → RunsLine manner ((come.begun ++ part) ++ 10 ∷ []) old new before after
+pub HasClosed-line : (manner : Manner) (first old new : ScriptState) (before after : Tally) (line : HeldLine) (bytes part rest : List ℕ)
+    → (come : ScriptHasCome manner first old before line bytes) → IsOpen part → RunsLine manner ((come.begun ++ part) ++ 10 ∷ []) old new before after
     → after.closed ≡ true → HasClosed manner first new after ((bytes ++ (part ++ 10 ∷ [])) ++ rest)
 HasClosed-line manner first old new before after line bytes part rest come is_open runs closed_run =
     let script = bytes ++ (part ++ 10 ∷ []) in
@@ -120,7 +120,7 @@ HasClosed-line manner first old new before after line bytes part rest come is_op
     }
 
 -- a write failed at a line
-StoppedAt-line : (manner : Manner) (first old new : Stand) (lines rest all : List (List ℕ)) (line : List ℕ) (before : Tally)
+StoppedAt-line : (manner : Manner) (first old new : ScriptState) (lines rest all : List (List ℕ)) (line : List ℕ) (before : Tally)
     → RanLines manner first old lines (progress_of before old.world) → before.closed ≡ false → StopsInLine manner line old new before
     → lines ++ line ∷ rest ≡ all → StoppedAt manner first new all
 StoppedAt-line manner first old new lines rest all line before ran open_run stops split = record {
@@ -143,8 +143,8 @@ StoppedAt-line manner first old new lines rest all line before ran open_run stop
 }
 
 -- at one that was ended
-pub StoppedAt-ended : (manner : Manner) (first old new : Stand) (before : Tally) (line : HeldLine) (bytes part rest more : List ℕ)
-    → (come : HasCome manner first old before line bytes) → IsOpen part → StopsInLine manner ((come.begun ++ part) ++ 10 ∷ []) old new before
+pub StoppedAt-ended : (manner : Manner) (first old new : ScriptState) (before : Tally) (line : HeldLine) (bytes part rest more : List ℕ)
+    → (come : ScriptHasCome manner first old before line bytes) → IsOpen part → StopsInLine manner ((come.begun ++ part) ++ 10 ∷ []) old new before
     → StoppedAt manner first new (lines_of (((bytes ++ (part ++ 10 ∷ [])) ++ rest) ++ more))
 StoppedAt-ended manner first old new before line bytes part rest more come is_open stops =
     let script = bytes ++ (part ++ 10 ∷ []) in
@@ -164,8 +164,8 @@ no_bytes [] none = refl
 no_bytes (byte ∷ rest) none = absurd (omega arith)
 
 -- nothing follows the last LF
-pub RanLines-whole : (manner : Manner) (first stand : Stand) (tally : Tally) (line : HeldLine) (bytes : List ℕ)
-    → (come : HasCome manner first stand tally line bytes) → length come.begun < 1 → RanLines manner first stand (lines_of bytes) (progress_of tally stand.world)
+pub RanLines-whole : (manner : Manner) (first stand : ScriptState) (tally : Tally) (line : HeldLine) (bytes : List ℕ)
+    → (come : ScriptHasCome manner first stand tally line bytes) → length come.begun < 1 → RanLines manner first stand (lines_of bytes) (progress_of tally stand.world)
 RanLines-whole manner first stand tally line bytes come none =
     let P : List (List ℕ) → Type 0 = λ l. RanLines manner first stand l (progress_of tally stand.world) in
     let same = lines_of-whole bytes come.begun come.lines come.cut ∙ ap (λ l. come.lines ++ lines_of l) (no_bytes come.begun none)
@@ -176,16 +176,16 @@ RanLines-whole manner first stand tally line bytes come none =
 lines_of-last : (bytes begun : List ℕ) (lines : List (List ℕ)) → AreCutInto bytes lines begun → 0 < length begun → lines_of bytes ≡ lines ++ begun ∷ []
 lines_of-last bytes begun lines cut some = lines_of-whole bytes begun lines cut ∙ ap (λ l. lines ++ l) (lines_of-begun begun cut.is_open some)
 
-pub RanLines-last : (manner : Manner) (first old new : Stand) (before after : Tally) (line : HeldLine) (bytes : List ℕ)
-    → (come : HasCome manner first old before line bytes) → 0 < length come.begun → RunsLine manner come.begun old new before after
+pub RanLines-last : (manner : Manner) (first old new : ScriptState) (before after : Tally) (line : HeldLine) (bytes : List ℕ)
+    → (come : ScriptHasCome manner first old before line bytes) → 0 < length come.begun → RunsLine manner come.begun old new before after
     → RanLines manner first new (lines_of bytes) (progress_of after new.world)
 RanLines-last manner first old new before after line bytes come some runs =
     let P : List (List ℕ) → Type 0 = λ l. RanLines manner first new l (progress_of after new.world) in
     subst P (sym (lines_of-last bytes come.begun come.lines come.cut some))
     (RanLines-line manner first old new come.lines come.begun before after come.ran come.open_run runs)
 
-pub StoppedAt-last : (manner : Manner) (first old new : Stand) (before : Tally) (line : HeldLine) (bytes : List ℕ)
-    → (come : HasCome manner first old before line bytes) → 0 < length come.begun → StopsInLine manner come.begun old new before
+pub StoppedAt-last : (manner : Manner) (first old new : ScriptState) (before : Tally) (line : HeldLine) (bytes : List ℕ)
+    → (come : ScriptHasCome manner first old before line bytes) → 0 < length come.begun → StopsInLine manner come.begun old new before
     → StoppedAt manner first new (lines_of bytes)
 StoppedAt-last manner first old new before line bytes come some stops =
     StoppedAt-line manner first old new come.lines [] (lines_of bytes) come.begun before come.ran come.open_run stops

@@ -13,9 +13,9 @@ use Rattle.script_text.specs.Output.{FailsWith}
 use Rattle.script_text.specs.Script.{script_limit}
 use Rattle.script_text.specs.declared.held_line.HeldLine.{HeldLine}
 use Rattle.script_text.proofs.LineCuts.{ended_lines-none}
-use Rattle.script_run.specs.Transcript.{Manner, Progress, Line, Transcript, IsSilent}
-use Rattle.script_run.specs.Runner.{EndsWith, Stand, first_progress, Ran, RanLines, RanRead, RanUpTo, RanWhole, StoppedAt}
-use Rattle.script_run.specs.LineByLine.{progress_of, EndsRun, HasClosed, HasCome}
+use Rattle.script_run.specs.Transcript.{Manner, RunProgress, Line, Transcript, IsSilent}
+use Rattle.script_run.specs.Runner.{EndsWith, ScriptState, first_progress, Ran, RanLines, RanRead, RanUpTo, RanWhole, StoppedAt}
+use Rattle.script_run.specs.LineByLine.{progress_of, EndsRun, HasClosed, ScriptHasCome}
 use Rattle.script_run.specs.declared.runner.Outcome.{Outcome}
 use Rattle.script_run.specs.declared.runner.ShellFault.{ShellFault}
 use Rattle.script_run.specs.declared.runner.Tally.{Tally}
@@ -23,13 +23,13 @@ use Rattle.script_run.proofs.LinesSoFar.{lines_of-whole}
 use Rattle.script_run.proofs.ScriptRuns.{StoppedAt-more}
 
 -- the stand after a flush
-abbrev pub flushed_stand : Stand → Option (List ℕ) → Stand
+abbrev pub flushed_stand : ScriptState → Option (List ℕ) → ScriptState
 flushed_stand stand flushed = record { writer = flushed; world = stand.world }
 
 -- a flush changes nothing of how far a run has come
-pub HasCome-flushed : (manner : Manner) (first stand : Stand) (tally : Tally) (line : HeldLine) (bytes : List ℕ) (flushed : Option (List ℕ))
-    → HasCome manner first stand tally line bytes → Keeps stand.writer flushed → HasCome manner first (flushed_stand stand flushed) tally line bytes
-HasCome-flushed manner first stand tally line bytes flushed come kept = record {
+pub ScriptHasCome-flushed : (manner : Manner) (first stand : ScriptState) (tally : Tally) (line : HeldLine) (bytes : List ℕ) (flushed : Option (List ℕ))
+    → ScriptHasCome manner first stand tally line bytes → Keeps stand.writer flushed → ScriptHasCome manner first (flushed_stand stand flushed) tally line bytes
+ScriptHasCome-flushed manner first stand tally line bytes flushed come kept = record {
   lines = come.lines;
   begun = come.begun;
   cut = come.cut;
@@ -44,14 +44,14 @@ HasCome-flushed manner first stand tally line bytes flushed come kept = record {
 }
 
 -- the script that the reader had, of which some bytes have come and some more were read
-pub RanUpTo-by : (manner : Manner) (reader left : Option (List ℕ)) (first stand : Stand) (bytes over : List ℕ) → Consumes reader left (bytes ++ over)
+pub RanUpTo-by : (manner : Manner) (reader left : Option (List ℕ)) (first stand : ScriptState) (bytes over : List ℕ) → Consumes reader left (bytes ++ over)
     → ((more : List ℕ) → StoppedAt manner first stand (lines_of (bytes ++ more))) → RanUpTo manner reader first stand
 RanUpTo-by manner None left first stand bytes over lost stopped = record { script = bytes ++ []; all = tt; stopped = stopped [] }
 RanUpTo-by manner (Some xs) None first stand bytes over lost stopped = absurd lost
 RanUpTo-by manner (Some xs) (Some ys) first stand bytes over lost stopped =
     record { script = bytes ++ (over ++ ys); all = sym (lost ∙ append_assoc bytes over ys); stopped = stopped (over ++ ys) }
 
-pub RanWhole-by : (manner : Manner) (reader left : Option (List ℕ)) (first stand : Stand) (tally : Tally) (bytes over : List ℕ) → Consumes reader left (bytes ++ over)
+pub RanWhole-by : (manner : Manner) (reader left : Option (List ℕ)) (first stand : ScriptState) (tally : Tally) (bytes over : List ℕ) → Consumes reader left (bytes ++ over)
     → HasClosed manner first stand tally bytes → RanWhole manner reader first stand tally.outcome
 RanWhole-by manner None left first stand tally bytes over lost closed =
     record { script = bytes ++ []; all = tt; after = progress_of tally stand.world; ran = closed.ran []; accepted = refl; refused = refl }
@@ -67,7 +67,7 @@ RanWhole-by manner (Some xs) (Some ys) first stand tally bytes over lost closed 
     }
 
 -- the run ended with its script
-pub Ran-ended : (manner : Manner) (reader left : Option (List ℕ)) (first stand : Stand) (bytes : List ℕ) (ended : Result Outcome ShellFault)
+pub Ran-ended : (manner : Manner) (reader left : Option (List ℕ)) (first stand : ScriptState) (bytes : List ℕ) (ended : Result Outcome ShellFault)
     → Consumes reader left bytes → IsAtEnd left → EndsRun manner first stand bytes ended → Ran manner reader left first stand ended
 Ran-ended manner reader left first stand bytes (Ok outcome) lost end ran =
     record {
@@ -83,15 +83,15 @@ Ran-ended manner reader left first stand bytes (Err fault) lost end stopped =
     (record { script = bytes; all = Consumes-whole reader left bytes (λ input. bytes ≡ input) lost end refl; stopped = stopped.1 })
 
 -- the ended lines of the bytes that have come
-ended_lines-come : (manner : Manner) (first stand : Stand) (tally : Tally) (line : HeldLine) (bytes : List ℕ)
-    → (come : HasCome manner first stand tally line bytes) → ended_lines bytes ≡ come.lines
+ended_lines-come : (manner : Manner) (first stand : ScriptState) (tally : Tally) (line : HeldLine) (bytes : List ℕ)
+    → (come : ScriptHasCome manner first stand tally line bytes) → ended_lines bytes ≡ come.lines
 ended_lines-come manner first stand tally line bytes come =
     ap (filter is_ended) (lines_of-whole bytes come.begun come.lines come.cut) ∙ filter-append is_ended come.lines (lines_of come.begun)
     ∙ ap (λ l. l ++ ended_lines come.begun) come.cut.ended ∙ ap (λ l. come.lines ++ l) (ended_lines-none come.begun come.cut.is_open) ∙ append-nil come.lines
 
 -- reading failed, or passed a limit after the bytes that have come
-pub RanRead-by : (manner : Manner) (reader left : Option (List ℕ)) (first stand : Stand) (tally : Tally) (line : HeldLine) (bytes consumed : List ℕ)
-    → Consumes reader left consumed → take script_limit consumed ≡ bytes → HasCome manner first stand tally line bytes → RanRead manner reader left first stand
+pub RanRead-by : (manner : Manner) (reader left : Option (List ℕ)) (first stand : ScriptState) (tally : Tally) (line : HeldLine) (bytes consumed : List ℕ)
+    → Consumes reader left consumed → take script_limit consumed ≡ bytes → ScriptHasCome manner first stand tally line bytes → RanRead manner reader left first stand
 RanRead-by manner reader left first stand tally line bytes consumed lost kept come =
     let P : List (List ℕ) → Type 0 = λ l. RanLines manner first stand l (progress_of tally stand.world) in
     record {
@@ -103,12 +103,12 @@ RanRead-by manner reader left first stand tally line bytes consumed lost kept co
     }
 
 -- a line of a closed run leaves it as it was
-silent : (closed : Bool) (start : Progress) (said : List ℕ) (after : Progress) (Q : Type 0) → closed ≡ true → MatchBool closed (IsSilent start said after) Q → after ≡ start
+silent : (closed : Bool) (start : RunProgress) (said : List ℕ) (after : RunProgress) (Q : Type 0) → closed ≡ true → MatchBool closed (IsSilent start said after) Q → after ≡ start
 silent true start said after Q ended one = one.1
 silent false start said after Q ended one = absurd (false≢true ended)
 
 -- the lines of an open run were read in an open run
-closed_stays : (manner : Manner) (lines : List (List ℕ)) (start : Progress) (out : List ℕ) (after : Progress)
+closed_stays : (manner : Manner) (lines : List (List ℕ)) (start : RunProgress) (out : List ℕ) (after : RunProgress)
     → Transcript manner lines start out after → start.closed ≡ true → after.closed ≡ true
 unfolding Transcript
 closed_stays manner [] start out after told closed = ap (λ p. p.closed) told.1 ∙ closed
@@ -122,24 +122,24 @@ opened true P Q is one = absurd (false≢true (sym is))
 opened false P Q is one = one
 
 -- the last line of an open run
-record LastLine (manner : Manner) (lines : List (List ℕ)) (start : Progress) (out : List ℕ) (after : Progress) : Type 0 where
+record LastLine (manner : Manner) (lines : List (List ℕ)) (start : RunProgress) (out : List ℕ) (after : RunProgress) : Type 0 where
   before : List (List ℕ)
   line : List ℕ
   split : before ++ line ∷ [] ≡ lines
   early : List ℕ
   said : List ℕ
   parts : early ++ said ≡ out
-  middle : Progress
+  middle : RunProgress
   told : Transcript manner before start early middle
   open_run : middle.closed ≡ false
   answered : Line manner line middle said after
 
-open_before : (manner : Manner) (lines : List (List ℕ)) (start : Progress) (out : List ℕ) (after : Progress)
+open_before : (manner : Manner) (lines : List (List ℕ)) (start : RunProgress) (out : List ℕ) (after : RunProgress)
     → Transcript manner lines start out after → after.closed ≡ false → start.closed ≡ false
 open_before manner lines start out after told is_open =
     ⊎_elim (λ closed. absurd (false≢true (sym is_open ∙ closed_stays manner lines start out after told closed))) (λ other. other) (cases_Bool start.closed)
 
-last_line : (manner : Manner) (lines : List (List ℕ)) (start : Progress) (out : List ℕ) (after : Progress)
+last_line : (manner : Manner) (lines : List (List ℕ)) (start : RunProgress) (out : List ℕ) (after : RunProgress)
     → 0 < length lines → Transcript manner lines start out after → after.closed ≡ false → LastLine manner lines start out after
 unfolding Transcript
 last_line manner [] start out after some told is_open = absurd (omega arith)
@@ -175,7 +175,7 @@ last_line manner (line ∷ second ∷ lines) start out after some told is_open =
     }
 
 -- where a line was answered, there is a line
-some_lines : (manner : Manner) (first stand : Stand) (lines : List (List ℕ)) (after : Progress)
+some_lines : (manner : Manner) (first stand : ScriptState) (lines : List (List ℕ)) (after : RunProgress)
     → RanLines manner first stand lines after → 0 < after.accepted + after.refused → 0 < length lines
 unfolding Transcript
 some_lines manner first stand [] after ran some = absurd (omega (arith, some, ap (λ p. p.accepted + p.refused) ran.told.1))
@@ -183,7 +183,7 @@ some_lines manner first stand (line ∷ lines) after ran some = omega arith
 
 -- a flush failed after a line was answered: the last line is the one at which the run stopped, its
 -- answer written whole
-StoppedAt-flush : (manner : Manner) (first stand : Stand) (lines : List (List ℕ)) (after : Progress) (flushed : Option (List ℕ))
+StoppedAt-flush : (manner : Manner) (first stand : ScriptState) (lines : List (List ℕ)) (after : RunProgress) (flushed : Option (List ℕ))
     → RanLines manner first stand lines after → after.closed ≡ false → 0 < after.accepted + after.refused → Keeps stand.writer flushed
     → StoppedAt manner first (flushed_stand stand flushed) lines
 StoppedAt-flush manner first stand lines after flushed ran is_open some kept =
@@ -208,8 +208,8 @@ StoppedAt-flush manner first stand lines after flushed ran is_open some kept =
       world = ran.world;
     }
 
-pub RanUpTo-flush : (manner : Manner) (reader left : Option (List ℕ)) (first stand : Stand) (tally : Tally) (line : HeldLine) (bytes : List ℕ) (flushed : Option (List ℕ))
-    → Consumes reader left bytes → HasCome manner first stand tally line bytes → Keeps stand.writer flushed
+pub RanUpTo-flush : (manner : Manner) (reader left : Option (List ℕ)) (first stand : ScriptState) (tally : Tally) (line : HeldLine) (bytes : List ℕ) (flushed : Option (List ℕ))
+    → Consumes reader left bytes → ScriptHasCome manner first stand tally line bytes → Keeps stand.writer flushed
     → 0 < tally.outcome.accepted + tally.outcome.refused → RanUpTo manner reader first (flushed_stand stand flushed)
 RanUpTo-flush manner reader left first stand tally line bytes flushed lost come kept some =
     let after = flushed_stand stand flushed in
@@ -256,7 +256,7 @@ length-read bytes more count least room full held fits is =
 
 -- a run that ends with its script has read it without a failure, and is a fault where a write has
 -- failed
-pub EndsWith-last : (manner : Manner) (first stand : Stand) (script : List ℕ) (ended : Result Outcome ShellFault) (input : Reading) (old new : Bool)
+pub EndsWith-last : (manner : Manner) (first stand : ScriptState) (script : List ℕ) (ended : Result Outcome ShellFault) (input : Reading) (old new : Bool)
     → EndsRun manner first stand script ended → input.has_failed ≡ false → old ≡ false → FailsWith ended old new → EndsWith ended input new
 EndsWith-last manner first stand script (Ok outcome) input old new ends read written same = (read, same ∙ written)
 EndsWith-last manner first stand script (Err fault) input old new ends read written failed =

@@ -39,7 +39,7 @@ use Rattle.script_commands.specs.FoundFile.{found_name, is_file_name}
 use Rattle.script_commands.specs.Line.{refuse_by, leave, run, commands, act_of_words, act_of_line, read_to, save_act, undo_act, redo_act}
 use Rattle.script_run.specs.ScriptLaws.{IsReachedIn, ScriptsAreRuns, IsBlockWrite, ScriptsKeepDisksSound}
 use Rattle.script_run.specs.declared.manners.Refusals.{Refusals}
-use Rattle.script_run.specs.Transcript.{Manner, Progress, Line, Transcript, IsSilent, counted_progress}
+use Rattle.script_run.specs.Transcript.{Manner, RunProgress, Line, Transcript, IsSilent, counted_progress}
 use Rattle.script_text.specs.declared.status.Status.{Status}
 use Rattle.script_text.specs.declared.status.Status.TheVariants.{LongLine, UnknownCommand}
 
@@ -294,25 +294,25 @@ done-leads IsOne history (Then call next) world answer left here leads (inl does
 done-leads IsOne history (Then call next) world answer left here leads (inr does) = inl (ap (λ (w : World). w.history) does.1 ∙ here)
 
 -- a line of an open run
-asked-leads : (refusals : Refusals) (IsOne : Asked → Type 0) (history : History) (asked : Option (Act Ending)) (progress : Progress) (out : List ℕ) (left : Progress)
+asked-leads : (refusals : Refusals) (IsOne : Asked → Type 0) (history : History) (asked : Option (Act Ending)) (progress : RunProgress) (out : List ℕ) (left : RunProgress)
     → progress.world.history ≡ history → IfSome asked (Leads IsOne history)
     → MatchOption asked
     (IsSilent progress out left)
     (λ act. (answer : LineAnswer) × (world : World)
     × Does act progress.world answer world × (out ≡ printed_bytes answer) × (left ≡ counted_progress refusals progress answer world))
     → IsStepFrom IsOne history left.world.history
-asked-leads refusals IsOne history None progress out left here leads silent = inl (ap (λ (p : Progress). p.world.history) silent.1 ∙ here)
+asked-leads refusals IsOne history None progress out left here leads silent = inl (ap (λ (p : RunProgress). p.world.history) silent.1 ∙ here)
 asked-leads refusals IsOne history (Some act) progress out left here leads done =
     let (answer, world, does, prints, counts) = done in
-    subst (IsStepFrom IsOne history) (sym (ap (λ (p : Progress). p.world.history) counts))
+    subst (IsStepFrom IsOne history) (sym (ap (λ (p : RunProgress). p.world.history) counts))
     (done-leads IsOne history act progress.world answer world here leads does)
 
 -- a line of a run
-one_line : (manner : Manner) (line : List ℕ) (closed : Bool) (progress : Progress) (out : List ℕ) (left : Progress)
+one_line : (manner : Manner) (line : List ℕ) (closed : Bool) (progress : RunProgress) (out : List ℕ) (left : RunProgress)
     → MatchBool closed (IsSilent progress out left) (Line manner line progress out left)
     → IsStepFrom (AsksIn line) progress.world.history left.world.history
 unfolding Line
-one_line manner line true progress out left silent = inl (ap (λ (p : Progress). p.world.history) silent.1)
+one_line manner line true progress out left silent = inl (ap (λ (p : RunProgress). p.world.history) silent.1)
 one_line manner line false progress out left said =
     let history = progress.world.history in
     asked-leads manner.refusals (AsksIn line) history (act_of_line manner.home history line) progress out left refl (line-leads manner history line) said
@@ -344,7 +344,7 @@ scripts-are_runs manner [] progress out left silent = record {
   requests = [];
   answers = [];
   few = omega arith;
-  run = ap (λ (p : Progress). p.world.history) silent.1;
+  run = ap (λ (p : RunProgress). p.world.history) silent.1;
 }
 scripts-are_runs manner (line ∷ lines) progress out left told =
     let (said, more, middle, split, one, others) = told in
@@ -363,7 +363,7 @@ line-sound line before after other (inr (request, answer, inr keeps, step)) hold
 pub scripts-keep_disks_sound : ScriptsKeepDisksSound
 unfolding Transcript
 scripts-keep_disks_sound manner [] progress out left silent none holds =
-    subst (λ (p : Progress). HoldsSoundDisks p.world.history) (sym silent.1) holds
+    subst (λ (p : RunProgress). HoldsSoundDisks p.world.history) (sym silent.1) holds
 scripts-keep_disks_sound manner (line ∷ lines) progress out left told none holds =
     let (said, more, middle, split, one, others) = told in
     scripts-keep_disks_sound manner lines middle more left others (All-tail (λ l. ¬ (IsBlockWrite l)) line lines none)

@@ -3,13 +3,13 @@ use Rattle.std.proofs.Common.{◌≡◌, ℕ, List, ◌∷◌, ◌++◌, true, O
 use Rattle.std.specs.Prelude.{IfSome}
 use Rattle.script_text.specs.RawLines.{lines_of, ended_lines}
 use Rattle.script_text.proofs.LineCuts.{ended_lines-first, lines_of-split, open_line}
-use Rattle.script_run.specs.Transcript.{Manner, Progress}
-use Rattle.script_run.specs.Runner.{Stand, first_progress, RanLines, StoppedAt, RanWhole, RanUpTo}
+use Rattle.script_run.specs.Transcript.{Manner, RunProgress}
+use Rattle.script_run.specs.Runner.{ScriptState, first_progress, RanLines, StoppedAt, RanWhole, RanUpTo}
 use Rattle.script_run.specs.declared.runner.Outcome.{Outcome}
 use Rattle.script_run.proofs.Transcripts.{Transcript-closed}
 
 -- the lines after the run's end change nothing
-pub RanLines-closed : (manner : Manner) (old new : Stand) (lines more : List (List ℕ)) (after : Progress)
+pub RanLines-closed : (manner : Manner) (old new : ScriptState) (lines more : List (List ℕ)) (after : RunProgress)
     → RanLines manner old new lines after → after.closed ≡ true → RanLines manner old new (lines ++ more) after
 RanLines-closed manner old new lines more after ran ended = record {
   out = ran.out;
@@ -19,7 +19,7 @@ RanLines-closed manner old new lines more after ran ended = record {
 }
 
 -- a run that stopped among lines stopped among more of them
-pub StoppedAt-more : (manner : Manner) (old new : Stand) (lines more : List (List ℕ))
+pub StoppedAt-more : (manner : Manner) (old new : ScriptState) (lines more : List (List ℕ))
     → StoppedAt manner old new lines → StoppedAt manner old new (lines ++ more)
 StoppedAt-more manner old new lines more stopped = record {
   before = stopped.before;
@@ -45,7 +45,7 @@ abbrev pub IsFirst : Option (List ℕ) → List ℕ → Type 0
 IsFirst reader bytes = IfSome reader (λ input. (more : List ℕ) × (bytes ++ more ≡ input))
 
 -- the ended lines of a first part ran up to the run's end: so did the whole script
-pub RanWhole-first : (manner : Manner) (reader : Option (List ℕ)) (old new : Stand) (outcome : Outcome) (bytes : List ℕ) (after : Progress)
+pub RanWhole-first : (manner : Manner) (reader : Option (List ℕ)) (old new : ScriptState) (outcome : Outcome) (bytes : List ℕ) (after : RunProgress)
     → IsFirst reader bytes → RanLines manner old new (ended_lines bytes) after → after.closed ≡ true
     → outcome.accepted ≡ after.accepted → outcome.refused ≡ after.refused → RanWhole manner reader old new outcome
 RanWhole-first manner None old new outcome bytes after first ran ended accepted refused =
@@ -71,7 +71,7 @@ RanWhole-first manner (Some input) old new outcome bytes after first ran ended a
     }
 
 -- a run that stopped among the ended lines of a first part stopped among those of the whole script
-pub RanUpTo-first : (manner : Manner) (reader : Option (List ℕ)) (old new : Stand) (bytes : List ℕ)
+pub RanUpTo-first : (manner : Manner) (reader : Option (List ℕ)) (old new : ScriptState) (bytes : List ℕ)
     → IsFirst reader bytes → StoppedAt manner old new (ended_lines bytes) → RanUpTo manner reader old new
 RanUpTo-first manner None old new bytes first stopped =
     let P : List (List ℕ) → Type 0 = λ lines. StoppedAt manner old new lines in

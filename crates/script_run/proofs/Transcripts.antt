@@ -4,10 +4,10 @@ use Rattle.std.specs.Prelude.{MatchBool, MatchOption}
 use Rattle.script_commands.specs.Act.{printed_bytes, Act, Ending, Does, LineAnswer, World}
 use Rattle.script_commands.specs.Line.{act_of_line, IsSkipped, IsAnswered}
 use Rattle.script_text.specs.Status.{is_accepted}
-use Rattle.script_run.specs.Transcript.{ends_script, Manner, Progress, Line, Transcript, IsSilent, counted_progress}
+use Rattle.script_run.specs.Transcript.{ends_script, Manner, RunProgress, Line, Transcript, IsSilent, counted_progress}
 
 -- a line that is answered is one of the open run
-answered_by : (manner : Manner) (asked : Option (Act Ending)) (progress : Progress) (answer : LineAnswer) (world : World)
+answered_by : (manner : Manner) (asked : Option (Act Ending)) (progress : RunProgress) (answer : LineAnswer) (world : World)
     → MatchOption asked ⊥ (λ act. Does act progress.world answer world)
     → MatchOption asked (IsSilent progress (printed_bytes answer) (counted_progress manner.refusals progress answer world))
     (λ act. (said : LineAnswer) × (left : World)
@@ -15,21 +15,21 @@ answered_by : (manner : Manner) (asked : Option (Act Ending)) (progress : Progre
 answered_by manner None progress answer world done = absurd done
 answered_by manner (Some act) progress answer world done = (answer, world, done, refl, refl)
 
-pub Line-answered : (manner : Manner) (line : List ℕ) (progress : Progress) (answer : LineAnswer) (world : World)
+pub Line-answered : (manner : Manner) (line : List ℕ) (progress : RunProgress) (answer : LineAnswer) (world : World)
     → IsAnswered manner.home progress.world.history line progress.world answer world
     → Line manner line progress (printed_bytes answer) (counted_progress manner.refusals progress answer world)
 unfolding Line
 Line-answered manner line progress answer world done = answered_by manner (act_of_line manner.home progress.world.history line) progress answer world done
 
 -- a line that is skipped is silent
-skipped_by : (manner : Manner) (asked : Option (Act Ending)) (progress : Progress) → asked ≡ None
+skipped_by : (manner : Manner) (asked : Option (Act Ending)) (progress : RunProgress) → asked ≡ None
     → MatchOption asked (IsSilent progress [] progress)
     (λ act. (said : LineAnswer) × (left : World)
     × Does act progress.world said left × ([] ≡ printed_bytes said) × (progress ≡ counted_progress manner.refusals progress said left))
 skipped_by manner None progress none = (refl, refl)
 skipped_by manner (Some act) progress none = cc
 
-pub Line-skipped : (manner : Manner) (line : List ℕ) (progress : Progress) → act_of_line manner.home progress.world.history line ≡ None
+pub Line-skipped : (manner : Manner) (line : List ℕ) (progress : RunProgress) → act_of_line manner.home progress.world.history line ≡ None
     → Line manner line progress [] progress
 unfolding Line
 Line-skipped manner line progress none = skipped_by manner (act_of_line manner.home progress.world.history line) progress none
@@ -45,12 +45,12 @@ closed_line true P Q ended p = p
 closed_line false P Q ended p = cc
 
 -- one line more
-pub Transcript-line : (manner : Manner) (lines : List (List ℕ)) (line : List ℕ) (start : Progress) (out said : List ℕ) (middle after : Progress)
+pub Transcript-line : (manner : Manner) (lines : List (List ℕ)) (line : List ℕ) (start : RunProgress) (out said : List ℕ) (middle after : RunProgress)
     → Transcript manner lines start out middle → middle.closed ≡ false → Line manner line middle said after
     → Transcript manner (lines ++ line ∷ []) start (out ++ said) after
 unfolding Transcript
 Transcript-line manner [] line start out said middle after told opened more =
-    let P : Progress → Type 0 = λ p. Line manner line p said after in
+    let P : RunProgress → Type 0 = λ p. Line manner line p said after in
     let same : middle ≡ start = told.1 in (
       said,
       [],
@@ -70,7 +70,7 @@ Transcript-line manner (first ∷ lines) line start out said middle after told o
     )
 
 -- after the run's end lines are silent
-pub Transcript-silent : (manner : Manner) (lines : List (List ℕ)) (start : Progress) → start.closed ≡ true → Transcript manner lines start [] start
+pub Transcript-silent : (manner : Manner) (lines : List (List ℕ)) (start : RunProgress) → start.closed ≡ true → Transcript manner lines start [] start
 unfolding Transcript
 Transcript-silent manner [] start ended = (refl, refl)
 Transcript-silent manner (line ∷ lines) start ended = (
@@ -83,11 +83,11 @@ Transcript-silent manner (line ∷ lines) start ended = (
 )
 
 -- the lines after the run's end change nothing
-pub Transcript-closed : (manner : Manner) (lines more : List (List ℕ)) (start : Progress) (out : List ℕ) (after : Progress)
+pub Transcript-closed : (manner : Manner) (lines more : List (List ℕ)) (start : RunProgress) (out : List ℕ) (after : RunProgress)
     → Transcript manner lines start out after → after.closed ≡ true → Transcript manner (lines ++ more) start out after
 unfolding Transcript
 Transcript-closed manner [] more start out after told ended =
-    let P : Progress → Type 0 = λ p. Transcript manner more start [] p in
+    let P : RunProgress → Type 0 = λ p. Transcript manner more start [] p in
     let Q : List ℕ → Type 0 = λ l. Transcript manner more start l after in
     subst Q (sym told.0) (subst P (sym told.1) (Transcript-silent manner more start (ap (λ p. p.closed) (sym told.1) ∙ ended)))
 Transcript-closed manner (line ∷ lines) more start out after told ended =
@@ -95,7 +95,7 @@ Transcript-closed manner (line ∷ lines) more start out after told ended =
     (said, rest, next, split, one, Transcript-closed manner lines more next rest after others ended)
 
 -- the run after a line that was answered: an answer more, counted
-pub Transcript-answered : (manner : Manner) (lines : List (List ℕ)) (line : List ℕ) (start : Progress) (out : List ℕ) (world after : World)
+pub Transcript-answered : (manner : Manner) (lines : List (List ℕ)) (line : List ℕ) (start : RunProgress) (out : List ℕ) (world after : World)
     (accepted refused accepted' refused' : ℕ) (closed' : Bool) (answer : LineAnswer)
     → Transcript manner lines start out (record { world = world; closed = false; accepted = accepted; refused = refused })
     → IsAnswered manner.home world.history line world answer after
@@ -105,17 +105,17 @@ pub Transcript-answered : (manner : Manner) (lines : List (List ℕ)) (line : Li
     → Transcript manner (lines ++ line ∷ []) start (out ++ printed_bytes answer)
     (record { world = after; closed = closed'; accepted = accepted'; refused = refused' })
 Transcript-answered manner lines line start out world after accepted refused accepted' refused' closed' answer told done closes more_accepted more_refused =
-    let middle : Progress = record { world = world; closed = false; accepted = accepted; refused = refused } in
+    let middle : RunProgress = record { world = world; closed = false; accepted = accepted; refused = refused } in
     rw (closes, more_accepted, more_refused)
     (Transcript-line manner lines line start out (printed_bytes answer) middle (counted_progress manner.refusals middle answer after) told refl (Line-answered manner line middle answer after done))
 
 -- the run after a line that was skipped: nothing is printed
-pub Transcript-skipped : (manner : Manner) (lines : List (List ℕ)) (line : List ℕ) (start : Progress) (out : List ℕ) (world after : World) (accepted refused : ℕ)
+pub Transcript-skipped : (manner : Manner) (lines : List (List ℕ)) (line : List ℕ) (start : RunProgress) (out : List ℕ) (world after : World) (accepted refused : ℕ)
     → Transcript manner lines start out (record { world = world; closed = false; accepted = accepted; refused = refused })
     → IsSkipped manner.home world.history line world after
     → Transcript manner (lines ++ line ∷ []) start out (record { world = after; closed = false; accepted = accepted; refused = refused })
 Transcript-skipped manner lines line start out world after accepted refused told skipped =
-    let at : World → Progress = λ w. record { world = w; closed = false; accepted = accepted; refused = refused } in
+    let at : World → RunProgress = λ w. record { world = w; closed = false; accepted = accepted; refused = refused } in
     let P : List ℕ → Type 0 = λ l. Transcript manner (lines ++ line ∷ []) start l (at world) in
     let Q : World → Type 0 = λ w. Transcript manner (lines ++ line ∷ []) start out (at w) in
     subst Q (sym skipped.1)

@@ -5,8 +5,8 @@ use Rattle.script_text.specs.Output.{AppendsPart}
 use Rattle.std.specs.Io.KnownBytes.{Appends}
 use Rattle.script_text.specs.RawLines.{is_ended, lines_of}
 use Rattle.script_commands.specs.Act.{World}
-use Rattle.script_run.specs.Transcript.{Manner, Progress, Line}
-use Rattle.script_run.specs.Runner.{Stand, RanLines, StoppedAt}
+use Rattle.script_run.specs.Transcript.{Manner, RunProgress, Line}
+use Rattle.script_run.specs.Runner.{ScriptState, RanLines, StoppedAt}
 use Rattle.script_text.specs.declared.held_line.HeldLine.{HeldLine}
 use Rattle.script_run.specs.declared.runner.Tally.{Tally}
 use Rattle.script_run.specs.declared.runner.Outcome.{Outcome}
@@ -14,7 +14,7 @@ use Rattle.script_run.specs.declared.runner.ShellFault.{ShellFault}
 use Rattle.script_run.specs.declared.runner.ShellFault.TheVariants.{Write}
 
 -- the progress that a tally counts, in a world
-abbrev pub progress_of : Tally → World → Progress
+abbrev pub progress_of : Tally → World → RunProgress
 progress_of tally world = record { world = world; closed = tally.closed; accepted = tally.outcome.accepted; refused = tally.outcome.refused }
 
 -- the first bytes of a script are cut: into lines that are ended, and the begin of a line that goes
@@ -26,7 +26,7 @@ pub record AreCutInto (bytes : List ℕ) (lines : List (List ℕ)) (begun : List
 
 -- an open run has come through the first bytes of a script: their ended lines have run, and what
 -- has come of the next is held
-pub record HasCome (manner : Manner) (first stand : Stand) (tally : Tally) (line : HeldLine) (bytes : List ℕ) : Type 0 where
+pub record ScriptHasCome (manner : Manner) (first stand : ScriptState) (tally : Tally) (line : HeldLine) (bytes : List ℕ) : Type 0 where
   pub lines : List (List ℕ)
   pub begun : List ℕ
   pub cut : AreCutInto bytes lines begun
@@ -35,33 +35,33 @@ pub record HasCome (manner : Manner) (first stand : Stand) (tally : Tally) (line
   pub open_run : tally.closed ≡ false
 
 -- the run has ended: whatever comes after the first bytes of the script, it has run
-pub record HasClosed (manner : Manner) (first stand : Stand) (tally : Tally) (bytes : List ℕ) : Type 0 where
+pub record HasClosed (manner : Manner) (first stand : ScriptState) (tally : Tally) (bytes : List ℕ) : Type 0 where
   pub ran : (more : List ℕ) → RanLines manner first stand (lines_of (bytes ++ more)) (progress_of tally stand.world)
   pub closed_run : tally.closed ≡ true
 
 -- a run has come through the first bytes of a script, or has ended among them
-abbrev pub ComesTo : Manner → Stand → Stand → Tally → HeldLine → List ℕ → Type 0
+abbrev pub ComesTo : Manner → ScriptState → ScriptState → Tally → HeldLine → List ℕ → Type 0
 ComesTo manner first stand tally line bytes =
-    MatchBool tally.closed (HasClosed manner first stand tally bytes) (HasCome manner first stand tally line bytes)
+    MatchBool tally.closed (HasClosed manner first stand tally bytes) (ScriptHasCome manner first stand tally line bytes)
 
 -- the run ends with its script: all lines have run, or a write failed at one of them
-abbrev pub EndsRun : Manner → Stand → Stand → List ℕ → Result Outcome ShellFault → Type 0
+abbrev pub EndsRun : Manner → ScriptState → ScriptState → List ℕ → Result Outcome ShellFault → Type 0
 EndsRun manner first stand script ended =
     MatchResult ended
-    (λ outcome. (after : Progress) × RanLines manner first stand (lines_of script) after × (outcome.accepted ≡ after.accepted) × (outcome.refused ≡ after.refused))
+    (λ outcome. (after : RunProgress) × RanLines manner first stand (lines_of script) after × (outcome.accepted ≡ after.accepted) × (outcome.refused ≡ after.refused))
     (λ fault. (fault ≡ Write) × StoppedAt manner first stand (lines_of script))
 
 -- a line of an open run has run, and what it prints was written
-pub record RunsLine (manner : Manner) (line : List ℕ) (old new : Stand) (before after : Tally) : Type 0 where
+pub record RunsLine (manner : Manner) (line : List ℕ) (old new : ScriptState) (before after : Tally) : Type 0 where
   pub said : List ℕ
   pub told : Line manner line (progress_of before old.world) said (progress_of after new.world)
   pub written : Appends old.writer new.writer said
 
 -- a write failed at a line of an open run: a part of what it prints was written, and the world is
 -- that after it
-pub record StopsInLine (manner : Manner) (line : List ℕ) (old new : Stand) (before : Tally) : Type 0 where
+pub record StopsInLine (manner : Manner) (line : List ℕ) (old new : ScriptState) (before : Tally) : Type 0 where
   pub said : List ℕ
-  pub after : Progress
+  pub after : RunProgress
   pub told : Line manner line (progress_of before old.world) said after
   pub part : AppendsPart old.writer new.writer said
   pub world : new.world ≡ after.world

@@ -4,7 +4,7 @@ use Rattle.std.specs.Io.KnownBytes.{Appends, Consumes}
 use Rattle.script_text.specs.Input.{Reading, IsUnreadable}
 use Rattle.script_text.specs.RawLines.{lines_of, ended_lines}
 use Rattle.script_commands.specs.Act.{World}
-use Rattle.script_run.specs.Transcript.{Manner, Progress, Line, Transcript}
+use Rattle.script_run.specs.Transcript.{Manner, RunProgress, Line, Transcript}
 use Rattle.script_text.specs.Script.{script_limit}
 use Rattle.script_run.specs.declared.runner.Outcome.{Outcome}
 use Rattle.script_run.specs.declared.runner.ShellFault.{ShellFault}
@@ -18,42 +18,42 @@ manner_of manner = record { home = manner.home.now; refusals = manner.refusals }
 
 -- what a run writes to, and what it works on: the writer's bytes, where they are known, and the
 -- world
-pub record Stand : Type 0 where
+pub record ScriptState : Type 0 where
   pub writer : Option (List ℕ)
   pub world : World
 
-abbrev pub stand_of : Option (List ℕ) → World → Stand
-stand_of writer world = record { writer = writer; world = world }
+abbrev pub script_state : Option (List ℕ) → World → ScriptState
+script_state writer world = record { writer = writer; world = world }
 
 -- a run that begins
-abbrev pub first_progress : World → Progress
+abbrev pub first_progress : World → RunProgress
 first_progress world = record { world = world; closed = false; accepted = 0; refused = 0 }
 
 -- lines have run: what they print was written, and the world is that after them
-pub record RanLines (manner : Manner) (old new : Stand) (lines : List (List ℕ)) (after : Progress) : Type 0 where
+pub record RanLines (manner : Manner) (old new : ScriptState) (lines : List (List ℕ)) (after : RunProgress) : Type 0 where
   pub out : List ℕ
   pub told : Transcript manner lines (first_progress old.world) out after
   pub written : Appends old.writer new.writer out
   pub world : new.world ≡ after.world
 
 -- the counts of a run, and whether it was closed
-abbrev pub Counts : Tally → Progress → Type 0
+abbrev pub Counts : Tally → RunProgress → Type 0
 Counts tally after =
     (tally.outcome.accepted ≡ after.accepted) × (tally.outcome.refused ≡ after.refused) × (tally.closed ≡ after.closed)
 
 -- a write failed at a line: what was written is what the lines before it print, and a part of its
 -- answer; the world is that after it
-pub record StoppedAt (manner : Manner) (old new : Stand) (lines : List (List ℕ)) : Type 0 where
+pub record StoppedAt (manner : Manner) (old new : ScriptState) (lines : List (List ℕ)) : Type 0 where
   pub before : List (List ℕ)
   pub line : List ℕ
   pub rest : List (List ℕ)
   pub split : before ++ line ∷ rest ≡ lines
   pub out : List ℕ
-  pub middle : Progress
+  pub middle : RunProgress
   pub told : Transcript manner before (first_progress old.world) out middle
   pub open_run : middle.closed ≡ false
   pub answer : List ℕ
-  pub after : Progress
+  pub after : RunProgress
   pub answered : Line manner line middle answer after
   pub part : List ℕ
   pub unwritten : List ℕ
@@ -62,30 +62,30 @@ pub record StoppedAt (manner : Manner) (old new : Stand) (lines : List (List ℕ
   pub world : new.world ≡ after.world
 
 -- the whole script has run, and the outcome counts its lines
-pub record RanWhole (manner : Manner) (reader : Option (List ℕ)) (old new : Stand) (outcome : Outcome) : Type 0 where
+pub record RanWhole (manner : Manner) (reader : Option (List ℕ)) (old new : ScriptState) (outcome : Outcome) : Type 0 where
   pub script : List ℕ
   pub all : IfSome reader (λ bytes. script ≡ bytes)
-  pub after : Progress
+  pub after : RunProgress
   pub ran : RanLines manner old new (lines_of script) after
   pub accepted : outcome.accepted ≡ after.accepted
   pub refused : outcome.refused ≡ after.refused
 
 -- reading failed: the lines that were ended before have run, and the run did not end among them
-pub record RanRead (manner : Manner) (reader left : Option (List ℕ)) (old new : Stand) : Type 0 where
+pub record RanRead (manner : Manner) (reader left : Option (List ℕ)) (old new : ScriptState) : Type 0 where
   pub consumed : List ℕ
   pub lost : Consumes reader left consumed
-  pub after : Progress
+  pub after : RunProgress
   pub ran : RanLines manner old new (ended_lines (take script_limit consumed)) after
   pub open_run : after.closed ≡ false
 
 -- writing failed at a line of the script
-pub record RanUpTo (manner : Manner) (reader : Option (List ℕ)) (old new : Stand) : Type 0 where
+pub record RanUpTo (manner : Manner) (reader : Option (List ℕ)) (old new : ScriptState) : Type 0 where
   pub script : List ℕ
   pub all : IfSome reader (λ bytes. script ≡ bytes)
   pub stopped : StoppedAt manner old new (lines_of script)
 
 -- what a run leaves, by how it ends; it takes no memory but in commands, so it never wants any
-abbrev pub Ran : Manner → Option (List ℕ) → Option (List ℕ) → Stand → Stand → Result Outcome ShellFault → Type 0
+abbrev pub Ran : Manner → Option (List ℕ) → Option (List ℕ) → ScriptState → ScriptState → Result Outcome ShellFault → Type 0
 Ran manner reader left old new (Ok outcome) = RanWhole manner reader old new outcome
 Ran manner reader left old new (Err Read) = RanRead manner reader left old new
 Ran manner reader left old new (Err Write) = RanUpTo manner reader old new

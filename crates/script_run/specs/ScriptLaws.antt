@@ -6,7 +6,7 @@ use Rattle.d64_undo.specs.SoundHistory.{HoldsSoundDisks}
 use Rattle.d64_undo.specs.declared.request.Answer.{Answer}
 use Rattle.script_text.specs.RawLines.{text_of}
 use Rattle.script_text.specs.Words.{words_of}
-use Rattle.script_run.specs.Transcript.{Manner, Progress, Transcript}
+use Rattle.script_run.specs.Transcript.{Manner, RunProgress, Transcript}
 
 -- a run of at most so many requests leads from one history to another
 pub record IsReachedIn (most : ℕ) (before after : History) : Type 0 where
@@ -19,7 +19,7 @@ pub record IsReachedIn (most : ℕ) (before after : History) : Type 0 where
 -- line
 abbrev pub ScriptsAreRuns : Type 0
 ScriptsAreRuns =
-    (manner : Manner) (lines : List (List ℕ)) (progress : Progress) (out : List ℕ) (after : Progress)
+    (manner : Manner) (lines : List (List ℕ)) (progress : RunProgress) (out : List ℕ) (after : RunProgress)
     → Transcript manner lines progress out after
     → IsReachedIn (length lines) progress.world.history after.world.history
 
@@ -31,6 +31,6 @@ pub record IsBlockWrite (line : List ℕ) : Type 0 where
 -- lines of which none is a block write leave sound disks, whatever the host does
 abbrev pub ScriptsKeepDisksSound : Type 0
 ScriptsKeepDisksSound =
-    (manner : Manner) (lines : List (List ℕ)) (progress : Progress) (out : List ℕ) (after : Progress)
+    (manner : Manner) (lines : List (List ℕ)) (progress : RunProgress) (out : List ℕ) (after : RunProgress)
     → Transcript manner lines progress out after → All (λ line. ¬ (IsBlockWrite line)) lines
     → HoldsSoundDisks progress.world.history → HoldsSoundDisks after.world.history

@@ -24,14 +24,14 @@ ends_script Stop status = not (is_accepted status)
 
 -- how far a run has come: the world, whether it has ended, by an accepted `quit` or a refused line,
 -- and how many lines were accepted and refused
-pub record Progress : Type 0 where
+pub record RunProgress : Type 0 where
   pub world : World
   pub closed : Bool
   pub accepted : ℕ
   pub refused : ℕ
 
 -- the run after an answer
-abbrev pub counted_progress : Refusals → Progress → LineAnswer → World → Progress
+abbrev pub counted_progress : Refusals → RunProgress → LineAnswer → World → RunProgress
 counted_progress refusals progress answer world = record {
   world = world;
   closed = answer.closes || ends_script refusals answer.status;
@@ -40,11 +40,11 @@ counted_progress refusals progress answer world = record {
 }
 
 -- nothing is printed and nothing changes
-abbrev pub IsSilent : Progress → List ℕ → Progress → Type 0
+abbrev pub IsSilent : RunProgress → List ℕ → RunProgress → Type 0
 IsSilent progress out after = (out ≡ []) × (after ≡ progress)
 
 -- a line of a run that has not ended: it is skipped, or what it asks for is done and answered
-unfoldable pub Line : Manner → List ℕ → Progress → List ℕ → Progress → Type 0
+unfoldable pub Line : Manner → List ℕ → RunProgress → List ℕ → RunProgress → Type 0
 Line manner line progress out after =
     MatchOption (act_of_line manner.home progress.world.history line)
     (IsSilent progress out after)
@@ -52,10 +52,10 @@ Line manner line progress out after =
     × Does act progress.world answer world × (out ≡ printed_bytes answer) × (after ≡ counted_progress manner.refusals progress answer world))
 
 -- lines in turn, each with what it prints; after the run's end they are silent
-unfoldable pub Transcript : Manner → List (List ℕ) → Progress → List ℕ → Progress → Type 0
+unfoldable pub Transcript : Manner → List (List ℕ) → RunProgress → List ℕ → RunProgress → Type 0
 Transcript manner [] progress out after = IsSilent progress out after
 Transcript manner (line ∷ lines) progress out after =
-    (said : List ℕ) × (more : List ℕ) × (middle : Progress)
+    (said : List ℕ) × (more : List ℕ) × (middle : RunProgress)
     × (out ≡ said ++ more)
     × MatchBool progress.closed (IsSilent progress said middle) (Line manner line progress said middle)
     × Transcript manner lines middle more after

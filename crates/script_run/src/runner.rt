@@ -10,9 +10,9 @@ ghost use Rattle.d64_undo.specs.History.{present_image};
 ghost use Rattle.script_commands.specs.Act.{world_of};
 ghost use Rattle.script_commands.specs.Line.{IsSkipped, IsAnswered};
 ghost use Rattle.script_commands.specs.Response.{shown_answer};
-ghost use Rattle.script_run.specs.Runner.{Stand, manner_of, stand_of, Ran, StoppedAt, EndsWith};
+ghost use Rattle.script_run.specs.Runner.{ScriptState, manner_of, script_state, Ran, StoppedAt, EndsWith};
 ghost use Rattle.script_run.specs.Transcript.{going_on};
-ghost use Rattle.script_run.specs.LineByLine.{HasCome, ComesTo, EndsRun, RunsLine, StopsInLine};
+ghost use Rattle.script_run.specs.LineByLine.{ScriptHasCome, ComesTo, EndsRun, RunsLine, StopsInLine};
 
 use crate::listener::{Listener, Nobody};
 use crate::manners::{Manner, Refusals};
@@ -172,8 +172,8 @@ pub fn run<R: Read, W: Write, H: Host>(
     session: &mut Session,
 ) -> Result<Outcome, ShellFault>
     ensures { Ran (going_on home.now) (R.remaining reader.old) (R.remaining reader.new)
-        (stand_of (W.contents writer.old) (world_of (H.state host.old) session.old))
-        (stand_of (W.contents writer.new) (world_of (H.state host.new) session.new))
+        (script_state (W.contents writer.old) (world_of (H.state host.old) session.old))
+        (script_state (W.contents writer.new) (world_of (H.state host.new) session.new))
         result }
 {
     let mut input = InputStream::new(reader);
@@ -201,8 +201,8 @@ pub fn run_on<R: Read, W: Write, H: Host>(
     ensures input { input.new.reader.ghost_name ≡ input.old.reader.ghost_name }
     ensures output { output.new.writer.ghost_name ≡ output.old.writer.ghost_name }
     ensures ran { Ran (going_on home.now) (R.remaining input.old.reader.now) (R.remaining input.new.reader.now)
-        (stand_of (W.contents output.old.writer.now) (world_of (H.state host.old) session.old))
-        (stand_of (W.contents output.new.writer.now) (world_of (H.state host.new) session.new))
+        (script_state (W.contents output.old.writer.now) (world_of (H.state host.old) session.old))
+        (script_state (W.contents output.new.writer.now) (world_of (H.state host.new) session.new))
         result }
     ensures streams { EndsWith result (reading_of input.new.reads input.new.came input.new.has_failed) output.new.has_failed }
 {
@@ -229,8 +229,8 @@ pub fn run_script<R: Read, W: Write, H: Host>(
     ensures input { input.new.reader.ghost_name ≡ input.old.reader.ghost_name }
     ensures output { output.new.writer.ghost_name ≡ output.old.writer.ghost_name }
     ensures ran { Ran (manner_of manner.entry) (R.remaining input.old.reader.now) (R.remaining input.new.reader.now)
-        (stand_of (W.contents output.old.writer.now) (world_of (H.state host.old) session.old))
-        (stand_of (W.contents output.new.writer.now) (world_of (H.state host.new) session.new))
+        (script_state (W.contents output.old.writer.now) (world_of (H.state host.old) session.old))
+        (script_state (W.contents output.new.writer.now) (world_of (H.state host.new) session.new))
         result }
     ensures streams { EndsWith result (reading_of input.new.reads input.new.came input.new.has_failed) output.new.has_failed }
 {
@@ -273,8 +273,8 @@ impl<'n, 'l, L: Listener> ScriptRunner<'n, 'l, L> {
         ensures input { input.new.reader.ghost_name ≡ input.old.reader.ghost_name }
         ensures output { output.new.writer.ghost_name ≡ output.old.writer.ghost_name }
         ensures ran { Ran (manner_of self.entry.manner) (R.remaining input.old.reader.now) (R.remaining input.new.reader.now)
-            (stand_of (W.contents output.old.writer.now) (world_of (H.state host.old) session.old))
-            (stand_of (W.contents output.new.writer.now) (world_of (H.state host.new) session.new))
+            (script_state (W.contents output.old.writer.now) (world_of (H.state host.old) session.old))
+            (script_state (W.contents output.new.writer.now) (world_of (H.state host.new) session.new))
             result }
         ensures streams { EndsWith result (reading_of input.new.reads input.new.came input.new.has_failed) output.new.has_failed }
     {
@@ -300,8 +300,8 @@ impl<'n, 'l, L: Listener> ScriptRunner<'n, 'l, L> {
         requires unfailed { output.old.has_failed ≡ false }
         ensures output { output.new.writer.ghost_name ≡ output.old.writer.ghost_name }
         ensures ran { Ran (manner_of self.entry.manner) (Some text.now) (Some [])
-            (stand_of (W.contents output.old.writer.now) (world_of (H.state host.old) session.old))
-            (stand_of (W.contents output.new.writer.now) (world_of (H.state host.new) session.new))
+            (script_state (W.contents output.old.writer.now) (world_of (H.state host.old) session.old))
+            (script_state (W.contents output.new.writer.now) (world_of (H.state host.new) session.new))
             result }
         ensures written { OnOk result (output.new.has_failed ≡ false) }
         ensures failed { result ≡ Err ShellFault.Write → output.new.has_failed ≡ true }
@@ -351,8 +351,8 @@ impl<'n> LineRunner<'n> {
         ensures input { input.new.reader.ghost_name ≡ input.old.reader.ghost_name }
         ensures output { output.new.writer.ghost_name ≡ output.old.writer.ghost_name }
         ensures ran { Ran (manner_of self.entry.manner) (R.remaining input.old.reader.now) (R.remaining input.new.reader.now)
-            (stand_of (W.contents output.old.writer.now) (world_of (H.state host.old) session.old))
-            (stand_of (W.contents output.new.writer.now) (world_of (H.state host.new) session.new))
+            (script_state (W.contents output.old.writer.now) (world_of (H.state host.old) session.old))
+            (script_state (W.contents output.new.writer.now) (world_of (H.state host.new) session.new))
             result }
         ensures streams { EndsWith result (reading_of input.new.reads input.new.came input.new.has_failed) output.new.has_failed }
     {
@@ -398,8 +398,8 @@ impl<'n> LineRunner<'n> {
         ensures lent { state.new.listener.ghost_name ≡ state.old.listener.ghost_name }
         ensures output { output.new.writer.ghost_name ≡ output.old.writer.ghost_name }
         ensures ran { Ran (manner_of self.entry.manner) (Some text.now) (Some [])
-            (stand_of (W.contents output.old.writer.now) (world_of (H.state host.old) session.old))
-            (stand_of (W.contents output.new.writer.now) (world_of (H.state host.new) session.new))
+            (script_state (W.contents output.old.writer.now) (world_of (H.state host.old) session.old))
+            (script_state (W.contents output.new.writer.now) (world_of (H.state host.new) session.new))
             result }
         ensures written { OnOk result (output.new.has_failed ≡ false) }
         ensures failed { result ≡ Err ShellFault.Write → output.new.has_failed ≡ true }
@@ -431,12 +431,12 @@ impl<'n> LineRunner<'n> {
         ensures lent { state.new.listener.ghost_name ≡ state.old.listener.ghost_name }
         ensures same { output.new.writer.ghost_name ≡ output.old.writer.ghost_name }
         ensures failed { FailsWith result output.old.has_failed output.new.has_failed }
-        ensures ended { (first : Stand) (script : List ℕ)
-            → HasCome (manner_of self.entry.manner) first
-            (stand_of (W.contents output.old.writer.now) (world_of (H.state host.old) session.old))
+        ensures ended { (first : ScriptState) (script : List ℕ)
+            → ScriptHasCome (manner_of self.entry.manner) first
+            (script_state (W.contents output.old.writer.now) (world_of (H.state host.old) session.old))
             state.old.tally state.old.line script
             → EndsRun (manner_of self.entry.manner) first
-            (stand_of (W.contents output.new.writer.now) (world_of (H.state host.new) session.new))
+            (script_state (W.contents output.new.writer.now) (world_of (H.state host.new) session.new))
             script result }
     {
         state.listener.reach_end();
@@ -466,19 +466,19 @@ impl<'n> LineRunner<'n> {
         ensures failed { FailsWith result output.old.has_failed output.new.has_failed }
         ensures few { state.new.tally.outcome.accepted + state.new.tally.outcome.refused ≤ state.old.tally.outcome.accepted + state.old.tally.outcome.refused + length piece.now }
         ensures heard { output.new.is_delivered ≡ false → output.old.is_delivered ≡ true → 0 < state.new.tally.outcome.accepted + state.new.tally.outcome.refused }
-        ensures came { (first : Stand) (before : List ℕ)
-            → HasCome (manner_of self.entry.manner) first
-            (stand_of (W.contents output.old.writer.now) (world_of (H.state host.old) session.old))
+        ensures came { (first : ScriptState) (before : List ℕ)
+            → ScriptHasCome (manner_of self.entry.manner) first
+            (script_state (W.contents output.old.writer.now) (world_of (H.state host.old) session.old))
             state.old.tally state.old.line before
             → OnOk result (ComesTo (manner_of self.entry.manner) first
-            (stand_of (W.contents output.new.writer.now) (world_of (H.state host.new) session.new))
+            (script_state (W.contents output.new.writer.now) (world_of (H.state host.new) session.new))
             state.new.tally state.new.line (before ++ piece.now)) }
-        ensures stopped { (first : Stand) (before : List ℕ)
-            → HasCome (manner_of self.entry.manner) first
-            (stand_of (W.contents output.old.writer.now) (world_of (H.state host.old) session.old))
+        ensures stopped { (first : ScriptState) (before : List ℕ)
+            → ScriptHasCome (manner_of self.entry.manner) first
+            (script_state (W.contents output.old.writer.now) (world_of (H.state host.old) session.old))
             state.old.tally state.old.line before
             → OnErr result ((more : List ℕ) → StoppedAt (manner_of self.entry.manner) first
-            (stand_of (W.contents output.new.writer.now) (world_of (H.state host.new) session.new))
+            (script_state (W.contents output.new.writer.now) (world_of (H.state host.new) session.new))
             (lines_of ((before ++ piece.now) ++ more))) }
     {
         for part in RawLines(piece) {
@@ -513,12 +513,12 @@ impl<'n> LineRunner<'n> {
         ensures more { state.old.tally.outcome.accepted + state.old.tally.outcome.refused ≤ state.new.tally.outcome.accepted + state.new.tally.outcome.refused }
         ensures heard { output.new.is_delivered ≡ false → output.old.is_delivered ≡ true → 0 < state.new.tally.outcome.accepted + state.new.tally.outcome.refused }
         ensures ran { (raw : List ℕ) → Says state.old.line raw → state.old.tally.closed ≡ false → OnOk result (RunsLine (manner_of self.entry.manner) raw
-            (stand_of (W.contents output.old.writer.now) (world_of (H.state host.old) session.old))
-            (stand_of (W.contents output.new.writer.now) (world_of (H.state host.new) session.new))
+            (script_state (W.contents output.old.writer.now) (world_of (H.state host.old) session.old))
+            (script_state (W.contents output.new.writer.now) (world_of (H.state host.new) session.new))
             state.old.tally state.new.tally) }
         ensures stopped { (raw : List ℕ) → Says state.old.line raw → state.old.tally.closed ≡ false → OnErr result (StopsInLine (manner_of self.entry.manner) raw
-            (stand_of (W.contents output.old.writer.now) (world_of (H.state host.old) session.old))
-            (stand_of (W.contents output.new.writer.now) (world_of (H.state host.new) session.new))
+            (script_state (W.contents output.old.writer.now) (world_of (H.state host.old) session.old))
+            (script_state (W.contents output.new.writer.now) (world_of (H.state host.new) session.new))
             state.old.tally) }
     {
         let Some(response) = answer_line(self.alloc, host, self.manner.home, session, &state.line)

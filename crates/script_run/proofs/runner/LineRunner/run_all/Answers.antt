@@ -2,8 +2,8 @@ use Rattle.std.proofs.Common.{◌+◌, ◌<◌, [], ◌++◌, take, drop, ap, �
 use Rattle.std.proofs.KnownBytes.{Consumes-kept, Consumes-nil, Consumes-trans}
 use Rattle.script_text.specs.Script.{script_limit}
 use Rattle.script_run.specs.Runner.{manner_of}
-use Rattle.script_run.proofs.LinesSoFar.{HasCome-none}
-use Rattle.script_run.proofs.RunEnds.{Consumes-fits, Consumes-none, Consumes-read, EndsWith-last, HasCome-flushed, Ran-ended, RanRead-by, RanUpTo-by, RanUpTo-flush, RanWhole-by, length-read, take_limit}
+use Rattle.script_run.proofs.LinesSoFar.{ScriptHasCome-none}
+use Rattle.script_run.proofs.RunEnds.{Consumes-fits, Consumes-none, Consumes-read, EndsWith-last, ScriptHasCome-flushed, Ran-ended, RanRead-by, RanUpTo-by, RanUpTo-flush, RanWhole-by, length-read, take_limit}
 use Rattle.script_run.proofs.PieceSteps.{has_closed, has_come}
 use Rattle.script_run.proofs.runner.LineRunner.run_all.Goals as goal
 
@@ -12,7 +12,7 @@ loop-init g c = record {
   bytes = [];
   lost = Consumes-nil (g.R.Read.remaining c.args.input.now.reader.now);
   within = omega arith;
-  came = HasCome-none (manner_of c.args.self.manner) _ c.args.state.now.tally c.args.state.now.line c.requires.tally c.requires.line;
+  came = ScriptHasCome-none (manner_of c.args.self.manner) _ c.args.state.now.tally c.args.state.now.line c.requires.tally c.requires.line;
   few = omega (arith, ap (λ t. t.outcome.accepted) c.requires.tally, ap (λ t. t.outcome.refused) c.requires.tally);
   lent = search rules;
   same_input = search rules;
@@ -34,7 +34,7 @@ returns-in_default-clause-ran g c =
 pub returns-in-Ok-eq0-clause-ran : goal.returns-in-Ok-eq0-clause-ran
 returns-in-Ok-eq0-clause-ran g c =
     let i = c.loop.invariant in
-    let come = HasCome-flushed (manner_of c.args.self.manner) _ _ c.loop.state.tally c.loop.state.line i.bytes _ i.came c.deliver.ensures.kept in
+    let come = ScriptHasCome-flushed (manner_of c.args.self.manner) _ _ c.loop.state.tally c.loop.state.line i.bytes _ i.came c.deliver.ensures.kept in
     let read = c.in-Ok-eq0.ensures.bytes in
     Ran-ended (manner_of c.args.self.manner) (g.R.Read.remaining c.args.input.now.reader.now) (g.R.Read.remaining c.read_after.new.self.reader.now) _ _ i.bytes c.run_last.result
     (Consumes-none _ _ _ i.bytes c.read_after.new.buffer c.in-Ok-eq0.field-0 i.lost read.0 c.in-Ok-eq0.field-0-test)
@@ -43,14 +43,14 @@ returns-in-Ok-eq0-clause-ran g c =
 pub returns-in-Ok-eq0-clause-streams : goal.returns-in-Ok-eq0-clause-streams
 returns-in-Ok-eq0-clause-streams g c =
     let i = c.loop.invariant in
-    let come = HasCome-flushed (manner_of c.args.self.manner) _ _ c.loop.state.tally c.loop.state.line i.bytes _ i.came c.deliver.ensures.kept in
+    let come = ScriptHasCome-flushed (manner_of c.args.self.manner) _ _ c.loop.state.tally c.loop.state.line i.bytes _ i.came c.deliver.ensures.kept in
     EndsWith-last (manner_of c.args.self.manner) _ _ i.bytes c.run_last.result _ _ _ (c.run_last.ensures.ended _ i.bytes come)
     c.in-Ok-eq0.ensures.failed (c.in-Ok.ensures.failed ∙ i.written) c.run_last.ensures.failed
 
 pub returns-in-Err-clause-ran : goal.returns-in-Err-clause-ran
 returns-in-Err-clause-ran g c =
     let i = c.loop.invariant in
-    let come = HasCome-flushed (manner_of c.args.self.manner) _ _ c.loop.state.tally c.loop.state.line i.bytes _ i.came c.deliver.ensures.kept in
+    let come = ScriptHasCome-flushed (manner_of c.args.self.manner) _ _ c.loop.state.tally c.loop.state.line i.bytes _ i.came c.deliver.ensures.kept in
     RanRead-by (manner_of c.args.self.manner) (g.R.Read.remaining c.args.input.now.reader.now) (g.R.Read.remaining c.read_after.new.self.reader.now) _ _ c.loop.state.tally c.loop.state.line i.bytes i.bytes
     (Consumes-kept _ _ _ _ i.lost c.in-Err.ensures.bytes) (take_all script_limit i.bytes (omega (arith, i.within))) come
 
@@ -66,7 +66,7 @@ returns-in_default-run_piece-clause-ran g c =
     let buffer = c.read_after.new.buffer in
     let count = c.in-Ok-read_after.count in
     let least = c.min.result in
-    let come = HasCome-flushed (manner_of c.args.self.manner) _ _ c.loop.state.tally c.loop.state.line i.bytes _ i.came c.deliver.ensures.kept in
+    let come = ScriptHasCome-flushed (manner_of c.args.self.manner) _ _ c.loop.state.tally c.loop.state.line i.bytes _ i.came c.deliver.ensures.kept in
     let lost = Consumes-read _ _ _ i.bytes buffer count least c.loop.room i.lost c.in-Ok-read_after.ensures.bytes.0 c.min.ensures in
     RanUpTo-by (manner_of c.args.self.manner) (g.R.Read.remaining c.args.input.now.reader.now) (g.R.Read.remaining c.read_after.new.self.reader.now) _ _
     (i.bytes ++ take least buffer) (drop least (take count buffer)) lost (c.in_default-run_piece.ensures.stopped _ i.bytes come)
@@ -77,7 +77,7 @@ returns-then-state-clause-ran g c =
     let buffer = c.read_after.new.buffer in
     let count = c.in-Ok-read_after.count in
     let least = c.min.result in
-    let come = HasCome-flushed (manner_of c.args.self.manner) _ _ c.loop.state.tally c.loop.state.line i.bytes _ i.came c.deliver.ensures.kept in
+    let come = ScriptHasCome-flushed (manner_of c.args.self.manner) _ _ c.loop.state.tally c.loop.state.line i.bytes _ i.came c.deliver.ensures.kept in
     let lost = Consumes-read _ _ _ i.bytes buffer count least c.loop.room i.lost c.in-Ok-read_after.ensures.bytes.0 c.min.ensures in
     let closed = has_closed (manner_of c.args.self.manner) _ _ c.run_piece.new.state.tally c.run_piece.new.state.line _ c.if-state.true (c.in-Ok-run_piece.ensures.came _ i.bytes come) in
     RanWhole-by (manner_of c.args.self.manner) (g.R.Read.remaining c.args.input.now.reader.now) (g.R.Read.remaining c.read_after.new.self.reader.now) _ _ c.run_piece.new.state.tally
@@ -89,7 +89,7 @@ returns-then-count-room-clause-ran g c =
     let buffer = c.read_after.new.buffer in
     let count = c.in-Ok-read_after.count in
     let least = c.min.result in
-    let come = HasCome-flushed (manner_of c.args.self.manner) _ _ c.loop.state.tally c.loop.state.line i.bytes _ i.came c.deliver.ensures.kept in
+    let come = ScriptHasCome-flushed (manner_of c.args.self.manner) _ _ c.loop.state.tally c.loop.state.line i.bytes _ i.came c.deliver.ensures.kept in
     let comes = has_come (manner_of c.args.self.manner) _ _ c.run_piece.new.state.tally c.run_piece.new.state.line _ c.if-state.false (c.in-Ok-run_piece.ensures.came _ i.bytes come) in
     RanRead-by (manner_of c.args.self.manner) (g.R.Read.remaining c.args.input.now.reader.now) (g.R.Read.remaining c.read_after.new.self.reader.now) _ _ c.run_piece.new.state.tally c.run_piece.new.state.line
     (i.bytes ++ take least buffer) (i.bytes ++ take count buffer) (Consumes-trans _ _ _ i.bytes (take count buffer) i.lost c.in-Ok-read_after.ensures.bytes.0)
@@ -101,7 +101,7 @@ loop-preserved g c =
     let buffer = c.read_after.new.buffer in
     let count = c.in-Ok-read_after.count in
     let least = c.min.result in
-    let come = HasCome-flushed (manner_of c.args.self.manner) _ _ c.loop.state.tally c.loop.state.line i.bytes _ i.came c.deliver.ensures.kept in
+    let come = ScriptHasCome-flushed (manner_of c.args.self.manner) _ _ c.loop.state.tally c.loop.state.line i.bytes _ i.came c.deliver.ensures.kept in
     record {
       bytes = i.bytes ++ take least buffer;
       lost = Consumes-fits _ _ _ i.bytes buffer count least c.loop.room i.lost c.in-Ok-read_after.ensures.bytes.0 c.if-count-room.false c.min.ensures;

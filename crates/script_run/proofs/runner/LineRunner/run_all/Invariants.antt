@@ -2,8 +2,8 @@ use Rattle.std.proofs.Common.{◌≡◌, ℕ, ◌+◌, ◌<◌, ◌≤◌, false
 use Rattle.std.specs.Io.KnownBytes.{Consumes}
 use Rattle.script_text.specs.Script.{script_limit}
 use Rattle.script_commands.specs.Act.{world_of}
-use Rattle.script_run.specs.LineByLine.{HasCome}
-use Rattle.script_run.specs.Runner.{manner_of, stand_of}
+use Rattle.script_run.specs.LineByLine.{ScriptHasCome}
+use Rattle.script_run.specs.Runner.{manner_of, script_state}
 use Rattle.script_run.proofs.runner.LineRunner.run_all.Given as goal
 
 -- the bytes so far are all that the reader lost, and the run has come through them
@@ -12,9 +12,9 @@ invariant-loop g l = record {
   bytes : List ℕ;
   lost : Consumes (g.R.Read.remaining l.initial.input.reader.now) (g.R.Read.remaining l.input.reader.now) bytes;
   within : length bytes + l.room ≡ script_limit;
-  came : HasCome (manner_of l.self.manner)
-      (stand_of (g.W.Write.contents l.initial.output.writer.now) (world_of (g.H.Host.state l.initial.host) l.initial.session))
-      (stand_of (g.W.Write.contents l.output.writer.now) (world_of (g.H.Host.state l.host) l.session))
+  came : ScriptHasCome (manner_of l.self.manner)
+      (script_state (g.W.Write.contents l.initial.output.writer.now) (world_of (g.H.Host.state l.initial.host) l.initial.session))
+      (script_state (g.W.Write.contents l.output.writer.now) (world_of (g.H.Host.state l.host) l.session))
       l.state.tally l.state.line bytes;
   few : l.state.tally.outcome.accepted + l.state.tally.outcome.refused ≤ length bytes;
   lent : l.state.listener.ghost_name ≡ l.initial.state.listener.ghost_name;

@@ -1,7 +1,7 @@
 use Rattle.std.proofs.Common.{◌≡◌, ℕ, ◌+◌, ◌<◌, ◌≤◌, true, false, List, ◌++◌, length}
 use Rattle.script_commands.specs.Act.{world_of}
-use Rattle.script_run.specs.LineByLine.{HasCome}
-use Rattle.script_run.specs.Runner.{manner_of, Stand, stand_of}
+use Rattle.script_run.specs.LineByLine.{ScriptHasCome}
+use Rattle.script_run.specs.Runner.{manner_of, ScriptState, script_state}
 use Rattle.script_run.proofs.runner.LineRunner.run_piece.Given as goal
 
 -- a first part of the piece has come
@@ -9,12 +9,12 @@ abbrev pub invariant-loop-part : goal.invariant-loop-part
 invariant-loop-part g l = record {
   done : List ℕ;
   split : done ++ l.part-iterator.0.now ≡ l.piece;
-  came : (first : Stand) (before : List ℕ)
-      → HasCome (manner_of l.self.manner) first
-      (stand_of (g.W.Write.contents l.initial.output.writer.now) (world_of (g.H.Host.state l.initial.host) l.initial.session))
+  came : (first : ScriptState) (before : List ℕ)
+      → ScriptHasCome (manner_of l.self.manner) first
+      (script_state (g.W.Write.contents l.initial.output.writer.now) (world_of (g.H.Host.state l.initial.host) l.initial.session))
       l.initial.state.tally l.initial.state.line before
-      → HasCome (manner_of l.self.manner) first
-      (stand_of (g.W.Write.contents l.output.writer.now) (world_of (g.H.Host.state l.host) l.session))
+      → ScriptHasCome (manner_of l.self.manner) first
+      (script_state (g.W.Write.contents l.output.writer.now) (world_of (g.H.Host.state l.host) l.session))
       l.state.tally l.state.line (before ++ done);
   few : l.state.tally.outcome.accepted + l.state.tally.outcome.refused ≤ l.initial.state.tally.outcome.accepted + l.initial.state.tally.outcome.refused + length done;
   lent : l.state.listener.ghost_name ≡ l.initial.state.listener.ghost_name;

@@ -1,5 +1,5 @@
 use Rattle.std.proofs.Common.{refl}
-use Rattle.cmd_shell.proofs.shell_job.Script.run.Goals as goal
+use Rattle.cmd_shell.proofs.shell_job.GivenScript.run.Goals as goal
 
 -- the text was run, and nothing of the input was read
 pub returns-clause-ran : goal.returns-clause-ran
