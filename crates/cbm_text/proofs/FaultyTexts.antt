@@ -9,7 +9,7 @@ use Rattle.cbm_text.specs.declared.fault.BasicFault.{BasicFault}
 use Rattle.cbm_text.specs.declared.fault.BasicFault.TheVariants.{NoNumber, NumberTooLarge, Text, TokenByte, ZeroByte, TooLong, Memory}
 use Rattle.cbm_text.specs.declared.cause.Cause.{Cause}
 use Rattle.cbm_text.specs.declared.faulty_text.FaultyLine.{FaultyLine}
-use Rattle.cbm_text.specs.Program.{Line, address_behind}
+use Rattle.cbm_text.specs.Program.{ProgramLine, address_behind}
 use Rattle.cbm_text.specs.BasicText.{IsLine, HasFault, IsOfMemory, TellsLine}
 use Rattle.cbm_text.specs.Causes.{IsCause}
 use Rattle.cbm_text.specs.FaultyLines.{AreFaulty, AreFaultyIn, IsFaulty, IsNoted}
@@ -30,7 +30,7 @@ skipped_gives : (at number : ℕ) (raw : List ℕ) (raws : List (List ℕ)) (mor
 unfolding AreFaulty
 skipped_gives at number raw raws more skipped given = inl (skipped, given)
 
-line_gives : (at number : ℕ) (raw : List ℕ) (raws : List (List ℕ)) (line : Line) (more : List FaultyLine) → is_skipped (text_of raw) ≡ false → IsLine at (text_of raw) line
+line_gives : (at number : ℕ) (raw : List ℕ) (raws : List (List ℕ)) (line : ProgramLine) (more : List FaultyLine) → is_skipped (text_of raw) ≡ false → IsLine at (text_of raw) line
     → AreFaulty (address_behind at line.bytes) (number + 1) raws more → AreFaulty at number (raw ∷ raws) more
 unfolding AreFaulty
 line_gives at number raw raws line more kept is_line given = inr (kept, inl (line, is_line, given))
@@ -78,7 +78,7 @@ so_far_skipped start at place most count text raw kept old raws so_far cut skipp
 }
 
 -- a line of the program
-pub so_far_line : (start at next place most count : ℕ) (text raw : List ℕ) (kept : List FaultyLine) (old raws : List (List ℕ)) (line : Line) → FaultySoFar start at place most count text kept old → old ≡ raw ∷ raws
+pub so_far_line : (start at next place most count : ℕ) (text raw : List ℕ) (kept : List FaultyLine) (old raws : List (List ℕ)) (line : ProgramLine) → FaultySoFar start at place most count text kept old → old ≡ raw ∷ raws
     → is_skipped (text_of raw) ≡ false → IsLine at (text_of raw) line → next ≡ address_behind at line.bytes → FaultySoFar start next (place + 1) most count text kept raws
 so_far_line start at next place most count text raw kept old raws line so_far cut unskipped is_line behind = record {
   found = so_far.found;
@@ -146,7 +146,7 @@ short_kept start at place most count text kept old so_far = omega (arith, ap len
 
 -- a line, by what was made of it
 pub so_far_noted : (start at next place most count more : ℕ) (text raw : List ℕ) (kept new : List FaultyLine) (old raws : List (List ℕ)) (outcome : Result ℕ BasicFault) → FaultySoFar start at place most count text kept old → old ≡ raw ∷ raws
-    → is_skipped (text_of raw) ≡ false → IfOk outcome (λ behind. (line : Line) × IsLine at (text_of raw) line × (behind ≡ address_behind at line.bytes))
+    → is_skipped (text_of raw) ≡ false → IfOk outcome (λ behind. (line : ProgramLine) × IsLine at (text_of raw) line × (behind ≡ address_behind at line.bytes))
     → IfErr outcome (λ fault. IsOfMemory fault ⊎ HasFault at (place + 1) (text_of raw) fault) → IsNoted at (text_of raw) most outcome kept next new
     → more ≡ count + from_bool (is_err outcome) → FaultySoFar start next (place + 1) most more text new raws
 so_far_noted start at next place most count more text raw kept new old raws (Ok behind) so_far cut unskipped made failed noted added =

@@ -6,10 +6,10 @@ use Rattle.std.specs.List.{flat_map}
 use Rattle.std.proofs.lemmas.List.Elements.{All-nil, All-cons, All-head, All-tail, All-append}
 use Rattle.script_text.specs.RawLines.{lines_of, text_of}
 use Rattle.cbm_text.specs.Kept.{Opener, QuoteMark, RemWord, DataWord, opening, code_of}
-use Rattle.cbm_text.specs.Pieces.{Piece, Kept, Token, Question, Single, print_token, crunched_piece, AreCut}
+use Rattle.cbm_text.specs.Pieces.{LinePiece, Kept, Token, Question, Single, print_token, crunched_piece, AreCut}
 use Rattle.cbm_text.specs.Keywords.{keywords, token_from}
 use Rattle.cbm_text.specs.Crunching.{question, AreTextPieces, Crunched}
-use Rattle.cbm_text.specs.Program.{Line, Program, word, address_behind, line_layout, lines_layout}
+use Rattle.cbm_text.specs.Program.{ProgramLine, Program, word, address_behind, line_layout, lines_layout}
 use Rattle.cbm_text.specs.BasicText.{IsLine, AreLines, IsFileOf}
 use Rattle.cbm_text.proofs.Keywords.{keyword_past, token_shown}
 use Rattle.cbm_text.proofs.NormalLines.{small_bytes}
@@ -50,7 +50,7 @@ code_small RemWord = omega arith
 code_small DataWord = omega arith
 
 -- bytes crunch to bytes
-pieces_small : (pieces : List Piece) (text : List ℕ) → AreTextPieces text pieces → AreBytes text → AreBytes (flat_map crunched_piece pieces)
+pieces_small : (pieces : List LinePiece) (text : List ℕ) → AreTextPieces text pieces → AreBytes text → AreBytes (flat_map crunched_piece pieces)
 unfolding AreCut
 pieces_small [] text cut small = All-nil (λ b. b < 256)
 pieces_small (Kept opener run ∷ pieces) text (rest, (text_is, kept), others) small =
@@ -78,7 +78,7 @@ crunched_small text codes (pieces, cut, is) small = subst AreBytes (sym is) (pie
 word_small : (n : ℕ) → n < 2 ^ 16 → AreBytes (word n)
 word_small n fits = All-cons (λ b. b < 256) (n % 256) (n / 256 ∷ []) (omega arith) (one (n / 256) (omega arith))
 
-line_small : (at : ℕ) (text : List ℕ) (line : Line) → IsLine at text line → AreBytes (line_layout at line)
+line_small : (at : ℕ) (text : List ℕ) (line : ProgramLine) → IsLine at text line → AreBytes (line_layout at line)
 line_small at text line is_line =
     let codes = crunched_small is_line.bytes line.bytes is_line.crunched.crunched (small_bytes is_line.bytes _ is_line.crunched.read.read) in
     let linked = is_line.linked in

@@ -10,7 +10,7 @@ use Rattle.cbm_text.specs.declared.mode.Mode.{Mode}
 use Rattle.cbm_text.specs.declared.mode.Mode.TheVariants.{Free, Quoted, Remark, Data}
 use Rattle.cbm_text.specs.Keywords.{keywords, keyword, token_from}
 use Rattle.cbm_text.specs.Kept.{quote, rem_token, data_token, Opener, QuoteMark, RemWord, DataWord, opening, code_of, IsKept}
-use Rattle.cbm_text.specs.Pieces.{Piece, Kept, Token, Question, Single, print_token, written_piece, crunched_piece, AreCut}
+use Rattle.cbm_text.specs.Pieces.{LinePiece, Kept, Token, Question, Single, print_token, written_piece, crunched_piece, AreCut}
 use Rattle.cbm_text.specs.Crunching.{question, pi, HasNoOpener, TextBegins, AreTextPieces, Crunched}
 use Rattle.cbm_text.specs.Listing.{IsNoOpener, CodesBegin, AreCodePieces, Listed}
 use Rattle.cbm_text.specs.Modes.{next_mode, single_code, free_code, first_code, CrunchedFrom, text_of_code, expanded_from, expanded_bytes}
@@ -123,7 +123,7 @@ print_no_opener DataWord opens = absurd (omega arith)
 
 -- a piece of one crunched byte that opens nothing
 record FirstOther (text : List ℕ) (code : ℕ) (rest : List ℕ) : Type 0 where
-  pub piece : Piece
+  pub piece : LinePiece
   pub begins : TextBegins text piece rest
   pub is : crunched_piece piece ≡ code ∷ []
   pub opens : IsNoOpener code
@@ -188,8 +188,8 @@ first_piece (byte ∷ others) code rest is = of_opener (begins_with_opener (byte
 
 -- ---- a text, by pieces and byte after byte
 
-text_by_opener : (opener : Opener) (text run rest codes others : List ℕ) (pieces : List Piece) → text ≡ opening opener ++ (run ++ rest) → IsKept opener run rest → AreTextPieces rest pieces
-    → others ≡ flat_map crunched_piece pieces → codes ≡ code_of opener ∷ (run ++ others) → (pieces : List Piece) × AreTextPieces text pieces × (codes ≡ flat_map crunched_piece pieces)
+text_by_opener : (opener : Opener) (text run rest codes others : List ℕ) (pieces : List LinePiece) → text ≡ opening opener ++ (run ++ rest) → IsKept opener run rest → AreTextPieces rest pieces
+    → others ≡ flat_map crunched_piece pieces → codes ≡ code_of opener ∷ (run ++ others) → (pieces : List LinePiece) × AreTextPieces text pieces × (codes ≡ flat_map crunched_piece pieces)
 unfolding AreCut
 text_by_opener opener text run rest codes others pieces text_is kept cut is codes_is = (
   Kept opener run ∷ pieces,
@@ -197,7 +197,7 @@ text_by_opener opener text run rest codes others pieces text_is kept cut is code
   codes_is ∙ ap (λ (w : List ℕ). code_of opener ∷ (run ++ w)) is,
 )
 
-pieces_by_modes : (n : ℕ) (text codes : List ℕ) → length codes ≤ n → CrunchedFrom Free text codes → (pieces : List Piece) × AreTextPieces text pieces × (codes ≡ flat_map crunched_piece pieces)
+pieces_by_modes : (n : ℕ) (text codes : List ℕ) → length codes ≤ n → CrunchedFrom Free text codes → (pieces : List LinePiece) × AreTextPieces text pieces × (codes ≡ flat_map crunched_piece pieces)
 unfolding CrunchedFrom AreCut
 pieces_by_modes zero text [] short none = ([], none, refl)
 pieces_by_modes zero text (code ∷ codes) short more = absurd (omega arith)
@@ -205,8 +205,8 @@ pieces_by_modes (suc n) text [] short none = ([], none, refl)
 pieces_by_modes (suc n) text (code ∷ codes) short (rest, first, others) = of_first (first_piece text code rest first) (λ next left small more. pieces_by_modes n next left small more)
   where
     of_first : ((opener : Opener) × (code ≡ code_of opener) × (text ≡ opening opener ++ rest)) ⊎ FirstOther text code rest
-        → ((next left : List ℕ) → length left ≤ n → CrunchedFrom Free next left → (pieces : List Piece) × AreTextPieces next pieces × (left ≡ flat_map crunched_piece pieces))
-        → (pieces : List Piece) × AreTextPieces text pieces × (code ∷ codes ≡ flat_map crunched_piece pieces)
+        → ((next left : List ℕ) → length left ≤ n → CrunchedFrom Free next left → (pieces : List LinePiece) × AreTextPieces next pieces × (left ≡ flat_map crunched_piece pieces))
+        → (pieces : List LinePiece) × AreTextPieces text pieces × (code ∷ codes ≡ flat_map crunched_piece pieces)
     of_first (inl (opener, code_is, text_is)) later =
         let behind : CrunchedFrom (mode_in opener []) rest codes = subst (λ (m : Mode). CrunchedFrom m rest codes) (ap (λ (k : ℕ). next_mode Free k) code_is ∙ mode_behind opener) others in
         let cut = cut_text (mode_in opener []) rest codes behind in
@@ -263,7 +263,7 @@ opener_more opener text run rest others text_is kept crunched =
       subst (λ (m : Mode). CrunchedFrom m (run ++ rest) (run ++ others)) (sym (mode_behind opener)) (crunched_along (mode_in opener []) run rest others runs crunched),
     )
 
-modes_of_pieces : (pieces : List Piece) (text : List ℕ) → AreTextPieces text pieces → CrunchedFrom Free text (flat_map crunched_piece pieces)
+modes_of_pieces : (pieces : List LinePiece) (text : List ℕ) → AreTextPieces text pieces → CrunchedFrom Free text (flat_map crunched_piece pieces)
 unfolding AreCut CrunchedFrom
 modes_of_pieces [] text none = none
 modes_of_pieces (Kept opener run ∷ pieces) text (rest, (text_is, kept), others) = opener_more opener text run rest (flat_map crunched_piece pieces) text_is kept (modes_of_pieces pieces rest others)
@@ -284,10 +284,10 @@ modes_of_crunched text codes (pieces, cut, is) = subst (λ (w : List ℕ). Crunc
 -- ---- crunched bytes, by pieces and byte after byte
 
 -- what a crunched byte that opens nothing stands for
-plain_piece : (code : ℕ) (rest : List ℕ) → IsNoOpener code → (piece : Piece) × CodesBegin (code ∷ rest) piece rest × (written_piece piece ≡ text_of_code Free code)
+plain_piece : (code : ℕ) (rest : List ℕ) → IsNoOpener code → (piece : LinePiece) × CodesBegin (code ∷ rest) piece rest × (written_piece piece ≡ text_of_code Free code)
 plain_piece code rest opens = of_word (keyword code) refl
   where
-    of_word : (word : Option (List ℕ)) → keyword code ≡ word → (piece : Piece) × CodesBegin (code ∷ rest) piece rest × (written_piece piece ≡ text_of_code Free code)
+    of_word : (word : Option (List ℕ)) → keyword code ≡ word → (piece : LinePiece) × CodesBegin (code ∷ rest) piece rest × (written_piece piece ≡ text_of_code Free code)
     of_word None at = (Single code, (opens, at, refl), sym (ap (λ (o : Option (List ℕ)). option_map_or (λ w. w) o (code ∷ [])) at))
     of_word (Some word) at = (
       Token code,
@@ -311,8 +311,8 @@ opener_expanded opener run rest runs =
     ∙ ap (λ (w : List ℕ). text_of_code Free (code_of opener) ++ w) (expanded_along (mode_in opener []) run rest runs)
     ∙ ap (λ (w : List ℕ). w ++ (run ++ expanded_bytes rest)) (opener_shown opener) ∙ sym (append_assoc (opening opener) run (expanded_bytes rest))
 
-codes_by_opener : (opener : Opener) (codes run rest : List ℕ) (pieces : List Piece) → codes ≡ code_of opener ∷ (run ++ rest) → IsKept opener run rest → RunsOn (mode_in opener []) run rest → AreCodePieces rest pieces
-    → expanded_bytes rest ≡ flat_map written_piece pieces → (pieces : List Piece) × AreCodePieces codes pieces × (expanded_bytes codes ≡ flat_map written_piece pieces)
+codes_by_opener : (opener : Opener) (codes run rest : List ℕ) (pieces : List LinePiece) → codes ≡ code_of opener ∷ (run ++ rest) → IsKept opener run rest → RunsOn (mode_in opener []) run rest → AreCodePieces rest pieces
+    → expanded_bytes rest ≡ flat_map written_piece pieces → (pieces : List LinePiece) × AreCodePieces codes pieces × (expanded_bytes codes ≡ flat_map written_piece pieces)
 unfolding AreCut
 codes_by_opener opener codes run rest pieces codes_is kept runs cut is = (
   Kept opener run ∷ pieces,
@@ -320,7 +320,7 @@ codes_by_opener opener codes run rest pieces codes_is kept runs cut is = (
   ap (λ (w : List ℕ). expanded_bytes w) codes_is ∙ opener_expanded opener run rest runs ∙ ap (λ (w : List ℕ). opening opener ++ run ++ w) is,
 )
 
-pieces_of_codes : (n : ℕ) (codes : List ℕ) → length codes ≤ n → (pieces : List Piece) × AreCodePieces codes pieces × (expanded_bytes codes ≡ flat_map written_piece pieces)
+pieces_of_codes : (n : ℕ) (codes : List ℕ) → length codes ≤ n → (pieces : List LinePiece) × AreCodePieces codes pieces × (expanded_bytes codes ≡ flat_map written_piece pieces)
 unfolding AreCut expanded_from
 pieces_of_codes zero [] short = ([], refl, refl)
 pieces_of_codes zero (code ∷ codes) short = absurd (omega arith)
@@ -328,8 +328,8 @@ pieces_of_codes (suc n) [] short = ([], refl, refl)
 pieces_of_codes (suc n) (code ∷ codes) short = of_opener (opens_or_not code) (λ left small. pieces_of_codes n left small)
   where
     of_opener : ((opener : Opener) × (code ≡ code_of opener)) ⊎ IsNoOpener code
-        → ((left : List ℕ) → length left ≤ n → (pieces : List Piece) × AreCodePieces left pieces × (expanded_bytes left ≡ flat_map written_piece pieces))
-        → (pieces : List Piece) × AreCodePieces (code ∷ codes) pieces × (expanded_bytes (code ∷ codes) ≡ flat_map written_piece pieces)
+        → ((left : List ℕ) → length left ≤ n → (pieces : List LinePiece) × AreCodePieces left pieces × (expanded_bytes left ≡ flat_map written_piece pieces))
+        → (pieces : List LinePiece) × AreCodePieces (code ∷ codes) pieces × (expanded_bytes (code ∷ codes) ≡ flat_map written_piece pieces)
     of_opener (inl (opener, code_is)) later =
         let cut = cut_bytes (mode_in opener []) codes in
         let kept : IsKept opener cut.run cut.rest = kept_by_modes opener [] cut.run cut.rest (no_end_nothing opener) cut.runs in
@@ -345,7 +345,7 @@ pub listed_by_modes : (codes : List ℕ) → Listed codes (expanded_bytes codes)
 unfolding Listed
 listed_by_modes codes = pieces_of_codes (length codes) codes (omega arith)
 
-modes_of_listed_pieces : (pieces : List Piece) (codes : List ℕ) → AreCodePieces codes pieces → flat_map written_piece pieces ≡ expanded_bytes codes
+modes_of_listed_pieces : (pieces : List LinePiece) (codes : List ℕ) → AreCodePieces codes pieces → flat_map written_piece pieces ≡ expanded_bytes codes
 unfolding AreCut expanded_from
 modes_of_listed_pieces [] codes none = sym (ap (λ (w : List ℕ). expanded_bytes w) none)
 modes_of_listed_pieces (Kept opener run ∷ pieces) codes (rest, (codes_is, kept), others) =

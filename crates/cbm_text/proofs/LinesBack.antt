@@ -5,7 +5,7 @@ use Rattle.std.specs.List.{flat_map}
 use Rattle.cbm_text.specs.declared.mode.Mode.TheVariants.{Free}
 use Rattle.cbm_text.specs.Keywords.{keywords, keyword}
 use Rattle.cbm_text.specs.Kept.{Opener, QuoteMark, RemWord, DataWord, opening, IsKept}
-use Rattle.cbm_text.specs.Pieces.{Piece, Kept, Token, Question, Single, written_piece, crunched_piece, AreCut}
+use Rattle.cbm_text.specs.Pieces.{LinePiece, Kept, Token, Question, Single, written_piece, crunched_piece, AreCut}
 use Rattle.cbm_text.specs.Crunching.{pi, HasNoOpener, TextBegins, AreTextPieces, Crunched}
 use Rattle.cbm_text.specs.Listing.{AreCodePieces, Listed}
 use Rattle.cbm_text.specs.Laws.{HasNoFreeQuestion, CrunchesOnce, ListsOnce}
@@ -15,7 +15,7 @@ use Rattle.cbm_text.proofs.CodesSoFar.{crunched_once}
 use Rattle.cbm_text.proofs.LinePieces.{token_no_opener, single_no_opener, modes_of_crunched, listed_by_modes, modes_of_listed}
 
 -- no piece begins a text of no bytes
-nothing_begins : (piece : Piece) (rest : List ℕ) → ¬ (TextBegins [] piece rest)
+nothing_begins : (piece : LinePiece) (rest : List ℕ) → ¬ (TextBegins [] piece rest)
 unfolding keywords
 nothing_begins (Kept QuoteMark run) rest (is, kept) = absurd cc
 nothing_begins (Kept RemWord run) rest (is, kept) = absurd cc
@@ -24,15 +24,15 @@ nothing_begins (Token token) rest (none, is) = absurd cc
 nothing_begins Question rest is = absurd cc
 nothing_begins (Single byte) rest (none, no_token, is, plain, kept) = absurd cc
 
-nothing_cut : (pieces : List Piece) (text : List ℕ) → text ≡ [] → AreTextPieces text pieces → pieces ≡ []
+nothing_cut : (pieces : List LinePiece) (text : List ℕ) → text ≡ [] → AreTextPieces text pieces → pieces ≡ []
 unfolding AreCut
 nothing_cut [] text none cut = refl
 nothing_cut (piece ∷ pieces) text none (rest, begins, others) = absurd (nothing_begins piece rest (subst (λ (w : List ℕ). TextBegins w piece rest) none begins))
 
 -- what is kept in a text is kept in its crunched bytes
-still_kept : (opener : Opener) (run rest : List ℕ) (pieces : List Piece) → AreTextPieces rest pieces → IsKept opener run rest → IsKept opener run (flat_map crunched_piece pieces)
+still_kept : (opener : Opener) (run rest : List ℕ) (pieces : List LinePiece) → AreTextPieces rest pieces → IsKept opener run rest → IsKept opener run (flat_map crunched_piece pieces)
 still_kept opener run rest pieces cut (inl ends) = inl ends
-still_kept opener run rest pieces cut (inr (none, empty)) = inr (none, ap (λ (ps : List Piece). flat_map crunched_piece ps) (nothing_cut pieces rest empty cut))
+still_kept opener run rest pieces cut (inr (none, empty)) = inr (none, ap (λ (ps : List LinePiece). flat_map crunched_piece ps) (nothing_cut pieces rest empty cut))
 
 -- a byte that crunches to itself is no token
 no_keyword : (byte : ℕ) → (byte ≡ pi) ⊎ (byte < 128) → keyword byte ≡ None
@@ -40,14 +40,14 @@ no_keyword byte (inl is) = keyword_past byte (omega arith)
 no_keyword byte (inr low) = keyword_below byte low
 
 -- a list has its first element, and what its rest has
-first_in : (piece : Piece) (pieces : List Piece) → Contains (piece ∷ pieces) piece
+first_in : (piece : LinePiece) (pieces : List LinePiece) → Contains (piece ∷ pieces) piece
 first_in piece pieces = (0, omega arith, refl)
 
-later_in : (piece other : Piece) (pieces : List Piece) → Contains pieces other → Contains (piece ∷ pieces) other
+later_in : (piece other : LinePiece) (pieces : List LinePiece) → Contains pieces other → Contains (piece ∷ pieces) other
 later_in piece other pieces (k, within, is) = (suc k, omega arith, is)
 
 -- the pieces of a text without a free `?` are those of its crunched bytes
-same_pieces : (pieces : List Piece) (text : List ℕ) → AreTextPieces text pieces → ¬ (Contains pieces Question) → AreCodePieces (flat_map crunched_piece pieces) pieces × (text ≡ flat_map written_piece pieces)
+same_pieces : (pieces : List LinePiece) (text : List ℕ) → AreTextPieces text pieces → ¬ (Contains pieces Question) → AreCodePieces (flat_map crunched_piece pieces) pieces × (text ≡ flat_map written_piece pieces)
 unfolding AreCut
 same_pieces [] text none plain = (refl, none)
 same_pieces (Kept opener run ∷ pieces) text (rest, (text_is, kept), others) plain =

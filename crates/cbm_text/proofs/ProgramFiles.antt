@@ -6,7 +6,7 @@ use Rattle.std.proofs.lemmas.List.Quantifiers.{position-Some}
 use Rattle.std.proofs.lemmas.Bool.{eqb-true, eqb-false, ltb-false}
 use Rattle.std.proofs.lemmas.List.Sums.{fails_before_first}
 use Rattle.std.specs.List.{position_or_len}
-use Rattle.cbm_text.specs.Program.{Line, Program, BeginsLine, LinesRead, Reads, word}
+use Rattle.cbm_text.specs.Program.{ProgramLine, Program, BeginsLine, LinesRead, Reads, word}
 use Rattle.cbm_text.specs.Listing.{IsListing, Lists}
 use Rattle.cbm_text.specs.Modes.{expanded_bytes, listing, line_listing}
 use Rattle.cbm_text.proofs.LinePieces.{listed_by_modes}
@@ -101,13 +101,13 @@ line_begins bytes rest line behind low high a b small_low small_high is link end
 }
 
 -- what is left behind a line is one thing
-pub rest_once : (bytes : List ℕ) (x y : Line) (rest other : List ℕ) → BeginsLine bytes x rest → BeginsLine bytes y other → rest ≡ other
+pub rest_once : (bytes : List ℕ) (x y : ProgramLine) (rest other : List ℕ) → BeginsLine bytes x rest → BeginsLine bytes y other → rest ≡ other
 rest_once bytes x y rest other begins begins_y =
     let same : begins.low ∷ begins.high ∷ (x.number % 256) ∷ (x.number / 256) ∷ (x.bytes ++ 0 ∷ rest) ≡ begins_y.low ∷ begins_y.high ∷ (y.number % 256) ∷ (y.number / 256) ∷ (y.bytes ++ 0 ∷ other) = sym begins.joined ∙ begins_y.joined in
     zero_once x.bytes y.bytes rest other begins.no_zero begins_y.no_zero (ap (λ (w : List ℕ). drop 4 w) same)
 
 -- no line begins at the end mark
-pub no_line : (bytes : List ℕ) (line : Line) (rest behind : List ℕ) → BeginsLine bytes line rest → bytes ≢ 0 ∷ 0 ∷ behind
+pub no_line : (bytes : List ℕ) (line : ProgramLine) (rest behind : List ℕ) → BeginsLine bytes line rest → bytes ≢ 0 ∷ 0 ∷ behind
 no_line bytes line rest behind begins is =
     let same : begins.low ∷ begins.high ∷ (word line.number ++ line.bytes ++ 0 ∷ rest) ≡ 0 ∷ 0 ∷ behind = sym begins.joined ∙ is in
     begins.link (ap (λ (w : List ℕ). get_or w 0 0) same, ap (λ (w : List ℕ). get_or w 1 0) same)
@@ -115,7 +115,7 @@ no_line bytes line rest behind begins is =
 -- ---- bytes that are cut short
 
 -- a line has five bytes or more
-line_long : (bytes : List ℕ) (line : Line) (rest : List ℕ) → BeginsLine bytes line rest → 5 ≤ length bytes
+line_long : (bytes : List ℕ) (line : ProgramLine) (rest : List ℕ) → BeginsLine bytes line rest → 5 ≤ length bytes
 line_long bytes line rest begins = subst (λ (w : List ℕ). 5 ≤ length w) (sym begins.joined) (omega (arith, some_left line.bytes rest))
   where
     some_left : (xs rest : List ℕ) → 1 ≤ length (xs ++ 0 ∷ rest)
@@ -168,22 +168,22 @@ unfolding listing
 listed_nothing lines = record { before = []; listed = refl; completes = λ more read. read; only = λ all read. (all, read) }
 
 -- the listing of one line more
-listing_more : (before : Program) (line : Line) → listing (before ++ line ∷ []) ≡ listing before ++ line_listing line
+listing_more : (before : Program) (line : ProgramLine) → listing (before ++ line ∷ []) ≡ listing before ++ line_listing line
 unfolding listing
 listing_more [] line = append-nil (line_listing line)
 listing_more (first ∷ before) line = ap (λ (w : List ℕ). line_listing first ++ w) (listing_more before line) ∙ sym (append_assoc (line_listing first) (listing before) (line_listing line))
 
 -- what follows a line, where the lines read
-behind_line : (left : List ℕ) (line : Line) (rest : List ℕ) (all : Program) → BeginsLine left line rest → LinesRead left all → (more : Program) × LinesRead rest more
+behind_line : (left : List ℕ) (line : ProgramLine) (rest : List ℕ) (all : Program) → BeginsLine left line rest → LinesRead left all → (more : Program) × LinesRead rest more
 unfolding LinesRead
 behind_line left line rest [] begins (behind, is) = absurd (no_line left line rest behind begins is)
 behind_line left line rest (other ∷ more) begins (rest', begins', read) = (more, subst (λ (w : List ℕ). LinesRead w more) (sym (rest_once left line other rest rest' begins begins')) read)
 
-one_line : (left : List ℕ) (line : Line) (rest : List ℕ) (more : Program) → BeginsLine left line rest → LinesRead rest more → LinesRead left (line ∷ more)
+one_line : (left : List ℕ) (line : ProgramLine) (rest : List ℕ) (more : Program) → BeginsLine left line rest → LinesRead rest more → LinesRead left (line ∷ more)
 unfolding LinesRead
 one_line left line rest more begins read = (rest, begins, read)
 
-pub listed_more : (lines text left : List ℕ) (line : Line) (rest : List ℕ) → ListedSoFar lines text left → BeginsLine left line rest → ListedSoFar lines (text ++ line_listing line) rest
+pub listed_more : (lines text left : List ℕ) (line : ProgramLine) (rest : List ℕ) → ListedSoFar lines text left → BeginsLine left line rest → ListedSoFar lines (text ++ line_listing line) rest
 listed_more lines text left line rest so_far begins = record {
   before = so_far.before ++ line ∷ [];
   listed = ap (λ (w : List ℕ). w ++ line_listing line) so_far.listed ∙ sym (listing_more so_far.before line);

@@ -10,7 +10,7 @@ use Rattle.cbm_text.specs.declared.fault.BasicFault.{BasicFault}
 use Rattle.cbm_text.specs.declared.fault.BasicFault.TheVariants.{NoNumber, NumberTooLarge, Text, TokenByte, ZeroByte, TooLong, Memory}
 use Rattle.cbm_text.specs.Crunching.{Crunched}
 use Rattle.cbm_text.specs.Modes.{CrunchesUpTo}
-use Rattle.cbm_text.specs.Program.{Line, Program, word, line_layout, lines_layout, address_behind}
+use Rattle.cbm_text.specs.Program.{ProgramLine, Program, word, line_layout, lines_layout, address_behind}
 use Rattle.cbm_text.specs.BasicText.{IsLine, IsRead, IsTooLong, HasFault, AreLines, FaultsFirst, IsFileOf, IsFirstFault, IsOfMemory, TellsLine}
 
 -- what has been crunched of a text, and the raw lines that are left: what these give completes the
@@ -34,7 +34,7 @@ skipped_gives : (at : ℕ) (raw : List ℕ) (raws : List (List ℕ)) (more : Pro
 unfolding AreLines
 skipped_gives at raw raws more skipped given = inl (skipped, given)
 
-line_gives : (at : ℕ) (raw : List ℕ) (raws : List (List ℕ)) (line : Line) (more : Program) → is_skipped (text_of raw) ≡ false → IsLine at (text_of raw) line → AreLines (address_behind at line.bytes) raws more
+line_gives : (at : ℕ) (raw : List ℕ) (raws : List (List ℕ)) (line : ProgramLine) (more : Program) → is_skipped (text_of raw) ≡ false → IsLine at (text_of raw) line → AreLines (address_behind at line.bytes) raws more
     → AreLines at (raw ∷ raws) (line ∷ more)
 unfolding AreLines
 line_gives at raw raws line more kept is_line given = inr (kept, line, more, refl, is_line, given)
@@ -47,7 +47,7 @@ here_faults : (at number : ℕ) (raw : List ℕ) (raws : List (List ℕ)) (fault
 unfolding FaultsFirst
 here_faults at number raw raws fault kept here = inr (kept, inl here)
 
-later_faults : (at number : ℕ) (raw : List ℕ) (raws : List (List ℕ)) (line : Line) (fault : BasicFault) → is_skipped (text_of raw) ≡ false → IsLine at (text_of raw) line
+later_faults : (at number : ℕ) (raw : List ℕ) (raws : List (List ℕ)) (line : ProgramLine) (fault : BasicFault) → is_skipped (text_of raw) ≡ false → IsLine at (text_of raw) line
     → FaultsFirst (address_behind at line.bytes) (number + 1) raws fault → FaultsFirst at number (raw ∷ raws) fault
 unfolding FaultsFirst
 later_faults at number raw raws line fault kept is_line later = inr (kept, inr (line, is_line, later))
@@ -62,7 +62,7 @@ so_far_skipped start at place text file raw old raws so_far cut skipped = record
 }
 
 -- the layout of a line and those behind it
-layout_line : (at : ℕ) (line : Line) (more : Program) → lines_layout at (line ∷ more) ≡ line_layout at line ++ lines_layout (address_behind at line.bytes) more
+layout_line : (at : ℕ) (line : ProgramLine) (more : Program) → lines_layout at (line ∷ more) ≡ line_layout at line ++ lines_layout (address_behind at line.bytes) more
 unfolding lines_layout
 layout_line at line more = refl
 
@@ -78,7 +78,7 @@ line_pushed file longer pushed codes at next number joined behind same =
     (subst (λ (n : ℕ). longer ≡ file ++ word n ++ word number ++ pushed ++ 0 ∷ []) behind joined) ∙ regroup file (word (address_behind at codes)) (word number) codes (0 ∷ [])
 
 -- a line of the program
-pub so_far_line : (start at next place : ℕ) (text file longer raw : List ℕ) (old raws : List (List ℕ)) (line : Line) → ProgramSoFar start at place text file old → old ≡ raw ∷ raws → is_skipped (text_of raw) ≡ false
+pub so_far_line : (start at next place : ℕ) (text file longer raw : List ℕ) (old raws : List (List ℕ)) (line : ProgramLine) → ProgramSoFar start at place text file old → old ≡ raw ∷ raws → is_skipped (text_of raw) ≡ false
     → IsLine at (text_of raw) line → next ≡ address_behind at line.bytes → longer ≡ file ++ line_layout at line → ProgramSoFar start next (place + 1) text longer raws
 so_far_line start at next place text file longer raw old raws line so_far cut kept is_line behind joined = record {
   gives = λ more given.

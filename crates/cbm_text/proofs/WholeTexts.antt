@@ -15,10 +15,10 @@ use Rattle.script_text.proofs.LineCuts.{lines_of-nil}
 use Rattle.cbm_text.specs.declared.fault.BasicFault.{BasicFault}
 use Rattle.cbm_text.specs.declared.fault.BasicFault.TheVariants.{NoNumber, NumberTooLarge, Text, TokenByte, ZeroByte, TooLong, Memory}
 use Rattle.cbm_text.specs.Kept.{Opener, QuoteMark, RemWord, DataWord, opening, code_of}
-use Rattle.cbm_text.specs.Pieces.{Piece, Kept, Token, Question, Single, print_token, crunched_piece, AreCut}
+use Rattle.cbm_text.specs.Pieces.{LinePiece, Kept, Token, Question, Single, print_token, crunched_piece, AreCut}
 use Rattle.cbm_text.specs.Keywords.{keywords, token_from}
 use Rattle.cbm_text.specs.Crunching.{question, AreTextPieces, Crunched}
-use Rattle.cbm_text.specs.Program.{Line, Program, word, address_behind, line_layout, lines_layout, layout, BeginsLine, LinesRead, Reads}
+use Rattle.cbm_text.specs.Program.{ProgramLine, Program, word, address_behind, line_layout, lines_layout, layout, BeginsLine, LinesRead, Reads}
 use Rattle.cbm_text.specs.Listing.{line_text, IsListing, Lists}
 use Rattle.cbm_text.specs.Modes.{listing}
 use Rattle.cbm_text.specs.TextLine.{line_number, rest_of}
@@ -60,7 +60,7 @@ opener_some QuoteMark run none = none
 opener_some RemWord run none = none
 opener_some DataWord run none = none
 
-pieces_no_zero : (pieces : List Piece) (text : List ℕ) → AreTextPieces text pieces → has_zero text ≡ false → has_zero (flat_map crunched_piece pieces) ≡ false
+pieces_no_zero : (pieces : List LinePiece) (text : List ℕ) → AreTextPieces text pieces → has_zero text ≡ false → has_zero (flat_map crunched_piece pieces) ≡ false
 unfolding AreCut
 pieces_no_zero [] text cut none = refl
 pieces_no_zero (Kept opener run ∷ pieces) text (rest, (text_is, kept), others) none =
@@ -88,7 +88,7 @@ crunched_no_zero text codes (pieces, cut, is) none = no_zero_in codes (sym (ap (
 link_some : (next : ℕ) → 1 ≤ next → ¬ ((next % 256 ≡ 0) × (next / 256 ≡ 0))
 link_some next some (low, high) = omega arith
 
-begins_layout : (at : ℕ) (text : List ℕ) (line : Line) (rest : List ℕ) → IsLine at text line → BeginsLine (line_layout at line ++ rest) line rest
+begins_layout : (at : ℕ) (text : List ℕ) (line : ProgramLine) (rest : List ℕ) → IsLine at text line → BeginsLine (line_layout at line ++ rest) line rest
 begins_layout at text line rest is_line = record {
   low = address_behind at line.bytes % 256;
   high = address_behind at line.bytes / 256;
@@ -124,13 +124,13 @@ word_once m n same =
     omega arith
 
 -- a line is its number and its bytes
-abbrev made : ℕ → List ℕ → Line
+abbrev made : ℕ → List ℕ → ProgramLine
 made number bytes = record { number = number; bytes = bytes }
 
-same_line : (x y : Line) → x.number ≡ y.number → x.bytes ≡ y.bytes → x ≡ y
+same_line : (x y : ProgramLine) → x.number ≡ y.number → x.bytes ≡ y.bytes → x ≡ y
 same_line x y numbers bytes = ap (λ (n : ℕ). made n x.bytes) numbers ∙ ap (λ (w : List ℕ). made y.number w) bytes
 
-line_once : (bytes : List ℕ) (x y : Line) (rest other : List ℕ) → BeginsLine bytes x rest → BeginsLine bytes y other → x ≡ y
+line_once : (bytes : List ℕ) (x y : ProgramLine) (rest other : List ℕ) → BeginsLine bytes x rest → BeginsLine bytes y other → x ≡ y
 line_once bytes x y rest other begins begins_y =
     let same : begins.low ∷ begins.high ∷ (x.number % 256) ∷ (x.number / 256) ∷ (x.bytes ++ 0 ∷ rest) ≡ begins_y.low ∷ begins_y.high ∷ (y.number % 256) ∷ (y.number / 256) ∷ (y.bytes ++ 0 ∷ other) = sym begins.joined ∙ begins_y.joined in
     let numbers : x.number ≡ y.number = word_once x.number y.number (ap (λ (w : List ℕ). take 2 (drop 2 w)) same) in
@@ -145,7 +145,7 @@ lines_once bytes [] (line ∷ other) (behind, is) (rest, begins, read) = absurd 
 lines_once bytes (line ∷ program) [] (rest, begins, read) (behind, is) = absurd (no_line bytes line rest behind begins is)
 lines_once bytes (line ∷ program) (line' ∷ other) (rest, begins, read) (rest', begins', read') =
     let behind : rest' ≡ rest = rest_once bytes line' line rest' rest begins' begins in
-    ap (λ (p : Program). line ∷ p) (lines_once rest program other read (subst (λ (w : List ℕ). LinesRead w other) behind read')) ∙ ap (λ (l : Line). l ∷ other) (line_once bytes line line' rest rest' begins begins')
+    ap (λ (p : Program). line ∷ p) (lines_once rest program other read (subst (λ (w : List ℕ). LinesRead w other) behind read')) ∙ ap (λ (l : ProgramLine). l ∷ other) (line_once bytes line line' rest rest' begins begins')
 
 program_once : (file : List ℕ) (program other : Program) → Reads file program → Reads file other → program ≡ other
 unfolding Reads
@@ -172,12 +172,12 @@ reads_once file = record {
 -- ---- one program of a text
 
 -- a text line is one line, and has no fault
-is_line_once : (at : ℕ) (text : List ℕ) (x y : Line) → IsLine at text x → IsLine at text y → x ≡ y
+is_line_once : (at : ℕ) (text : List ℕ) (x y : ProgramLine) → IsLine at text x → IsLine at text y → x ≡ y
 is_line_once at text x y is_x is_y =
     let same : is_y.bytes ≡ is_x.bytes = one_reading (rest_of text) is_y.bytes is_x.bytes is_y.crunched.read.read is_x.crunched.read.read in
     same_line x y (is_x.number ∙ sym is_y.number) (crunches_once is_x.bytes x.bytes y.bytes is_x.crunched.crunched (subst (λ (w : List ℕ). Crunched w y.bytes) same is_y.crunched.crunched))
 
-line_no_fault : (at number : ℕ) (text : List ℕ) (line : Line) (fault : BasicFault) → IsLine at text line → ¬ (HasFault at number text fault)
+line_no_fault : (at number : ℕ) (text : List ℕ) (line : ProgramLine) (fault : BasicFault) → IsLine at text line → ¬ (HasFault at number text fault)
 line_no_fault at number text line (NoNumber told) is_line (place, none) = is_line.crunched.read.numbered.some none
 line_no_fault at number text line (NumberTooLarge told) is_line (place, some, large) = let small = is_line.crunched.read.numbered.small in omega arith
 line_no_fault at number text line (Text told fault) is_line (place, numbered, first) = no_fault (rest_of text) is_line.bytes fault is_line.crunched.read.read first
@@ -263,8 +263,8 @@ texts_once at (raw ∷ raws) program other (inl (skipped, lines)) (inr (kept, li
 texts_once at (raw ∷ raws) program other (inr (kept, line, more, is, is_line, others)) (inl (skipped, lines)) = let never : true ≡ false = sym skipped ∙ kept in absurd cc
 texts_once at (raw ∷ raws) program other (inr (kept, line, more, is, is_line, lines)) (inr (kept', line', more', is', is_line', lines')) =
     let same : line' ≡ line = is_line_once at (text_of raw) line' line is_line' is_line in
-    let others : more ≡ more' = texts_once (address_behind at line.bytes) raws more more' lines (subst (λ (l : Line). AreLines (address_behind at l.bytes) raws more') same lines') in
-    is ∙ ap (λ (p : Program). line ∷ p) others ∙ ap (λ (l : Line). l ∷ more') (sym same) ∙ sym is'
+    let others : more ≡ more' = texts_once (address_behind at line.bytes) raws more more' lines (subst (λ (l : ProgramLine). AreLines (address_behind at l.bytes) raws more') same lines') in
+    is ∙ ap (λ (p : Program). line ∷ p) others ∙ ap (λ (l : ProgramLine). l ∷ more') (sym same) ∙ sym is'
 
 text_no_fault : (at number : ℕ) (raws : List (List ℕ)) (program : Program) (fault : BasicFault) → AreLines at raws program → ¬ (FaultsFirst at number raws fault)
 unfolding AreLines FaultsFirst
@@ -275,7 +275,7 @@ text_no_fault at number (raw ∷ raws) program fault (inr (kept, line, more, is,
 text_no_fault at number (raw ∷ raws) program fault (inr (kept, line, more, is, is_line, lines)) (inr (kept', inl here)) = line_no_fault at number (text_of raw) line fault is_line here
 text_no_fault at number (raw ∷ raws) program fault (inr (kept, line, more, is, is_line, lines)) (inr (kept', inr (line', is_line', later))) =
     let same : line' ≡ line = is_line_once at (text_of raw) line' line is_line' is_line in
-    text_no_fault (address_behind at line.bytes) (number + 1) raws more fault lines (subst (λ (l : Line). FaultsFirst (address_behind at l.bytes) (number + 1) raws fault) same later)
+    text_no_fault (address_behind at line.bytes) (number + 1) raws more fault lines (subst (λ (l : ProgramLine). FaultsFirst (address_behind at l.bytes) (number + 1) raws fault) same later)
 
 text_one_fault : (at number : ℕ) (raws : List (List ℕ)) (a b : BasicFault) → FaultsFirst at number raws a → FaultsFirst at number raws b → a ≡ b
 unfolding FaultsFirst
@@ -288,7 +288,7 @@ text_one_fault at number (raw ∷ raws) a b (inr (kept, inl one)) (inr (kept', i
 text_one_fault at number (raw ∷ raws) a b (inr (kept, inr (line, is_line, later))) (inr (kept', inl other)) = absurd (line_no_fault at number (text_of raw) line b is_line other)
 text_one_fault at number (raw ∷ raws) a b (inr (kept, inr (line, is_line, later))) (inr (kept', inr (line', is_line', later'))) =
     let same : line' ≡ line = is_line_once at (text_of raw) line' line is_line' is_line in
-    text_one_fault (address_behind at line.bytes) (number + 1) raws a b later (subst (λ (l : Line). FaultsFirst (address_behind at l.bytes) (number + 1) raws b) same later')
+    text_one_fault (address_behind at line.bytes) (number + 1) raws a b later (subst (λ (l : ProgramLine). FaultsFirst (address_behind at l.bytes) (number + 1) raws b) same later')
 
 pub stands_once : (start : ℕ) (text : List ℕ) → StandsOnce start text
 unfolding IsFileOf
@@ -326,7 +326,7 @@ normal_listing at (raw ∷ raws) program text plain (inr (kept, line, more, is, 
     )
 
 -- the normal spelling of a text stands for the text's program
-normal_line : (at : ℕ) (text bytes : List ℕ) (line : Line) (rest : List ℕ) → IsLine at text line → IsTextOf bytes (rest_of text) → (reads : ReadsAsLine (line_number text) bytes rest) → IsLine at (text_of reads.raw) line
+normal_line : (at : ℕ) (text bytes : List ℕ) (line : ProgramLine) (rest : List ℕ) → IsLine at text line → IsTextOf bytes (rest_of text) → (reads : ReadsAsLine (line_number text) bytes rest) → IsLine at (text_of reads.raw) line
 normal_line at text bytes line rest is_line read reads =
     let same : is_line.bytes ≡ bytes = one_reading (rest_of text) is_line.bytes bytes is_line.crunched.read.read read in
     record {

@@ -6,7 +6,7 @@ use Rattle.script_text.specs.RawLines.{lines_of, text_of, is_skipped}
 use Rattle.cbm_text.specs.declared.fault.BasicFault.{BasicFault}
 use Rattle.cbm_text.specs.declared.fault.BasicFault.TheVariants.{NoNumber, NumberTooLarge, Text, TokenByte, ZeroByte, TooLong, Memory}
 use Rattle.cbm_text.specs.Crunching.{Crunched}
-use Rattle.cbm_text.specs.Program.{Line, Program, address_behind, layout}
+use Rattle.cbm_text.specs.Program.{ProgramLine, Program, address_behind, layout}
 use Rattle.cbm_text.specs.TextLine.{number_digits, line_number, rest_of}
 
 -- The most crunched bytes of a line, and the greatest link.
@@ -37,7 +37,7 @@ abbrev pub IsTooLong : ℕ → List ℕ → Type 0
 IsTooLong at codes = (most_bytes < length codes) ⊎ (greatest_link < address_behind at codes)
 
 -- The text line is this line of a program, at this address.
-pub record IsLine (at : ℕ) (text : List ℕ) (line : Line) : Type 0 where
+pub record IsLine (at : ℕ) (text : List ℕ) (line : ProgramLine) : Type 0 where
   pub bytes : List ℕ
   pub crunched : IsCrunched text bytes line.bytes
   pub number : line.number ≡ line_number text
@@ -60,7 +60,7 @@ HasFault at number text (Memory error) = ⊥
 unfoldable pub AreLines : ℕ → List (List ℕ) → Program → Type 0
 AreLines at [] program = program ≡ []
 AreLines at (raw ∷ raws) program = ((is_skipped (text_of raw) ≡ true) × AreLines at raws program)
-    ⊎ ((is_skipped (text_of raw) ≡ false) × (line : Line) × (lines : Program) × (program ≡ line ∷ lines) × IsLine at (text_of raw) line × AreLines (address_behind at line.bytes) raws lines)
+    ⊎ ((is_skipped (text_of raw) ≡ false) × (line : ProgramLine) × (lines : Program) × (program ≡ line ∷ lines) × IsLine at (text_of raw) line × AreLines (address_behind at line.bytes) raws lines)
 
 -- The fault of the first faulty one of the raw lines, the first of which has this number, where the
 -- first line that they give stands at the address.
@@ -68,7 +68,7 @@ unfoldable pub FaultsFirst : ℕ → ℕ → List (List ℕ) → BasicFault → 
 FaultsFirst at number [] fault = ⊥
 FaultsFirst at number (raw ∷ raws) fault = ((is_skipped (text_of raw) ≡ true) × FaultsFirst at (number + 1) raws fault)
     ⊎ ((is_skipped (text_of raw) ≡ false) × (HasFault at number (text_of raw) fault
-    ⊎ ((line : Line) × IsLine at (text_of raw) line × FaultsFirst (address_behind at line.bytes) (number + 1) raws fault)))
+    ⊎ ((line : ProgramLine) × IsLine at (text_of raw) line × FaultsFirst (address_behind at line.bytes) (number + 1) raws fault)))
 
 -- The text stands for this program, where it is loaded at start.
 abbrev pub IsProgramOf : ℕ → List ℕ → Program → Type 0

@@ -3,7 +3,7 @@ use Rattle.std.specs.Prelude.{◌≡◌, ℕ, ◌+◌, ◌⊎◌, true, false, L
 use Rattle.script_text.specs.RawLines.{lines_of, text_of, is_skipped}
 use Rattle.cbm_text.specs.declared.fault.BasicFault.{BasicFault}
 use Rattle.cbm_text.specs.declared.faulty_text.FaultyLine.{FaultyLine}
-use Rattle.cbm_text.specs.Program.{Line, address_behind}
+use Rattle.cbm_text.specs.Program.{ProgramLine, address_behind}
 use Rattle.cbm_text.specs.BasicText.{IsLine, HasFault}
 use Rattle.cbm_text.specs.Causes.{IsCause}
 
@@ -25,7 +25,7 @@ IsNoted at text most (Err fault) old next new =
 unfoldable pub AreFaulty : ℕ → ℕ → List (List ℕ) → List FaultyLine → Type 0
 AreFaulty at number [] lines = lines ≡ []
 AreFaulty at number (raw ∷ raws) lines = ((is_skipped (text_of raw) ≡ true) × AreFaulty at (number + 1) raws lines)
-    ⊎ ((is_skipped (text_of raw) ≡ false) × (((line : Line) × IsLine at (text_of raw) line × AreFaulty (address_behind at line.bytes) (number + 1) raws lines)
+    ⊎ ((is_skipped (text_of raw) ≡ false) × (((line : ProgramLine) × IsLine at (text_of raw) line × AreFaulty (address_behind at line.bytes) (number + 1) raws lines)
     ⊎ ((first : FaultyLine) × (more : List FaultyLine) × (lines ≡ first ∷ more) × IsFaulty at number (text_of raw) first × AreFaulty at (number + 1) raws more)))
 
 -- the faulty lines of a text, lines counted from 1

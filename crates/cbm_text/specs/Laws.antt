@@ -3,7 +3,7 @@ use Rattle.std.specs.Prelude.{◌≡◌, ℕ, false, List, All, Contains}
 use Rattle.petscii.specs.TextForm.{IsTextOf}
 use Rattle.script_text.specs.RawLines.{lines_of, text_of, is_skipped}
 use Rattle.cbm_text.specs.declared.fault.BasicFault.{BasicFault}
-use Rattle.cbm_text.specs.Pieces.{Piece, Question}
+use Rattle.cbm_text.specs.Pieces.{LinePiece, Question}
 use Rattle.cbm_text.specs.Crunching.{AreTextPieces, Crunched}
 use Rattle.cbm_text.specs.Program.{Program, Reads}
 use Rattle.cbm_text.specs.Listing.{Listed, Lists}
@@ -24,7 +24,7 @@ pub record ListsOnce (codes : List ℕ) : Type 0 where
 
 -- No `?` stands for `print` in the bytes of a line.
 abbrev pub HasNoFreeQuestion : List ℕ → Type 0
-HasNoFreeQuestion text = (pieces : List Piece) → AreTextPieces text pieces → ¬ (Contains pieces Question)
+HasNoFreeQuestion text = (pieces : List LinePiece) → AreTextPieces text pieces → ¬ (Contains pieces Question)
 
 -- What the bytes of a line without a free `?` crunch to stands for these bytes.
 abbrev pub ComesBack : List ℕ → List ℕ → Type 0

@@ -4,7 +4,7 @@ use Rattle.std.specs.List.{flat_map}
 use Rattle.petscii.specs.Spelling.{spelling}
 use Rattle.cbm_text.specs.Keywords.{keyword}
 use Rattle.cbm_text.specs.Kept.{Opener, code_of, IsKept}
-use Rattle.cbm_text.specs.Pieces.{Piece, Kept, Token, Question, Single, AreCut, written_piece}
+use Rattle.cbm_text.specs.Pieces.{LinePiece, Kept, Token, Question, Single, AreCut, written_piece}
 use Rattle.cbm_text.specs.Program.{Program, Reads}
 
 -- The crunched byte opens no run.
@@ -13,19 +13,19 @@ IsNoOpener code = (opener : Opener) → code ≢ code_of opener
 
 -- The first piece of crunched bytes, and what follows. Where an opener stands there, it and the run
 -- that is kept behind it; else the token of a keyword; else one byte.
-abbrev pub CodesBegin : List ℕ → Piece → List ℕ → Type 0
+abbrev pub CodesBegin : List ℕ → LinePiece → List ℕ → Type 0
 CodesBegin codes (Kept opener run) rest = (codes ≡ code_of opener ∷ run ++ rest) × IsKept opener run rest
 CodesBegin codes (Token token) rest = IsNoOpener token × (keyword token ≢ None) × (codes ≡ token ∷ rest)
 CodesBegin codes Question rest = ⊥
 CodesBegin codes (Single byte) rest = IsNoOpener byte × (keyword byte ≡ None) × (codes ≡ byte ∷ rest)
 
 -- The crunched bytes are these pieces, one after the other.
-abbrev pub AreCodePieces : List ℕ → List Piece → Type 0
+abbrev pub AreCodePieces : List ℕ → List LinePiece → Type 0
 AreCodePieces codes pieces = AreCut CodesBegin codes pieces
 
 -- The crunched bytes of a line stand for these bytes.
 unfoldable pub Listed : List ℕ → List ℕ → Type 0
-Listed codes bytes = (pieces : List Piece) × AreCodePieces codes pieces × (bytes ≡ flat_map written_piece pieces)
+Listed codes bytes = (pieces : List LinePiece) × AreCodePieces codes pieces × (bytes ≡ flat_map written_piece pieces)
 
 -- A line as text: its number in decimal, a space, the bytes that it stands for in text form, LF.
 abbrev pub line_text : ℕ → List ℕ → List ℕ

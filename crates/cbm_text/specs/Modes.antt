@@ -11,7 +11,7 @@ use Rattle.cbm_text.specs.Kept.{quote, colon, data_token, rem_token}
 use Rattle.cbm_text.specs.Pieces.{print_token}
 use Rattle.cbm_text.specs.Crunching.{question, pi, Crunched}
 use Rattle.cbm_text.specs.Listing.{line_text}
-use Rattle.cbm_text.specs.Program.{Line, Program}
+use Rattle.cbm_text.specs.Program.{ProgramLine, Program}
 
 -- How the place behind a crunched byte is read. A quote is kept up to and with the next one, what
 -- follows `rem` to the line's end, and what follows `data` up to and with a colon outside quotes.
@@ -74,7 +74,7 @@ abbrev pub expanded_bytes : List ℕ → List ℕ
 expanded_bytes bytes = expanded_from Free bytes
 
 -- A line as text, and a program.
-abbrev pub line_listing : Line → List ℕ
+abbrev pub line_listing : ProgramLine → List ℕ
 line_listing line = line_text line.number (expanded_bytes line.bytes)
 
 unfoldable pub listing : Program → List ℕ

@@ -6,25 +6,25 @@ use Rattle.cbm_text.specs.Kept.{Opener, opening, code_of}
 
 -- A piece: an opener and the run that is kept behind it; another keyword, by its token; a `?`,
 -- which is short for `print`; another byte.
-pub data Piece : Type 0 where
-  Kept : Opener → List ℕ → Piece
-  Token : ℕ → Piece
-  Question : Piece
-  Single : ℕ → Piece
+pub data LinePiece : Type 0 where
+  Kept : Opener → List ℕ → LinePiece
+  Token : ℕ → LinePiece
+  Question : LinePiece
+  Single : ℕ → LinePiece
 
 -- the token of `print`
 abbrev pub print_token : ℕ
 print_token = 0x99
 
 -- The bytes of a piece in a text.
-abbrev pub written_piece : Piece → List ℕ
+abbrev pub written_piece : LinePiece → List ℕ
 written_piece (Kept opener run) = opening opener ++ run
 written_piece (Token token) = option_map_or (λ word. word) (keyword token) []
 written_piece Question = codes "?"
 written_piece (Single byte) = byte ∷ []
 
 -- The crunched bytes of a piece in a program.
-abbrev pub crunched_piece : Piece → List ℕ
+abbrev pub crunched_piece : LinePiece → List ℕ
 crunched_piece (Kept opener run) = code_of opener ∷ run
 crunched_piece (Token token) = token ∷ []
 crunched_piece Question = print_token ∷ []
@@ -32,6 +32,6 @@ crunched_piece (Single byte) = byte ∷ []
 
 -- Bytes are these pieces, one after the other, where a relation says which piece bytes begin with
 -- and what follows it.
-unfoldable pub AreCut : (List ℕ → Piece → List ℕ → Type 0) → List ℕ → List Piece → Type 0
+unfoldable pub AreCut : (List ℕ → LinePiece → List ℕ → Type 0) → List ℕ → List LinePiece → Type 0
 AreCut Begins bytes [] = bytes ≡ []
 AreCut Begins bytes (piece ∷ pieces) = (rest : List ℕ) × Begins bytes piece rest × AreCut Begins rest pieces

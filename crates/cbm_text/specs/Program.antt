@@ -2,13 +2,13 @@
 use Rattle.std.specs.Prelude.{◌≡◌, ℕ, ◌+◌, ◌/◌, ◌%◌, ◌^◌, ◌<◌, List, [], ◌∷◌, ◌++◌, length, Contains}
 
 -- A line of a program: its number and its bytes.
-pub record Line : Type 0 where
+pub record ProgramLine : Type 0 where
   pub number : ℕ
   pub bytes : List ℕ
 
 -- A program is a list of lines.
 abbrev pub Program : Type 0
-Program = List Line
+Program = List ProgramLine
 
 -- A number in two bytes, the low one first.
 abbrev pub word : ℕ → List ℕ
@@ -21,7 +21,7 @@ address_behind at bytes = at + length bytes + 5
 
 -- The bytes of a line that stands at an address: the link to what follows it, its number, its
 -- bytes, $00.
-abbrev pub line_layout : ℕ → Line → List ℕ
+abbrev pub line_layout : ℕ → ProgramLine → List ℕ
 line_layout at line = word (address_behind at line.bytes) ++ word line.number ++ line.bytes ++ 0 ∷ []
 
 -- The lines of a program from an address on, and the end mark.
@@ -35,7 +35,7 @@ layout start program = word start ++ lines_layout start program
 
 -- The bytes begin with any link but $00 $00, the line's number, its bytes, and a $00, and go on
 -- with rest.
-pub record BeginsLine (bytes : List ℕ) (line : Line) (rest : List ℕ) : Type 0 where
+pub record BeginsLine (bytes : List ℕ) (line : ProgramLine) (rest : List ℕ) : Type 0 where
   pub low : ℕ
   pub high : ℕ
   pub joined : bytes ≡ low ∷ high ∷ word line.number ++ line.bytes ++ 0 ∷ rest

@@ -2,7 +2,7 @@
 
 ghost use Rattle.std.specs.Prelude.{◌≡◌, ◌⊎◌, ◌++◌, ℕ, IfOk, IfErr, MatchResult, ◌<◌};
 ghost use Rattle.cbm_text.specs.BasicText.{IsFileOf, IsFirstFault, IsOfMemory, IsLine, HasFault, TellsLine};
-ghost use Rattle.cbm_text.specs.Program.{Line, line_layout, address_behind};
+ghost use Rattle.cbm_text.specs.Program.{ProgramLine, line_layout, address_behind};
 
 use crate::codes::{MOST_BYTES, crunch_bytes};
 use crate::fault::BasicFault;
@@ -58,7 +58,7 @@ pub(crate) fn push_text_line(
     text: &[u8],
     place: usize,
 ) -> Result<u16, BasicFault>
-    ensures line { IfOk result (λ next. (line : Line) × IsLine at text.now line × (next ≡ address_behind at line.bytes)
+    ensures line { IfOk result (λ next. (line : ProgramLine) × IsLine at text.now line × (next ≡ address_behind at line.bytes)
         × (file.new.items ≡ file.old.items ++ line_layout at line)) }
     ensures fault { IfErr result (λ fault. IsOfMemory fault ⊎ HasFault at place text.now fault) }
 {
@@ -82,7 +82,7 @@ pub(crate) fn push_text_line(
     push_line(
         file,
         next,
-        &program::Line {
+        &program::ProgramLine {
             number,
             bytes: &codes,
         },

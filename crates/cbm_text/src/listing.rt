@@ -7,7 +7,7 @@ ghost use Rattle.cbm_text.specs.ListFault.{ListsNot};
 
 use crate::codes::expand;
 use crate::fault::ListFault;
-use crate::program::{Line, first_line, is_end};
+use crate::program::{ProgramLine, first_line, is_end};
 use itoa::Buffer;
 use petscii::to_text;
 use std::alloc::{AllocError, Global};
@@ -38,7 +38,7 @@ pub fn list(alloc: Global, file: &[u8]) -> Result<Vec<u8>, ListFault>
 }
 
 /// Adds the text of a line.
-fn push_listing(alloc: Global, text: &mut Vec<u8>, line: Line) -> Result<(), AllocError>
+fn push_listing(alloc: Global, text: &mut Vec<u8>, line: ProgramLine) -> Result<(), AllocError>
     ensures { OnOk result (text.new.items
         ≡ text.old.items ++ line_listing (record { number = line.entry.number; bytes = line.entry.bytes.now })) }
 {

@@ -8,13 +8,13 @@ use std::alloc::AllocError;
 
 /// A line of a program: its number, and its crunched bytes without the $00 that ends them.
 #[derive(Clone, Copy)]
-pub(crate) struct Line<'a> {
+pub(crate) struct ProgramLine<'a> {
     pub(crate) number: u16,
     pub(crate) bytes: &'a [u8],
 }
 
 /// Adds a line, with the link to what follows it.
-pub(crate) fn push_line(file: &mut Vec<u8>, next: u16, line: &Line) -> Result<(), AllocError>
+pub(crate) fn push_line(file: &mut Vec<u8>, next: u16, line: &ProgramLine) -> Result<(), AllocError>
     ensures { OnOk result (file.new.items
         ≡ file.old.items ++ word next ++ word line.now.number ++ line.now.bytes.now ++ 0 ∷ []) }
 {
@@ -44,7 +44,7 @@ pub(crate) fn is_end(bytes: &[u8]) -> bool
 
 /// The first line of a program from its link on, and what follows the line; `None` where the bytes
 /// end before the line does. The link is not looked at.
-pub(crate) fn first_line(bytes: &[u8]) -> Option<(Line<'_>, &[u8])>
+pub(crate) fn first_line(bytes: &[u8]) -> Option<(ProgramLine<'_>, &[u8])>
     requires { ¬ (LinesRead bytes.now []) }
     ensures { MatchOption result ((program : Program) → ¬ (LinesRead bytes.now program))
         (λ found. BeginsLine bytes.now (record { number = found.0.number; bytes = found.0.bytes.now }) found.1.now) }
@@ -55,7 +55,7 @@ pub(crate) fn first_line(bytes: &[u8]) -> Option<(Line<'_>, &[u8])>
     let Some(length) = first_zero(rest) else {
         return None;
     };
-    let line = Line {
+    let line = ProgramLine {
         number: u16::from(*high) * 256 + u16::from(*low),
         bytes: &rest[..length],
     };

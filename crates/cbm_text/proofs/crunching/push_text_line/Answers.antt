@@ -2,7 +2,7 @@ use Rattle.std.proofs.Common.{◌≡◌, ◌⊎◌, ◌+◌, List, ℕ, ◌∙�
 use Rattle.std.specs.Prelude.{nat_eq}
 use Rattle.std.specs.List.{list_any}
 use Rattle.petscii.specs.TextForm.{IsTextOf}
-use Rattle.cbm_text.specs.Program.{Line, address_behind}
+use Rattle.cbm_text.specs.Program.{ProgramLine, address_behind}
 use Rattle.cbm_text.specs.Crunching.{Crunched}
 use Rattle.cbm_text.specs.BasicText.{IsOfMemory, HasFault, most_bytes}
 use Rattle.cbm_text.specs.Modes.{CrunchesUpTo}
@@ -17,7 +17,7 @@ returns-in_err-number-clause-fault c =
 
 pub returns-clause-line : goal.returns-clause-line
 returns-clause-line c =
-    let line : Line = record { number = c.in_ok-number.number; bytes = c.in-Some.codes.items } in
+    let line : ProgramLine = record { number = c.in_ok-number.number; bytes = c.in-Some.codes.items } in
     let numbered = c.in_ok-number.ensures in
     let codes = c.in-Some.codes.items in
     let up_to : CrunchesUpTo most_bytes c.deref.result.now codes = rw c.in-Some.is at c.in_ok-codes.ensures in

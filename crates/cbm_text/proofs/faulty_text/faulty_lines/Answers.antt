@@ -5,7 +5,7 @@ use Rattle.script_text.specs.declared.raw_lines.RawLines.{RawLines}
 use Rattle.script_text.proofs.LineCuts.{length-lines_of}
 use Rattle.cbm_text.specs.BasicText.{HasFault, IsLine, IsOfMemory}
 use Rattle.cbm_text.specs.FaultyLines.{IsNoted}
-use Rattle.cbm_text.specs.Program.{Line, address_behind}
+use Rattle.cbm_text.specs.Program.{ProgramLine, address_behind}
 use Rattle.cbm_text.proofs.FaultyTexts.{FaultySoFar, at_most_one, short_kept, so_far_all, so_far_none, so_far_noted, so_far_skipped}
 use Rattle.cbm_text.proofs.faulty_text.faulty_lines.Goals as goal
 

@@ -1,5 +1,5 @@
 use Rattle.std.proofs.Common.{◌-◌, length, take, drop, arith}
-use Rattle.cbm_text.specs.Program.{Line}
+use Rattle.cbm_text.specs.Program.{ProgramLine}
 use Rattle.cbm_text.proofs.ProgramFiles.{listed_nothing, listed_more, listed_whole, listed_never, file_reads, file_never, lists_program}
 use Rattle.cbm_text.proofs.listing.list.Goals as goal
 
@@ -16,7 +16,7 @@ returns-in_default-first_line c =
 pub loop-left-preserved : goal.loop-left-preserved
 loop-left-preserved c =
     let file = c.args.file.now in
-    let line : Line = record { number = c.in-Some.line.number; bytes = c.in-Some.line.bytes.now } in
+    let line : ProgramLine = record { number = c.in-Some.line.number; bytes = c.in-Some.line.bytes.now } in
     rw c.in_ok-push_listing.ensures
     (listed_more (take (length file - 2) (drop 2 file)) c.loop-left.text.items c.loop-left.left.now line c.in-Some.rest.now c.loop-left.invariant c.in-Some.ensures)
 
