@@ -21,14 +21,15 @@ use Rattle.d64_effects.specs.ViewAfter.{formatted_view}
 use Rattle.d64_effects.specs.Write.{next_of_directory}
 use Rattle.d64_effects.proofs.EmptyDisks.{IsImage-formatted_disk}
 use Rattle.d64_effects.proofs.FormattedDisks.{holds-formatted_disk, view-formatted_disk}
+use Rattle.d64_effects.proofs.NamedDisks.{named-is_image, named-is_sound, named-shows}
 use Rattle.d64_effects.proofs.RenamedDisks.{renamed-is_image, renamed-is_sound, renamed-shows}
 use Rattle.d64_effects.proofs.ScratchedDisks.{scratched-is_image, scratched-is_sound, scratched-shows, scratched-are_counted}
 use Rattle.d64_effects.proofs.ValidatedDisks.{validated-is_image, validated-is_sound, validated-shows}
 use Rattle.d64_effects.proofs.WrittenDisks.{written-is_image, written-is_sound, written-shows}
 use Rattle.d64_image.specs.Image.{IsImage}
 use Rattle.d64_image.specs.Patch.{Kept, restored_image}
-use Rattle.d64_dos.specs.Change.{Change, Format, Write, Delete, Rename, Validate, BlockWrite}
-use Rattle.d64_dos.specs.Command.{image_after, reply_to, refusal_of, IsFileCommand, StartsFrom}
+use Rattle.d64_dos.specs.Change.{Change, Format, Write, Delete, Rename, Name, Validate, BlockWrite}
+use Rattle.d64_dos.specs.Command.{image_after, reply_to, refusal_of, IsFileCommand, LeavesSound, StartsFrom}
 use Rattle.d64_dos.specs.FileRefusals.{rename_refusal, validate_refusal}
 use Rattle.d64_dos.specs.Refusal.{refused_by}
 use Rattle.d64_dos.specs.Step.{FileCommandsKeepDisksSound, IsMade, Leaves}
@@ -126,6 +127,11 @@ keeps_sound image (Rename old new) is made none from = record {
   sound = renamed-is_sound image old new is made.1 from;
   shows = (refl, renamed-shows image old new is made.1 from);
 }
+keeps_sound image (Name name id) is made none from = record {
+  is_image = named-is_image image name id is made.0 made.1;
+  sound = named-is_sound image name id is made.0 made.1 from;
+  shows = (refl, named-shows image name id is made.0 made.1 from);
+}
 keeps_sound image Validate is made none from =
     let owning = owning_conditions-hold image none in
     record {
@@ -141,6 +147,7 @@ starts_from_sound image (Format name id) is sound = tt
 starts_from_sound image (Write name kind bytes) is sound = sound
 starts_from_sound image (Delete patterns) is sound = sound
 starts_from_sound image (Rename old new) is sound = sound
+starts_from_sound image (Name name id) is sound = sound
 starts_from_sound image Validate is sound = tt
 starts_from_sound image (BlockWrite at block) is sound = absurd (cc)
 
@@ -171,14 +178,16 @@ renamed_from_sound image old new h =
     (no_fault_before (first_fault image sound_conditions)
     (cond (is_name_taken old (slots image)) (cond (is_name_taken new (slots image)) (Some Exists) None) (Some NotFound)) h)
 
--- an accepted file command starts from an image from which its promise holds
-starts_from_accepted : (image : List (List ℕ)) (change : Change) → IsFileCommand change → refusal_of image change ≡ None → StartsFrom change image
-starts_from_accepted image (Format name id) is none = tt
-starts_from_accepted image (Write name kind bytes) is none = written_from_sound image name kind (length bytes) none
-starts_from_accepted image (Delete patterns) is none = (sound_tells image).0.0 (none_found (first_fault image sound_conditions) none)
-starts_from_accepted image (Rename old new) is none = renamed_from_sound image old new none
-starts_from_accepted image Validate is none = tt
-starts_from_accepted image (BlockWrite at block) is none = absurd (cc)
+-- an accepted command that leaves a sound disk starts from an image from which its promise holds
+starts_from_accepted : (image : List (List ℕ)) (change : Change) (known : Bool) → (known ≡ true → IsSound image) → LeavesSound change known
+    → refusal_of image change ≡ None → StartsFrom change image
+starts_from_accepted image (Format name id) known sure is none = tt
+starts_from_accepted image (Write name kind bytes) known sure is none = written_from_sound image name kind (length bytes) none
+starts_from_accepted image (Delete patterns) known sure is none = (sound_tells image).0.0 (none_found (first_fault image sound_conditions) none)
+starts_from_accepted image (Rename old new) known sure is none = renamed_from_sound image old new none
+starts_from_accepted image (Name name id) known sure is none = sure is
+starts_from_accepted image Validate known sure is none = tt
+starts_from_accepted image (BlockWrite at block) known sure is none = absurd (cc)
 
 -- what the answer of a command says of its image and its reply makes the step
 pub step_of : (image next : List (List ℕ)) (change : Change) (result : Result Reply Refusal)
@@ -191,14 +200,14 @@ step_of image next change (Ok answer) is made refused reply accepted =
     subst (λ (r : Reply). Leaves image change r next) (sym reply)
     (subst (Leaves image change (reply_to image change)) (sym accepted) (keeps_sound image change is made (sym refused) from))
 
--- and what an accepted file command leaves is sound
-pub sound_of : (image next : List (List ℕ)) (change : Change) (result : Result Reply Refusal)
-    → IsImage image → IsMade change → refused_by result ≡ refusal_of image change
+-- and what an accepted command leaves is sound, where it leaves a sound disk
+pub sound_of : (image next : List (List ℕ)) (change : Change) (known : Bool) (result : Result Reply Refusal)
+    → (known ≡ true → IsSound image) → IsImage image → IsMade change → refused_by result ≡ refusal_of image change
     → IfOk result (λ reply. reply ≡ reply_to image change) → OnOk result (next ≡ image_after image change)
-    → OnOk result (IsFileCommand change → IsSound next)
-sound_of image next change (Err refusal) is made refused reply accepted = tt
-sound_of image next change (Ok answer) is made refused reply accepted =
-    λ file. (step_of image next change (Ok answer) is made refused reply accepted (starts_from_accepted image change file (sym refused))).sound
+    → OnOk result (LeavesSound change known → IsSound next)
+sound_of image next change known (Err refusal) sure is made refused reply accepted = tt
+sound_of image next change known (Ok answer) sure is made refused reply accepted =
+    λ leaves. (step_of image next change (Ok answer) is made refused reply accepted (starts_from_accepted image change known sure leaves (sym refused))).sound
 
 -- an empty patch puts nothing back
 pub nothing_back : (image : List (List ℕ)) (patch : Kept) → patch ≡ [] → restored_image image patch ≡ image

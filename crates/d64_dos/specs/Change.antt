@@ -1,6 +1,6 @@
 -- Commands as definitions see them: names and bytes are lists, so that a definition can say a
 -- command that no code has made.
-use Rattle.std.specs.Prelude.{ℕ, List}
+use Rattle.std.specs.Prelude.{ℕ, List, Option}
 use Rattle.d64_image.specs.Disk.{Bytes}
 use Rattle.d64_files.specs.declared.kind.Kind.{Kind}
 use Rattle.d64_dos.specs.declared.command.Command.{Command}
@@ -16,6 +16,8 @@ pub data Change : Type 0 where
   Delete : List Bytes → Change
   -- the first file of this name under that one
   Rename : Bytes → Bytes → Change
+  -- this name of the disk, and this id, if there is one
+  Name : Bytes → Option Bytes → Change
   -- without unclosed files, and with the map that the files ask for
   Validate : Change
   -- other bytes in one block
@@ -27,5 +29,6 @@ change_of (commands.Format name id) = Format name id
 change_of (commands.Write name kind bytes) = Write name kind bytes.items
 change_of (commands.Delete patterns) = Delete patterns.items
 change_of (commands.Rename old new) = Rename old new
+change_of (commands.Name name id) = Name name id
 change_of commands.Validate = Validate
 change_of (commands.BlockWrite at block) = BlockWrite at block

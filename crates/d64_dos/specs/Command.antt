@@ -1,17 +1,18 @@
 -- What commands do, and when they are refused: a table with a row for each command.
-use Rattle.std.specs.Prelude.{◌≡◌, ℕ, ◌<◌, List, length, filter, Option, None, Some, IsSome, MatchOption}
+use Rattle.std.specs.Prelude.{◌≡◌, ℕ, ◌<◌, true, Bool, List, length, filter, Option, None, Some, IsSome, MatchOption}
 use Rattle.d64_image.specs.Disk.{Disk, Bytes}
 use Rattle.d64_image.specs.Image.{with_sector}
 use Rattle.d64_effects.specs.Contents.{names_and_contents}
 use Rattle.d64_effects.specs.ContentsAfter.{is_scratched_row}
 use Rattle.d64_effects.specs.Delete.{scratched_disk, scratched_count}
+use Rattle.d64_effects.specs.DiskName.{named_disk}
 use Rattle.d64_effects.specs.Format.{formatted_disk}
 use Rattle.d64_effects.specs.Rename.{renamed_disk}
 use Rattle.d64_effects.specs.Validate.{validated_disk}
 use Rattle.d64_effects.specs.View.{View, IsSound}
-use Rattle.d64_effects.specs.ViewAfter.{formatted_view, written_view, scratched_view, renamed_view, validated_view}
+use Rattle.d64_effects.specs.ViewAfter.{formatted_view, written_view, scratched_view, renamed_view, named_view, validated_view}
 use Rattle.d64_effects.specs.Write.{written_disk}
-use Rattle.d64_dos.specs.Change.{Change, Format, Write, Delete, Rename, Validate, BlockWrite}
+use Rattle.d64_dos.specs.Change.{Change, Format, Write, Delete, Rename, Name, Validate, BlockWrite}
 use Rattle.d64_dos.specs.FileRefusals.{unsound_refusal, rename_refusal, validate_refusal}
 use Rattle.d64_dos.specs.WriteRefusal.{write_refusal}
 use Rattle.d64_dos.specs.declared.command.Reply.{Reply}
@@ -69,6 +70,12 @@ row (Rename old new) = record {
   reply = λ image. Done;
   block = None;
 }
+row (Name name id) = record {
+  refusal = λ image. None;
+  effect = λ image. named_disk image name id;
+  reply = λ image. Done;
+  block = None;
+}
 row Validate = record {
   refusal = validate_refusal;
   effect = validated_disk;
@@ -89,6 +96,7 @@ promise_of (Write name kind bytes) = Some (record { start = SoundDisk; reply = �
 promise_of (Delete patterns) =
     Some (record { start = SoundDisk; reply = λ old. Scratched (scratched_of old patterns); shows = λ old. scratched_view old patterns })
 promise_of (Rename old new) = Some (record { start = SoundDisk; reply = λ shown. Done; shows = λ shown. renamed_view shown old new })
+promise_of (Name name id) = Some (record { start = SoundDisk; reply = λ shown. Done; shows = λ shown. named_view shown name id })
 promise_of Validate = Some (record { start = AnyDisk; reply = λ old. Done; shows = validated_view })
 promise_of (BlockWrite at block) = None
 
@@ -112,6 +120,12 @@ IsWithin image change = MatchOption (row change).block (Unit {0}) (λ block. blo
 -- a command that changes the files of a disk; a block write promises nothing of them
 abbrev pub IsFileCommand : Change → Type 0
 IsFileCommand change = IsSome (promise_of change)
+
+-- an accepted command leaves a sound disk, where that before is known to be sound or not: each file
+-- command does, but for a name of the disk, which any disk is given, and which leaves it as it was
+abbrev pub LeavesSound : Change → Bool → Type 0
+LeavesSound (Name name id) known = known ≡ true
+LeavesSound change known = IsFileCommand change
 
 -- the images from which a promise holds
 abbrev pub IsStart : Start → Disk → Type 0

@@ -1,11 +1,11 @@
 -- What an accepted command makes of a sound disk and of what it shows.
-use Rattle.std.specs.Prelude.{◌≡◌, None}
+use Rattle.std.specs.Prelude.{◌≡◌, None, IfSome}
 use Rattle.d64_image.specs.Disk.{Disk}
 use Rattle.d64_files.specs.Name.{IsName}
 use Rattle.d64_image.specs.Image.{IsImage}
 use Rattle.d64_effects.specs.Laws.{AreTwoBytes, AreBytes}
 use Rattle.d64_effects.specs.View.{IsSound, view}
-use Rattle.d64_dos.specs.Change.{Change, Format, Write, Delete, Rename, Validate, BlockWrite}
+use Rattle.d64_dos.specs.Change.{Change, Format, Write, Delete, Rename, Name, Validate, BlockWrite}
 use Rattle.d64_dos.specs.Command.{image_after, reply_to, refusal_of, StartsFrom, ViewStep}
 use Rattle.d64_dos.specs.declared.command.Reply.{Reply}
 
@@ -21,6 +21,7 @@ IsMade (Format name id) = IsName name × AreTwoBytes id
 IsMade (Write name kind bytes) = IsName name × AreBytes bytes
 IsMade (Delete patterns) = Unit {0}
 IsMade (Rename old new) = IsName old × IsName new
+IsMade (Name name id) = IsName name × IfSome id AreTwoBytes
 IsMade Validate = Unit {0}
 IsMade (BlockWrite at block) = Unit {0}
 

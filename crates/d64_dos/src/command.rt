@@ -1,14 +1,16 @@
 //! Commands on an image, their replies, and how they are applied.
-ghost use Rattle.std.specs.Prelude.{◌≡◌, ◌↔◌, true, [], length, IfOk, OnOk, OnErr};
+ghost use Rattle.std.specs.Prelude.{◌≡◌, ◌↔◌, true, [], length, IfOk, IfSome, OnOk, OnErr};
 ghost use Rattle.d64_dos.specs.Change.{change_of};
-ghost use Rattle.d64_dos.specs.Command.{image_after, reply_to, refusal_of, IsFileCommand, IsWithin, StartsFrom};
+ghost use Rattle.d64_dos.specs.Command.{image_after, reply_to, refusal_of, IsWithin, LeavesSound, StartsFrom};
 ghost use Rattle.d64_dos.specs.Refusal.{refused_by};
 ghost use Rattle.d64_dos.specs.Step.{IsMade, Leaves};
+ghost use Rattle.d64_effects.specs.Laws.{AreTwoBytes};
 ghost use Rattle.d64_effects.specs.View.{IsSound};
 ghost use Rattle.d64_image.specs.Image.{IsImage};
 ghost use Rattle.d64_image.specs.Patch.{IsPatchOf, restored_image, changed_blocks};
 
 use crate::delete::scratch;
+use crate::disk_name::name_disk;
 use crate::format::format;
 use crate::refusal::Refusal;
 use crate::rename::rename;
@@ -46,6 +48,11 @@ pub enum Command {
         old: Name,
         new: Name,
     },
+    /// Gives the disk another name, and another id, if there is one. No other byte changes.
+    Name {
+        name: Name,
+        id: Option<[u8; 2]>,
+    },
     /// Drops the files that were never closed, and writes the map anew: free is what no file,
     /// directory or map owns (1541 User's Guide, "Validate").
     Validate,
@@ -57,13 +64,15 @@ pub enum Command {
 }
 
 impl Command {
-    /// Whether it is a file command, which leaves a sound disk where it is accepted: each is but a
-    /// block write.
-    pub fn is_file_command(&self) -> bool
-        ensures { (result ≡ true) ↔ IsFileCommand (change_of self.now) }
+    /// Whether it leaves a sound disk where it is accepted, and where the disk before is known to be
+    /// sound or not: a block write promises nothing, and a name is given to any disk, which stays as
+    /// it was.
+    pub fn leaves_sound(&self, is_known: bool) -> bool
+        ensures { (result ≡ true) ↔ LeavesSound (change_of self.now) is_known }
     {
         match self {
             Command::BlockWrite { at: _, block: _ } => false,
+            Command::Name { name: _, id: _ } => is_known,
             Command::Format { name: _, id: _ }
             | Command::Write {
                 name: _,
@@ -90,8 +99,8 @@ pub enum Reply {
 /// block that a block write names.
 ///
 /// The first refusal that applies is answered, and want of memory only where none does; then the
-/// image is as it was, and the patch is empty. Neither a format nor a block write has a refusal of
-/// its own. The others have these, in order:
+/// image is as it was, and the patch is empty. A format, a name of the disk and a block write have
+/// no refusal of their own. The others have these, in order:
 ///
 /// - A write `WrongType`, where the kind is DEL or REL; `Directory` with the first condition of a
 ///   sound image that fails; `Exists`, where a used slot has exactly the name; `DiskFull`, where
@@ -105,7 +114,7 @@ pub enum Reply {
 ///
 /// The image keeps its number of tracks. An accepted file command leaves a sound disk, which shows
 /// the command's change and nothing else: a format always, a validation too, the others where the
-/// disk was sound.
+/// disk was sound. A name is given to any disk.
 pub fn apply(image: &mut Image, patch: &mut Patch, command: &Command) -> Result<Reply, Refusal>
     requires patch { patch.old ≡ [] }
     requires block { IsWithin image.old (change_of command.now) }
@@ -142,7 +151,7 @@ pub fn apply_knowing(
     ensures forgotten { OnErr result (patch.new ≡ []) }
     ensures kind { length image.new ≡ length image.old }
     ensures step { IfOk result (λ reply. StartsFrom (change_of command.now) image.old → Leaves image.old (change_of command.now) reply image.new) }
-    ensures sound { OnOk result (IsFileCommand (change_of command.now) → IsSound image.new) }
+    ensures sound { OnOk result (LeavesSound (change_of command.now) is_sound → IsSound image.new) }
 {
     let answer = carried_out(image, patch, command, is_sound);
     if answer.is_ok() {
@@ -175,9 +184,23 @@ fn known_command(command: &Command)
             let _ = old.bytes();
             let _ = new.bytes();
         }
+        Command::Name { name, id } => {
+            let _ = name.bytes();
+            known_id(id);
+        }
         Command::Delete { patterns: _ } => {}
         Command::Validate => {}
         Command::BlockWrite { at: _, block: _ } => {}
+    }
+}
+
+/// An id, if there is one, is known to be two bytes.
+fn known_id(id: &Option<[u8; 2]>)
+    ensures { IfSome id.now AreTwoBytes }
+{
+    match id {
+        Some(id) => known_bytes(id),
+        None => {}
     }
 }
 
@@ -216,6 +239,10 @@ fn carried_out(
         }
         Command::Rename { old, new } => {
             rename(image, patch, old, new, is_sound)?;
+            Ok(Reply::Done)
+        }
+        Command::Name { name, id } => {
+            name_disk(image, patch, name, *id)?;
             Ok(Reply::Done)
         }
         Command::Validate => {

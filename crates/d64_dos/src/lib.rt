@@ -9,6 +9,7 @@ mod block_count;
 mod command;
 mod delete;
 mod directory;
+mod disk_name;
 mod format;
 pub mod laws;
 mod plan;

@@ -25,8 +25,9 @@ use Rattle.d64_effects.proofs.Rows.{map-same, joined-map}
 use Rattle.d64_effects.proofs.SlotChanges.{SlotsChanged}
 use Rattle.d64_effects.proofs.TakenBlocks.{occurs-owned}
 
--- an image with other slots and another map, whose directory and files lie where they lay
-pub record Altered (image other cells : List (List ℕ)) (free : set.FinSet nat_cmp) : Type 0 where
+-- an image with other slots, another map, and this field of the name and this id, whose directory
+-- and files lie where they lay
+pub record AlteredTo (image other cells : List (List ℕ)) (free : set.FinSet nat_cmp) (field code : List ℕ) : Type 0 where
   pub is_image : IsImage other
   pub long : length other ≡ length image
   pub counts : CountsFit other
@@ -34,8 +35,12 @@ pub record Altered (image other cells : List (List ℕ)) (free : set.FinSet nat_
   pub blocks : directory other ≡ directory image
   pub entries : slots other ≡ cells
   pub kept : (block : ℕ) → block ≢ map_block → occurs block (directory image) ≡ 0 → sector_at other block ≡ sector_at image block
-  pub name : disk_field other ≡ disk_field image
-  pub id : disk_id other ≡ disk_id image
+  pub name : disk_field other ≡ field
+  pub id : disk_id other ≡ code
+
+-- one whose name and id stay
+abbrev pub Altered : List (List ℕ) → List (List ℕ) → List (List ℕ) → set.FinSet nat_cmp → Type 0
+Altered image other cells free = AlteredTo image other cells free (disk_field image) (disk_id image)
 
 -- the map's block decides which blocks are free
 free_blocks-same : (image other : List (List ℕ)) → length other ≡ length image → sector_at other map_block ≡ sector_at image map_block
@@ -122,8 +127,8 @@ abbrev pub held_by : List (List ℕ) → List (List ℕ) → ℕ → ℕ
 held_by image cells q = tally (eqb q map_block) + (occurs q (directory image) + occurs q (flat_map (owned_by image) cells))
 
 -- the slots own no more than before, and lack no chain
-module _ (image other cells : List (List ℕ)) (free : set.FinSet nat_cmp) (is : IsImage image) (some : directory image ≢ [])
-    (distinct : IsDistinct nat_eq (owned_blocks image)) (left : Altered image other cells free) (chains : All (HasItsChains image) cells)
+module _ {field code : List ℕ} (image other cells : List (List ℕ)) (free : set.FinSet nat_cmp) (is : IsImage image) (some : directory image ≢ [])
+    (distinct : IsDistinct nat_eq (owned_blocks image)) (left : AlteredTo image other cells free field code) (chains : All (HasItsChains image) cells)
     (fewer : (q : ℕ) → occurs q (flat_map (owned_by image) cells) ≤ occurs q (flat_map (owned_by image) (slots image))) where
   agree : Agree image other (flat_map (owned_by image) cells)
   agree q there =
@@ -184,8 +189,8 @@ module _ (image other cells : List (List ℕ)) (free : set.FinSet nat_cmp) (is :
   -- and shows what these slots show
   pub view_after : view other ≡ record {
     count = length image;
-    name = disk_field image;
-    id = disk_id image;
+    name = field;
+    id = code;
     directory = directory image;
     slots = map (slot_view image) cells;
     free = free;

@@ -7,9 +7,9 @@ use Rattle.d64_files.specs.Name.{IsName, name_in}
 use Rattle.d64_files.proofs.FilledNames.{name_in-filled_field}
 use Rattle.d64_effects.specs.Contents.{ListedFile, listed_file, names_and_contents}
 use Rattle.d64_effects.specs.ContentsAfter.{list_with, is_scratched_row, row_named, renamed_rows}
-use Rattle.d64_effects.specs.ContentsLaws.{FormattedListsNothing, WrittenListsTheFile, ScratchedListsTheOthers, RenamedListsTheName, ValidatedListsTheClosed}
+use Rattle.d64_effects.specs.ContentsLaws.{FormattedListsNothing, WrittenListsTheFile, ScratchedListsTheOthers, RenamedListsTheName, NamedListsTheSame, ValidatedListsTheClosed}
 use Rattle.d64_effects.specs.View.{FileView}
-use Rattle.d64_effects.specs.ViewAfter.{formatted_view, written_view, new_file, is_vacant, slots_with, first_vacant, emptied_if, scratched_view, with_field, renamed_slots, renamed_view, validated_view}
+use Rattle.d64_effects.specs.ViewAfter.{formatted_view, written_view, new_file, is_vacant, slots_with, first_vacant, emptied_if, scratched_view, with_field, renamed_slots, renamed_view, named_view, validated_view}
 use Rattle.d64_effects.specs.Write.{taken_by}
 use Rattle.d64_effects.proofs.Rows.{position-cons}
 
@@ -74,6 +74,10 @@ validated-lists_the_closed shown =
     twice : (b : Bool) → not (not b) ≡ b
     twice true = refl
     twice false = refl
+
+pub named-lists_the_same : NamedListsTheSame
+unfolding named_view
+named-lists_the_same shown name id = refl
 
 -- the first file of a name
 rows-renamed : (slots : List (Option FileView)) (old new : List ℕ) → IsName new

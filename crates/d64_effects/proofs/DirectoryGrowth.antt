@@ -12,7 +12,7 @@ use Rattle.d64_image.specs.declared.block.TheConstants.{BLOCKS}
 use Rattle.d64_image.specs.declared.image.TheConstants.{BLOCK_BYTES}
 use Rattle.d64_image.specs.Block.{pair_at}
 use Rattle.d64_image.specs.Image.{IsBlock, IsSize, IsImage, sector_at, with_sector}
-use Rattle.d64_files.specs.Chain.{Chain, held_block, led_by, link_at, link_of, link_to}
+use Rattle.d64_files.specs.Chain.{Chain, led_by, link_at, link_of, link_to}
 use Rattle.d64_files.specs.Directory.{directory, slots, slots_in}
 use Rattle.d64_files.specs.Slot.{cell, cells}
 use Rattle.d64_files.specs.Writing.{written_at, with_bytes, pair_bytes, dir_last, empty_directory, with_growth}

@@ -4,10 +4,11 @@ use Rattle.std.specs.Prelude.{position, slice_get, replicate, bytes_eq}
 use Rattle.std.proofs.lemmas.List.Quantifiers.{position-Some}
 use Rattle.std.proofs.lemmas.Slice.Eq.{bytes_eq-Decides}
 use Rattle.d64_files.specs.Name.{name_in}
-use Rattle.d64_effects.specs.KeepingLaws.{WritingKeepsFiles, DeletingKeepsOtherFiles, RenamingKeepsOtherFiles, ValidatingKeepsClosedFiles}
+use Rattle.d64_effects.specs.KeepingLaws.{WritingKeepsFiles, DeletingKeepsOtherFiles, RenamingKeepsOtherFiles, NamingKeepsFiles, ValidatingKeepsClosedFiles}
 use Rattle.d64_effects.specs.View.{View, FileView, view}
-use Rattle.d64_effects.specs.ViewAfter.{written_view, new_file, is_vacant, slots_with, first_vacant, emptied_if, is_scratched_file, scratched_view, with_field, renamed_slots, renamed_view, validated_view}
+use Rattle.d64_effects.specs.ViewAfter.{written_view, new_file, is_vacant, slots_with, first_vacant, emptied_if, is_scratched_file, scratched_view, with_field, renamed_slots, renamed_view, named_view, validated_view}
 use Rattle.d64_effects.specs.Write.{taken_by}
+use Rattle.d64_effects.proofs.NamedDisks.{named-shows}
 use Rattle.d64_effects.proofs.RenamedDisks.{renamed-shows}
 use Rattle.d64_effects.proofs.ScratchedDisks.{scratched-shows}
 use Rattle.d64_effects.proofs.ValidatedDisks.{validated-shows}
@@ -85,6 +86,11 @@ unfolding renamed_view
 renaming-keeps image old new is named sound slot file other h =
     ap (λ (shown : View). slice_get shown.slots slot) (renamed-shows image old new is named sound)
     ∙ kept-renamed (view image).slots old new file other slot h
+
+pub naming-keeps : NamingKeepsFiles
+unfolding named_view
+naming-keeps image name id is named two sound slot file h =
+    ap (λ (shown : View). slice_get shown.slots slot) (named-shows image name id is named two sound) ∙ h
 
 pub validating-keeps : ValidatingKeepsClosedFiles
 unfolding validated_view

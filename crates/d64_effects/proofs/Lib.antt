@@ -18,6 +18,7 @@ pub mod SlotChanges
 pub mod Clearing
 pub mod AlteredDisks
 pub mod RenamedDisks
+pub mod NamedDisks
 pub mod ClearedDisks
 pub mod ValidatedDisks
 pub mod ScratchedDisks

@@ -2,11 +2,12 @@
 use Rattle.std.proofs.Common.{ℕ, length, ap, ◌∙◌}
 use Rattle.d64_effects.specs.Contents.{names_and_contents}
 use Rattle.d64_effects.specs.ContentsAfter.{list_with, new_row}
-use Rattle.d64_effects.specs.ContentsLaws.{FormattedDiskLists, WrittenDiskLists, ScratchedDiskLists, RenamedDiskLists, ValidatedDiskLists}
+use Rattle.d64_effects.specs.ContentsLaws.{FormattedDiskLists, WrittenDiskLists, ScratchedDiskLists, RenamedDiskLists, NamedDiskLists, ValidatedDiskLists}
 use Rattle.d64_effects.specs.View.{view}
 use Rattle.d64_effects.specs.ViewAfter.{first_vacant}
-use Rattle.d64_effects.proofs.ContentSteps.{formatted-lists_nothing, written-lists_the_file, scratched-lists_the_others, renamed-lists_the_name, validated-lists_the_closed}
+use Rattle.d64_effects.proofs.ContentSteps.{formatted-lists_nothing, written-lists_the_file, scratched-lists_the_others, renamed-lists_the_name, named-lists_the_same, validated-lists_the_closed}
 use Rattle.d64_effects.proofs.FormattedDisks.{view-formatted_disk}
+use Rattle.d64_effects.proofs.NamedDisks.{named-shows}
 use Rattle.d64_effects.proofs.RenamedDisks.{renamed-shows}
 use Rattle.d64_effects.proofs.ScratchedDisks.{scratched-shows}
 use Rattle.d64_effects.proofs.TakenBlocks.{takes}
@@ -32,6 +33,10 @@ scratched-disk_lists image patterns is sound =
 pub renamed-disk_lists : RenamedDiskLists
 renamed-disk_lists image old new is named sound =
     ap names_and_contents (renamed-shows image old new is named sound) ∙ renamed-lists_the_name (view image) old new named
+
+pub named-disk_lists : NamedDiskLists
+named-disk_lists image name id is named two sound =
+    ap names_and_contents (named-shows image name id is named two sound) ∙ named-lists_the_same (view image) name id
 
 pub validated-disk_lists : ValidatedDiskLists
 validated-disk_lists image is accepted =

@@ -1,6 +1,6 @@
 -- What the commands make of the directory's list of names and contents: on disks, and on views,
 -- whose steps are these steps on that list.
-use Rattle.std.specs.Prelude.{◌≡◌, ℕ, not, List, [], length, filter}
+use Rattle.std.specs.Prelude.{◌≡◌, ℕ, not, List, [], length, filter, Option, IfSome}
 use Rattle.d64_image.specs.Disk.{Disk, Bytes}
 use Rattle.d64_image.specs.Image.{IsSize, IsImage}
 use Rattle.d64_files.specs.Directory.{AllHold}
@@ -9,12 +9,13 @@ use Rattle.d64_files.specs.Writing.{blocks_for}
 use Rattle.d64_effects.specs.Contents.{ListedFile, names_and_contents}
 use Rattle.d64_effects.specs.ContentsAfter.{list_with, new_row, is_scratched_row, renamed_rows}
 use Rattle.d64_effects.specs.Delete.{scratched_disk}
+use Rattle.d64_effects.specs.DiskName.{named_disk}
 use Rattle.d64_effects.specs.Format.{formatted_disk}
 use Rattle.d64_effects.specs.Laws.{AreTwoBytes, AreBytes, HasRoom, IsWritable}
 use Rattle.d64_effects.specs.Rename.{renamed_disk}
 use Rattle.d64_effects.specs.Validate.{validated_disk}
 use Rattle.d64_effects.specs.View.{View, IsSound, view}
-use Rattle.d64_effects.specs.ViewAfter.{formatted_view, written_view, first_vacant, scratched_view, renamed_view, validated_view}
+use Rattle.d64_effects.specs.ViewAfter.{formatted_view, written_view, first_vacant, scratched_view, renamed_view, named_view, validated_view}
 use Rattle.d64_effects.specs.Write.{taken_by, written_disk}
 use Rattle.d64_files.specs.declared.kind.Kind.{Kind}
 
@@ -41,6 +42,10 @@ abbrev pub RenamedListsTheName : Type 0
 RenamedListsTheName =
     (shown : View) (old new : Bytes)
     → IsName new → names_and_contents (renamed_view shown old new) ≡ renamed_rows (names_and_contents shown) old new
+
+-- a new name of the disk leaves the list as it was
+abbrev pub NamedListsTheSame : Type 0
+NamedListsTheSame = (shown : View) (name : Bytes) (id : Option Bytes) → names_and_contents (named_view shown name id) ≡ names_and_contents shown
 
 -- a validation leaves the closed files in the list
 abbrev pub ValidatedListsTheClosed : Type 0
@@ -76,6 +81,12 @@ abbrev pub RenamedDiskLists : Type 0
 RenamedDiskLists =
     (image : Disk) (old new : Bytes)
     → IsImage image → IsName new → IsSound image → files_of (renamed_disk image old new) ≡ renamed_rows (files_of image) old new
+
+-- a sound disk with another name lists the same files
+abbrev pub NamedDiskLists : Type 0
+NamedDiskLists =
+    (image : Disk) (name : Bytes) (id : Option Bytes)
+    → IsImage image → IsName name → IfSome id AreTwoBytes → IsSound image → files_of (named_disk image name id) ≡ files_of image
 
 -- and a validated disk lists the closed files
 abbrev pub ValidatedDiskLists : Type 0

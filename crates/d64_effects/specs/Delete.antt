@@ -1,7 +1,7 @@
 -- The image that the deleting of files leaves, byte for byte.
 use Rattle.std.specs.Prelude.{ℕ, ◌&&◌, Bool, not, List, [], ◌∷◌, length}
 use Rattle.std.specs.List.{list_any, flat_map}
-use Rattle.d64_image.specs.Disk.{Disk, Bytes, Blocks}
+use Rattle.d64_image.specs.Disk.{Disk, Bytes}
 use Rattle.d64_map.specs.Map.{free_blocks, with_map}
 use Rattle.d64_files.specs.Directory.{slots, slot_owns}
 use Rattle.d64_files.specs.Pattern.{matches}

@@ -1,11 +1,12 @@
 -- Files that a command doesn't name keep their slot, their chain and their content.
-use Rattle.std.specs.Prelude.{◌≡◌, ◌≢◌, ℕ, true, false, List, length, slice_get, Some}
+use Rattle.std.specs.Prelude.{◌≡◌, ◌≢◌, ℕ, true, false, List, length, slice_get, Option, Some, IfSome}
 use Rattle.d64_image.specs.Disk.{Disk, Bytes}
 use Rattle.d64_files.specs.Name.{IsName, name_in}
 use Rattle.d64_files.specs.Directory.{AllHold}
 use Rattle.d64_image.specs.Image.{IsImage}
 use Rattle.d64_effects.specs.Delete.{scratched_disk}
-use Rattle.d64_effects.specs.Laws.{HasRoom, AreBytes, IsWritable}
+use Rattle.d64_effects.specs.DiskName.{named_disk}
+use Rattle.d64_effects.specs.Laws.{HasRoom, AreBytes, AreTwoBytes, IsWritable}
 use Rattle.d64_effects.specs.Rename.{renamed_disk}
 use Rattle.d64_effects.specs.Validate.{validated_disk}
 use Rattle.d64_effects.specs.View.{FileView, IsSound, view}
@@ -38,6 +39,13 @@ RenamingKeepsOtherFiles =
     (image : Disk) (old new : Bytes)
     → IsImage image → IsName new → IsSound image
     → (slot : ℕ) (file : FileView) → name_in file.field ≢ old → HasFile image slot file → HasFile (renamed_disk image old new) slot file
+
+-- a new name of the disk keeps every file
+abbrev pub NamingKeepsFiles : Type 0
+NamingKeepsFiles =
+    (image : Disk) (name : Bytes) (id : Option Bytes)
+    → IsImage image → IsName name → IfSome id AreTwoBytes → IsSound image
+    → (slot : ℕ) (file : FileView) → HasFile image slot file → HasFile (named_disk image name id) slot file
 
 -- a validation keeps every closed file
 abbrev pub ValidatingKeepsClosedFiles : Type 0

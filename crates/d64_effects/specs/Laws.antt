@@ -1,5 +1,5 @@
 -- What follows from the definitions of the effects.
-use Rattle.std.specs.Prelude.{◌≡◌, ◌≢◌, ℕ, ◌-◌, ◌<◌, ◌≤◌, List, All, length, filter, None}
+use Rattle.std.specs.Prelude.{◌≡◌, ◌≢◌, ℕ, ◌-◌, ◌<◌, ◌≤◌, List, All, length, filter, Option, None, IfSome}
 use Rattle.d64_image.specs.Disk.{Disk, Bytes}
 use Rattle.d64_files.specs.Name.{IsName}
 use Rattle.d64_files.specs.Directory.{slots, AllHold}
@@ -10,12 +10,13 @@ use Rattle.d64_map.specs.Map.{free_blocks, blocks_free, CountsFit}
 use Rattle.d64_map.specs.Plan.{room}
 use Rattle.d64_effects.specs.Contents.{names_and_contents}
 use Rattle.d64_effects.specs.ContentsAfter.{is_scratched_row}
+use Rattle.d64_effects.specs.DiskName.{named_disk}
 use Rattle.d64_effects.specs.Delete.{scratched_count, scratched_disk}
 use Rattle.d64_effects.specs.Format.{formatted_disk, free_when_formatted}
 use Rattle.d64_effects.specs.Rename.{renamed_disk}
 use Rattle.d64_effects.specs.Validate.{validated_disk}
 use Rattle.d64_effects.specs.View.{IsSound, view}
-use Rattle.d64_effects.specs.ViewAfter.{formatted_view, written_view, scratched_view, renamed_view, validated_view}
+use Rattle.d64_effects.specs.ViewAfter.{formatted_view, written_view, scratched_view, renamed_view, named_view, validated_view}
 use Rattle.d64_effects.specs.Write.{written_disk, next_of_directory}
 use Rattle.d64_files.specs.declared.kind.Kind.{Kind}
 use Rattle.d64_files.specs.declared.kind.Kind.TheVariants.{Del, Rel}
@@ -100,6 +101,22 @@ abbrev pub RenamedShows : Type 0
 RenamedShows =
     (image : Disk) (old new : Bytes)
     → IsImage image → IsName new → IsSound image → view (renamed_disk image old new) ≡ renamed_view (view image) old new
+
+-- a new name of the disk, and a new id, leave an image
+abbrev pub NamedIsImage : Type 0
+NamedIsImage = (image : Disk) (name : Bytes) (id : Option Bytes) → IsImage image → IsName name → IfSome id AreTwoBytes → IsImage (named_disk image name id)
+
+-- a sound image stays sound under a new name of the disk
+abbrev pub NamedIsSound : Type 0
+NamedIsSound =
+    (image : Disk) (name : Bytes) (id : Option Bytes)
+    → IsImage image → IsName name → IfSome id AreTwoBytes → IsSound image → IsSound (named_disk image name id)
+
+-- and its view changes as the definition says
+abbrev pub NamedShows : Type 0
+NamedShows =
+    (image : Disk) (name : Bytes) (id : Option Bytes)
+    → IsImage image → IsName name → IfSome id AreTwoBytes → IsSound image → view (named_disk image name id) ≡ named_view (view image) name id
 
 -- the deleting of files leaves an image
 abbrev pub ScratchedIsImage : Type 0

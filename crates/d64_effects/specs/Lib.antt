@@ -3,6 +3,7 @@ pub mod Write
 pub mod Clear
 pub mod Delete
 pub mod Rename
+pub mod DiskName
 pub mod Validate
 pub mod View
 pub mod Contents

@@ -1,5 +1,5 @@
 -- What commands make of the view of a disk: what a case does not name stays as it was.
-use Rattle.std.specs.Prelude.{ℕ, ◌-◌, true, false, not, if◌then◌else◌, List, [], ◌∷◌, ◌++◌, map, length, replicate, position, slice_index, slice_set, bytes_eq, Bool, Option, Some, None}
+use Rattle.std.specs.Prelude.{ℕ, ◌-◌, true, false, not, if◌then◌else◌, List, [], ◌∷◌, ◌++◌, map, length, replicate, position, slice_index, slice_set, bytes_eq, unwrap_or, Bool, Option, Some, None}
 use Rattle.std.specs.List.{flat_map}
 use Rattle.d64_image.specs.Disk.{Bytes, Blocks}
 use Rattle.d64_map.specs.Map.{map_block}
@@ -106,6 +106,10 @@ renamed_slots (Some file ∷ slots) old new =
 -- after the renaming of the first file of a name
 unfoldable pub renamed_view : View → Bytes → Bytes → View
 renamed_view shown old new = record shown { slots = renamed_slots shown.slots old new }
+
+-- after the disk is given a name, and an id, if there is one
+unfoldable pub named_view : View → Bytes → Option Bytes → View
+named_view old name id = record old { name = filled_field name; id = unwrap_or id old.id }
 
 -- the blocks that a disk owns: the map's, the directory's, and those of its files
 abbrev pub blocks_owned : View → Blocks

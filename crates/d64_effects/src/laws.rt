@@ -5,14 +5,15 @@ ghost use Rattle.d64_effects.specs.Laws.{FormattedIsImage, FormattedIsFree, Form
 ghost use Rattle.d64_effects.specs.Laws.{FormattedIsSound, FormattedShows};
 ghost use Rattle.d64_effects.specs.Laws.{WrittenIsImage, WrittenIsSound, WrittenShows};
 ghost use Rattle.d64_effects.specs.Laws.{RenamedIsImage, RenamedIsSound, RenamedShows};
+ghost use Rattle.d64_effects.specs.Laws.{NamedIsImage, NamedIsSound, NamedShows};
 ghost use Rattle.d64_effects.specs.Laws.{ScratchedIsImage, ScratchedIsSound, ScratchedShows, ScratchedAreCounted};
 ghost use Rattle.d64_effects.specs.Laws.{ValidatedIsImage, ValidatedIsSound, ValidatedShows};
 ghost use Rattle.d64_effects.specs.ClearLaws.{ClearingKeepsTheImage, ClearingKeepsTheDirectory, ClearingKeepsTheNumberOfSlots};
 ghost use Rattle.d64_effects.specs.ClearLaws.{OneMoreSlotCounts, SlotsWhereAreSlots};
-ghost use Rattle.d64_effects.specs.KeepingLaws.{WritingKeepsFiles, DeletingKeepsOtherFiles, RenamingKeepsOtherFiles, ValidatingKeepsClosedFiles};
+ghost use Rattle.d64_effects.specs.KeepingLaws.{WritingKeepsFiles, DeletingKeepsOtherFiles, RenamingKeepsOtherFiles, NamingKeepsFiles, ValidatingKeepsClosedFiles};
 ghost use Rattle.d64_effects.specs.ContentsLaws.{FormattedListsNothing, WrittenListsTheFile, ScratchedListsTheOthers};
-ghost use Rattle.d64_effects.specs.ContentsLaws.{RenamedListsTheName, ValidatedListsTheClosed};
-ghost use Rattle.d64_effects.specs.ContentsLaws.{FormattedDiskLists, WrittenDiskLists, ScratchedDiskLists, RenamedDiskLists, ValidatedDiskLists};
+ghost use Rattle.d64_effects.specs.ContentsLaws.{RenamedListsTheName, NamedListsTheSame, ValidatedListsTheClosed};
+ghost use Rattle.d64_effects.specs.ContentsLaws.{FormattedDiskLists, WrittenDiskLists, ScratchedDiskLists, RenamedDiskLists, NamedDiskLists, ValidatedDiskLists};
 
 /// A formatted disk is a sound image with 664 blocks free on 35 tracks, or 749 on 40, which shows
 /// its name and id and no file.
@@ -39,6 +40,14 @@ pub fn renamed_disk_is_sound()
     ensures image { RenamedIsImage }
     ensures sound { RenamedIsSound }
     ensures view { RenamedShows }
+{}
+
+/// Another name of the disk, and another id, leave an image, and a sound one of a sound image, which
+/// shows them and nothing else that is new.
+pub fn named_disk_is_sound()
+    ensures image { NamedIsImage }
+    ensures sound { NamedIsSound }
+    ensures view { NamedShows }
 {}
 
 /// While slots of an image are cleared one after another, it stays an image, and its directory
@@ -72,11 +81,13 @@ pub fn validated_disk_is_sound()
 /// A file that a command doesn't name keeps its slot, its blocks and its content, and all else that
 /// a disk shows of it: under the writing of a file every file, under the deleting of files those
 /// that are locked, not closed or matched by no pattern, under the renaming of a file those of
-/// other names, and under a validation those that are closed.
+/// other names, under a new name of the disk every file, and under a validation those that are
+/// closed.
 pub fn files_that_are_not_named_stay()
     ensures writing { WritingKeepsFiles }
     ensures deleting { DeletingKeepsOtherFiles }
     ensures renaming { RenamingKeepsOtherFiles }
+    ensures naming { NamingKeepsFiles }
     ensures validating { ValidatingKeepsClosedFiles }
 {}
 
@@ -87,6 +98,7 @@ pub fn steps_change_the_list_of_files()
     ensures written { WrittenListsTheFile }
     ensures scratched { ScratchedListsTheOthers }
     ensures renamed { RenamedListsTheName }
+    ensures named { NamedListsTheSame }
     ensures validated { ValidatedListsTheClosed }
 {}
 
@@ -94,11 +106,12 @@ pub fn steps_change_the_list_of_files()
 /// disk: a formatted disk lists nothing; a written file stands at the place of the first empty
 /// slot, or at the end; deleted files are gone, a renamed one has its new name, and after a
 /// validation the closed files are left. The other files of the list stay as they were, in their
-/// order.
+/// order, as under a new name of the disk all do.
 pub fn commands_change_the_list_of_files()
     ensures formatted { FormattedDiskLists }
     ensures written { WrittenDiskLists }
     ensures scratched { ScratchedDiskLists }
     ensures renamed { RenamedDiskLists }
+    ensures named { NamedDiskLists }
     ensures validated { ValidatedDiskLists }
 {}

@@ -39,7 +39,7 @@ pub struct Session {
     records: PatchList,
     /// The place between the records that are done and those that are undone.
     cursor: Place,
-    /// Whether the image is known to be sound: a file command left it.
+    /// Whether the image is known to be sound: a command left it that leaves a sound disk.
     is_sound: bool,
     /// The blocks that a command changes, while it runs; empty between commands. It is kept, so
     /// that its memory is asked for once.
@@ -184,7 +184,7 @@ impl Session {
         }
         self.change.clear();
         self.cursor = self.records.end();
-        self.is_sound = command.is_file_command();
+        self.is_sound = command.leaves_sound(self.is_sound);
         Ok(reply)
     }
 

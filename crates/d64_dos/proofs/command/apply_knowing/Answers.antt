@@ -27,7 +27,7 @@ returns-then-is_ok-clause-step c =
 pub returns-then-is_ok-clause-sound : goal.returns-then-is_ok-clause-sound
 returns-then-is_ok-clause-sound c =
     let done = c.carried_out-answer in
-    sound_of c.args.image.now done.new.image (change_of c.args.command.now) done.result done.ensures.known.0 done.ensures.known.1 done.ensures.refused
+    sound_of c.args.image.now done.new.image (change_of c.args.command.now) c.args.is_sound done.result c.requires.known done.ensures.known.0 done.ensures.known.1 done.ensures.refused
     done.ensures.reply done.ensures.accepted
 
 pub returns-else-is_ok-clause-unchanged : goal.returns-else-is_ok-clause-unchanged

@@ -1,4 +1,4 @@
-use Rattle.d64_effects.proofs.ListedDisks.{formatted-disk_lists, written-disk_lists, scratched-disk_lists, renamed-disk_lists, validated-disk_lists}
+use Rattle.d64_effects.proofs.ListedDisks.{formatted-disk_lists, written-disk_lists, scratched-disk_lists, renamed-disk_lists, named-disk_lists, validated-disk_lists}
 use Rattle.d64_effects.proofs.laws.commands_change_the_list_of_files.Goals as goal
 
 pub returns-clause-formatted : goal.returns-clause-formatted
@@ -15,3 +15,6 @@ returns-clause-renamed c = renamed-disk_lists
 
 pub returns-clause-validated : goal.returns-clause-validated
 returns-clause-validated c = validated-disk_lists
+
+pub returns-clause-named : goal.returns-clause-named
+returns-clause-named c = named-disk_lists

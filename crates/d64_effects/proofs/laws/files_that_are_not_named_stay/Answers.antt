@@ -1,4 +1,4 @@
-use Rattle.d64_effects.proofs.KeptFiles.{writing-keeps, deleting-keeps, renaming-keeps, validating-keeps}
+use Rattle.d64_effects.proofs.KeptFiles.{writing-keeps, deleting-keeps, renaming-keeps, naming-keeps, validating-keeps}
 use Rattle.d64_effects.proofs.laws.files_that_are_not_named_stay.Goals as goal
 
 pub returns-clause-writing : goal.returns-clause-writing
@@ -12,3 +12,6 @@ returns-clause-renaming c = renaming-keeps
 
 pub returns-clause-validating : goal.returns-clause-validating
 returns-clause-validating c = validating-keeps
+
+pub returns-clause-naming : goal.returns-clause-naming
+returns-clause-naming c = naming-keeps

@@ -58,7 +58,7 @@ invariant_of-self-2 c =
       h.within,
       h.lead,
       c.end-self-inside.ensures.blocks ∙ ap (blocks_before c.replace_from-kept.new.self) (sym c.end-self-inside.ensures.number),
-      λ known. c.in_ok-reply.ensures.sound (c.is_file_command-self-inside.ensures.0 known),
+      λ known. c.in_ok-reply.ensures.sound (c.leaves_sound-self-inside.ensures.0 known),
       cc,
     )
 

@@ -1,0 +1,57 @@
+//! Another name of the disk, and another id.
+ghost use Rattle.std.specs.Prelude.{◌≡◌, OnOk};
+ghost use Rattle.d64_image.specs.Patch.{IsPatchOf, restored_image};
+ghost use Rattle.d64_files.specs.Name.{filled_field};
+ghost use Rattle.d64_effects.specs.DiskName.{labelled, named_disk};
+
+use crate::format::{ID_START, NAME_START};
+use d64_files::{FILLER, Name, write_at};
+use d64_image::{BLOCK_BYTES, Image, Patch};
+use d64_map::map_block;
+use std::alloc::AllocError;
+
+/// How many bytes the field of the disk's name has.
+const NAME_BYTES: usize = 16;
+
+/// A name in the disk's field, filled with shifted spaces.
+fn name_field(name: &Name) -> [u8; NAME_BYTES]
+    ensures { result ≡ filled_field name.now }
+{
+    let name = name.bytes();
+    let mut field = [FILLER; NAME_BYTES];
+    field[..name.len()].copy_from_slice(name);
+    field
+}
+
+/// The map's block with another name, and another id, if there is one.
+#[tactic(auto, unfolding(d64_effects::specs::DiskName::labelled))]
+fn labelled(old: &[u8; BLOCK_BYTES], name: &Name, id: Option<[u8; 2]>) -> [u8; BLOCK_BYTES]
+    ensures { result ≡ labelled old.now name.now id }
+{
+    let mut block = *old;
+    write_at(&mut block, NAME_START, &name_field(name));
+    match id {
+        Some(id) => write_at(&mut block, ID_START, &id),
+        None => {}
+    }
+    block
+}
+
+/// Gives the disk another name, and another id, if there is one. No other byte changes, and the
+/// image needn't be sound. Refused where there is no memory to keep the map's block; then the image
+/// stays.
+#[tactic(auto, unfolding(d64_effects::specs::DiskName::named_disk))]
+pub(crate) fn name_disk(
+    image: &mut Image,
+    patch: &mut Patch,
+    name: &Name,
+    id: Option<[u8; 2]>,
+) -> Result<(), AllocError>
+    ensures named { OnOk result (image.new ≡ named_disk image.old name.now id) }
+    ensures back { restored_image image.new patch.new ≡ restored_image image.old patch.old }
+    ensures held { IsPatchOf image.old patch.old → IsPatchOf image.new patch.new }
+{
+    image.known_image();
+    let block = labelled(image.sector(map_block()), name, id);
+    patch.write(image, map_block(), &block)
+}
