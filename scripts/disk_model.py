@@ -46,6 +46,13 @@ def name_in(text, allowed=b""):
     return name
 
 
+def id_in(text):
+    disk_id = from_text(text)
+    if disk_id is None or len(disk_id) != 2 or any(byte in FORBIDDEN for byte in disk_id):
+        raise Refused(33)
+    return disk_id
+
+
 def matches(pattern, name):
     if pattern[:1] == b"*" or not pattern:
         return bool(pattern) or not name
@@ -233,6 +240,14 @@ class Disk:
             raise Refused(63)
         return self.with_bytes(slot, 5, filled(new))
 
+    def named(self, name, disk_id):
+        """The disk with another name, and another id, if there is one."""
+        head = bytearray(self.block(MAP))
+        head[0x90:0xA0] = filled(name)
+        if disk_id is not None:
+            head[0xA2:0xA4] = disk_id
+        return self.with_block(MAP, bytes(head))
+
     def validated(self):
         owned = self.owned()
         return self.without([slot for slot in self.slots() if not slot.closed]).with_free(set(self.pairs) - owned)
@@ -319,7 +334,7 @@ def plan(free, count):
 
 # Lines
 
-FEWEST_AND_MOST = {"format": (1, 1), "list": (0, 0), "read": (1, 2), "write": (1, 2), "crunch": (1, 2), "petcat": (1, 1), "delete": (1, 1_024), "rename": (2, 2), "validate": (0, 0),
+FEWEST_AND_MOST = {"format": (1, 1), "list": (0, 0), "read": (1, 2), "write": (1, 2), "crunch": (1, 2), "petcat": (1, 1), "type": (1, 1), "name": (1, 1), "delete": (1, 1_024), "rename": (2, 2), "validate": (0, 0),
                    "block": (2, 2), "bread": (3, 3), "bwrite": (3, 3), "undo": (0, 0), "redo": (0, 0), "history": (0, 0), "save": (0, 1), "keep": (1, 1), "quit": (0, 0)}
 
 
@@ -416,10 +431,11 @@ class Shell:
         name, comma, disk_id = word.partition(",")
         if not comma:
             raise Refused(30)
-        name, disk_id = name_in(name), from_text(disk_id)
-        if disk_id is None or len(disk_id) != 2 or any(byte in FORBIDDEN for byte in disk_id):
-            raise Refused(33)
-        self.add(formatted(name, disk_id, disk.tracks))
+        self.add(formatted(name_in(name), id_in(disk_id), disk.tracks))
+
+    def do_name(self, disk, word):
+        name, comma, disk_id = word.partition(",")
+        self.add(disk.named(name_in(name), id_in(disk_id) if comma else None))
 
     def do_list(self, disk):
         return disk.listing()
@@ -460,6 +476,11 @@ class Shell:
             return basic_model.listing(data)
         except basic_model.Fault as fault:
             raise Refused(85, fault.number) from fault
+
+    def do_type(self, disk, pattern):
+        _, data = disk.read(name_in(pattern, b"*?"))
+        lines = data.split(b"\r")
+        return "".join(to_text(line) + "\n" for line in (lines if lines[-1] else lines[:-1]))
 
     def do_delete(self, disk, *words):
         patterns = [name_in(word, b"*?") for word in words]

@@ -91,8 +91,10 @@ Lines:   format NAME,ID         make the disk empty
          crunch HOST [NAME]     write the BASIC program of a host file's text
          read NAME [HOST]       store a file of the disk as a host file
          petcat NAME            print the text of a BASIC program
+         type NAME              print a text of the disk
          delete PATTERN ..      delete the files whose names match
          rename OLD NEW         give a file another name
+         name TEXT[,ID]         give the disk another name
          list                   print the directory
          validate               free the blocks that no closed file has
          block T S              print the block of track T and sector S

@@ -5,4 +5,5 @@ pub mod LastParts
 mod LoneCommands
 pub mod AsciiTexts
 pub mod FoundFiles
+pub mod FileTexts
 pub mod HeldAnswers

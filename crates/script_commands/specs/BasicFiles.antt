@@ -1,6 +1,6 @@
 -- What a BASIC text of the host and a program of the disk are turned into, or the status that
 -- refuses them.
-use Rattle.std.specs.Prelude.{◌≡◌, ℕ, List, Result, Ok, Err}
+use Rattle.std.specs.Prelude.{◌≡◌, ℕ, Result, Ok, Err}
 use Rattle.d64_image.specs.Disk.{Bytes}
 use Rattle.std.specs.Option.{option_map_or}
 use Rattle.cbm_text.specs.BasicText as texts

@@ -1,5 +1,5 @@
 -- The file that a pattern finds, and whether its name can be that of a host file.
-use Rattle.std.specs.Prelude.{ℕ, nat_lt, ◌==◌, ◌&&◌, not, Bool, List, [], length, codes, bytes_eq}
+use Rattle.std.specs.Prelude.{ℕ, nat_lt, ◌==◌, ◌&&◌, not, Bool, [], length, codes, bytes_eq}
 use Rattle.d64_image.specs.Disk.{Bytes, Disk}
 use Rattle.std.specs.List.{list_any}
 use Rattle.std.specs.Option.{option_map_or}

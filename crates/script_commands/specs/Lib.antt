@@ -1,6 +1,7 @@
 pub mod Arguments
 pub mod ArgumentTexts
 pub mod ListingText
+pub mod FileText
 pub mod HistoryText
 pub mod FoundFile
 pub mod BasicFiles

@@ -17,12 +17,13 @@ use Rattle.script_text.specs.Words.{words_of}
 use Rattle.petscii.specs.Spelling.{spelling}
 use Rattle.script_commands.specs.Arguments.{host_in, block_in, at_comma, can_be_id, name_word, name_and_kind_of}
 use Rattle.script_commands.specs.FoundFile.{found_name, found_content, is_file_name}
+use Rattle.script_commands.specs.FileText.{file_text}
 use Rattle.script_commands.specs.HistoryText.{history_text}
 use Rattle.script_commands.specs.ListingText.{listing_text}
 use Rattle.script_text.specs.RawLines.{text_of, is_too_long, is_skipped}
 use Rattle.script_text.specs.Dump.{dump}
 use Rattle.script_commands.specs.WordCounts.{no_word, one_word, at_most_one, word_and, some_words}
-use Rattle.script_commands.specs.Act.{Act, Give, Refuse, ◌>>=◌, ◌>>◌, value_or_refusal, need, Call, Text, Fetch, Store, Crunch, Expand, Room, ask, each_text, Ending, plain_answer, World, LineAnswer, Does}
+use Rattle.script_commands.specs.Act.{Act, Give, Refuse, ◌>>=◌, ◌>>◌, value_or_refusal, need, Text, Fetch, Store, Crunch, Expand, Room, ask, each_text, Ending, plain_answer, World, LineAnswer, Does}
 use Rattle.d64_dos.specs.Change.{Change}
 use Rattle.d64_dos.specs.Change as changes
 use Rattle.d64_dos.specs.declared.command.Reply.{Reply}
@@ -160,6 +161,19 @@ show_program history pattern = do
   listing ← ask (Expand (found_content (present_image history) pattern))
   show listing history
 
+-- `name`: the disk is given another name, and another id, where the word has one after a comma
+abbrev pub name_parts : History → Bytes → Option (Bytes × Bytes) → Act Ending
+name_parts history word None = do
+  name ← ask (Text is_name word)
+  run history (changes.Name name None)
+name_parts history word (Some parts) = do
+  name ← ask (Text is_name parts.0)
+  id ← ask (Text can_be_id parts.1)
+  run history (changes.Name name (Some id))
+
+abbrev pub name_act : History → Bytes → Act Ending
+name_act history word = name_parts history word (at_comma word)
+
 -- `petcat`: a BASIC program of the disk is shown as text
 abbrev pub petcat_act : History → Bytes → Act Ending
 petcat_act history name = do
@@ -210,6 +224,19 @@ save_act home history (Some host) = do
   name ← value_or_refusal (host_in host)
   put history name (bytes_of (present_image history))
 
+-- the file that a pattern finds is shown as text
+abbrev pub show_file : History → Bytes → Act Ending
+show_file history pattern = do
+  refuse_by (read_refusal (present_image history) pattern)
+  ask Room
+  show (file_text (found_content (present_image history) pattern)) history
+
+-- `type`: a text of the disk is shown
+abbrev pub type_act : History → Bytes → Act Ending
+type_act history name = do
+  pattern ← ask (Text is_pattern name)
+  show_file history pattern
+
 -- `undo`
 abbrev pub undo_act : History → Act Ending
 undo_act history = do
@@ -252,8 +279,10 @@ disk_commands history words =
     (codes "block", word_and one_word words >>= block_act history)
     ∷ (codes "delete", some_words words >>= delete_act history)
     ∷ (codes "format", one_word words >>= format_act history)
+    ∷ (codes "name", one_word words >>= name_act history)
     ∷ (codes "petcat", one_word words >>= petcat_act history)
     ∷ (codes "rename", word_and one_word words >>= rename_act history)
+    ∷ (codes "type", one_word words >>= type_act history)
     ∷ []
 
 -- those that take a file from the host to the disk or back

@@ -1,5 +1,5 @@
 -- The lines of a directory.
-use Rattle.std.specs.Prelude.{ℕ, ◌-◌, if◌then◌else◌, List, [], ◌++◌, length, replicate, codes}
+use Rattle.std.specs.Prelude.{ℕ, ◌-◌, if◌then◌else◌, [], ◌++◌, length, replicate, codes}
 use Rattle.d64_image.specs.Disk.{Bytes}
 use Rattle.std.specs.Fmt.{decimal}
 use Rattle.std.specs.List.{flat_map}

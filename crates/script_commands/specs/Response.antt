@@ -1,5 +1,5 @@
 -- What a line prints, as the code holds it, and that it responds as an act asks.
-use Rattle.std.specs.Prelude.{ℕ, nat_lt, if◌then◌else◌, List, [], length, Result, Ok, Err}
+use Rattle.std.specs.Prelude.{nat_lt, if◌then◌else◌, [], length, Result, Ok, Err}
 use Rattle.d64_image.specs.Disk.{Bytes, Disk}
 use Rattle.d64_image.specs.Image.{sector_at}
 use Rattle.script_text.specs.Dump.{dump}

@@ -1,6 +1,6 @@
 -- How many words follow that of a command: where they are too few one is missed, and where they are
 -- too many they are refused.
-use Rattle.std.specs.Prelude.{ℕ, nat_le, if◌then◌else◌, List, [], ◌∷◌, length, Option, Some, None}
+use Rattle.std.specs.Prelude.{nat_le, if◌then◌else◌, List, [], ◌∷◌, length, Option, Some, None}
 use Rattle.d64_image.specs.Disk.{Bytes}
 use Rattle.script_commands.specs.Act.{Act, Give, Refuse, ◌>>=◌}
 use Rattle.script_text.specs.declared.status.Status.TheVariants.{SyntaxError, MissingWord}

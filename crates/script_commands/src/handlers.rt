@@ -1,7 +1,7 @@
 //! What each command does: a handler for each.
 #![tactic(auto, unfolding(crate::specs::Act::Does))]
 
-ghost use Rattle.std.specs.Prelude.{◌≡◌, ◌<◌, ◌≤◌, All, Some, None, map, option_map, length};
+ghost use Rattle.std.specs.Prelude.{◌≡◌, ◌<◌, ◌≤◌, All, Some, None, [], map, option_map, length};
 ghost use Rattle.d64_dos.specs.Change.{change_of};
 ghost use Rattle.d64_dos.specs.Command.{IsWithin};
 ghost use Rattle.script_commands.specs.Act.{world_of};
@@ -9,12 +9,13 @@ ghost use Rattle.script_commands.specs.Response.{Responds, RespondsAlone};
 ghost use Rattle.petscii.specs.Spelling.{spelling};
 ghost use Rattle.script_commands.specs.FoundFile.{is_file_name};
 ghost use Rattle.d64_undo.specs.History.{History, present_image};
-ghost use Rattle.script_commands.specs.Line.{put, host_file_limit, block_act, block_read_act, block_write_act, crunch_act, write_program, delete_act, format_act, history_act, keep_act, list_act, petcat_act, show_program, quit_act, read_act, read_to, redo_act, rename_act, save_act, undo_act, validate_act, write_act, run, write_one_block};
+ghost use Rattle.script_commands.specs.Line.{put, host_file_limit, block_act, block_read_act, block_write_act, crunch_act, write_program, delete_act, format_act, history_act, keep_act, list_act, name_act, name_parts, petcat_act, show_program, quit_act, read_act, read_to, redo_act, rename_act, save_act, show_file, type_act, undo_act, validate_act, write_act, run, write_one_block};
 
 use crate::arguments::{
     at_comma, block_in, host_in, id_in, name_and_kind_of, name_in, name_word, pattern_in,
     patterns_in,
 };
+use crate::file_text::file_text;
 use crate::history_text::history_text;
 use crate::host_file::fetch;
 use crate::listing_text::listing_text;
@@ -219,6 +220,40 @@ pub(crate) fn list(alloc: Global, session: &Session) -> Result<Response, Status>
     Ok(Response::text(text))
 }
 
+/// `name`: the disk given another name. The word may be cut at its first comma, into the name and an
+/// id.
+pub(crate) fn name(alloc: Global, session: &mut Session, word: &str) -> Result<Response, Status>
+    ensures { RespondsAlone (name_act session.old word.now) session.old result session.new }
+{
+    let bytes = word.as_bytes();
+    match at_comma(bytes) {
+        Some((name, id)) => name_with_id(alloc, session, name, id),
+        None => name_alone(alloc, session, bytes),
+    }
+}
+
+/// The disk given another name and another id.
+fn name_with_id(
+    alloc: Global,
+    session: &mut Session,
+    name: &[u8],
+    id: &[u8],
+) -> Result<Response, Status>
+    ensures { RespondsAlone (name_parts session.old [] (Some (name.now, id.now))) session.old result session.new }
+{
+    let name = name_in(alloc, name)?;
+    let id = id_in(alloc, id)?;
+    run_command(session, &Command::Name { name, id: Some(id) })
+}
+
+/// The disk given another name.
+fn name_alone(alloc: Global, session: &mut Session, name: &[u8]) -> Result<Response, Status>
+    ensures { RespondsAlone (name_parts session.old name.now None) session.old result session.new }
+{
+    let name = name_in(alloc, name)?;
+    run_command(session, &Command::Name { name, id: None })
+}
+
 /// `petcat`: the text of a BASIC program of the disk.
 pub(crate) fn petcat(alloc: Global, session: &Session, name: &str) -> Result<Response, Status>
     ensures { RespondsAlone (petcat_act session.now name.now) session.now result session.now }
@@ -354,6 +389,23 @@ pub(crate) fn save<H: Host>(
         None => home,
     };
     store(alloc, host, name, session.image().bytes())
+}
+
+/// `type`: the lines of a text of the disk.
+pub(crate) fn type_text(alloc: Global, session: &Session, name: &str) -> Result<Response, Status>
+    ensures { RespondsAlone (type_act session.now name.now) session.now result session.now }
+{
+    let pattern = pattern_in(alloc, name)?;
+    show_file(alloc, session, &pattern)
+}
+
+/// The lines of the text that a pattern finds.
+fn show_file(alloc: Global, session: &Session, pattern: &Pattern) -> Result<Response, Status>
+    ensures { RespondsAlone (show_file session.now pattern.now) session.now result session.now }
+{
+    let file = d64_dos::read(alloc, session.image(), pattern).map_err(of_refusal)?;
+    let text = file_text(alloc, file.bytes.as_slice())?;
+    Ok(Response::text(text))
 }
 
 /// `undo`: the image before.

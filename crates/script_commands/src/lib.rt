@@ -4,6 +4,7 @@
 
 mod answer;
 mod arguments;
+mod file_text;
 mod handlers;
 mod history_text;
 pub mod host_file;

@@ -50,6 +50,10 @@ pub(crate) enum Line<'a> {
     },
     /// `list`: shows the directory.
     ListDirectory,
+    /// `name text[,id]`: gives the disk another name.
+    Name {
+        name_and_id: &'a str,
+    },
     /// `petcat name`: shows a BASIC program of the disk as text.
     Petcat {
         name: &'a str,
@@ -71,6 +75,10 @@ pub(crate) enum Line<'a> {
     /// `save [host]`: stores the image.
     Save {
         host: Option<&'a str>,
+    },
+    /// `type name`: shows a text of the disk.
+    ShowText {
+        name: &'a str,
     },
     /// `undo`: takes the last command back.
     Undo,
@@ -143,12 +151,20 @@ fn on_the_disk<'a>(command: &str, words: &'a [&'a str]) -> Result<Line<'a>, Stat
             Ok(name_and_id) => Ok(Line::Format { name_and_id }),
             Err(status) => Err(status),
         },
+        "name" => match one_word(words) {
+            Ok(name_and_id) => Ok(Line::Name { name_and_id }),
+            Err(status) => Err(status),
+        },
         "petcat" => match one_word(words) {
             Ok(name) => Ok(Line::Petcat { name }),
             Err(status) => Err(status),
         },
         "rename" => match two_words(words) {
             Ok((old, new)) => Ok(Line::Rename { old, new }),
+            Err(status) => Err(status),
+        },
+        "type" => match one_word(words) {
+            Ok(name) => Ok(Line::ShowText { name }),
             Err(status) => Err(status),
         },
         _ => with_a_file(command, words),

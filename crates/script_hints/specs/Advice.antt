@@ -10,7 +10,7 @@ use Rattle.script_hints.specs.Command.{command_of, most_words, usage}
 use Rattle.script_hints.specs.Hint.{hint_of, hint_text}
 use Rattle.script_hints.specs.Faults.{basic_fault, condition_text, list_fault}
 use Rattle.script_hints.specs.declared.command.Command.{Command}
-use Rattle.script_hints.specs.declared.command.Command.TheVariants.{Block, BlockRead, BlockWrite, Crunch, Delete, Format, Keep, Petcat, Read, Rename, Save, Write}
+use Rattle.script_hints.specs.declared.command.Command.TheVariants.{Block, BlockRead, BlockWrite, Crunch, Delete, Format, Keep, Name, Petcat, Read, Rename, Save, ShowText, Write}
 use Rattle.script_hints.specs.declared.advice.Advice.{Advice}
 use Rattle.script_hints.specs.declared.advice.Piece.{Piece as CodePiece}
 use Rattle.script_hints.specs.declared.advice.Piece.TheVariants as code
@@ -105,7 +105,9 @@ wrong_name said BlockWrite = one_piece (codes "\"") First (codes "\" is no name 
 wrong_name said Keep = one_piece (codes "\"") First (codes "\" is no name of a host file, which has 1 to 255 characters")
 wrong_name said Save = one_piece (codes "\"") First (codes "\" is no name of a host file, which has 1 to 255 characters")
 wrong_name said Format = one_piece (codes "\"") First (codes "\" has no name of 1 to 16 characters with an id of 2, without * ? = : and quotes")
+wrong_name said Name = one_piece (codes "\"") First (codes "\" is no name of 1 to 16 characters, with an id of 2 after a comma or without one, without * ? = : and quotes")
 wrong_name said Petcat = one_piece (codes "\"") First (codes "\" is no name, which has 1 to 16 characters without = : , and quotes")
+wrong_name said ShowText = one_piece (codes "\"") First (codes "\" is no name, which has 1 to 16 characters without = : , and quotes")
 wrong_name said Delete = one_piece (codes "of the names from \"") First (codes "\" on, one is none: a name has 1 to 16 characters without = : , and quotes")
 wrong_name said Read = two_pieces (codes "\"") First (codes "\" is no name on a disk, which has 1 to 16 characters without = : , and quotes, or the host can have no file \"") (host_piece said Read) (codes "\": read NAME HOST")
 wrong_name said Rename = two_pieces (codes "\"") First (codes "\" or \"") Second (codes "\" is no name on a disk, which has 1 to 16 characters without * ? = : , and quotes")

@@ -4,7 +4,7 @@ use Rattle.std.specs.Option.{option_map_or}
 use Rattle.std.specs.Str.{bytes_eq}
 use Rattle.d64_image.specs.Disk.{Bytes}
 use Rattle.script_hints.specs.declared.command.Command.{Command}
-use Rattle.script_hints.specs.declared.command.Command.TheVariants.{Block, BlockRead, BlockWrite, Crunch, Delete, Format, ListHistory, Keep, ListDirectory, Petcat, Quit, Read, Redo, Rename, Save, Undo, Validate, Write, Unknown}
+use Rattle.script_hints.specs.declared.command.Command.TheVariants.{Block, BlockRead, BlockWrite, Crunch, Delete, Format, ListHistory, Keep, ListDirectory, Name, Petcat, Quit, Read, Redo, Rename, Save, ShowText, Undo, Validate, Write, Unknown}
 
 -- the words of the commands
 abbrev pub command_words : List (Bytes × Command)
@@ -18,12 +18,14 @@ command_words =
     ∷ (codes "history", ListHistory)
     ∷ (codes "keep", Keep)
     ∷ (codes "list", ListDirectory)
+    ∷ (codes "name", Name)
     ∷ (codes "petcat", Petcat)
     ∷ (codes "quit", Quit)
     ∷ (codes "read", Read)
     ∷ (codes "redo", Redo)
     ∷ (codes "rename", Rename)
     ∷ (codes "save", Save)
+    ∷ (codes "type", ShowText)
     ∷ (codes "undo", Undo)
     ∷ (codes "validate", Validate)
     ∷ (codes "write", Write)
@@ -44,12 +46,14 @@ most_words Format = 1
 most_words ListHistory = 0
 most_words Keep = 1
 most_words ListDirectory = 0
+most_words Name = 1
 most_words Petcat = 1
 most_words Quit = 0
 most_words Read = 2
 most_words Redo = 0
 most_words Rename = 2
 most_words Save = 1
+most_words ShowText = 1
 most_words Undo = 0
 most_words Validate = 0
 most_words Write = 2
@@ -66,12 +70,14 @@ usage Format = codes "format NAME,ID"
 usage ListHistory = codes "history"
 usage Keep = codes "keep HOST"
 usage ListDirectory = codes "list"
+usage Name = codes "name TEXT[,ID]"
 usage Petcat = codes "petcat NAME"
 usage Quit = codes "quit"
 usage Read = codes "read NAME [HOST]"
 usage Redo = codes "redo"
 usage Rename = codes "rename OLD NEW"
 usage Save = codes "save [HOST]"
+usage ShowText = codes "type NAME"
 usage Undo = codes "undo"
 usage Validate = codes "validate"
 usage Write = codes "write HOST [NAME[,T]]"

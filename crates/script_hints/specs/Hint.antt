@@ -4,7 +4,7 @@ use Rattle.std.specs.Option.{option_map_or}
 use Rattle.std.specs.Str.{bytes_eq}
 use Rattle.d64_image.specs.Disk.{Bytes}
 use Rattle.script_hints.specs.declared.hint.Hint.{Hint}
-use Rattle.script_hints.specs.declared.hint.Hint.TheVariants.{Fault, Image, Map, CopyBlock, FillBlock, ShowBlock, ChangeBlock, Folder, Chain, Copy, Directory, Entry, End, Extract, Help, Check, Label, Scratch, Version, Absent, Unknown}
+use Rattle.script_hints.specs.declared.hint.Hint.TheVariants.{Fault, Image, Map, CopyBlock, FillBlock, ShowBlock, ChangeBlock, Folder, Chain, Copy, Directory, Entry, End, Extract, Help, Check, Scratch, ShowText, Version, Absent, Unknown}
 
 -- the words that are no commands here
 abbrev pub hint_words : List (Bytes × Hint)
@@ -32,9 +32,11 @@ hint_words =
     ∷ (codes "?", Help)
     ∷ (codes "info", Check)
     ∷ (codes "verify", Check)
-    ∷ (codes "name", Label)
     ∷ (codes "scratch", Scratch)
     ∷ (codes "rm", Scratch)
+    ∷ (codes "show", ShowText)
+    ∷ (codes "cat", ShowText)
+    ∷ (codes "more", ShowText)
     ∷ (codes "version", Version)
     ∷ (codes "geosextract", Absent)
     ∷ (codes "geosread", Absent)
@@ -71,8 +73,8 @@ hint_text End = codes "; the session ends by quit"
 hint_text Extract = codes "; read takes a file off the disk"
 hint_text Help = codes "; d64sh help shell lists the commands"
 hint_text Check = codes "; d64sh check tells of a disk"
-hint_text Label = codes "; format gives a disk a name, and bread and bwrite change block 18 0"
 hint_text Scratch = codes "; files are deleted by delete"
+hint_text ShowText = codes "; a text on the disk is shown by type"
 hint_text Version = codes "; d64sh --version tells it"
 hint_text Absent = codes "; d64sh has none that does this"
 hint_text Unknown = codes "; d64sh help shell lists the commands"

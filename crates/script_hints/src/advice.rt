@@ -284,7 +284,12 @@ fn wrong_name(said: &Said<'_>, command: Command) -> Advice
             Piece::First,
             b"\" has no name of 1 to 16 characters with an id of 2, without * ? = : and quotes",
         ),
-        Command::Petcat => Advice::one(
+        Command::Name => Advice::one(
+            b"\"",
+            Piece::First,
+            b"\" is no name of 1 to 16 characters, with an id of 2 after a comma or without one, without * ? = : and quotes",
+        ),
+        Command::Petcat | Command::ShowText => Advice::one(
             b"\"",
             Piece::First,
             b"\" is no name, which has 1 to 16 characters without = : , and quotes",

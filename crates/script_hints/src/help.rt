@@ -7,8 +7,10 @@ pub(crate) const ROWS: &[u8] = b"\
 \x20 crunch HOST [NAME]     write the BASIC program of a host file's text
 \x20 read NAME [HOST]       store a file of the disk as a host file
 \x20 petcat NAME            print the text of a BASIC program
+\x20 type NAME              print a text of the disk
 \x20 delete PATTERN ..      delete the files whose names match
 \x20 rename OLD NEW         give a file another name
+\x20 name TEXT[,ID]         give the disk another name
 \x20 list                   print the directory
 \x20 validate               free the blocks that no closed file has
 \x20 block T S              print the block of track T and sector S

@@ -3,6 +3,7 @@
 
 use crate::command::Command;
 use crate::found::{Found, default_name};
+use crate::hint::Hint;
 use crate::near::near_command;
 use crate::said::Said;
 use d64_files::Entry;
@@ -23,7 +24,9 @@ pub(crate) fn more_about(
     let mut line = Vec::new(alloc);
     let pushed = match (Command::of(said.word), *status) {
         (_, Status::SyntaxError) if said.count == 0 => push_odd(&mut line, text),
-        (_, Status::UnknownCommand) => push_near(&mut line, near_command(said.word.as_bytes())),
+        (_, Status::UnknownCommand) if matches!(Hint::of(said.word), Hint::Unknown) => {
+            push_near(&mut line, near_command(said.word.as_bytes()))
+        }
         (_, Status::FileNotFound) => push_meant(&mut line, &Found::of(alloc, image, said.first)),
         (Command::Delete, Status::FilesScratched { count: 0 }) => {
             push_undeleted(&mut line, &Found::of(alloc, image, said.first))

@@ -2,7 +2,7 @@
 
 /// The first command to which a word is near.
 pub(crate) fn near_command(word: &[u8]) -> Option<&'static [u8]> {
-    let words: [&'static [u8]; 18] = [
+    let words: [&'static [u8]; 20] = [
         b"block",
         b"bread",
         b"bwrite",
@@ -12,12 +12,14 @@ pub(crate) fn near_command(word: &[u8]) -> Option<&'static [u8]> {
         b"history",
         b"keep",
         b"list",
+        b"name",
         b"petcat",
         b"quit",
         b"read",
         b"redo",
         b"rename",
         b"save",
+        b"type",
         b"undo",
         b"validate",
         b"write",

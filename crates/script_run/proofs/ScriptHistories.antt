@@ -36,7 +36,7 @@ use Rattle.host_storage.specs.Files.{HostState}
 use Rattle.script_commands.specs.Arguments.{host_in, block_in, at_comma, can_be_id, name_and_kind_of}
 use Rattle.script_commands.specs.WordCounts.{no_word, one_word, at_most_one, word_and, some_words}
 use Rattle.script_commands.specs.FoundFile.{found_name, is_file_name}
-use Rattle.script_commands.specs.Line.{refuse_by, leave, run, commands, act_of_words, act_of_line, read_to, save_act, undo_act, redo_act}
+use Rattle.script_commands.specs.Line.{refuse_by, leave, run, commands, act_of_words, act_of_line, name_parts, read_to, save_act, undo_act, redo_act}
 use Rattle.script_run.specs.ScriptLaws.{IsReachedIn, ScriptsAreRuns, IsBlockWrite, ScriptsKeepDisksSound}
 use Rattle.script_run.specs.declared.manners.Refusals.{Refusals}
 use Rattle.script_run.specs.Transcript.{Manner, RunProgress, Line, Transcript, IsSilent, counted_progress}
@@ -153,6 +153,14 @@ redo-leads IsOne history one =
     after_need IsOne history (nat_lt (history.cursor + 1) (length history.images)) _ (λ _. leave (redone_history history))
     (λ passed. let some : history.cursor + 1 < length history.images = grind (arith, nat_tests) in inr (Redo, Redone, one, (some, refl)))
 
+-- a name of the disk is one request
+name-leads : (IsOne : Asked → Type 0) (history : History) (word : List ℕ) (parts : Option (List ℕ × List ℕ))
+    → ((name : List ℕ) (id : Option (List ℕ)) → IsName name → IfSome id AreTwoBytes → IsOne (Apply (changes.Name name id)))
+    → Leads IsOne history (name_parts history word parts)
+name-leads IsOne history word None one = λ name named. run-leads IsOne history (changes.Name name None) (one name None (name-made name named) tt)
+name-leads IsOne history word (Some parts) one =
+    λ name named id known. run-leads IsOne history (changes.Name name (Some id)) (one name (Some id) (name-made name named) (id-made id known))
+
 -- a file that is read leaves the history
 read-leads : (IsOne : Asked → Type 0) (history : History) (pattern : List ℕ) (host : Option (List ℕ)) → Leads IsOne history (read_to history pattern host)
 read-leads IsOne history pattern None =
@@ -198,10 +206,14 @@ commands-lead IsOne home history first words keeps writes =
     ⨾ (λ format. after_any IsOne history (one_word words) _
     (λ w. after_any IsOne history (value_or_refusal (ok_or (at_comma w) _)) _
     (λ parts name named id known. run-leads IsOne history (changes.Format name id) (keeps _ (refl, (name-made name named, id-made id known))))))
+    ⨾ (λ name. after_any IsOne history (one_word words) _
+    (λ w. name-leads IsOne history w (at_comma w) (λ name id named two. keeps _ (refl, (named, two)))))
     ⨾ (λ petcat. after_any IsOne history (one_word words) _
     (λ w pattern known. after_any IsOne history (refuse_by (read_refusal (present_image history) pattern)) _ (λ _ listing given. inl refl)))
     ⨾ (λ rename. after_any IsOne history (word_and one_word words) _
     (λ w old named new renamed. run-leads IsOne history (changes.Rename old new) (keeps _ (refl, (name-made old named, name-made new renamed)))))
+    ⨾ (λ type. after_any IsOne history (one_word words) _
+    (λ w pattern known. after_any IsOne history (refuse_by (read_refusal (present_image history) pattern)) _ (λ _ bytes given. inl refl)))
     ⨾ (λ crunch. after_any IsOne history (word_and at_most_one words) _
     (λ w. after_any IsOne history (value_or_refusal (host_in w.0)) _
     (λ source name named text fetched file crunched.

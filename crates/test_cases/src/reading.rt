@@ -86,7 +86,7 @@ impl<'r, R: Files + AllocGlobal> Reading<'r, R> {
         }
         match self.exchanges.last_mut() {
             Some(exchange) => {
-                exchange.answer.push_str(line)?;
+                exchange.answer.push_str(printed_line(line))?;
                 exchange.answer.push_str("\n")?;
                 Ok(())
             }
@@ -141,6 +141,14 @@ impl<'r, R: Files + AllocGlobal> Reading<'r, R> {
             },
         })?;
         Ok(())
+    }
+}
+
+/// What is printed where an output has this line: `|` stands for an empty one.
+fn printed_line(line: &str) -> &str {
+    match line {
+        "|" => "",
+        _ => line,
     }
 }
 

@@ -28,6 +28,10 @@ pub fn command_of(alloc: Global, name: &str) -> Result<Command, Fail> {
             old: Name::new(b"A")?,
             new: Name::new(b"Y")?,
         }),
+        "Name" => Ok(Command::Name {
+            name: Name::new(b"Y")?,
+            id: Some(*b"02"),
+        }),
         "Validate" => Ok(Command::Validate),
         "BlockWrite" => block_write(17, 0),
         _ => Err(Fail::new("no such command")),

@@ -1,0 +1,5 @@
+use Rattle.script_commands.proofs.TextArguments.{Does-read}
+use Rattle.script_commands.proofs.handlers.type_text.Goals as goal
+
+pub returns : goal.returns
+returns c = λ host. Does-read _ _ _ c.in_ok-pattern.pattern host _ _ _ c.in_ok-pattern.ensures (c.show_file.ensures host)
