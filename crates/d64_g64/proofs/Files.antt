@@ -1,0 +1,56 @@
+-- What a file has
+use Rattle.std.proofs.Common.{◌≡◌, ℕ, ◌+◌, ◌-◌, ◌*◌, ◌<◌, ◌≤◌, Bool, true, false, ◌&&◌, not, cond, nat_eq, List, [], length, ltb, leb, refl, sym, ap, ap₂, ◌∙◌, inl, inr}
+use Rattle.std.specs.Prelude.{◌==◌}
+use Rattle.std.proofs.lemmas.Bool.Decides.{leb_tells}
+use Rattle.std.proofs.lemmas.Bool.{lt-ltb, le-ltb, cases_lt}
+use Rattle.d64_g64.specs.File.{is_g64, entries, offset_of, has_track, padded, number_of_two, track_of}
+
+both_true : (a b : Bool) → (a && b) ≡ true → (a ≡ true) × (b ≡ true)
+both_true true b h = (refl, h)
+both_true false b h = (h, absurd (cc))
+
+leb_holds : (a b : ℕ) → leb a b ≡ true → a ≤ b
+leb_holds a b h = elim (leb_tells a b) [ inl is ↦ is.1 | inr other ↦ let wrong : true ≡ false = sym h ∙ other.0 in absurd (cc) ]
+
+-- its header, and the places of its tracks
+pub long_enough : (file : List ℕ) → is_g64 file ≡ true → (12 ≤ length file) × (12 + 8 * entries file ≤ length file)
+unfolding is_g64
+long_enough file h =
+    let all = both_true _ _ h in
+    let first = both_true _ _ all.0 in
+    (leb_holds 12 (length file) first.0, leb_holds (12 + 8 * entries file) (length file) all.1)
+
+-- a track that no entry has, and one that an entry has
+pub lacks_entry : (file : List ℕ) (number : ℕ) → entries file ≤ 2 * number - 2 → false ≡ has_track file number
+unfolding has_track
+lacks_entry file number h =
+    sym (ap (λ (b : Bool). b && not (offset_of file number == 0) && leb (offset_of file number + 2) (length file)) (le-ltb (2 * number - 2) (entries file) h))
+
+pub has_entry : (file : List ℕ) (number offset : ℕ) → 2 * number - 2 < entries file → offset ≡ offset_of file number
+    → (not (nat_eq offset 0) && leb (offset + 2) (length file)) ≡ has_track file number
+unfolding has_track
+has_entry file number offset h is =
+    ap (λ (x : ℕ). not (nat_eq x 0) && leb (x + 2) (length file)) is
+    ∙ sym (ap (λ (b : Bool). b && not (offset_of file number == 0) && leb (offset_of file number + 2) (length file)) (lt-ltb (2 * number - 2) (entries file) h))
+
+-- where its length stands, its entry and its length are there
+pub there : (file : List ℕ) (number : ℕ) → true ≡ has_track file number → (2 * number - 2 < entries file) × (offset_of file number + 2 ≤ length file)
+unfolding has_track
+there file number h =
+    let all = both_true _ _ (sym h) in
+    let first = both_true _ _ all.0 in
+    (ltb_holds (2 * number - 2) (entries file) first.0, leb_holds (offset_of file number + 2) (length file) all.1)
+  where
+    ltb_holds : (a b : ℕ) → ltb a b ≡ true → a < b
+    ltb_holds a b e = elim (cases_lt a b) [ inl less ↦ less | inr more ↦ let wrong : true ≡ false = sym e ∙ le-ltb a b more in absurd (cc) ]
+
+pub no_track : (file : List ℕ) (number : ℕ) → false ≡ has_track file number → [] ≡ track_of file number
+unfolding track_of
+no_track file number is = ap (λ (b : Bool). cond b (padded file (offset_of file number + 2) (number_of_two file (offset_of file number))) []) is
+
+pub the_track : (file : List ℕ) (number offset count : ℕ) → true ≡ has_track file number → offset ≡ offset_of file number → count ≡ number_of_two file offset
+    → padded file (offset + 2) count ≡ track_of file number
+unfolding track_of
+the_track file number offset count is at long =
+    ap₂ (λ (x y : ℕ). padded file (x + 2) y) at (long ∙ ap (number_of_two file) at)
+    ∙ ap (λ (b : Bool). cond b (padded file (offset_of file number + 2) (number_of_two file (offset_of file number))) []) is

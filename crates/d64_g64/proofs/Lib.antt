@@ -1,0 +1,9 @@
+pub mod Circles
+pub mod StartLists
+pub mod StartPairs
+pub mod DataBlocks
+pub mod HeaderSearches
+pub mod Files
+pub mod DumpBlocks
+pub mod SoundHeaders
+pub mod GoodDumps

@@ -1,0 +1,44 @@
+-- A G64 file: a header, the places of its tracks, and the tracks.
+use Rattle.std.specs.Prelude.{ℕ, ◌+◌, ◌-◌, ◌*◌, ◌==◌, ◌&&◌, not, nat_lt, nat_le, nat_eq, if◌then◌else◌, Bool, [], ◌++◌, length, take, drop, replicate, slice_index, codes}
+use Rattle.std.specs.Cmp.Lexicographic.{pointwise}
+use Rattle.d64_image.specs.Disk.{Bytes}
+
+-- the file begins with the text of a G64
+unfoldable pub begins_as_g64 : Bytes → Bool
+begins_as_g64 file = pointwise nat_eq (take 8 file) (codes "GCR-1541")
+
+-- the number of two bytes, and that of four, the lowest first
+abbrev pub number_of_two : Bytes → ℕ → ℕ
+number_of_two file place = slice_index file place + 256 * slice_index file (place + 1)
+
+abbrev pub number_of_four : Bytes → ℕ → ℕ
+number_of_four file place = number_of_two file place + 65536 * number_of_two file (place + 2)
+
+-- how many places of tracks, whole and half ones, the file has
+abbrev pub entries : Bytes → ℕ
+entries file = slice_index file 9
+
+-- the file has its header of twelve bytes, the version is 0, and four bytes a track for its place
+-- and four for its speed are there
+unfoldable pub is_g64 : Bytes → Bool
+is_g64 file = nat_le 12 (length file) && (slice_index file 8 == 0) && nat_le (12 + 8 * entries file) (length file)
+
+-- where a whole track's length stands, from 0: entry 0 is track 1, entry 2 track 2
+unfoldable pub offset_of : Bytes → ℕ → ℕ
+offset_of file number = number_of_four file (4 + 8 * number)
+
+-- the file has the track: its entry is there and isn't 0, and the two bytes of its length are there
+unfoldable pub has_track : Bytes → ℕ → Bool
+has_track file number =
+    nat_lt (2 * number - 2) (entries file) && not (offset_of file number == 0) && nat_le (offset_of file number + 2) (length file)
+
+-- so many bytes from a place on; those that the file hasn't are 0
+abbrev pub padded : Bytes → ℕ → ℕ → Bytes
+padded file place count = take count (drop place file) ++ replicate (count - (length file - place)) 0
+
+-- the bytes of a whole track; no bytes where there is no such track
+unfoldable pub track_of : Bytes → ℕ → Bytes
+track_of file number =
+    if has_track file number
+    then padded file (offset_of file number + 2) (number_of_two file (offset_of file number))
+    else []

@@ -1,0 +1,9 @@
+pub mod Circle
+pub mod Codes
+pub mod Starts
+pub mod Headers
+pub mod Blocks
+pub mod File
+pub mod Dump
+pub mod Fault
+pub mod Laws

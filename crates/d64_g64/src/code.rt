@@ -1,0 +1,94 @@
+//! The group code, in which bytes stand on a track.
+ghost use Rattle.std.specs.Prelude.{◌≡◌, ◌*◌, ◌<◌, IfSome, length};
+ghost use Rattle.d64_g64.specs.Circle.{IsTrack};
+ghost use Rattle.d64_g64.specs.Codes.{nibble_of, byte_of_bits, value_at, value_or_zero, is_value, xor_of, are_equal};
+
+use crate::circle::{around, ten_bits};
+
+/// The nibble of a code of five bits, or None where it is no code.
+#[tactic(auto, unfolding(crate::specs::Codes::nibble_of))]
+fn nibble_of(code: u32) -> Option<u8>
+    ensures value { result ≡ nibble_of code }
+    ensures below { IfSome result (λ nibble. nibble < 16) }
+{
+    match code {
+        9 => Some(8),
+        10 => Some(0),
+        11 => Some(1),
+        13 => Some(12),
+        14 => Some(4),
+        15 => Some(5),
+        18 => Some(2),
+        19 => Some(3),
+        21 => Some(15),
+        22 => Some(6),
+        23 => Some(7),
+        25 => Some(9),
+        26 => Some(10),
+        27 => Some(11),
+        29 => Some(13),
+        30 => Some(14),
+        _ => None,
+    }
+}
+
+/// The byte of ten bits, or None where one of their two codes is none.
+#[tactic(auto, unfolding(crate::specs::Codes::byte_of_bits))]
+fn byte_of_bits(bits: u32) -> Option<u8>
+    ensures { result ≡ byte_of_bits bits }
+{
+    match (nibble_of(bits / 32), nibble_of(bits % 32)) {
+        (Some(high), Some(low)) => Some(16 * high + low),
+        _ => None,
+    }
+}
+
+/// Byte k of a place of the track, from 0, or None where it has no value.
+pub(crate) fn value_at(track: &[u8], place: usize, k: usize) -> Option<u8>
+    requires track { IsTrack track.now }
+    requires place { place < 8 * length track.now }
+    requires near { k < 258 }
+    ensures { result ≡ value_at track.now place k }
+{
+    byte_of_bits(ten_bits(track, around(track, place + 10 * k)))
+}
+
+/// A value, and 0 in the place of none.
+pub(crate) fn value_or_zero(found: Option<u8>) -> u8
+    ensures { result ≡ value_or_zero found }
+{
+    match found {
+        Some(value) => value,
+        None => 0,
+    }
+}
+
+/// Whether there is a value, and it is this one.
+pub(crate) fn is_value(found: Option<u8>, wanted: u8) -> bool
+    ensures { result ≡ is_value found wanted }
+{
+    match found {
+        Some(value) => value == wanted,
+        None => false,
+    }
+}
+
+/// The exclusive or of two values, or None where one of them is none.
+pub(crate) fn xor_of(one: Option<u8>, other: Option<u8>) -> Option<u8>
+    ensures { result ≡ xor_of one other }
+{
+    match (one, other) {
+        (Some(value), Some(second)) => Some(value ^ second),
+        _ => None,
+    }
+}
+
+/// Whether both values are there and equal.
+pub(crate) fn are_equal(one: Option<u8>, other: Option<u8>) -> bool
+    ensures { result ≡ are_equal one other }
+{
+    match other {
+        Some(value) => is_value(one, value),
+        None => false,
+    }
+}

@@ -1,0 +1,188 @@
+//! The dump that a G64 is read as.
+ghost use Rattle.std.specs.Prelude.{◌≡◌, ℕ, ◌+◌, ◌*◌, ◌<◌, ◌≤◌, ◌==◌, true, length, take, drop, IfOk, OnOk, not, if◌then◌else◌, count_by, ◌++◌, ◌∷◌, []};
+ghost use Rattle.std.specs.List.{range_with_len};
+ghost use Rattle.d64_image.specs.Block.{first_block};
+ghost use Rattle.d64_image.specs.Image.{bytes_of as image_bytes};
+ghost use Rattle.d64_survey.specs.Dump.{dump_bytes};
+ghost use Rattle.d64_g64.specs.File.{is_g64};
+ghost use Rattle.d64_g64.specs.Fault.{was_bad};
+ghost use Rattle.d64_g64.specs.Dump.{id_in, first_codes, first_blocks, kept_count, g64_dump};
+
+use crate::block::read_block;
+use crate::fault::G64Fault;
+use crate::file::{copy_track, is_g64};
+use crate::header::{Id, disk_id};
+use crate::start::list_starts;
+use d64_image::{BLOCK_BYTES, BLOCKS, BlockNo};
+use std::alloc::{AllocError, Global};
+
+/// The track after the last one that a dump can have.
+const END_OF_TRACKS: u8 = 41;
+
+/// How many sectors a track has at most.
+const MOST_SECTORS: u8 = 21;
+
+/// How many blocks a disk of 35 tracks has.
+const BLOCKS_OF_35: usize = 683;
+
+/// How many blocks the tracks 36 to 40 have.
+const BLOCKS_BEYOND: usize = 85;
+
+/// The track whose headers say the disk's id.
+const DIRECTORY_TRACK: u8 = 18;
+
+/// The track that is read: its bytes and its starts.
+#[derive(Drop)]
+struct Track {
+    bytes: Vec<u8>,
+    starts: Vec<u32>,
+}
+
+/// What was read of a disk, block after block.
+#[derive(Drop)]
+struct Blocks {
+    bytes: Vec<u8>,
+    codes: Vec<u8>,
+}
+
+/// Reads the disk's id.
+fn read_id(file: &[u8], track: &mut Track) -> Result<Option<Id>, AllocError>
+    requires { is_g64 file.now ≡ true }
+    ensures { IfOk result (λ id. id ≡ id_in file.now) }
+{
+    copy_track(&mut track.bytes, file, DIRECTORY_TRACK)?;
+    list_starts(&mut track.starts, &track.bytes)?;
+    Ok(disk_id(&track.bytes, &track.starts))
+}
+
+/// Appends a block.
+fn push_block(blocks: &mut Blocks, code: u8, block: &[u8; BLOCK_BYTES]) -> Result<(), AllocError>
+    ensures codes { OnOk result (blocks.new.codes.items ≡ blocks.old.codes.items ++ code ∷ []) }
+    ensures bytes { OnOk result (blocks.new.bytes.items ≡ blocks.old.bytes.items ++ block.now) }
+{
+    blocks.bytes.extend_from_slice(block)?;
+    blocks.codes.push(code)?;
+    Ok(())
+}
+
+/// Reads the blocks of a track, and appends them to those of the tracks before it.
+fn add_track(
+    blocks: &mut Blocks,
+    file: &[u8],
+    number: u8,
+    id: Option<Id>,
+    track: &mut Track,
+) -> Result<(), AllocError>
+    requires file { is_g64 file.now ≡ true }
+    requires number { (1 ≤ number) × (number < 41) }
+    requires id { id ≡ id_in file.now }
+    requires codes { blocks.old.codes.items ≡ first_codes file.now (first_block number) }
+    requires bytes { blocks.old.bytes.items ≡ image_bytes (first_blocks file.now (first_block number)) }
+    ensures codes { OnOk result (blocks.new.codes.items ≡ first_codes file.now (first_block (number + 1))) }
+    ensures bytes { OnOk result (blocks.new.bytes.items ≡ image_bytes (first_blocks file.now (first_block (number + 1)))) }
+{
+    copy_track(&mut track.bytes, file, number)?;
+    list_starts(&mut track.starts, &track.bytes)?;
+    let mut block = [0; BLOCK_BYTES];
+    for sector in 0..MOST_SECTORS {
+        match BlockNo::of(number, sector) {
+            Some(_) => {
+                let code = read_block(&track.bytes, &track.starts, id, number, sector, &mut block);
+                push_block(blocks, code, &block)?;
+            }
+            None => {}
+        }
+    }
+    Ok(())
+}
+
+/// Reads the blocks of all tracks.
+fn read_tracks(blocks: &mut Blocks, file: &[u8], track: &mut Track) -> Result<(), AllocError>
+    requires file { is_g64 file.now ≡ true }
+    requires codes { blocks.old.codes.items ≡ [] }
+    requires bytes { blocks.old.bytes.items ≡ [] }
+    ensures codes { OnOk result (blocks.new.codes.items ≡ first_codes file.now 768) }
+    ensures bytes { OnOk result (blocks.new.bytes.items ≡ image_bytes (first_blocks file.now 768)) }
+{
+    let id = read_id(file, track)?;
+    for number in 1..END_OF_TRACKS {
+        add_track(blocks, file, number, id, track)?;
+    }
+    Ok(())
+}
+
+/// How many of these codes are 1.
+fn count_good(codes: &[u8]) -> usize
+    ensures count { result ≡ count_by (λ code. code == 1) codes.now }
+    ensures few { result ≤ length codes.now }
+{
+    let mut count = 0;
+    for code in codes {
+        if *code == 1 {
+            count += 1;
+        }
+    }
+    count
+}
+
+/// How many blocks the dump has, by the codes of all blocks that it can have.
+#[tactic(auto, unfolding(crate::specs::Dump::kept_count))]
+fn kept_count(codes: &[u8]) -> usize
+    requires { length codes.now ≡ 768 }
+    ensures count { result ≡ kept_count codes.now }
+    ensures few { result ≤ 768 }
+{
+    if 2 * count_good(&codes[BLOCKS_OF_35..]) > BLOCKS_BEYOND {
+        BLOCKS
+    } else {
+        BLOCKS_OF_35
+    }
+}
+
+/// Leaves the blocks that the dump has, and appends their codes to their bytes.
+fn close(blocks: &mut Blocks) -> Result<(), AllocError>
+    requires { length blocks.old.codes.items ≡ 768 }
+    ensures { OnOk result (blocks.new.bytes.items ≡ take (256 * kept_count blocks.old.codes.items) blocks.old.bytes.items ++ take (kept_count blocks.old.codes.items) blocks.old.codes.items) }
+{
+    let count = kept_count(&blocks.codes);
+    blocks.codes.truncate(count);
+    blocks.bytes.truncate(BLOCK_BYTES * count);
+    blocks.bytes.extend_from_slice(&blocks.codes)
+}
+
+/// Reads a dump into lists without items.
+fn read_blocks(blocks: &mut Blocks, file: &[u8], track: &mut Track) -> Result<(), AllocError>
+    requires file { is_g64 file.now ≡ true }
+    requires codes { blocks.old.codes.items ≡ [] }
+    requires bytes { blocks.old.bytes.items ≡ [] }
+    ensures { OnOk result (blocks.new.bytes.items ≡ dump_bytes (g64_dump file.now)) }
+{
+    blocks.bytes.reserve_exact(BLOCKS * BLOCK_BYTES + BLOCKS)?;
+    blocks.codes.reserve_exact(BLOCKS)?;
+    read_tracks(blocks, file, track)?;
+    close(blocks)
+}
+
+/// Reads a file that begins as a G64: the bytes of its dump, those of a D64 with read codes. Any
+/// bytes are read; refused is only a file whose header or places of tracks are cut off, or whose
+/// version isn't 0.
+pub fn read_g64(alloc: Global, file: &[u8]) -> Result<Vec<u8>, G64Fault>
+    ensures refused { was_bad result ≡ not (is_g64 file.now) }
+    ensures dump { IfOk result (λ bytes. bytes.items ≡ dump_bytes (g64_dump file.now)) }
+{
+    if !is_g64(file) {
+        return Err(G64Fault::Bad);
+    }
+    let mut track = Track {
+        bytes: Vec::new(alloc),
+        starts: Vec::new(alloc),
+    };
+    let mut blocks = Blocks {
+        bytes: Vec::new(alloc),
+        codes: Vec::new(alloc),
+    };
+    match read_blocks(&mut blocks, file, &mut track) {
+        Ok(()) => Ok(blocks.bytes),
+        Err(error) => Err(G64Fault::Memory(error)),
+    }
+}

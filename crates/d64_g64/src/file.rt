@@ -1,0 +1,92 @@
+//! G64 files: where their tracks lie.
+ghost use Rattle.std.specs.Prelude.{◌≡◌, ℕ, ◌+◌, ◌-◌, ◌*◌, ◌<◌, ◌≤◌, true, length, OnOk, if◌then◌else◌, Some, None};
+ghost use Rattle.d64_g64.specs.File.{begins_as_g64, number_of_two, number_of_four, is_g64, entries, offset_of, has_track, padded, track_of};
+
+use std::alloc::AllocError;
+
+/// Whether the file begins with the text of a G64, `GCR-1541`.
+#[tactic(auto, unfolding(crate::specs::File::begins_as_g64))]
+pub fn begins_as_g64(file: &[u8]) -> bool
+    ensures { result ≡ begins_as_g64 file.now }
+{
+    file.starts_with(b"GCR-1541")
+}
+
+/// Whether the file has the header of a G64 and the places of its tracks.
+#[tactic(auto, unfolding(crate::specs::File::is_g64))]
+pub(crate) fn is_g64(file: &[u8]) -> bool
+    ensures { result ≡ is_g64 file.now }
+{
+    file.len() >= 12 && file[8] == 0 && 12 + 8 * usize::from(file[9]) <= file.len()
+}
+
+/// The number of two bytes, the lower first.
+fn number_of_two(file: &[u8], place: usize) -> usize
+    requires { place + 2 ≤ length file.now }
+    ensures value { result ≡ number_of_two file.now place }
+    ensures below { result < 65536 }
+{
+    usize::from(file[place]) + 256 * usize::from(file[place + 1])
+}
+
+/// Where the length of a whole track stands, from 0, as its entry says.
+#[tactic(auto, unfolding(crate::specs::File::offset_of))]
+fn offset_of(file: &[u8], number: u8) -> usize
+    requires { 4 + 8 * number + 4 ≤ length file.now }
+    ensures value { result ≡ offset_of file.now number }
+    ensures below { result < 4294967296 }
+{
+    let place = 4 + 8 * usize::from(number);
+    number_of_two(file, place) + 65536 * number_of_two(file, place + 2)
+}
+
+/// Whether the file has a whole track.
+fn has_track(file: &[u8], number: u8) -> bool
+    requires file { is_g64 file.now ≡ true }
+    requires number { (1 ≤ number) × (number < 41) }
+    ensures { result ≡ has_track file.now number }
+{
+    if 2 * number - 2 >= file[9] {
+        return false;
+    }
+    let offset = offset_of(file, number);
+    offset != 0 && offset + 2 <= file.len()
+}
+
+/// Copies so many bytes of a file from a place on. Those that the file hasn't are 0.
+fn copy_padded(
+    copy: &mut Vec<u8>,
+    file: &[u8],
+    place: usize,
+    count: usize,
+) -> Result<(), AllocError>
+    requires place { place ≤ length file.now }
+    requires count { count < 65536 }
+    ensures copied { OnOk result (copy.new.items ≡ padded file.now place count) }
+    ensures short { OnOk result (length copy.new.items < 65536) }
+{
+    copy.clear();
+    let there = file.len() - place;
+    let end = if there < count {
+        file.len()
+    } else {
+        place + count
+    };
+    copy.extend_from_slice(&file[place..end])?;
+    copy.resize(count, 0)
+}
+
+/// Copies the bytes of a whole track, none where the file has no such track.
+pub(crate) fn copy_track(copy: &mut Vec<u8>, file: &[u8], number: u8) -> Result<(), AllocError>
+    requires file { is_g64 file.now ≡ true }
+    requires number { (1 ≤ number) × (number < 41) }
+    ensures copied { OnOk result (copy.new.items ≡ track_of file.now number) }
+    ensures short { OnOk result (length copy.new.items < 65536) }
+{
+    if !has_track(file, number) {
+        copy.clear();
+        return Ok(());
+    }
+    let offset = offset_of(file, number);
+    copy_padded(copy, file, offset + 2, number_of_two(file, offset))
+}

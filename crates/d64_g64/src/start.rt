@@ -1,0 +1,104 @@
+//! The starts of a track.
+ghost use Rattle.std.specs.Prelude.{◌≡◌, ℕ, ◌+◌, ◌-◌, ◌*◌, ◌/◌, ◌%◌, ◌^◌, ◌<◌, ◌≤◌, ◌⊎◌, length, filter, option_to_list, slice_index, IfSome, IfNone, OnOk};
+ghost use Rattle.std.specs.List.{range_with_len};
+ghost use Rattle.d64_g64.specs.Circle.{IsTrack};
+ghost use Rattle.d64_g64.specs.Starts.{is_start, starts_in, starts_on, next_of};
+
+use crate::circle::three_bytes;
+use std::alloc::AllocError;
+
+/// The place of a byte's highest bit that is 0, counted from the highest bit, or None where all are
+/// 1.
+fn first_zero(byte: u8) -> Option<u32>
+    ensures some { IfSome result (λ place. (place < 8) × (256 - 2 ^ (8 - place) ≤ byte) × (byte < 256 - 2 ^ (7 - place))) }
+    ensures none { IfNone result (byte ≡ 255) }
+{
+    match byte {
+        0..=127 => Some(0),
+        128..=191 => Some(1),
+        192..=223 => Some(2),
+        224..=239 => Some(3),
+        240..=247 => Some(4),
+        248..=251 => Some(5),
+        252 | 253 => Some(6),
+        254 => Some(7),
+        255 => None,
+    }
+}
+
+/// The place two bytes before another one, counted round the circle.
+fn two_before(track: &[u8], at: usize) -> usize
+    requires track { IsTrack track.now }
+    requires at { at < length track.now }
+    ensures value { (result ≡ at + 2 * length track.now - 2) ⊎ (result + 2 * length track.now ≡ at + 2 * length track.now - 2) }
+    ensures within { result < 131072 }
+{
+    if at < 2 {
+        at + 2 * track.len() - 2
+    } else {
+        at - 2
+    }
+}
+
+/// The start among the eight places of a byte of the track, or None. There is at most one, at the
+/// byte's first bit that is 0.
+fn start_in(track: &[u8], at: usize) -> Option<u32>
+    requires track { IsTrack track.now }
+    requires at { at < length track.now }
+    ensures { option_to_list result ≡ starts_in track.now at }
+{
+    match first_zero(track[at]) {
+        Some(zero) => {
+            let bits = three_bytes(track, two_before(track, at));
+            if (bits >> (7 - zero)) % 2048 == 2046 {
+                Some(8 * at as u32 + zero)
+            } else {
+                None
+            }
+        }
+        None => None,
+    }
+}
+
+/// Lists the starts of a track, rising, in the place of those of another one.
+pub(crate) fn list_starts(starts: &mut Vec<u32>, track: &[u8]) -> Result<(), AllocError>
+    requires { length track.now < 65536 }
+    ensures { OnOk result (starts.new.items ≡ starts_on track.now) }
+{
+    starts.clear();
+    for at in 0..track.len() {
+        match start_in(track, at) {
+            Some(start) => starts.push(start)?,
+            None => {}
+        }
+    }
+    Ok(())
+}
+
+/// A start of a track.
+pub(crate) fn start_at(track: &[u8], starts: &[u32], place: usize) -> usize
+    requires track { length track.now < 65536 }
+    requires starts { starts.now ≡ starts_on track.now }
+    requires place { place < length starts.now }
+    ensures value { result ≡ slice_index starts.now place }
+    ensures track { IsTrack track.now }
+    ensures within { result < 8 * length track.now }
+{
+    let _ = track;
+    starts[place] as usize
+}
+
+/// The start of a track after another one, where the first one comes after the last.
+pub(crate) fn next_start(track: &[u8], starts: &[u32], place: usize) -> usize
+    requires track { length track.now < 65536 }
+    requires starts { starts.now ≡ starts_on track.now }
+    requires place { place < length starts.now }
+    ensures value { result ≡ next_of starts.now place }
+    ensures within { result < 8 * length track.now }
+{
+    if place + 1 < starts.len() {
+        start_at(track, starts, place + 1)
+    } else {
+        start_at(track, starts, 0)
+    }
+}
