@@ -116,22 +116,22 @@ IsCause text (faults.Memory error) cause = ⊥
 
 -- the plain words of a cause, and the byte that they end with in text form, if they have one
 abbrev pub cause_words : Cause → List ℕ
-cause_words NoNumber = codes "a line begins with its number"
+cause_words NoNumber = codes "a line has to begin with its number"
 cause_words NumberTooLarge = codes "a line's number is at most 65535"
-cause_words Tab = codes "a tab is no character of a program: write spaces, or {$09} between quotes"
+cause_words Tab = codes "a program cannot hold a tab: write spaces, or {$09} between quotes"
 cause_words Pound = codes "pound is written \\"
 cause_words Pi = codes "pi is written ~"
 cause_words ArrowUp = codes "the arrow up is written ^"
 cause_words ArrowLeft = codes "the arrow to the left is written _"
-cause_words OtherCharacter = codes "a character that no byte has; write the byte's value, as {$7c}"
-cause_words OpenBrace = codes "a { is not closed by a }"
+cause_words OtherCharacter = codes "PETSCII does not have this character; write the byte's value, as {$7c}"
+cause_words OpenBrace = codes "a { has no closing }"
 cause_words Number = codes "a name in braces takes no number: write {down}{down}{down} for {3 down}"
 cause_words (OtherName byte) = codes "a name in braces has another spelling here: write "
 cause_words UnknownName = codes "unknown name in braces; write a control code, as {clr}, or a byte's value, as {$93}"
 cause_words Capital = codes "keywords and variables are written in small letters outside quotes"
-cause_words Abbreviation = codes "an abbreviation, as pO for poke, is written in full, and a variable in small letters"
+cause_words Abbreviation = codes "write an abbreviation such as pO in full (poke), and a variable in small letters"
 cause_words TokenByte = codes "outside quotes a byte of $80 or more would be read as a keyword"
-cause_words ZeroByte = codes "a line holds no byte $00"
+cause_words ZeroByte = codes "a line cannot hold a byte $00"
 cause_words TooLong = codes "the line is too long, or the program ends above address 65535"
 
 abbrev pub cause_byte : Cause → Option ℕ

@@ -79,19 +79,17 @@ impl Cause {
         ensures { result.now ≡ cause_words self }
     {
         match self {
-            Cause::NoNumber => b"a line begins with its number",
+            Cause::NoNumber => b"a line has to begin with its number",
             Cause::NumberTooLarge => b"a line's number is at most 65535",
-            Cause::Tab => {
-                b"a tab is no character of a program: write spaces, or {$09} between quotes"
-            }
+            Cause::Tab => { b"a program cannot hold a tab: write spaces, or {$09} between quotes" }
             Cause::Pound => b"pound is written \\",
             Cause::Pi => b"pi is written ~",
             Cause::ArrowUp => b"the arrow up is written ^",
             Cause::ArrowLeft => b"the arrow to the left is written _",
             Cause::OtherCharacter => {
-                b"a character that no byte has; write the byte's value, as {$7c}"
+                b"PETSCII does not have this character; write the byte's value, as {$7c}"
             }
-            Cause::OpenBrace => b"a { is not closed by a }",
+            Cause::OpenBrace => b"a { has no closing }",
             Cause::Number => {
                 b"a name in braces takes no number: write {down}{down}{down} for {3 down}"
             }
@@ -101,10 +99,10 @@ impl Cause {
             }
             Cause::Capital => b"keywords and variables are written in small letters outside quotes",
             Cause::Abbreviation => {
-                b"an abbreviation, as pO for poke, is written in full, and a variable in small letters"
+                b"write an abbreviation such as pO in full (poke), and a variable in small letters"
             }
             Cause::TokenByte => b"outside quotes a byte of $80 or more would be read as a keyword",
-            Cause::ZeroByte => b"a line holds no byte $00",
+            Cause::ZeroByte => b"a line cannot hold a byte $00",
             Cause::TooLong => b"the line is too long, or the program ends above address 65535",
         }
     }

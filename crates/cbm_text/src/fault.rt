@@ -15,7 +15,7 @@ use thiserror::Error;
 #[derive(Clone, Copy, Debug, PartialEq, Eq, Error)]
 pub enum BasicFault {
     /// The line begins with no number.
-    #[error("line {line}: a line begins with its number")]
+    #[error("line {line}: a line has to begin with its number")]
     NoNumber { line: usize },
     /// The line's number is above 65535.
     #[error("line {line}: a line's number is at most 65535")]
@@ -27,7 +27,7 @@ pub enum BasicFault {
     #[error("line {line}: outside quotes a byte of $80 or more would be read as a keyword")]
     TokenByte { line: usize },
     /// The line has a byte $00, which ends a line in the file.
-    #[error("line {line}: a line holds no byte $00")]
+    #[error("line {line}: a line cannot hold a byte $00")]
     ZeroByte { line: usize },
     /// The line has more than 250 crunched bytes, or what follows it would stand above 65535.
     #[error("line {line}: the line is too long, or the program ends above address 65535")]

@@ -1,4 +1,4 @@
--- What is printed of a text that is no program: its faulty lines, in the form of compilers.
+-- What is printed of a text that is not a program: its faulty lines, in the form of compilers.
 use Rattle.std.specs.Prelude.{ℕ, ◌<◌, ◌-◌, ◌^◌, nat_le, if◌then◌else◌, List, [], ◌++◌, length, take, codes, Option, IfSome}
 use Rattle.std.specs.List.{flat_map}
 use Rattle.cbm_text.specs.BasicText.{fault_line}

@@ -1,4 +1,4 @@
-//! What is printed of a text that is no program: its faulty lines, in the form of compilers.
+//! What is printed of a text that is not a program: its faulty lines, in the form of compilers.
 ghost use Rattle.std.specs.Prelude.{◌≡◌, ◌-◌, ◌≤◌, ◌<◌, ◌^◌, ◌++◌, All, IfOk, IfSome, List, OnOk, [], codes, length, option_copied};
 ghost use Rattle.std.specs.List.{flat_map};
 ghost use Rattle.cbm_text.specs.Causes.{cause_text};

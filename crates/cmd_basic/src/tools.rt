@@ -32,7 +32,7 @@ pub enum ToolFault {
     #[error("the input cannot be read to its end")]
     Read,
     /// A write failed, or took nothing. A first part of the result is written.
-    #[error("the output takes no more bytes")]
+    #[error("the output could not be written")]
     Write,
     /// There is no memory. Nothing is written.
     #[error("out of memory")]

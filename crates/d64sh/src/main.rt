@@ -21,7 +21,7 @@ const NOT_RUN: u8 = 2;
 
 /// What is said where a program would be written to a terminal.
 const PROGRAM_AT_TERMINAL: &[u8] =
-    b"d64sh: a program is no text for a terminal: crunch -o FILE stores it in a file\n";
+    b"d64sh: a program is not shown on a terminal: crunch -o FILE stores it in a file\n";
 
 fn main(rt: HostRuntime) -> ExitCode {
     let limit = SizeLimit::default();

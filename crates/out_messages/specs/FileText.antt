@@ -36,10 +36,10 @@ unfoldable pub flaw_text : ℕ → ℕ → Flaw → List ℕ
 flaw_text shown there Unclosed = codes "never closed"
 flaw_text shown there Kindless = codes "of no kind"
 flaw_text shown there Broken = codes "its chain is broken"
-flaw_text shown there Shared = codes "has a block that is not its own"
+flaw_text shown there Shared = codes "shares a block with another owner"
 flaw_text shown there Unreadable = codes "has a read error"
 flaw_text shown there Missized = size_text shown there
-flaw_text shown there Geos = codes "a GEOS file, whose records are not looked at"
+flaw_text shown there Geos = codes "a GEOS file, whose records are not checked"
 
 -- what stands before the reason at a place
 abbrev pub comma : ℕ → List ℕ

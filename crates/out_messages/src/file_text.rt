@@ -93,10 +93,10 @@ fn push_flaw(out: &mut Vec<u8>, shown: usize, there: usize, flaw: Flaw) -> Resul
         Flaw::Unclosed => out.extend_from_slice(b"never closed"),
         Flaw::Kindless => out.extend_from_slice(b"of no kind"),
         Flaw::Broken => out.extend_from_slice(b"its chain is broken"),
-        Flaw::Shared => out.extend_from_slice(b"has a block that is not its own"),
+        Flaw::Shared => out.extend_from_slice(b"shares a block with another owner"),
         Flaw::Unreadable => out.extend_from_slice(b"has a read error"),
         Flaw::Missized => push_size(out, shown, there),
-        Flaw::Geos => out.extend_from_slice(b"a GEOS file, whose records are not looked at"),
+        Flaw::Geos => out.extend_from_slice(b"a GEOS file, whose records are not checked"),
     }
 }
 

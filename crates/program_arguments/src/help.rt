@@ -25,7 +25,7 @@ pub(crate) fn help_of(name: &str) -> Help {
             details: PETCAT_DETAILS,
         },
         "crunch" => Help {
-            about: "Makes a BASIC program of a text",
+            about: "Makes a BASIC program from a text",
             usage: CRUNCH_USAGE,
             details: CRUNCH_DETAILS,
         },
@@ -55,7 +55,7 @@ pub(crate) fn help_of(name: &str) -> Help {
             details: DIFF_DETAILS,
         },
         "catalogue" => Help {
-            about: "Makes one page of what is on disk images, to look at and search",
+            about: "Makes one page of what is on disk images, to browse and search",
             usage: CATALOGUE_USAGE,
             details: CATALOGUE_DETAILS,
         },

@@ -83,45 +83,45 @@ not_number track first second = option_map_or (λ _. second) (number_of track) f
 
 -- a line of as many words as its command takes, of which one is not what that takes
 abbrev pub wrong_line : Said → Command → List Piece
-wrong_line said Block = one_piece (codes "\"") (not_number said.first First Second) (codes "\" is no number from 0 to 255: block T S")
-wrong_line said BlockRead = one_piece (codes "\"") (not_number said.second Second Third) (codes "\" is no number from 0 to 255")
-wrong_line said BlockWrite = one_piece (codes "\"") (not_number said.second Second Third) (codes "\" is no number from 0 to 255")
-wrong_line said Format = one_piece (codes "\"") First (codes "\" has no comma between a name and an id: format NAME,ID")
-wrong_line said Write = one_piece (codes "\"") Second (codes "\" ends with no type of a file, which is p, s or u: write HOST NAME,T")
-wrong_line said command = one_piece (codes "the line is typed so: ") (Text (usage command)) []
+wrong_line said Block = one_piece (codes "\"") (not_number said.first First Second) (codes "\" is not a number from 0 to 255: block T S")
+wrong_line said BlockRead = one_piece (codes "\"") (not_number said.second Second Third) (codes "\" is not a number from 0 to 255")
+wrong_line said BlockWrite = one_piece (codes "\"") (not_number said.second Second Third) (codes "\" is not a number from 0 to 255")
+wrong_line said Format = one_piece (codes "\"") First (codes "\" has no comma between name and id: format NAME,ID")
+wrong_line said Write = one_piece (codes "\"") Second (codes "\" does not end with a file type (p, s or u): write HOST NAME,T")
+wrong_line said command = one_piece (codes "type the line like this: ") (Text (usage command)) []
 
 -- a line whose words are not what its command takes
 abbrev pub wrong_words : Said → Command → List Piece
 wrong_words said command =
-    if said.count == 0 then plain_pieces (codes "a quote stands only at the begin and the end of a word, and other characters than printable ASCII nowhere")
+    if said.count == 0 then plain_pieces (codes "quotes may only enclose a whole argument, and only printable ASCII is allowed")
     else if nat_lt (most_words command) (said.count - 1)
-    then two_pieces (codes "\"") (surplus_piece (most_words command)) (codes "\" is a word too many: ") (Text (usage command)) []
+    then two_pieces (codes "\"") (surplus_piece (most_words command)) (codes "\" is one argument too many: ") (Text (usage command)) []
     else wrong_line said command
 
 -- a line in which a word cannot be a name
 abbrev pub wrong_name : Said → Command → List Piece
-wrong_name said BlockRead = one_piece (codes "\"") First (codes "\" is no name of a host file, which has 1 to 255 characters")
-wrong_name said BlockWrite = one_piece (codes "\"") First (codes "\" is no name of a host file, which has 1 to 255 characters")
-wrong_name said Keep = one_piece (codes "\"") First (codes "\" is no name of a host file, which has 1 to 255 characters")
-wrong_name said Save = one_piece (codes "\"") First (codes "\" is no name of a host file, which has 1 to 255 characters")
-wrong_name said Format = one_piece (codes "\"") First (codes "\" has no name of 1 to 16 characters with an id of 2, without * ? = : and quotes")
+wrong_name said BlockRead = one_piece (codes "\"") First (codes "\" is not a valid name of a host file, which has 1 to 255 characters")
+wrong_name said BlockWrite = one_piece (codes "\"") First (codes "\" is not a valid name of a host file, which has 1 to 255 characters")
+wrong_name said Keep = one_piece (codes "\"") First (codes "\" is not a valid name of a host file, which has 1 to 255 characters")
+wrong_name said Save = one_piece (codes "\"") First (codes "\" is not a valid name of a host file, which has 1 to 255 characters")
+wrong_name said Format = one_piece (codes "\"") First (codes "\" is not a valid name of 1 to 16 characters and an id of 2, without * ? = : and quotes")
 wrong_name said Name = one_piece (codes "\"") First (codes "\" is no name of 1 to 16 characters, with an id of 2 after a comma or without one, without * ? = : and quotes")
-wrong_name said Petcat = one_piece (codes "\"") First (codes "\" is no name, which has 1 to 16 characters without = : , and quotes")
-wrong_name said ShowText = one_piece (codes "\"") First (codes "\" is no name, which has 1 to 16 characters without = : , and quotes")
-wrong_name said Delete = one_piece (codes "of the names from \"") First (codes "\" on, one is none: a name has 1 to 16 characters without = : , and quotes")
-wrong_name said Read = two_pieces (codes "\"") First (codes "\" is no name on a disk, which has 1 to 16 characters without = : , and quotes, or the host can have no file \"") (host_piece said Read) (codes "\": read NAME HOST")
-wrong_name said Rename = two_pieces (codes "\"") First (codes "\" or \"") Second (codes "\" is no name on a disk, which has 1 to 16 characters without * ? = : , and quotes")
-wrong_name said command = two_pieces (codes "\"") (file_piece said command) (codes "\" gives no name on a disk, which has 1 to 16 characters without * ? = : , and quotes, or the host can have no file \"") First (codes "\"")
+wrong_name said Petcat = one_piece (codes "\"") First (codes "\" is not a valid name, which has 1 to 16 characters without = : , and quotes")
+wrong_name said ShowText = one_piece (codes "\"") First (codes "\" is not a valid name, which has 1 to 16 characters without = : , and quotes")
+wrong_name said Delete = one_piece (codes "one of the names from \"") First (codes "\" on is not valid: a name has 1 to 16 characters without = : , and quotes")
+wrong_name said Read = two_pieces (codes "\"") First (codes "\" is not a valid name on a disk, which has 1 to 16 characters without = : , and quotes, or the host cannot have a file \"") (host_piece said Read) (codes "\": read NAME HOST")
+wrong_name said Rename = two_pieces (codes "\"") First (codes "\" or \"") Second (codes "\" is not a valid name on a disk, which has 1 to 16 characters without * ? = : , and quotes")
+wrong_name said command = two_pieces (codes "\"") (file_piece said command) (codes "\" does not give a valid name on a disk, which has 1 to 16 characters without * ? = : , and quotes, or the host cannot have a file \"") First (codes "\"")
 
 -- a line that lacks a word
 abbrev pub missing_word : Said → Command → List Piece
 missing_word said Save = plain_pieces (codes "the session began without an image file, so save takes a name: save HOST")
-missing_word said command = one_piece (codes "a word is missing: ") (Text (usage command)) []
+missing_word said command = one_piece (codes "an argument is missing: ") (Text (usage command)) []
 
 -- a line that names a block which the disk hasn't
 abbrev pub wrong_block : Said → Command → List Piece
-wrong_block said Block = two_pieces (codes "the disk has no track ") First (codes " with a sector ") Second (codes ": sectors count from 0, and are 21 on tracks 1 to 17, 19 on 18 to 24, 18 on 25 to 30, then 17")
-wrong_block said command = two_pieces (codes "the disk has no track ") Second (codes " with a sector ") Third (codes ": sectors count from 0, and are 21 on tracks 1 to 17, 19 on 18 to 24, 18 on 25 to 30, then 17")
+wrong_block said Block = two_pieces (codes "the disk has no track ") First (codes " with a sector ") Second (codes ": sectors are numbered from 0, and there are 21 on tracks 1 to 17, 19 on 18 to 24, 18 on 25 to 30, then 17")
+wrong_block said command = two_pieces (codes "the disk has no track ") Second (codes " with a sector ") Third (codes ": sectors are numbered from 0, and there are 21 on tracks 1 to 17, 19 on 18 to 24, 18 on 25 to 30, then 17")
 
 -- a line whose host file has the fault of this number
 abbrev pub wrong_host_file : Said → Command → ℕ → List Piece
@@ -140,18 +140,18 @@ advice_by said command BadName = wrong_name said command
 advice_by said command MissingWord = missing_word said command
 advice_by said command WriteFileOpen = one_piece (codes "the file \"") First (codes "\" was never closed, so it cannot be read")
 advice_by said command FileNotFound = one_piece (codes "the disk has no file \"") First (codes "\"")
-advice_by said command FileExists = one_piece (codes "the disk has a file already of the name that \"") (file_piece said command) (codes "\" gives")
-advice_by said command FileTypeMismatch = one_piece (codes "the type of the file \"") (file_piece said command) (codes "\" is none that this line takes")
+advice_by said command FileExists = one_piece (codes "the disk already has a file named \"") (file_piece said command) (codes "\"")
+advice_by said command FileTypeMismatch = one_piece (codes "the file \"") (file_piece said command) (codes "\" has the wrong type for this command")
 advice_by said command (IllegalBlock track sector) = wrong_block said command
-advice_by said command (DirectoryError condition) = one_piece (codes "the disk is damaged: ") (Text (condition_text condition)) (codes "; d64sh check says where")
-advice_by said command DiskFull = plain_pieces (codes "the disk or its directory has no room for that")
+advice_by said command (DirectoryError condition) = one_piece (codes "the disk is damaged: ") (Text (condition_text condition)) (codes "; d64sh check shows where")
+advice_by said command DiskFull = plain_pieces (codes "there is not enough space on the disk or in its directory")
 advice_by said command (HostFile fault) = wrong_host_file said command fault
-advice_by said command NothingToUndo = plain_pieces (codes "there is no change to take back")
-advice_by said command NothingToRedo = plain_pieces (codes "no change was taken back that could be made again")
-advice_by said command NotOneBlock = one_piece (codes "the file \"") First (codes "\" has not the 256 bytes of a block")
-advice_by said command (BasicText fault line) = two_pieces (codes "the text \"") First (codes "\" is no program: ") (Text (basic_fault fault)) []
-advice_by said command (NotBasic fault) = two_pieces (codes "the file \"") First (codes "\" is no BASIC program: ") (Text (list_fault fault)) []
-advice_by said command OutOfMemory = plain_pieces (codes "there is no memory for that")
+advice_by said command NothingToUndo = plain_pieces (codes "there is nothing to undo")
+advice_by said command NothingToRedo = plain_pieces (codes "there is nothing to redo")
+advice_by said command NotOneBlock = one_piece (codes "the file \"") First (codes "\" is not 256 bytes long")
+advice_by said command (BasicText fault line) = two_pieces (codes "the text \"") First (codes "\" is not a program: ") (Text (basic_fault fault)) []
+advice_by said command (NotBasic fault) = two_pieces (codes "the file \"") First (codes "\" is not a BASIC program: ") (Text (list_fault fault)) []
+advice_by said command OutOfMemory = plain_pieces (codes "out of memory")
 advice_by said command Done = plain_pieces []
 advice_by said command (FilesScratched count) = plain_pieces []
 

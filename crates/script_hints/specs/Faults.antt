@@ -10,10 +10,10 @@ use Rattle.cbm_text.specs.declared.fault.ListFault.TheVariants.{NoAddress, Trunc
 abbrev pub condition_text : ℕ → Bytes
 condition_text number =
     if number == 1 then codes "a track's count of free sectors is wrong"
-    else if number == 2 then codes "the directory leads off the disk or round in a circle"
-    else if number == 3 then codes "an entry has a type that no file has"
-    else if number == 4 then codes "a file leads off the disk or round in a circle"
-    else if number == 5 then codes "a block belongs to two owners"
+    else if number == 2 then codes "the directory's chain leaves the disk or loops"
+    else if number == 3 then codes "an entry has an unknown file type"
+    else if number == 4 then codes "a file's chain leaves the disk or loops"
+    else if number == 5 then codes "a block has two owners"
     else if number == 6 then codes "a block in use is marked free"
     else codes "it is not sound"
 
@@ -22,15 +22,15 @@ abbrev pub basic_fault : ℕ → Bytes
 basic_fault number =
     if number == 1 then cause_words NoNumber
     else if number == 2 then cause_words NumberTooLarge
-    else if number == 3 then codes "what follows the number is no text of a program"
+    else if number == 3 then codes "the text after the line number is not valid"
     else if number == 4 then cause_words TokenByte
     else if number == 5 then cause_words ZeroByte
     else if number == 6 then cause_words TooLong
-    else codes "the text is no program"
+    else codes "the text is not a program"
 
 -- what is wrong with a file that is no BASIC program, by the number of its fault
 abbrev pub list_fault : ℕ → Bytes
 list_fault number =
     if number == 1 then list_fault_text NoAddress
     else if number == 2 then list_fault_text Truncated
-    else codes "the file is no program"
+    else codes "the file is not a program"

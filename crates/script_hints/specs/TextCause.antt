@@ -36,7 +36,7 @@ IsFoundCause host name status cause = ⊥
 
 -- after the start of a line, what is wrong with the text of this name
 unfoldable pub line_about : Bytes → Bytes → Cause → Bytes
-line_about start name cause = ((((start ++ codes "the text \"") ++ name) ++ codes "\" is no program: ") ++ cause_text cause) ++ codes "\n"
+line_about start name cause = ((((start ++ codes "the text \"") ++ name) ++ codes "\" is not a program: ") ++ cause_text cause) ++ codes "\n"
 
 -- the line of what is found so
 abbrev pub IsFoundLine : HostState → Bytes → Bytes → Status → Bytes → Type 0

@@ -102,47 +102,47 @@ impl Advice {
             ),
             Status::FileNotFound => Advice::one(b"the disk has no file \"", Piece::First, b"\""),
             Status::FileExists => Advice::one(
-                b"the disk has a file already of the name that \"",
+                b"the disk already has a file named \"",
                 file_piece(said, command),
-                b"\" gives",
+                b"\"",
             ),
             Status::FileTypeMismatch => Advice::one(
-                b"the type of the file \"",
+                b"the file \"",
                 file_piece(said, command),
-                b"\" is none that this line takes",
+                b"\" has the wrong type for this command",
             ),
             Status::IllegalBlock { .. } => wrong_block(said, command),
             Status::DirectoryError { condition } => Advice::one(
                 b"the disk is damaged: ",
                 Piece::Text(condition_text(condition)),
-                b"; d64sh check says where",
+                b"; d64sh check shows where",
             ),
-            Status::DiskFull => Advice::plain(b"the disk or its directory has no room for that"),
+            Status::DiskFull => Advice::plain(
+                b"there is not enough space on the disk or in its directory",
+            ),
             Status::HostFile { fault } => wrong_host_file(said, command, fault),
-            Status::NothingToUndo => Advice::plain(b"there is no change to take back"),
-            Status::NothingToRedo => Advice::plain(
-                b"no change was taken back that could be made again",
-            ),
+            Status::NothingToUndo => Advice::plain(b"there is nothing to undo"),
+            Status::NothingToRedo => Advice::plain(b"there is nothing to redo"),
             Status::NotOneBlock => Advice::one(
                 b"the file \"",
                 Piece::First,
-                b"\" has not the 256 bytes of a block",
+                b"\" is not 256 bytes long",
             ),
             Status::BasicText { fault, .. } => Advice::two(
                 b"the text \"",
                 Piece::First,
-                b"\" is no program: ",
+                b"\" is not a program: ",
                 Piece::Text(basic_fault(fault)),
                 b"",
             ),
             Status::NotBasic { fault } => Advice::two(
                 b"the file \"",
                 Piece::First,
-                b"\" is no BASIC program: ",
+                b"\" is not a BASIC program: ",
                 Piece::Text(list_fault(fault)),
                 b"",
             ),
-            Status::OutOfMemory => Advice::plain(b"there is no memory for that"),
+            Status::OutOfMemory => Advice::plain(b"out of memory"),
             Status::Done | Status::FilesScratched { .. } => Advice::plain(b""),
         }
     }
@@ -210,13 +210,13 @@ fn wrong_words(said: &Said<'_>, command: Command) -> Advice
     let most = command.most_words();
     if said.count == 0 {
         Advice::plain(
-            b"a quote stands only at the begin and the end of a word, and other characters than printable ASCII nowhere",
+            b"quotes may only enclose a whole argument, and only printable ASCII is allowed",
         )
     } else if said.count - 1 > most {
         Advice::two(
             b"\"",
             surplus_piece(most),
-            b"\" is a word too many: ",
+            b"\" is one argument too many: ",
             Piece::Text(command.usage()),
             b"",
         )
@@ -248,24 +248,28 @@ fn wrong_line(said: &Said<'_>, command: Command) -> Advice
         Command::Block => Advice::one(
             b"\"",
             not_number(said.first, Piece::First, Piece::Second),
-            b"\" is no number from 0 to 255: block T S",
+            b"\" is not a number from 0 to 255: block T S",
         ),
         Command::BlockRead | Command::BlockWrite => Advice::one(
             b"\"",
             not_number(said.second, Piece::Second, Piece::Third),
-            b"\" is no number from 0 to 255",
+            b"\" is not a number from 0 to 255",
         ),
         Command::Format => Advice::one(
             b"\"",
             Piece::First,
-            b"\" has no comma between a name and an id: format NAME,ID",
+            b"\" has no comma between name and id: format NAME,ID",
         ),
         Command::Write => Advice::one(
             b"\"",
             Piece::Second,
-            b"\" ends with no type of a file, which is p, s or u: write HOST NAME,T",
+            b"\" does not end with a file type (p, s or u): write HOST NAME,T",
         ),
-        _ => Advice::one(b"the line is typed so: ", Piece::Text(command.usage()), b""),
+        _ => Advice::one(
+            b"type the line like this: ",
+            Piece::Text(command.usage()),
+            b"",
+        ),
     }
 }
 
@@ -277,12 +281,12 @@ fn wrong_name(said: &Said<'_>, command: Command) -> Advice
         Command::BlockRead | Command::BlockWrite | Command::Keep | Command::Save => Advice::one(
             b"\"",
             Piece::First,
-            b"\" is no name of a host file, which has 1 to 255 characters",
+            b"\" is not a valid name of a host file, which has 1 to 255 characters",
         ),
         Command::Format => Advice::one(
             b"\"",
             Piece::First,
-            b"\" has no name of 1 to 16 characters with an id of 2, without * ? = : and quotes",
+            b"\" is not a valid name of 1 to 16 characters and an id of 2, without * ? = : and quotes",
         ),
         Command::Name => Advice::one(
             b"\"",
@@ -292,17 +296,17 @@ fn wrong_name(said: &Said<'_>, command: Command) -> Advice
         Command::Petcat | Command::ShowText => Advice::one(
             b"\"",
             Piece::First,
-            b"\" is no name, which has 1 to 16 characters without = : , and quotes",
+            b"\" is not a valid name, which has 1 to 16 characters without = : , and quotes",
         ),
         Command::Delete => Advice::one(
-            b"of the names from \"",
+            b"one of the names from \"",
             Piece::First,
-            b"\" on, one is none: a name has 1 to 16 characters without = : , and quotes",
+            b"\" on is not valid: a name has 1 to 16 characters without = : , and quotes",
         ),
         Command::Read => Advice::two(
             b"\"",
             Piece::First,
-            b"\" is no name on a disk, which has 1 to 16 characters without = : , and quotes, or the host can have no file \"",
+            b"\" is not a valid name on a disk, which has 1 to 16 characters without = : , and quotes, or the host cannot have a file \"",
             host_piece(said, command),
             b"\": read NAME HOST",
         ),
@@ -311,12 +315,12 @@ fn wrong_name(said: &Said<'_>, command: Command) -> Advice
             Piece::First,
             b"\" or \"",
             Piece::Second,
-            b"\" is no name on a disk, which has 1 to 16 characters without * ? = : , and quotes",
+            b"\" is not a valid name on a disk, which has 1 to 16 characters without * ? = : , and quotes",
         ),
         _ => Advice::two(
             b"\"",
             file_piece(said, command),
-            b"\" gives no name on a disk, which has 1 to 16 characters without * ? = : , and quotes, or the host can have no file \"",
+            b"\" does not give a valid name on a disk, which has 1 to 16 characters without * ? = : , and quotes, or the host cannot have a file \"",
             Piece::First,
             b"\"",
         ),
@@ -331,7 +335,11 @@ fn missing_word(said: &Said<'_>, command: Command) -> Advice
         Command::Save => Advice::plain(
             b"the session began without an image file, so save takes a name: save HOST",
         ),
-        _ => Advice::one(b"a word is missing: ", Piece::Text(command.usage()), b""),
+        _ => Advice::one(
+            b"an argument is missing: ",
+            Piece::Text(command.usage()),
+            b"",
+        ),
     }
 }
 
@@ -345,14 +353,14 @@ fn wrong_block(said: &Said<'_>, command: Command) -> Advice
             Piece::First,
             b" with a sector ",
             Piece::Second,
-            b": sectors count from 0, and are 21 on tracks 1 to 17, 19 on 18 to 24, 18 on 25 to 30, then 17",
+            b": sectors are numbered from 0, and there are 21 on tracks 1 to 17, 19 on 18 to 24, 18 on 25 to 30, then 17",
         ),
         _ => Advice::two(
             b"the disk has no track ",
             Piece::Second,
             b" with a sector ",
             Piece::Third,
-            b": sectors count from 0, and are 21 on tracks 1 to 17, 19 on 18 to 24, 18 on 25 to 30, then 17",
+            b": sectors are numbered from 0, and there are 21 on tracks 1 to 17, 19 on 18 to 24, 18 on 25 to 30, then 17",
         ),
     }
 }

@@ -10,10 +10,10 @@ pub(crate) fn condition_text(number: u8) -> &'static [u8]
 {
     match number {
         1 => b"a track's count of free sectors is wrong",
-        2 => b"the directory leads off the disk or round in a circle",
-        3 => b"an entry has a type that no file has",
-        4 => b"a file leads off the disk or round in a circle",
-        5 => b"a block belongs to two owners",
+        2 => b"the directory's chain leaves the disk or loops",
+        3 => b"an entry has an unknown file type",
+        4 => b"a file's chain leaves the disk or loops",
+        5 => b"a block has two owners",
         6 => b"a block in use is marked free",
         _ => b"it is not sound",
     }
@@ -26,11 +26,11 @@ pub(crate) fn basic_fault(number: u8) -> &'static [u8]
     match number {
         1 => Cause::NoNumber.words(),
         2 => Cause::NumberTooLarge.words(),
-        3 => b"what follows the number is no text of a program",
+        3 => b"the text after the line number is not valid",
         4 => Cause::TokenByte.words(),
         5 => Cause::ZeroByte.words(),
         6 => Cause::TooLong.words(),
-        _ => b"the text is no program",
+        _ => b"the text is not a program",
     }
 }
 
@@ -41,6 +41,6 @@ pub(crate) fn list_fault(number: u8) -> &'static [u8]
     match number {
         1 => ListFault::NoAddress.text().as_bytes(),
         2 => ListFault::Truncated.text().as_bytes(),
-        _ => b"the file is no program",
+        _ => b"the file is not a program",
     }
 }

@@ -49,7 +49,7 @@ fn push_odd(line: &mut Vec<u8>, text: &[u8]) -> Result<(), AllocError> {
         let what: &[u8] = match *byte {
             9 => b"d64sh: the line has a tab\n",
             27 =>
-                b"d64sh: an arrow or another key that edits was typed; rlwrap d64sh shell edits lines\n",
+                b"d64sh: an arrow or another editing key was typed; rlwrap d64sh shell lets you edit lines\n",
             128..=255 => b"d64sh: the line has an umlaut or another character that is not ASCII\n",
             _ => continue,
         };
@@ -76,7 +76,7 @@ fn push_meant(line: &mut Vec<u8>, found: &Found<'_>) -> Result<(), AllocError> {
         Some(entry) => {
             line.extend_from_slice(b"d64sh: the disk has ")?;
             push_quoted(line, entry.name())?;
-            line.extend_from_slice(b"; there capitals and small letters are different\n")
+            line.extend_from_slice(b"; capital and small letters are different there\n")
         }
         None => Ok(()),
     }
@@ -90,7 +90,7 @@ fn push_undeleted(line: &mut Vec<u8>, found: &Found<'_>) -> Result<(), AllocErro
             push_quoted(line, entry.name())?;
             line.extend_from_slice(why_kept(entry))?;
         }
-        None => line.extend_from_slice(b"the disk has no file of such a name\n")?,
+        None => line.extend_from_slice(b"the disk has no file of that name\n")?,
     }
     push_meant(line, found)
 }
@@ -100,7 +100,7 @@ fn why_kept(entry: &Entry<'_>) -> &'static [u8] {
     if entry.locked() {
         b" is locked\n"
     } else {
-        b" was never closed; validate drops it\n"
+        b" was never closed; validate removes it\n"
     }
 }
 
@@ -118,8 +118,8 @@ fn push_place(line: &mut Vec<u8>, name: &Option<Vec<u8>>) -> Result<(), AllocErr
 
 /// Adds how many files are gone.
 fn push_gone(line: &mut Vec<u8>, files: usize) -> Result<(), AllocError> {
-    line.extend_from_slice(b"d64sh: of the disk before ")?;
+    line.extend_from_slice(b"d64sh: ")?;
     push_count(line, files, b"file")?;
     line.extend_from_slice(if files == 1 { b" is" } else { b" are" })?;
-    line.extend_from_slice(b" gone; undo brings it back\n")
+    line.extend_from_slice(b" gone; undo brings the disk back\n")
 }

@@ -41,7 +41,7 @@ fn line_about(alloc: Global, start: &[u8], name: &[u8], cause: Cause) -> Result<
     line.extend_from_slice(start)?;
     line.extend_from_slice(b"the text \"")?;
     line.extend_from_slice(name)?;
-    line.extend_from_slice(b"\" is no program: ")?;
+    line.extend_from_slice(b"\" is not a program: ")?;
     cause.push_to(&mut line)?;
     line.extend_from_slice(b"\n")?;
     Ok(line)

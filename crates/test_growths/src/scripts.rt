@@ -88,9 +88,9 @@ const FAULT_TEXTS: &str = "the script cannot be read to its end
 the answers cannot be written
 out of memory
 the input cannot be read to its end
-the output takes no more bytes
+the output could not be written
 out of memory
-line 3: a line holds no byte $00
+line 3: a line cannot hold a byte $00
 the program is cut short
 usage: --start takes one to four hexadecimal digits
 usage: --tracks takes 35 or 40 and no IMAGE

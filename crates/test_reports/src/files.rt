@@ -114,7 +114,7 @@ fn a_geos_file(rt: HostRuntime) -> Result<(), Fail> {
         br#"{"image":"a.d64","slot":0,"name":"hello","field":"48454c4c4fa0a0a0a0a0a0a0a0a0a0a0","kind":"usr","type":131,"closed":true,"locked":false,"size":1,"first":"17/0","record":null,"blocks":1,"side":null,"bytes":37,"sha256":"1f1f1f1f1f1f1f1f1f1f1f1f1f1f1f1f1f1f1f1f1f1f1f1f1f1f1f1f1f1f1f1f","whole":null,"why":["geos"],"conditions":[],"read_errors":0}
 image,slot,name,field,kind,type,closed,locked,size,first,record,blocks,side,bytes,sha256,whole,why,conditions,read_errors,error
 a.d64,0,hello,48454c4c4fa0a0a0a0a0a0a0a0a0a0a0,usr,131,true,false,1,17/0,,1,,37,1f1f1f1f1f1f1f1f1f1f1f1f1f1f1f1f1f1f1f1f1f1f1f1f1f1f1f1f1f1f1f1f,,geos,,0,
-    1 "hello"            usr   not known: a GEOS file, whose records are not looked at
+    1 "hello"            usr   not known: a GEOS file, whose records are not checked
 "#;
     assert!(rt; prints(&rt, &geos(), expected.as_slice())?);
     Ok(())

@@ -239,7 +239,7 @@ fn faults_say_what_is_wrong(rt: HostRuntime) -> Result<(), Fail> {
     let texts = [
         (
             BasicFault::NoNumber { line },
-            "line 7: a line begins with its number",
+            "line 7: a line has to begin with its number",
         ),
         (
             BasicFault::NumberTooLarge { line },
@@ -258,7 +258,7 @@ fn faults_say_what_is_wrong(rt: HostRuntime) -> Result<(), Fail> {
         ),
         (
             BasicFault::ZeroByte { line },
-            "line 7: a line holds no byte $00",
+            "line 7: a line cannot hold a byte $00",
         ),
         (
             BasicFault::TooLong { line },
