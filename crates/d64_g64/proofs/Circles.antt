@@ -20,6 +20,12 @@ pub byte_round : (track : List ℕ) (place : ℕ) → get_or track (place % leng
 unfolding byte_on
 byte_round track place = refl
 
+-- a place and one some rounds further on
+pub byte_rounds : (track : List ℕ) (place far k : ℕ) → place < length track → far ≡ place + length track * k → get_or track place 0 ≡ byte_on track far
+unfolding byte_on
+byte_rounds track place far k h is =
+    sym (ap (λ (x : ℕ). get_or track x 0) (ap (λ (x : ℕ). x % length track) is ∙ add-mul-mod_self_left place (length track) k ∙ mod-eq_of_lt h))
+
 pub byte_below : (track : List ℕ) (place : ℕ) → AreBytes track → byte_on track place < 256
 unfolding byte_on
 byte_below track place are = are (place % length track)

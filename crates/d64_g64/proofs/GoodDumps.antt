@@ -1,8 +1,7 @@
 -- Any bytes are read as a dump
-use Rattle.std.proofs.Common.{◌≡◌, ℕ, zero, suc, ◌+◌, ◌*◌, ◌/◌, ◌%◌, ◌<◌, Bool, cond, Option, Some, None, List, length, get_or, map, nat_eq, refl, sym, ap, ◌∙◌, subst, inl, inr, arith}
+use Rattle.std.proofs.Common.{◌≡◌, ℕ, zero, suc, ◌+◌, ◌*◌, ◌/◌, ◌%◌, ◌<◌, Bool, cond, Option, Some, None, List, length, get_or, map, refl, sym, ap, ◌∙◌, subst, inl, inr, arith}
 use Rattle.std.specs.Prelude.{All, ltb, replicate, ◌==◌, count_by, drop}
 use Rattle.std.specs.List.{range_with_len}
-use Rattle.std.proofs.lemmas.List.Quantifiers.{position-Some}
 use Rattle.std.specs.Option.{option_map_or}
 use Rattle.std.proofs.lemmas.Bool.{cases_Bool}
 use Rattle.std.proofs.lemmas.List.FromFn.{length-map-range_with_len, get_or-map-range_with_len}
@@ -10,18 +9,14 @@ use Rattle.d64_image.specs.Block.{pair_at}
 use Rattle.d64_image.specs.Image.{IsBlock, IsSize}
 use Rattle.d64_survey.specs.Dump.{IsDump}
 use Rattle.d64_g64.specs.Circle.{bits_from}
-use Rattle.d64_g64.specs.Codes.{nibble_codes, nibble_of, joined, byte_of_bits, value_at, value_or_zero}
+use Rattle.d64_g64.specs.Codes.{nibble_of, joined, byte_of_bits, value_at, value_or_zero}
 use Rattle.d64_g64.specs.Blocks.{data_bytes, bytes_behind, bytes_of, header_of, is_data, blank}
 use Rattle.d64_g64.specs.File.{track_of}
 use Rattle.d64_g64.specs.Dump.{id_in, block_bytes, first_blocks, first_codes, kept_count, block_count, g64_dump}
+use Rattle.d64_g64.proofs.Nibbles.{nibble_fits}
 use Rattle.d64_g64.proofs.DumpBlocks.{length-block, length-first_codes}
 
--- a nibble is one of sixteen
-nibble_fits : (code nibble : ℕ) → nibble_of code ≡ Some nibble → nibble < 16
-unfolding nibble_of
-nibble_fits code nibble is = let found = position-Some (nat_eq code) nibble_codes nibble 0 is in found.0
-
--- so a byte is one
+-- a byte of two nibbles is one
 value_fits : (high low : Option ℕ) → ((n : ℕ) → high ≡ Some n → n < 16) → ((n : ℕ) → low ≡ Some n → n < 16) → value_or_zero (joined high low) < 256
 value_fits None low h l = omega arith
 value_fits (Some high) None h l = omega arith

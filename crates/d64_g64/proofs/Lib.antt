@@ -7,3 +7,4 @@ pub mod Files
 pub mod DumpBlocks
 pub mod SoundHeaders
 pub mod GoodDumps
+pub mod Nibbles

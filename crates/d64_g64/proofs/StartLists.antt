@@ -170,6 +170,40 @@ starts_more track at =
     ∙ filter-append (is_start track) (range_with_len 0 (8 * at)) (range_with_len (0 + 8 * at) 8)
     ∙ ap (λ (x : ℕ). filter (is_start track) (range_with_len 0 (8 * at)) ++ filter (is_start track) (range_with_len x 8)) f
 
+-- a byte whose predecessor doesn't end in three ones has none
+three_ones : (w m : ℕ) → m < 8 → w / 2 ^ (7 - m) % 2048 ≡ 2046 → w / 256 % 8 ≡ 7
+three_ones w zero h is = omega arith
+three_ones w (suc zero) h is = omega arith
+three_ones w (suc (suc zero)) h is = omega arith
+three_ones w (suc (suc (suc zero))) h is = omega arith
+three_ones w (suc (suc (suc (suc zero)))) h is = omega arith
+three_ones w (suc (suc (suc (suc (suc zero))))) h is = omega arith
+three_ones w (suc (suc (suc (suc (suc (suc zero)))))) h is = omega arith
+three_ones w (suc (suc (suc (suc (suc (suc (suc zero))))))) h is = omega arith
+three_ones w (suc (suc (suc (suc (suc (suc (suc (suc m)))))))) h is = absurd (omega arith)
+
+pub no_start_after : (track : List ℕ) (at : ℕ) → AreBytes track → 0 < length track
+    → (byte_on track (at + 2 * length track - 1) % 8 ≡ 7 → ⊥) → [] ≡ starts_in track at
+unfolding starts_in
+no_start_after track at are some other =
+    sym (filter_none (is_start track) (8 * at) 8 (λ m below. fails m below))
+  where
+    middle : three track (at + 2 * length track - 2) / 256 % 8 ≡ byte_on track (at + 2 * length track - 1) % 8
+    middle =
+        let b = byte_on track (at + 2 * length track - 2 + 1) in
+        let c = byte_on track (at + 2 * length track - 2 + 2) in
+        let b_fits : b < 256 = byte_below track (at + 2 * length track - 2 + 1) are in
+        let c_fits : c < 256 = byte_below track (at + 2 * length track - 2 + 2) are in
+        let e : at + 2 * length track - 2 + 1 ≡ at + 2 * length track - 1 = omega arith in
+        let cut : three track (at + 2 * length track - 2) / 256 % 8 ≡ b % 8 = omega arith in
+        cut ∙ ap (λ (x : ℕ). byte_on track x % 8) e
+
+    fails : (m : ℕ) → m < 8 → is_start track (8 * at + m) ≡ false
+    fails m below = elim (eqb_tells (three track (at + 2 * length track - 2) / 2 ^ (7 - m) % 2048) 2046) [
+      | inl same ↦ absurd (other (sym middle ∙ three_ones (three track (at + 2 * length track - 2)) m below same.1))
+      | inr misses ↦ start_by_bytes track at (at + 2 * length track - 2) m are some below (inl refl) ∙ misses.0
+    ]
+
 -- the starts are places of the circle
 pub starts_below : (track : List ℕ) (i : ℕ) → i < length (starts_on track) → get_or (starts_on track) i 0 < 8 * length track
 unfolding starts_on

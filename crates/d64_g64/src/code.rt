@@ -5,36 +5,26 @@ ghost use Rattle.d64_g64.specs.Codes.{nibble_of, byte_of_bits, value_at, value_o
 
 use crate::circle::{around, ten_bits};
 
+/// The nibble of each code of five bits, and 16 for one that is no code.
+const NIBBLES: [u8; 32] = [
+    16, 16, 16, 16, 16, 16, 16, 16, 16, 8, 0, 1, 16, 12, 4, 5, 16, 16, 2, 3, 16, 15, 6, 7, 16, 9,
+    10, 11, 16, 13, 14, 16,
+];
+
 /// The nibble of a code of five bits, or None where it is no code.
-#[tactic(auto, unfolding(crate::specs::Codes::nibble_of))]
 fn nibble_of(code: u32) -> Option<u8>
+    requires { code < 32 }
     ensures value { result ≡ nibble_of code }
     ensures below { IfSome result (λ nibble. nibble < 16) }
 {
-    match code {
-        9 => Some(8),
-        10 => Some(0),
-        11 => Some(1),
-        13 => Some(12),
-        14 => Some(4),
-        15 => Some(5),
-        18 => Some(2),
-        19 => Some(3),
-        21 => Some(15),
-        22 => Some(6),
-        23 => Some(7),
-        25 => Some(9),
-        26 => Some(10),
-        27 => Some(11),
-        29 => Some(13),
-        30 => Some(14),
-        _ => None,
-    }
+    let nibble = NIBBLES[code as usize];
+    if nibble < 16 { Some(nibble) } else { None }
 }
 
 /// The byte of ten bits, or None where one of their two codes is none.
 #[tactic(auto, unfolding(crate::specs::Codes::byte_of_bits))]
 fn byte_of_bits(bits: u32) -> Option<u8>
+    requires { bits < 1024 }
     ensures { result ≡ byte_of_bits bits }
 {
     match (nibble_of(bits / 32), nibble_of(bits % 32)) {

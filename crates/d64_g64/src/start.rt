@@ -1,7 +1,7 @@
 //! The starts of a track.
 ghost use Rattle.std.specs.Prelude.{◌≡◌, ℕ, ◌+◌, ◌-◌, ◌*◌, ◌/◌, ◌%◌, ◌^◌, ◌<◌, ◌≤◌, ◌⊎◌, length, filter, option_to_list, slice_index, IfSome, IfNone, OnOk};
 ghost use Rattle.std.specs.List.{range_with_len};
-ghost use Rattle.d64_g64.specs.Circle.{IsTrack};
+ghost use Rattle.d64_g64.specs.Circle.{IsTrack, byte_on};
 ghost use Rattle.d64_g64.specs.Starts.{is_start, starts_in, starts_on, next_of};
 
 use crate::circle::three_bytes;
@@ -26,6 +26,19 @@ fn first_zero(byte: u8) -> Option<u32>
     }
 }
 
+/// The byte before another one of the track, which is a circle.
+fn byte_before(track: &[u8], at: usize) -> u8
+    requires track { IsTrack track.now }
+    requires at { at < length track.now }
+    ensures { result ≡ byte_on track.now (at + 2 * length track.now - 1) }
+{
+    if at == 0 {
+        track[track.len() - 1]
+    } else {
+        track[at - 1]
+    }
+}
+
 /// The place two bytes before another one, counted round the circle.
 fn two_before(track: &[u8], at: usize) -> usize
     requires track { IsTrack track.now }
@@ -41,12 +54,15 @@ fn two_before(track: &[u8], at: usize) -> usize
 }
 
 /// The start among the eight places of a byte of the track, or None. There is at most one, at the
-/// byte's first bit that is 0.
+/// byte's first bit that is 0, and none where the byte before doesn't end in three ones.
 fn start_in(track: &[u8], at: usize) -> Option<u32>
     requires track { IsTrack track.now }
     requires at { at < length track.now }
     ensures { option_to_list result ≡ starts_in track.now at }
 {
+    if byte_before(track, at) % 8 != 7 {
+        return None;
+    }
     match first_zero(track[at]) {
         Some(zero) => {
             let bits = three_bytes(track, two_before(track, at));

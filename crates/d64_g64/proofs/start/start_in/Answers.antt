@@ -1,7 +1,8 @@
 use Rattle.std.proofs.Common.{◌≡◌, ℕ, ◌+◌, ◌-◌, ◌*◌, ◌/◌, ◌%◌, ◌^◌, ◌<◌, ◌≤◌, Bool, cond, [], ◌∷◌, length, refl, sym, ap, ◌∙◌, subst, inl}
 use Rattle.std.proofs.lemmas.Bool.{eq-eqb, ne_eqb}
+use Rattle.d64_g64.specs.Circle.{byte_on}
 use Rattle.d64_g64.proofs.Circles.{three}
-use Rattle.d64_g64.proofs.StartLists.{starts_in_byte, no_start_in_byte, last_of_three}
+use Rattle.d64_g64.proofs.StartLists.{starts_in_byte, no_start_in_byte, no_start_after, last_of_three}
 use Rattle.d64_g64.proofs.start.start_in.Goals as goal
 
 pub returns-then-bits-zero-eq2046 : goal.returns-then-bits-zero-eq2046
@@ -35,3 +36,9 @@ returns-in-None c =
     let back = c.args.at + 2 * length track - 2 in
     let last = last_of_three track c.args.at back (λ k. (c.type_inv.track k).fits) c.requires.at (inl refl) in
     sym (no_start_in_byte track c.args.at back (λ k. (c.type_inv.track k).fits) c.requires.track.0 (inl refl) (last ∙ c.in-None.ensures.none))
+
+pub returns-then-byte_before-ne7 : goal.returns-then-byte_before-ne7
+returns-then-byte_before-ne7 c =
+    let track = c.args.track.now in
+    no_start_after track c.args.at (λ k. (c.type_inv.track k).fits) c.requires.track.0
+    (λ (ones : byte_on track (c.args.at + 2 * length track - 1) % 8 ≡ 7). c.if-byte_before-ne7.true (ap (λ (x : ℕ). x % 8) c.byte_before.ensures ∙ ones))
