@@ -8,6 +8,7 @@ import re
 from collections import Counter, namedtuple
 from xml.etree import ElementTree
 
+import g64_model
 from disk_model import BLANK, DEL, DIRECTORY, MAP, REL, SECTORS, USR, Disk, Slot, up_to_filler
 from text_form import to_text
 
@@ -57,10 +58,19 @@ def told_owners(owners):
     return {"owners": told, **({"more": len(owners) - MOST_OWNERS} if len(owners) > MOST_OWNERS else {})}
 
 
+@functools.lru_cache(64)
+def dumped(data):
+    """The bytes of the dump that a file is, those of a D64; None where it is none."""
+    if len(data) in KINDS_OF_DUMPS:
+        return data
+    return g64_model.read(data) if g64_model.is_g64(data) else None
+
+
 class Survey:
     """What there is to tell of a dump."""
 
     def __init__(self, data):
+        data = dumped(data)
         self.tracks, self.has_codes = KINDS_OF_DUMPS[len(data)]
         size = len(BLANK[self.tracks])
         self.disk, self.codes, self.known_ways, self.known_contents = Disk(data[:size]), data[size:], {}, {}
@@ -344,7 +354,7 @@ def error_of(data):
     """Why a file isn't answered, if so: it is None where it cannot be read."""
     if data is None or len(data) > LIMIT:
         return "cannot be read"
-    return None if len(data) in KINDS_OF_DUMPS else "wrong length"
+    return None if dumped(data) else "wrong length"
 
 
 @functools.lru_cache(64)
@@ -432,7 +442,7 @@ def diff_json(old_name, old, new_name, new):
 
 
 def status_of_diff(old, new):
-    return 2 if error_of(old) or error_of(new) else int(old != new)
+    return 2 if error_of(old) or error_of(new) else int(dumped(old) != dumped(new))
 
 
 def error_line(name, data):

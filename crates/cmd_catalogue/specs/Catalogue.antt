@@ -4,7 +4,7 @@ use Rattle.d64_image.specs.Disk.{Bytes}
 use Rattle.d64_survey.specs.Dump.{DumpView}
 use Rattle.d64_inventory.specs.ListingAmiss.{is_listing_amiss}
 use Rattle.out_messages.specs.FaultLines.{unread_line, no_dump_text, wrong_length_line}
-use Rattle.out_json_csv.specs.DumpOf.{dump_of}
+use Rattle.d64_g64.specs.DumpOf.{dump_of}
 use Rattle.program_batch.specs.Answers.{Answer, Rule}
 use Rattle.program_batch.specs.declared.report.Verdict.TheVariants.{Clean, Amiss, Failed}
 use Rattle.program_arguments.specs.declared.asked.Page.{Page}

@@ -6,6 +6,7 @@ ghost use Rattle.cmd_catalogue.specs.Quiet.{catalogue_rule-is_quiet};
 use crate::head::push_head;
 use crate::host_files::{HostFiles, folder_of};
 use crate::section::{push_section, push_unanswered};
+use d64_g64::refill_from;
 use d64_image::Image;
 use d64_inventory::is_amiss;
 use d64_survey::{Dump, DumpFault, Fault, Inspection, ReadError};
@@ -125,7 +126,7 @@ impl Report for CatalogueReport {
         let Some(bytes) = bytes else {
             return self.tell_unread(name, room);
         };
-        match self.dump.refill(bytes) {
+        match refill_from(&mut self.dump, self.alloc, bytes) {
             Ok(()) => self.tell_dump(name, room),
             Err(DumpFault::WrongLength(_)) => self.tell_wrong_length(name, bytes, room),
             Err(DumpFault::Memory(error)) => Err(error),

@@ -5,7 +5,7 @@ use Rattle.d64_survey.specs.Dump.{DumpView}
 use Rattle.program_arguments.specs.declared.asked.Format.{Format}
 use Rattle.program_batch.specs.Answers.{Answer}
 use Rattle.program_batch.specs.declared.report.Verdict.{Verdict}
-use Rattle.out_json_csv.specs.DumpOf.{dump_of}
+use Rattle.d64_g64.specs.DumpOf.{dump_of}
 use Rattle.cmd_check.specs.Check.{answer_of, check_rule}
 
 -- an answer to the dump that bytes are is the answer to the bytes

@@ -14,7 +14,7 @@ use Rattle.out_messages.specs.CheckText.{check_text}
 use Rattle.out_messages.specs.FaultLines.{unread_line, wrong_length_line}
 use Rattle.program_batch.specs.Answers.{Answer, Rule}
 use Rattle.program_batch.specs.declared.report.Verdict.TheVariants.{Clean, Amiss, Failed}
-use Rattle.out_json_csv.specs.DumpOf.{dump_of}
+use Rattle.d64_g64.specs.DumpOf.{dump_of}
 
 -- the digest of bytes, where it is asked for
 abbrev pub digest_of : Bool → Bytes → Option Bytes

@@ -6,7 +6,7 @@ use Rattle.program_arguments.specs.declared.asked.Format.{Format}
 use Rattle.program_batch.specs.Answers.{IsQuiet}
 use Rattle.program_batch.specs.declared.report.Verdict.TheVariants.{Clean}
 use Rattle.cmd_check.specs.Check.{answer_of, check_rule}
-use Rattle.out_json_csv.specs.DumpOf.{dump_of}
+use Rattle.d64_g64.specs.DumpOf.{dump_of}
 
 -- the answer to a dump has no complaint, and one that has a complaint is a failure
 answer_of-is_quiet : (form : Format) (digest : Bool) (name : List ℕ) (bytes : Bytes) (dump : Option DumpView)

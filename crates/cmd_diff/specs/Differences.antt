@@ -1,11 +1,12 @@
 -- What is said of two dumps.
-use Rattle.std.specs.Prelude.{ℕ, ◌==◌, nat_eq, List, [], ◌∷◌, ◌++◌, length, Option, Some, None, Result, Ok, Err, is_some, if◌then◌else◌, codes}
+use Rattle.std.specs.Prelude.{ℕ, ◌==◌, ◌&&◌, Bool, nat_eq, List, [], ◌∷◌, ◌++◌, length, Option, Some, None, Result, Ok, Err, is_some, if◌then◌else◌, codes}
 use Rattle.std.specs.List.{flat_map}
 use Rattle.std.specs.Cmp.Lexicographic.{pointwise}
 use Rattle.d64_image.specs.Disk.{Bytes, Blocks}
-use Rattle.d64_survey.specs.Dump.{DumpView}
+use Rattle.d64_image.specs.Image.{bytes_of}
+use Rattle.d64_survey.specs.Dump.{DumpView, code_bytes}
 use Rattle.out_json_csv.specs.Values.{line_of}
-use Rattle.out_json_csv.specs.DumpOf.{dump_of}
+use Rattle.d64_g64.specs.DumpOf.{dump_of}
 use Rattle.out_json_csv.specs.Unanswered.{unread_object, wrong_length_object}
 use Rattle.out_messages.specs.FaultLines.{unread_line, wrong_length_line}
 use Rattle.program_batch.specs.Answers.{Answer}
@@ -82,11 +83,15 @@ amiss_with printed = record { printed = printed; complaint = []; verdict = Amiss
 abbrev pub silence : Answer
 silence = record { printed = []; complaint = []; verdict = Clean }
 
--- what is answered of two files by the dumps that their bytes are: nothing where the bytes are
--- equal, and else what changed
+-- two dumps have the same bytes: those of the blocks, and those of the codes
+abbrev pub are_same : DumpView → DumpView → Bool
+are_same old new = pointwise nat_eq (bytes_of old.image) (bytes_of new.image) && pointwise nat_eq (code_bytes old.codes) (code_bytes new.codes)
+
+-- what is answered of two files by the dumps that they are: nothing where these have the same
+-- bytes, and else what changed
 abbrev pub difference_by : DiffForm → Bytes → Bytes → Bytes → Bytes → Option DumpView → Option DumpView → Answer
 difference_by form old_name old new_name new (Some old_dump) (Some new_dump) =
-    if pointwise nat_eq old new then silence else amiss_with (printed_difference form old_name new_name old_dump new_dump)
+    if are_same old_dump new_dump then silence else amiss_with (printed_difference form old_name new_name old_dump new_dump)
 difference_by form old_name old new_name new (Some old_dump) None = unanswered_pair form old_name (Ok old) new_name (Ok new)
 difference_by form old_name old new_name new None new_dump = unanswered_pair form old_name (Ok old) new_name (Ok new)
 

@@ -2,7 +2,7 @@
 use Rattle.std.specs.Prelude.{◌≡◌, [], Some, Ok}
 use Rattle.d64_image.specs.Disk.{Bytes}
 use Rattle.d64_survey.specs.Dump.{DumpView, IsDump}
-use Rattle.out_json_csv.specs.DumpOf.{dump_of}
+use Rattle.d64_g64.specs.DumpOf.{dump_of}
 use Rattle.program_arguments.specs.declared.asked.DiffForm.{DiffForm}
 use Rattle.cmd_diff.specs.Changes.{changes}
 use Rattle.cmd_diff.specs.Differences.{difference_rule, silence}
@@ -11,9 +11,13 @@ use Rattle.cmd_diff.specs.Differences.{difference_rule, silence}
 abbrev pub NoChangeToItself : Type 0
 NoChangeToItself = (dump : DumpView) → changes dump dump ≡ []
 
--- of equal bytes of a dump nothing is said
-abbrev pub EqualBytesAreSilent : Type 0
-EqualBytesAreSilent = (form : DiffForm) (old_name new_name bytes : Bytes) (dump : DumpView) → dump_of bytes ≡ Some dump → difference_rule form old_name (Ok bytes) new_name (Ok bytes) ≡ silence
+-- of two files that are one dump nothing is said
+abbrev pub EqualDumpsAreSilent : Type 0
+EqualDumpsAreSilent =
+    (form : DiffForm) (old_name new_name old new : Bytes) (dump : DumpView)
+    → dump_of old ≡ Some dump
+    → dump_of new ≡ Some dump
+    → difference_rule form old_name (Ok old) new_name (Ok new) ≡ silence
 
 -- where no change is told, the images are equal: each byte of an image that differs is told
 abbrev pub EachByteOfImagesIsTold : Type 0

@@ -1,12 +1,11 @@
 -- Why `diff` complains of no files that it calls clean.
-use Rattle.std.specs.Prelude.{◌≡◌, ℕ, nat_eq, Bool, true, false, if◌then◌else◌, List, [], Option, Some, None, Ok, Err, refl}
-use Rattle.std.specs.Cmp.Lexicographic.{pointwise}
+use Rattle.std.specs.Prelude.{◌≡◌, ℕ, Bool, true, false, if◌then◌else◌, List, [], Option, Some, None, Ok, Err, refl}
 use Rattle.d64_image.specs.Disk.{Bytes}
 use Rattle.d64_survey.specs.Dump.{DumpView}
 use Rattle.program_batch.specs.declared.report.Verdict.TheVariants.{Clean}
-use Rattle.out_json_csv.specs.DumpOf.{dump_of}
+use Rattle.d64_g64.specs.DumpOf.{dump_of}
 use Rattle.program_arguments.specs.declared.asked.DiffForm.{DiffForm}
-use Rattle.cmd_diff.specs.Differences.{Contents, silence, amiss_with, difference_by, difference_rule}
+use Rattle.cmd_diff.specs.Differences.{are_same, Contents, silence, amiss_with, difference_by, difference_rule}
 
 -- neither silence nor what is amiss has a complaint
 either-is_quiet : (equal : Bool) (printed : List ℕ) → (if equal then silence else amiss_with printed).complaint ≡ []
@@ -15,7 +14,7 @@ either-is_quiet false printed = refl
 
 difference_by-is_quiet : (form : DiffForm) (old_name old new_name new : Bytes) (old_dump new_dump : Option DumpView)
     → (difference_by form old_name old new_name new old_dump new_dump).verdict ≡ Clean → (difference_by form old_name old new_name new old_dump new_dump).complaint ≡ []
-difference_by-is_quiet form old_name old new_name new (Some old_dump) (Some new_dump) clean = either-is_quiet (pointwise nat_eq old new) _
+difference_by-is_quiet form old_name old new_name new (Some old_dump) (Some new_dump) clean = either-is_quiet (are_same old_dump new_dump) _
 difference_by-is_quiet form old_name old new_name new (Some old_dump) None clean = cc
 difference_by-is_quiet form old_name old new_name new None new_dump clean = cc
 

@@ -4,7 +4,7 @@ ghost use Rattle.program_batch.specs.Answers.{Answer};
 ghost use Rattle.cmd_diff.specs.Differences.{contents_by, printed_difference, unanswered_pair, difference_rule, difference_by};
 
 use crate::drafts::Drafts;
-use crate::dump_room::DumpRoom;
+use crate::dump_room::{DumpRoom, are_same};
 use crate::printing::{print_changes, push_difference};
 use crate::unanswered::{print_fault, push_fault_lines};
 use d64_survey::Inspection;
@@ -125,7 +125,7 @@ impl DifferenceReport {
         if !is_old || !is_new {
             return self.tell_unanswered(old_name, Ok(old), new_name, Ok(new), room);
         }
-        if old == new {
+        if are_same(&self.earlier.dump, &self.later.dump) {
             return Ok(Verdict::Clean);
         }
         self.print(old_name, new_name, &mut room.printed)?;

@@ -1,7 +1,10 @@
 //! A dump with its faults and read errors, in memory that is kept.
 ghost use Rattle.std.specs.Prelude.{◌≡◌, if◌then◌else◌, Some, None, IfOk};
-ghost use Rattle.out_json_csv.specs.DumpOf.{dump_of};
+ghost use Rattle.d64_survey.specs.Dump.{code_bytes};
+ghost use Rattle.d64_g64.specs.DumpOf.{dump_of};
+ghost use Rattle.cmd_diff.specs.Differences.{are_same};
 
+use d64_g64::refill_from;
 use d64_image::Image;
 use d64_survey::{Dump, DumpFault, Fault, ReadError};
 use std::alloc::{AllocError, Global};
@@ -9,6 +12,7 @@ use std::alloc::{AllocError, Global};
 /// A dump, and room for what an inspection lists of it.
 #[derive(Drop)]
 pub(crate) struct DumpRoom {
+    alloc: Global,
     pub(crate) dump: Dump,
     pub(crate) faults: Vec<Fault>,
     pub(crate) errors: Vec<ReadError>,
@@ -18,6 +22,7 @@ impl DumpRoom {
     /// Room with the blank dump.
     pub(crate) fn new(alloc: Global) -> Result<DumpRoom, AllocError> {
         Ok(DumpRoom {
+            alloc,
             dump: Dump::from_image(alloc, Image::zeroed(alloc)?),
             faults: Vec::new(alloc),
             errors: Vec::new(alloc),
@@ -29,10 +34,27 @@ impl DumpRoom {
     pub(crate) fn refill(&mut self, bytes: &[u8]) -> Result<bool, AllocError>
         ensures { IfOk result (λ is_dump. dump_of bytes.now ≡ (if is_dump then Some self.new.dump else None)) }
     {
-        match self.dump.refill(bytes) {
+        match refill_from(&mut self.dump, self.alloc, bytes) {
             Ok(()) => Ok(true),
             Err(DumpFault::WrongLength(_)) => Ok(false),
             Err(DumpFault::Memory(error)) => Err(error),
         }
     }
+}
+
+/// The read codes of a dump, none where it has none.
+fn codes_of(dump: &Dump) -> &[u8]
+    ensures { result.now ≡ code_bytes dump.now.codes }
+{
+    match dump.codes() {
+        Some(codes) => codes,
+        None => &[],
+    }
+}
+
+/// Whether two dumps have the same bytes.
+pub(crate) fn are_same(old: &Dump, new: &Dump) -> bool
+    ensures { result ≡ are_same old.now new.now }
+{
+    old.image().bytes() == new.image().bytes() && codes_of(old) == codes_of(new)
 }

@@ -1,11 +1,10 @@
 //! Laws of differences: each function's contract is a law, and its body is empty.
-ghost use Rattle.cmd_diff.specs.Laws.{NoChangeToItself, EqualBytesAreSilent, EachByteOfImagesIsTold};
+ghost use Rattle.cmd_diff.specs.Laws.{NoChangeToItself, EqualDumpsAreSilent, EachByteOfImagesIsTold};
 
-/// Nothing changes from a dump to itself, and nothing is said of two files with the same bytes of a
-/// dump.
-pub fn equal_bytes_are_silent()
+/// Nothing changes from a dump to itself, and nothing is said of two files that are the same dump.
+pub fn equal_dumps_are_silent()
     ensures changes { NoChangeToItself }
-    ensures silent { EqualBytesAreSilent }
+    ensures silent { EqualDumpsAreSilent }
 {}
 
 /// Each byte of an image that differs is told: where no change is told, the images are equal.

@@ -1,22 +1,14 @@
 //! What is printed of a file that cannot be compared.
 ghost use Rattle.std.specs.Prelude.{◌≡◌, ◌++◌, [], Ok, length, is_some, IfOk, OnOk};
-ghost use Rattle.d64_survey.specs.Dump.{image_bytes};
-ghost use Rattle.out_json_csv.specs.DumpOf.{dump_of};
+ghost use Rattle.d64_g64.specs.DumpOf.{dump_of};
 ghost use Rattle.cmd_diff.specs.Differences.{contents_by, fault_line, printed_fault};
 
+use d64_g64::is_dump;
 use out_json_csv::{Scratch, unread_json, wrong_length_json};
 use out_messages::{unread_line, wrong_length_line};
 use program_arguments::DiffForm;
 use program_batch::{Reason, push_known_reason};
 use std::alloc::{AllocError, Global};
-
-/// Whether these bytes are as many as a dump has.
-#[tactic(auto, unfolding(out_json_csv::specs::DumpOf::dump_of))]
-fn is_dump(bytes: &[u8]) -> bool
-    ensures { result ≡ is_some (dump_of bytes.now) }
-{
-    matches!(bytes.len(), 174_848 | 175_531 | 196_608 | 197_376)
-}
 
 /// Puts the line on standard error of a file that isn't answered into room that is empty: it has
 /// these bytes, or cannot be read, for a reason that may be known.

@@ -2,7 +2,7 @@
 use Rattle.std.proofs.Common.{◌≡◌, ℕ, Bool, true, false, cond, List, Option, Some, None, sym, ap, ◌∙◌}
 use Rattle.std.specs.Str.{is_utf8}
 use Rattle.d64_survey.specs.Dump.{DumpView}
-use Rattle.out_json_csv.specs.DumpOf.{dump_of}
+use Rattle.d64_g64.specs.DumpOf.{dump_of}
 use Rattle.host_names.specs.ImagePlace.{folders_of}
 use Rattle.cmd_extract.specs.Setup.{SetupView}
 use Rattle.cmd_extract.specs.Paths.{done_path, partial_path}

@@ -7,7 +7,7 @@ use Rattle.d64_survey.specs.Dump.{DumpView}
 use Rattle.d64_inventory.specs.Rows.{FileRowView, rows}
 use Rattle.cmd_extract_contents.specs.Portions.{Portion}
 use Rattle.cmd_extract_contents.specs.Limits.{portion_within}
-use Rattle.out_json_csv.specs.DumpOf.{dump_of}
+use Rattle.d64_g64.specs.DumpOf.{dump_of}
 use Rattle.out_messages.specs.FaultLines.{too_much_line}
 use Rattle.program_batch.specs.Answers.{Answer}
 use Rattle.program_batch.specs.declared.report.Verdict.TheVariants.{Clean, Amiss, Failed}

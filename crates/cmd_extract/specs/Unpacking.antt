@@ -7,7 +7,7 @@ use Rattle.d64_inventory.specs.Rows.{FileRowView, rows}
 use Rattle.d64_inventory.specs.ListingAmiss.{is_listing_amiss}
 use Rattle.cmd_extract_contents.specs.Portions.{Portion}
 use Rattle.cmd_extract_contents.specs.Limits.{portion_within}
-use Rattle.out_json_csv.specs.DumpOf.{dump_of}
+use Rattle.d64_g64.specs.DumpOf.{dump_of}
 use Rattle.out_messages.specs.FaultLines.{unread_line, wrong_length_line, unwritten_line, present_line, skipped_line, too_much_line}
 use Rattle.cmd_files.specs.Files.{after_rows}
 use Rattle.cmd_files.specs.Extracts.{printed_error, printed_length}

@@ -1,6 +1,6 @@
 //! `Unpacker`: it makes the folder of each image of a run.
 ghost use Rattle.std.specs.Prelude.{◌≡◌, Some, option_map, string_bytes, IfOk};
-ghost use Rattle.out_json_csv.specs.DumpOf.{dump_of};
+ghost use Rattle.d64_g64.specs.DumpOf.{dump_of};
 ghost use Rattle.cmd_extract.specs.Work.{Ends};
 ghost use Rattle.cmd_extract.specs.Unpacking.{task_work, task_of, unpacking};
 
@@ -9,6 +9,7 @@ use crate::files::Files;
 use crate::paths::{done_path, partial_path};
 use crate::setup::{Setup, Task};
 use cmd_files::print_extract_heading;
+use d64_g64::refill_from;
 use d64_image::Image;
 use d64_survey::{Dump, DumpFault, Fault, Inspection, ReadError};
 use host_names::ImagePlace;
@@ -88,7 +89,7 @@ impl Unpacker {
             Ok(path) => path,
             Err(_) => return tell_unread(&self.setup, &mut self.files.told.scratch, name, room),
         };
-        match self.dump.refill(bytes) {
+        match refill_from(&mut self.dump, self.alloc, bytes) {
             Ok(()) => self.unpack_dump(path, host, room),
             Err(DumpFault::WrongLength(_)) => {
                 tell_wrong_length(&self.setup, &mut self.files.told.scratch, name, bytes, room)

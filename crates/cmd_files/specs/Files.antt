@@ -8,7 +8,7 @@ use Rattle.d64_inventory.specs.ListingAmiss.{is_listing_amiss}
 use Rattle.program_arguments.specs.declared.asked.Format.{Format}
 use Rattle.program_arguments.specs.declared.asked.Format.TheVariants.{Text, Json, Csv}
 use Rattle.out_json_csv.specs.Values.{line_of}
-use Rattle.out_json_csv.specs.DumpOf.{dump_of}
+use Rattle.d64_g64.specs.DumpOf.{dump_of}
 use Rattle.out_json_csv.specs.Unanswered.{unread_object, wrong_length_object}
 use Rattle.out_messages.specs.FaultLines.{unread_line, wrong_length_line}
 use Rattle.program_batch.specs.Answers.{Answer, Rule}

@@ -5,7 +5,7 @@ use Rattle.d64_survey.specs.Dump.{DumpView}
 use Rattle.program_arguments.specs.declared.asked.Format.{Format}
 use Rattle.program_batch.specs.Answers.{IsQuiet}
 use Rattle.program_batch.specs.declared.report.Verdict.TheVariants.{Clean}
-use Rattle.out_json_csv.specs.DumpOf.{dump_of}
+use Rattle.d64_g64.specs.DumpOf.{dump_of}
 use Rattle.cmd_files.specs.Files.{answer_of, files_rule}
 
 -- the answer to a dump has no complaint, and one that has a complaint is a failure

@@ -1,11 +1,12 @@
 //! The report of `files`: what is printed of each file of a run, and its verdict.
 ghost use Rattle.std.specs.Prelude.{◌≡◌, List, ℕ, Option, Some, None, IfOk, OnOk, option_map, [], ◌++◌};
 ghost use Rattle.program_batch.specs.Answers.{Answer};
-ghost use Rattle.out_json_csv.specs.DumpOf.{dump_of};
+ghost use Rattle.d64_g64.specs.DumpOf.{dump_of};
 ghost use Rattle.cmd_files.specs.Files.{answer_of, files_rule, heading_of};
 ghost use Rattle.cmd_files.specs.Quiet.{files_rule-is_quiet};
 
 use crate::printing::{print_dump, print_heading, print_unread, print_wrong_length};
+use d64_g64::refill_from;
 use d64_image::Image;
 use d64_inventory::is_amiss;
 use d64_survey::{Dump, DumpFault, Fault, Inspection, ReadError};
@@ -115,7 +116,7 @@ impl Report for FilesReport {
         let Some(bytes) = bytes else {
             return self.tell_unread(name, room);
         };
-        match self.dump.refill(bytes) {
+        match refill_from(&mut self.dump, self.alloc, bytes) {
             Ok(()) => self.tell_dump(name, room),
             Err(DumpFault::WrongLength(_)) => self.tell_wrong_length(name, bytes, room),
             Err(DumpFault::Memory(error)) => Err(error),

@@ -6,7 +6,7 @@ use Rattle.d64_survey.specs.Dump.{DumpView}
 use Rattle.program_batch.specs.Answers.{Answer}
 use Rattle.program_batch.specs.declared.report.Verdict.{Verdict}
 use Rattle.out_messages.specs.FaultLines.{wrong_length_line}
-use Rattle.out_json_csv.specs.DumpOf.{dump_of}
+use Rattle.d64_g64.specs.DumpOf.{dump_of}
 use Rattle.program_arguments.specs.declared.asked.PictureForm.{PictureForm}
 use Rattle.cmd_map.specs.Pictures.{answer_of, failed_with, map_rule}
 

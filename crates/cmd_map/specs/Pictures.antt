@@ -6,7 +6,7 @@ use Rattle.d64_survey.specs.Inspection.{is_amiss}
 use Rattle.out_messages.specs.FaultLines.{unread_line, wrong_length_line}
 use Rattle.program_batch.specs.Answers.{Answer, Rule}
 use Rattle.program_batch.specs.declared.report.Verdict.TheVariants.{Clean, Amiss, Failed}
-use Rattle.out_json_csv.specs.DumpOf.{dump_of}
+use Rattle.d64_g64.specs.DumpOf.{dump_of}
 use Rattle.program_arguments.specs.declared.asked.PictureForm.{PictureForm}
 use Rattle.program_arguments.specs.declared.asked.PictureForm.TheVariants.{Text, Svg}
 use Rattle.cmd_map.specs.MapText.{map_text}

@@ -5,6 +5,7 @@ ghost use Rattle.cmd_map.specs.Quiet.{map_rule-is_quiet};
 
 use crate::svg::map_svg;
 use crate::text::map_text;
+use d64_g64::refill_from;
 use d64_image::Image;
 use d64_survey::{Dump, DumpFault, Fault, Inspection, ReadError};
 use out_messages::{unread_line, wrong_length_line};
@@ -15,6 +16,7 @@ use std::alloc::{AllocError, Global};
 /// The report of `map`, with the memory that it keeps from file to file.
 #[derive(Drop)]
 pub struct MapReport {
+    alloc: Global,
     form: PictureForm,
     dump: Dump,
     faults: Vec<Fault>,
@@ -42,6 +44,7 @@ impl MapReport {
         ensures { IfOk result (λ report. report.form ≡ form) }
     {
         Ok(MapReport {
+            alloc,
             form,
             dump: Dump::from_image(alloc, Image::zeroed(alloc)?),
             faults: Vec::new(alloc),
@@ -88,7 +91,7 @@ impl Report for MapReport {
             unread_line(&mut room.complaint, name)?;
             return Ok(Verdict::Failed);
         };
-        match self.dump.refill(bytes) {
+        match refill_from(&mut self.dump, self.alloc, bytes) {
             Ok(()) => self.tell_dump(name, room),
             Err(DumpFault::WrongLength(_)) => {
                 wrong_length_line(&mut room.complaint, name, bytes)?;

@@ -8,3 +8,5 @@ pub mod DumpBlocks
 pub mod SoundHeaders
 pub mod GoodDumps
 pub mod Nibbles
+pub mod Dumps
+pub mod Refilled

@@ -7,3 +7,4 @@ pub mod File
 pub mod Dump
 pub mod Fault
 pub mod Laws
+pub mod DumpOf

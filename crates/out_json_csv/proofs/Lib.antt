@@ -2,5 +2,4 @@ pub mod AsciiTexts
 pub mod Arrays
 pub mod Objects
 pub mod EndedRows
-pub mod Dumps
 pub mod HostFields

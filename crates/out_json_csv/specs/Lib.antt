@@ -7,4 +7,3 @@ pub mod Unanswered
 pub mod Rows
 pub mod Doubts
 pub mod Checks
-pub mod DumpOf

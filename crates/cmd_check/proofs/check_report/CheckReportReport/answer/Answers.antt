@@ -1,18 +1,18 @@
 use Rattle.std.proofs.Common.{rules, ap, Err}
 use Rattle.d64_survey.specs.Dump.{wrong_length}
 use Rattle.d64_survey.specs.declared.dump.DumpFault.{DumpFault}
-use Rattle.out_json_csv.proofs.Dumps.{dump_of-bytes, dump_of-none, no_image_part}
+use Rattle.d64_g64.proofs.Dumps.{no_part}
 use Rattle.cmd_check.proofs.Answering.{answered_by}
 use Rattle.cmd_check.proofs.check_report.CheckReportReport.answer.Goals as goal
 
 pub returns-in-Ok-clause-answered : goal.returns-in-Ok-clause-answered
 returns-in-Ok-clause-answered c =
     answered_by c.tell_dump.result _ _ _ c.args.name.now c.in-Some.bytes.now _ _ (search rules)
-    (dump_of-bytes c.refill.new.self c.in-Some.bytes.now c.in-Ok.ensures.dump c.in-Ok.ensures.filled)
+    c.in-Ok.ensures.filled
     (c.tell_dump.ensures.answered c.clear.ensures.printed c.clear.ensures.complaint)
 
 pub returns-in-Err-WrongLength-clause-answered : goal.returns-in-Err-WrongLength-clause-answered
 returns-in-Err-WrongLength-clause-answered c =
     answered_by c.tell_wrong_length.result _ _ _ c.args.name.now c.in-Some.bytes.now _ _ (search rules)
-    (dump_of-none c.in-Some.bytes.now (no_image_part _ _ _ _ (ap (λ (f : DumpFault). wrong_length {A = Unit {0}} (Err f)) c.in-Err-WrongLength.field-0-is) c.in-Err-WrongLength.ensures.refused))
+    ((no_part _ _ _ _ (ap (λ (f : DumpFault). wrong_length {A = Unit {0}} (Err f)) c.in-Err-WrongLength.field-0-is) c.in-Err-WrongLength.ensures.refused))
     (c.tell_wrong_length.ensures.answered c.clear.ensures.printed c.clear.ensures.complaint)

@@ -5,7 +5,7 @@ use Rattle.std.proofs.lemmas.Bool.{false_from_ne_true}
 use Rattle.std.proofs.lemmas.Str.{is_utf8-from_IsUtf8, IsUtf8-from_is_utf8}
 use Rattle.d64_survey.specs.Dump.{wrong_length}
 use Rattle.d64_survey.specs.declared.dump.DumpFault.{DumpFault}
-use Rattle.out_json_csv.proofs.Dumps.{dump_of-bytes, dump_of-none, no_image_part}
+use Rattle.d64_g64.proofs.Dumps.{no_part}
 use Rattle.cmd_extract.specs.Work.{Work, Ends}
 use Rattle.cmd_extract.specs.Unpacking.{unread_answer, wrong_length as told_length, task_work, task_of}
 use Rattle.cmd_extract.proofs.Steps.{stops, ends_with}
@@ -31,8 +31,8 @@ returns-in-Err-clause-done g c =
     subst (λ (w : Work). Ends c.tell_unread-in-Err.result c.tell_unread-in-Err.new.room w host host) (given_no_text setup name _ c.in-Some.bytes.now given no_text)
     (ends_with c.tell_unread-in-Err.result c.tell_unread-in-Err.new.room (unread_answer setup name) host c.tell_unread-in-Err.ensures)
 
-pub returns-in-Ok-refill-clause-done : goal.returns-in-Ok-refill-clause-done
-returns-in-Ok-refill-clause-done g c =
+pub returns-in-Ok-refill_from-clause-done : goal.returns-in-Ok-refill_from-clause-done
+returns-in-Ok-refill_from-clause-done g c =
     let old = g.H.Host.state c.args.host.now in
     let new = g.H.Host.state c.unpack_dump.new.host in
     let setup = c.args.self.now.setup in
@@ -40,9 +40,9 @@ returns-in-Ok-refill-clause-done g c =
     let bytes = c.in-Some.bytes.now in
     let given : option_map (λ (b : Bor (List ℕ)). b.now) c.args.bytes ≡ Some bytes = search rules in
     let text : is_utf8 name ≡ true = is_utf8-from_IsUtf8 name c.in-Ok.ensures.cases.1 in
-    let dump = dump_of-bytes c.refill.new.self bytes c.in-Ok-refill.ensures.dump c.in-Ok-refill.ensures.filled in
+    let dump = c.in-Ok-refill_from.ensures.filled in
     subst (λ (w : Work). Ends c.unpack_dump.result c.unpack_dump.new.room w old new) (given_text setup name _ bytes _ given text dump)
-    (subst (λ (n : List ℕ). Ends c.unpack_dump.result c.unpack_dump.new.room (task_work (task_of setup n c.refill.new.self)) old new) c.in-Ok.ensures.cases.0 c.unpack_dump.ensures.done)
+    (subst (λ (n : List ℕ). Ends c.unpack_dump.result c.unpack_dump.new.room (task_work (task_of setup n c.refill_from.new.dump)) old new) c.in-Ok.ensures.cases.0 c.unpack_dump.ensures.done)
 
 pub returns-in-Err-WrongLength-clause-done : goal.returns-in-Err-WrongLength-clause-done
 returns-in-Err-WrongLength-clause-done g c =
@@ -52,7 +52,7 @@ returns-in-Err-WrongLength-clause-done g c =
     let bytes = c.in-Some.bytes.now in
     let given : option_map (λ (b : Bor (List ℕ)). b.now) c.args.bytes ≡ Some bytes = search rules in
     let text : is_utf8 name ≡ true = is_utf8-from_IsUtf8 name c.in-Ok.ensures.cases.1 in
-    let none = dump_of-none bytes (no_image_part _ _ _ _ (ap (λ (f : DumpFault). wrong_length {A = Unit {0}} (Err f)) c.in-Err-WrongLength.field-0-is) c.in-Err-WrongLength.ensures.refused) in
+    let none = (no_part _ _ _ _ (ap (λ (f : DumpFault). wrong_length {A = Unit {0}} (Err f)) c.in-Err-WrongLength.field-0-is) c.in-Err-WrongLength.ensures.refused) in
     subst (λ (w : Work). Ends c.tell_wrong_length.result c.tell_wrong_length.new.room w host host) (given_text setup name _ bytes _ given text none)
     (ends_with c.tell_wrong_length.result c.tell_wrong_length.new.room (told_length setup name bytes) host c.tell_wrong_length.ensures)
 

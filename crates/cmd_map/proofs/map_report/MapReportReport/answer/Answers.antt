@@ -1,18 +1,18 @@
 use Rattle.std.proofs.Common.{Err, ap, rules}
 use Rattle.d64_survey.specs.Dump.{wrong_length}
 use Rattle.d64_survey.specs.declared.dump.DumpFault.{DumpFault}
-use Rattle.out_json_csv.proofs.Dumps.{dump_of-bytes, dump_of-none, no_image_part}
+use Rattle.d64_g64.proofs.Dumps.{no_part}
 use Rattle.cmd_map.proofs.Answered.{answered_dump, answered_none}
 use Rattle.cmd_map.proofs.map_report.MapReportReport.answer.Goals as goal
 
 pub returns-in-Ok-clause-answered : goal.returns-in-Ok-clause-answered
 returns-in-Ok-clause-answered c =
     answered_dump c.tell_dump.result _ _ c.args.name.now c.in-Some.bytes.now _ _ (search rules)
-    (dump_of-bytes c.refill.new.self c.in-Some.bytes.now c.in-Ok.ensures.dump c.in-Ok.ensures.filled)
+    c.in-Ok.ensures.filled
     (c.tell_dump.ensures.answered c.clear.ensures.printed c.clear.ensures.complaint)
 
 pub returns-in_ok-wrong_length_line-in-Err-WrongLength-clause-answered : goal.returns-in_ok-wrong_length_line-in-Err-WrongLength-clause-answered
 returns-in_ok-wrong_length_line-in-Err-WrongLength-clause-answered c =
     answered_none _ c.args.name.now c.in-Some.bytes.now _ _ (search rules)
-    (dump_of-none c.in-Some.bytes.now (no_image_part _ _ _ _ (ap (λ (f : DumpFault). wrong_length {A = Unit {0}} (Err f)) c.in-Err-WrongLength.field-0-is) c.in-Err-WrongLength.ensures.refused))
+    ((no_part _ _ _ _ (ap (λ (f : DumpFault). wrong_length {A = Unit {0}} (Err f)) c.in-Err-WrongLength.field-0-is) c.in-Err-WrongLength.ensures.refused))
     (search rules)

@@ -1,12 +1,15 @@
 -- The bytes of a dump give that dump back.
 use Rattle.std.proofs.Common.{◌≡◌, ℕ, ◌+◌, ◌*◌, ◌/◌, List, [], ◌∷◌, ◌++◌, Option, Some, None, length, take, drop, refl, sym, ap, ap₂, ◌∙◌, inl, inr, arith, length-append, if◌then◌else◌}
-use Rattle.std.specs.Prelude.{All, ◌⊎◌, option_map, is_some}
+use Rattle.std.specs.Prelude.{All, ◌⊎◌, ◌&&◌, option_map, unwrap_or, is_some, Bool, true, false}
+use Rattle.std.specs.Option.{option_or}
 use Rattle.std.specs.Simd.{first_chunks}
 use Rattle.std.proofs.Math.Seq.{take-append_seam, drop-append_seam}
 use Rattle.std.proofs.lemmas.List.Elements.{All-head, All-tail}
 use Rattle.d64_image.specs.Image.{IsBlock, IsSize, bytes_of}
 use Rattle.d64_survey.specs.Dump.{DumpView, IsDump, HasCodes, dump_bytes, code_bytes, codes_in, image_bytes}
-use Rattle.out_json_csv.specs.DumpOf.{dump_of, dump_with}
+use Rattle.d64_g64.specs.File.{begins_as_g64, is_g64}
+use Rattle.d64_g64.specs.Dump.{g64_dump}
+use Rattle.d64_g64.specs.DumpOf.{d64_dump, dump_of, dump_of_g64, dump_with}
 
 -- an image has 256 bytes a block
 length-bytes : (image : List (List ℕ)) → All IsBlock image → length (bytes_of image) ≡ length image * 256
@@ -50,9 +53,9 @@ codes_back image (Some []) size has = absurd (no_size (length image) size (sym h
 codes_back image (Some (code ∷ codes)) size has = refl
 
 -- the bytes of a dump are that dump
-pub dump_of-bytes : (dump : DumpView) (bytes : List ℕ) → IsDump dump → dump_bytes dump ≡ bytes → dump_of bytes ≡ Some dump
-unfolding dump_of
-dump_of-bytes dump bytes is kept =
+pub d64_dump-bytes : (dump : DumpView) (bytes : List ℕ) → IsDump dump → dump_bytes dump ≡ bytes → d64_dump bytes ≡ Some dump
+unfolding d64_dump
+d64_dump-bytes dump bytes is kept =
     let image = dump.image in
     let count = length image * 256 in
     let long : length (bytes_of image) ≡ count = length-bytes image is.0.1 in
@@ -66,12 +69,65 @@ dump_of-bytes dump bytes is kept =
     (ap₂ (λ (n : ℕ) (l : List ℕ). first_chunks 256 n l) blocks front ∙ chunks_back image is.0.1)
     (ap codes_in back ∙ codes_back image dump.codes is.0.0 is.1))
 
--- where no dump has so many bytes, they are none
-pub dump_of-none : (bytes : List ℕ) → image_bytes (length bytes) ≡ None → dump_of bytes ≡ None
+pub dump_of-bytes : (dump : DumpView) (bytes : List ℕ) → IsDump dump → dump_bytes dump ≡ bytes → dump_of bytes ≡ Some dump
 unfolding dump_of
-dump_of-none bytes none = ap (option_map (dump_with bytes)) none
+dump_of-bytes dump bytes is kept = ap (λ (o : Option DumpView). option_or o (dump_of_g64 bytes)) (d64_dump-bytes dump bytes is kept)
 
--- no dump has so many bytes, where they are refused for that
-pub no_image_part : (told part : Option ℕ) (n m : ℕ) → told ≡ Some n → told ≡ (if is_some part then None else Some m) → part ≡ None
-no_image_part told None n m is refused = refl
-no_image_part told (Some count) n m is refused = cc
+-- dumps of the same bytes are one
+pub same_dump : (dump other : DumpView) → IsDump dump → IsDump other → dump_bytes dump ≡ dump_bytes other → dump ≡ other
+same_dump dump other is other_is same =
+    ap (λ o. unwrap_or o dump) (sym (d64_dump-bytes dump (dump_bytes other) is same) ∙ d64_dump-bytes other (dump_bytes other) other_is refl)
+
+-- a dump has one of the lengths
+pub some_length : (dump : DumpView) (bytes : List ℕ) → IsDump dump → dump_bytes dump ≡ bytes → is_some (image_bytes (length bytes)) ≡ true
+unfolding d64_dump
+some_length dump bytes is kept = by_map (image_bytes (length bytes)) (d64_dump-bytes dump bytes is kept)
+  where
+    by_map : (part : Option ℕ) → option_map (dump_with bytes) part ≡ Some dump → is_some part ≡ true
+    by_map None e = absurd (cc)
+    by_map (Some count) e = refl
+
+-- no D64 has so many bytes, where they are refused for that
+pub no_part : {A : Type 0} → (told : Option ℕ) (part : Option A) (n m : ℕ) → told ≡ Some n → told ≡ (if is_some part then None else Some m) → part ≡ None
+no_part told None n m is refused = refl
+no_part told (Some part) n m is refused = cc
+
+-- where so many bytes are not refused, they are a D64
+pub a_part : (bytes : List ℕ) (n : ℕ) → None ≡ (if is_some (image_bytes (length bytes)) then None else Some n) → is_some (dump_of bytes) ≡ true
+unfolding dump_of d64_dump
+a_part bytes n kept = by_part (image_bytes (length bytes)) kept
+  where
+    by_part : (part : Option ℕ) → None ≡ (if is_some part then None else Some n) → is_some (option_or (option_map (dump_with bytes) part) (dump_of_g64 bytes)) ≡ true
+    by_part None e = absurd (cc)
+    by_part (Some count) e = refl
+
+-- what is no D64 is a G64 or nothing
+pub of_g64 : (bytes : List ℕ) (begins sound : Bool) → image_bytes (length bytes) ≡ None → begins ≡ begins_as_g64 bytes → sound ≡ is_g64 bytes
+    → (if begins && sound then Some (g64_dump bytes) else None) ≡ dump_of bytes
+unfolding dump_of d64_dump dump_of_g64
+of_g64 bytes begins sound none begins_is sound_is =
+    ap₂ (λ (a b : Bool). if a && b then Some (g64_dump bytes) else None) begins_is sound_is
+    ∙ sym (ap (λ (part : Option ℕ). option_or (option_map (dump_with bytes) part) (dump_of_g64 bytes)) none)
+
+-- a D64 is a dump
+pub d64_is_one : (bytes : List ℕ) → is_some (image_bytes (length bytes)) ≡ true → true ≡ is_some (dump_of bytes)
+unfolding dump_of d64_dump
+d64_is_one bytes there = by_part (image_bytes (length bytes)) there
+  where
+    by_part : (part : Option ℕ) → is_some part ≡ true → true ≡ is_some (option_or (option_map (dump_with bytes) part) (dump_of_g64 bytes))
+    by_part None e = absurd (cc)
+    by_part (Some count) e = refl
+
+-- other bytes are one where they are a G64
+pub g64_is_one : (bytes : List ℕ) (begins sound : Bool) → is_some (image_bytes (length bytes)) ≡ false → begins ≡ begins_as_g64 bytes → sound ≡ is_g64 bytes
+    → (begins && sound) ≡ is_some (dump_of bytes)
+g64_is_one bytes begins sound none begins_is sound_is =
+    test (begins && sound) ∙ ap is_some (of_g64 bytes begins sound (no_image (image_bytes (length bytes)) none) begins_is sound_is)
+  where
+    no_image : (part : Option ℕ) → is_some part ≡ false → part ≡ None
+    no_image None e = refl
+    no_image (Some count) e = absurd (cc)
+
+    test : (b : Bool) → b ≡ is_some (if b then Some (g64_dump bytes) else None)
+    test true = refl
+    test false = refl

@@ -1,0 +1,63 @@
+//! The dump that a file is read as: a D64 or a G64.
+ghost use Rattle.std.specs.Prelude.{◌≡◌, if◌then◌else◌, Some, None, OnOk, OnErr, is_some, length};
+ghost use Rattle.d64_survey.specs.Dump.{wrong_length, image_bytes};
+ghost use Rattle.d64_g64.specs.File.{is_g64};
+ghost use Rattle.d64_g64.specs.Dump.{g64_dump};
+ghost use Rattle.d64_g64.specs.DumpOf.{dump_of};
+
+use crate::dump::read_g64;
+use crate::fault::G64Fault;
+use crate::file::{begins_as_g64, is_g64};
+use d64_survey::{Dump, DumpFault};
+use std::alloc::Global;
+
+/// Whether a D64 has so many bytes.
+fn is_d64_length(length: usize) -> bool
+    ensures { result ≡ is_some (image_bytes length) }
+{
+    matches!(length, 174_848 | 175_531 | 196_608 | 197_376)
+}
+
+/// Whether a file is a dump, by its bytes: a D64 of one of the four lengths, or a G64.
+pub fn is_dump(file: &[u8]) -> bool
+    ensures { result ≡ is_some (dump_of file.now) }
+{
+    if is_d64_length(file.len()) {
+        return true;
+    }
+    begins_as_g64(file) && is_g64(file)
+}
+
+/// Puts the dump of a G64 in the place of the one that is there.
+fn refill_from_g64(dump: &mut Dump, alloc: Global, file: &[u8]) -> Result<(), DumpFault>
+    ensures refused { wrong_length result ≡ (if is_g64 file.now then None else Some (length file.now)) }
+    ensures filled { OnOk result (dump.new ≡ g64_dump file.now) }
+    ensures unchanged { OnErr result (dump.new ≡ dump.old) }
+{
+    match read_g64(alloc, file) {
+        Ok(bytes) => dump.refill(&bytes),
+        Err(G64Fault::Bad) => Err(DumpFault::WrongLength(file.len())),
+        Err(G64Fault::Memory(error)) => Err(DumpFault::Memory(error)),
+    }
+}
+
+/// Puts the dump that a file is, by its bytes, in the place of the one that is there: a D64 of one
+/// of the four lengths, or a G64. Where the bytes are neither the fault has their number, also
+/// where they are a bad G64, and the dump is as before.
+pub fn refill_from(dump: &mut Dump, alloc: Global, file: &[u8]) -> Result<(), DumpFault>
+    ensures refused { wrong_length result ≡ (if is_some (dump_of file.now) then None else Some (length file.now)) }
+    ensures filled { OnOk result (dump_of file.now ≡ Some dump.new) }
+    ensures unchanged { OnErr result (dump.new ≡ dump.old) }
+{
+    match dump.refill(file) {
+        Ok(()) => Ok(()),
+        Err(DumpFault::WrongLength(length)) => {
+            if begins_as_g64(file) {
+                refill_from_g64(dump, alloc, file)
+            } else {
+                Err(DumpFault::WrongLength(length))
+            }
+        }
+        Err(DumpFault::Memory(error)) => Err(DumpFault::Memory(error)),
+    }
+}
