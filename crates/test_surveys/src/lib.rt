@@ -15,6 +15,8 @@ mod longest;
 #[cfg(test)]
 mod rows;
 #[cfg(test)]
+mod scratched;
+#[cfg(test)]
 mod surveys;
 #[cfg(test)]
 mod wording;

@@ -1,0 +1,3 @@
+pub mod Untouched
+pub mod LowestNumbers
+pub mod Noted

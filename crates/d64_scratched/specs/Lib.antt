@@ -1,0 +1,3 @@
+pub mod Scratched
+pub mod Claims
+pub mod LossLaws

@@ -1,0 +1,12 @@
+//! Scratched slots: what the directory still says of files that were deleted, and why one of them
+//! isn't whole.
+#![tactic(auto)]
+
+mod loss;
+mod loss_laws;
+mod lowest;
+mod scratched;
+
+pub use loss::{Loss, is_lost};
+pub use loss_laws::whole_files_are_untouched;
+pub use scratched::{LOSSES, ScratchedSlots, is_scratched};

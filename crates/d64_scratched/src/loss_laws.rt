@@ -1,0 +1,9 @@
+//! Laws of scratched slots: each function's contract is a law, and its body is empty.
+ghost use Rattle.d64_scratched.specs.LossLaws.{WholeFilesAreUntouched};
+
+/// No block of a scratched file that is called whole is in a file of a slot that is used, in the
+/// directory or the map's own; all are marked free; and none is in the way of a scratched slot of a
+/// lower number.
+pub fn whole_files_are_untouched()
+    ensures { WholeFilesAreUntouched }
+{}
