@@ -11,7 +11,7 @@ use std::alloc::{AllocError, Global};
 use std::test::Fail;
 
 /// Room for all that a call writes, so that its writer asks for no memory.
-const ROOM: usize = 4096;
+const ROOM: usize = 16_384;
 
 /// What a line is answered that is refused memory.
 const OUT_OF_MEMORY: &[u8; 23] = b"90,OUT OF MEMORY,00,00\n";
