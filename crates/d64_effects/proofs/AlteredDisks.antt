@@ -126,15 +126,13 @@ map_not_listed image distinct =
 abbrev pub held_by : List (List ℕ) → List (List ℕ) → ℕ → ℕ
 held_by image cells q = tally (eqb q map_block) + (occurs q (directory image) + occurs q (flat_map (owned_by image) cells))
 
--- the slots own no more than before, and lack no chain
+-- no block is held twice, and the slots lack no chain
 module _ {field code : List ℕ} (image other cells : List (List ℕ)) (free : set.FinSet nat_cmp) (is : IsImage image) (some : directory image ≢ [])
-    (distinct : IsDistinct nat_eq (owned_blocks image)) (left : AlteredTo image other cells free field code) (chains : All (HasItsChains image) cells)
-    (fewer : (q : ℕ) → occurs q (flat_map (owned_by image) cells) ≤ occurs q (flat_map (owned_by image) (slots image))) where
+    (left : AlteredTo image other cells free field code) (chains : All (HasItsChains image) cells)
+    (once : (q : ℕ) → held_by image cells q ≤ 1) where
   agree : Agree image other (flat_map (owned_by image) cells)
   agree q there =
-      let owned = occurs-owned image q in
-      let once = occurs-distinct (owned_blocks image) distinct q in
-      let less = fewer q in
+      let one = once q in
       left.kept q (λ e. let f : tally (eqb q map_block) ≡ 1 = ap tally (eq-eqb q map_block e) in omega arith) (omega arith)
 
   slots_framed : All (Framed image other) cells
@@ -168,26 +166,24 @@ module _ {field code : List ℕ} (image other cells : List (List ℕ)) (free : s
   distinct_after : IsDistinct nat_eq (owned_blocks other)
   distinct_after = distinct-from_occurs (owned_blocks other) (λ q.
       let after = occurs-owned_after q in
-      let before = occurs-owned image q in
-      let once = occurs-distinct (owned_blocks image) distinct q in
-      let less = fewer q in
+      let one = once q in
       omega arith)
 
   -- so the image is sound, where none of these blocks is marked free
-  pub sound_after : All HasKind cells → ((q : ℕ) → 1 ≤ held_by image cells q → set.contains free q ≡ false) → IsSound other
-  sound_after kinds unfree WrongCounts from to = left.counts
-  sound_after kinds unfree NoDirectory from to = λ e. some (sym left.blocks ∙ e)
-  sound_after kinds unfree UnknownKind from to = subst (All HasKind) (sym left.entries) kinds
-  sound_after kinds unfree NoChain from to =
+  pub sound_held : All HasKind cells → ((q : ℕ) → 1 ≤ held_by image cells q → set.contains free q ≡ false) → IsSound other
+  sound_held kinds unfree WrongCounts from to = left.counts
+  sound_held kinds unfree NoDirectory from to = λ e. some (sym left.blocks ∙ e)
+  sound_held kinds unfree UnknownKind from to = subst (All HasKind) (sym left.entries) kinds
+  sound_held kinds unfree NoChain from to =
       subst (All (HasItsChains other)) (sym left.entries)
       (All-weaker (Framed image other) (HasItsChains other) (λ cell f. HasItsChains-same image other cell f.0 same_length f.1) cells slots_framed)
-  sound_after kinds unfree CrossLinked from to = distinct_after
-  sound_after kinds unfree MarkedFree from to = All-from_occurs (λ block. set.contains (free_blocks other) block ≡ false) (owned_blocks other) (λ q there.
+  sound_held kinds unfree CrossLinked from to = distinct_after
+  sound_held kinds unfree MarkedFree from to = All-from_occurs (λ block. set.contains (free_blocks other) block ≡ false) (owned_blocks other) (λ q there.
       let after = occurs-owned_after q in
       ap (λ (members : set.FinSet nat_cmp). set.contains members q) left.marked ∙ unfree q (omega arith))
 
   -- and shows what these slots show
-  pub view_after : view other ≡ record {
+  pub view_held : view other ≡ record {
     count = length image;
     name = field;
     id = code;
@@ -196,6 +192,30 @@ module _ {field code : List ℕ} (image other cells : List (List ℕ)) (free : s
     free = free;
   }
   unfolding view
-  view_after =
+  view_held =
       let shown = ap (map (slot_view other)) left.entries ∙ shown_as_before in
       λ i. record { count = left.long i; name = left.name i; id = left.id i; directory = left.blocks i; slots = shown i; free = left.marked i }
+
+-- the slots own no more than before, and lack no chain
+module _ {field code : List ℕ} (image other cells : List (List ℕ)) (free : set.FinSet nat_cmp) (is : IsImage image) (some : directory image ≢ [])
+    (distinct : IsDistinct nat_eq (owned_blocks image)) (left : AlteredTo image other cells free field code) (chains : All (HasItsChains image) cells)
+    (fewer : (q : ℕ) → occurs q (flat_map (owned_by image) cells) ≤ occurs q (flat_map (owned_by image) (slots image))) where
+  no_more : (q : ℕ) → held_by image cells q ≤ 1
+  no_more q =
+      let before = occurs-owned image q in
+      let once = occurs-distinct (owned_blocks image) distinct q in
+      let less = fewer q in
+      omega arith
+
+  pub sound_after : All HasKind cells → ((q : ℕ) → 1 ≤ held_by image cells q → set.contains free q ≡ false) → IsSound other
+  sound_after kinds unfree = sound_held image other cells free is some left chains no_more kinds unfree
+
+  pub view_after : view other ≡ record {
+    count = length image;
+    name = field;
+    id = code;
+    directory = directory image;
+    slots = map (slot_view image) cells;
+    free = free;
+  }
+  view_after = view_held image other cells free is some left chains no_more

@@ -1,16 +1,21 @@
 -- files that a command doesn't name stay where they are
-use Rattle.std.proofs.Common.{◌≡◌, ◌≢◌, ℕ, zero, suc, Bool, true, false, not, cond, List, [], ◌∷◌, ◌++◌, length, map, get_or, set, Option, Some, None, refl, sym, ap, ◌∙◌}
+use Rattle.std.proofs.Common.{◌≡◌, ◌≢◌, ℕ, ◌<◌, zero, suc, arith, Bool, true, false, not, cond, List, [], ◌∷◌, ◌++◌, length, map, get_or, set, Option, Some, None, refl, sym, ap, ◌∙◌}
 use Rattle.std.specs.Prelude.{position, slice_get, replicate, bytes_eq}
+use Rattle.std.proofs.lemmas.List.{get_or-map, length-map}
 use Rattle.std.proofs.lemmas.List.Quantifiers.{position-Some}
 use Rattle.std.proofs.lemmas.Slice.Eq.{bytes_eq-Decides}
+use Rattle.d64_files.specs.Directory.{slots}
 use Rattle.d64_files.specs.Name.{name_in}
-use Rattle.d64_effects.specs.KeepingLaws.{WritingKeepsFiles, DeletingKeepsOtherFiles, RenamingKeepsOtherFiles, NamingKeepsFiles, ValidatingKeepsClosedFiles}
-use Rattle.d64_effects.specs.View.{View, FileView, view}
-use Rattle.d64_effects.specs.ViewAfter.{written_view, new_file, is_vacant, slots_with, first_vacant, emptied_if, is_scratched_file, scratched_view, with_field, renamed_slots, renamed_view, named_view, validated_view}
+use Rattle.d64_effects.specs.KeepingLaws.{WritingKeepsFiles, DeletingKeepsOtherFiles, RenamingKeepsOtherFiles, NamingKeepsFiles, ValidatingKeepsClosedFiles, UndeletingKeepsFiles}
+use Rattle.d64_effects.specs.Undelete.{cell_at}
+use Rattle.d64_effects.specs.View.{View, FileView, view, slot_view}
+use Rattle.d64_effects.specs.ViewAfter.{written_view, new_file, is_vacant, slots_with, first_vacant, emptied_if, is_scratched_file, scratched_view, with_field, renamed_slots, renamed_view, named_view, validated_view, file_back, undeleted_view}
 use Rattle.d64_effects.specs.Write.{taken_by}
+use Rattle.d64_effects.proofs.Frames.{slot_view-unused}
 use Rattle.d64_effects.proofs.NamedDisks.{named-shows}
 use Rattle.d64_effects.proofs.RenamedDisks.{renamed-shows}
 use Rattle.d64_effects.proofs.ScratchedDisks.{scratched-shows}
+use Rattle.d64_effects.proofs.UndeletedDisks.{undeleted-shows}
 use Rattle.d64_effects.proofs.ValidatedDisks.{validated-shows}
 use Rattle.d64_effects.proofs.WrittenDisks.{written-shows}
 
@@ -97,3 +102,21 @@ unfolding validated_view
 validating-keeps image is accepted slot file closed h =
     ap (λ (shown : View). slice_get shown.slots slot) (validated-shows image is accepted)
     ∙ kept-emptied (λ f. not f.closed) (view image).slots slot file (ap not closed) h
+
+-- a file in the slot that it has
+there-set : (rows : List (Option FileView)) (place : ℕ) (new : FileView) → place < length rows → Has (set rows place (Some new)) place new
+there-set [] place new within = absurd (omega arith)
+there-set (row ∷ rows) zero new within = refl
+there-set (row ∷ rows) (suc place) new within = there-set rows place new (omega arith)
+
+pub undeleting-keeps : UndeletingKeepsFiles
+unfolding undeleted_view view
+undeleting-keeps image back kind is sound writable can =
+    let rows : List (Option FileView) = map (slot_view image) (slots image) in
+    let shows = undeleted-shows image back kind is sound writable can in
+    let within : back < length rows = let t = can.there in let l = length-map (slots image) (slot_view image) in omega arith in
+    let vacant : is_vacant (get_or rows back None) ≡ true =
+    ap is_vacant (get_or-map (slot_view image) (slots image) back [] None can.there ∙ slot_view-unused image (cell_at image back) can.unused) in (
+      ap (λ (shown : View). slice_get shown.slots back) shows ∙ there-set rows back (file_back image back kind) within,
+      λ slot file h. ap (λ (shown : View). slice_get shown.slots slot) shows ∙ kept-set rows back slot (file_back image back kind) file vacant h,
+    )

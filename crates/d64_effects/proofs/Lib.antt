@@ -19,6 +19,8 @@ pub mod Clearing
 pub mod AlteredDisks
 pub mod RenamedDisks
 pub mod NamedDisks
+pub mod UndeletedDisks
+pub mod ComeBack
 pub mod ClearedDisks
 pub mod ValidatedDisks
 pub mod ScratchedDisks

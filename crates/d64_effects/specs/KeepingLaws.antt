@@ -8,9 +8,10 @@ use Rattle.d64_effects.specs.Delete.{scratched_disk}
 use Rattle.d64_effects.specs.DiskName.{named_disk}
 use Rattle.d64_effects.specs.Laws.{HasRoom, AreBytes, AreTwoBytes, IsWritable}
 use Rattle.d64_effects.specs.Rename.{renamed_disk}
+use Rattle.d64_effects.specs.Undelete.{CanComeBack, undeleted_disk}
 use Rattle.d64_effects.specs.Validate.{validated_disk}
 use Rattle.d64_effects.specs.View.{FileView, IsSound, view}
-use Rattle.d64_effects.specs.ViewAfter.{is_scratched_file}
+use Rattle.d64_effects.specs.ViewAfter.{is_scratched_file, file_back}
 use Rattle.d64_effects.specs.Write.{written_disk}
 use Rattle.d64_files.specs.declared.kind.Kind.{Kind}
 
@@ -53,3 +54,11 @@ ValidatingKeepsClosedFiles =
     (image : Disk)
     → IsImage image → AllHold image 2 5
     → (slot : ℕ) (file : FileView) → file.closed ≡ true → HasFile image slot file → HasFile (validated_disk image) slot file
+
+-- bringing back a deleted file keeps every file, and that file is in its slot
+abbrev pub UndeletingKeepsFiles : Type 0
+UndeletingKeepsFiles =
+    (image : Disk) (back : ℕ) (kind : Kind)
+    → IsImage image → IsSound image → IsWritable kind → CanComeBack image back
+    → HasFile (undeleted_disk image back kind) back (file_back image back kind)
+    × ((slot : ℕ) (file : FileView) → HasFile image slot file → HasFile (undeleted_disk image back kind) slot file)

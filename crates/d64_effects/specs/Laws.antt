@@ -14,9 +14,10 @@ use Rattle.d64_effects.specs.DiskName.{named_disk}
 use Rattle.d64_effects.specs.Delete.{scratched_count, scratched_disk}
 use Rattle.d64_effects.specs.Format.{formatted_disk, free_when_formatted}
 use Rattle.d64_effects.specs.Rename.{renamed_disk}
+use Rattle.d64_effects.specs.Undelete.{CanComeBack, undeleted_disk}
 use Rattle.d64_effects.specs.Validate.{validated_disk}
 use Rattle.d64_effects.specs.View.{IsSound, view}
-use Rattle.d64_effects.specs.ViewAfter.{formatted_view, written_view, scratched_view, renamed_view, named_view, validated_view}
+use Rattle.d64_effects.specs.ViewAfter.{formatted_view, written_view, scratched_view, renamed_view, named_view, validated_view, undeleted_view}
 use Rattle.d64_effects.specs.Write.{written_disk, next_of_directory}
 use Rattle.d64_files.specs.declared.kind.Kind.{Kind}
 use Rattle.d64_files.specs.declared.kind.Kind.TheVariants.{Del, Rel}
@@ -151,3 +152,22 @@ ValidatedIsSound = (image : Disk) → IsImage image → AllHold image 2 5 → Is
 -- and its view changes as the definition says
 abbrev pub ValidatedShows : Type 0
 ValidatedShows = (image : Disk) → IsImage image → AllHold image 2 5 → view (validated_disk image) ≡ validated_view (view image)
+
+-- bringing back a deleted file leaves an image
+abbrev pub UndeletedIsImage : Type 0
+UndeletedIsImage =
+    (image : Disk) (slot : ℕ) (kind : Kind)
+    → IsImage image → IsSound image → IsWritable kind → CanComeBack image slot → IsImage (undeleted_disk image slot kind)
+
+-- a sound image stays sound
+abbrev pub UndeletedIsSound : Type 0
+UndeletedIsSound =
+    (image : Disk) (slot : ℕ) (kind : Kind)
+    → IsImage image → IsSound image → IsWritable kind → CanComeBack image slot → IsSound (undeleted_disk image slot kind)
+
+-- and its view changes as the definition says
+abbrev pub UndeletedShows : Type 0
+UndeletedShows =
+    (image : Disk) (slot : ℕ) (kind : Kind)
+    → IsImage image → IsSound image → IsWritable kind → CanComeBack image slot
+    → view (undeleted_disk image slot kind) ≡ undeleted_view image (view image) slot kind

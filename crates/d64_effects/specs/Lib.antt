@@ -5,11 +5,13 @@ pub mod Delete
 pub mod Rename
 pub mod DiskName
 pub mod Validate
+pub mod Undelete
 pub mod View
 pub mod Contents
 pub mod ViewAfter
 pub mod Laws
 pub mod ContentsAfter
 pub mod ContentsLaws
+pub mod UndeleteLaws
 pub mod KeepingLaws
 pub mod ClearLaws

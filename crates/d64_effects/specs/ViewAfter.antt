@@ -1,12 +1,15 @@
 -- What commands make of the view of a disk: what a case does not name stays as it was.
 use Rattle.std.specs.Prelude.{ℕ, ◌-◌, true, false, not, if◌then◌else◌, List, [], ◌∷◌, ◌++◌, map, length, replicate, position, slice_index, slice_set, bytes_eq, unwrap_or, Bool, Option, Some, None}
 use Rattle.std.specs.List.{flat_map}
-use Rattle.d64_image.specs.Disk.{Bytes, Blocks}
+use Rattle.d64_image.specs.Disk.{Disk, Bytes, Blocks}
 use Rattle.d64_map.specs.Map.{map_block}
+use Rattle.d64_files.specs.FileData.{data_along}
 use Rattle.d64_files.specs.Name.{filled_field, name_in}
+use Rattle.d64_files.specs.Slot.{field_of, size_of}
 use Rattle.d64_effects.specs.Clear.{with_freed}
 use Rattle.d64_effects.specs.Delete.{is_scratched}
 use Rattle.d64_effects.specs.Format.{directory_start, free_when_formatted}
+use Rattle.d64_effects.specs.Undelete.{cell_at, chain_left}
 use Rattle.d64_effects.specs.View.{View, FileView}
 use Rattle.d64_effects.specs.Validate.{all_but}
 use Rattle.d64_effects.specs.Write.{taken_by, grown_by, blocks_without}
@@ -110,6 +113,27 @@ renamed_view shown old new = record shown { slots = renamed_slots shown.slots ol
 -- after the disk is given a name, and an id, if there is one
 unfoldable pub named_view : View → Bytes → Option Bytes → View
 named_view old name id = record old { name = filled_field name; id = unwrap_or id old.id }
+
+-- a file that comes back: closed, not locked, with the name, the size and the chain that its slot
+-- still has
+abbrev pub file_back : Disk → ℕ → Kind → FileView
+file_back image slot kind = record {
+  field = field_of (cell_at image slot);
+  kind = kind;
+  closed = true;
+  locked = false;
+  size = size_of (cell_at image slot);
+  blocks = chain_left image slot;
+  side_blocks = [];
+  content = data_along image (chain_left image slot);
+}
+
+-- after a deleted file comes back, which the image has still, and a view no longer shows
+unfoldable pub undeleted_view : Disk → View → ℕ → Kind → View
+undeleted_view image old slot kind = record old {
+  slots = slice_set old.slots slot (Some (file_back image slot kind));
+  free = blocks_without old.free (chain_left image slot);
+}
 
 -- the blocks that a disk owns: the map's, the directory's, and those of its files
 abbrev pub blocks_owned : View → Blocks

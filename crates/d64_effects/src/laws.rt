@@ -8,9 +8,11 @@ ghost use Rattle.d64_effects.specs.Laws.{RenamedIsImage, RenamedIsSound, Renamed
 ghost use Rattle.d64_effects.specs.Laws.{NamedIsImage, NamedIsSound, NamedShows};
 ghost use Rattle.d64_effects.specs.Laws.{ScratchedIsImage, ScratchedIsSound, ScratchedShows, ScratchedAreCounted};
 ghost use Rattle.d64_effects.specs.Laws.{ValidatedIsImage, ValidatedIsSound, ValidatedShows};
+ghost use Rattle.d64_effects.specs.Laws.{UndeletedIsImage, UndeletedIsSound, UndeletedShows};
+ghost use Rattle.d64_effects.specs.UndeleteLaws.{DeletedFileComesBack};
 ghost use Rattle.d64_effects.specs.ClearLaws.{ClearingKeepsTheImage, ClearingKeepsTheDirectory, ClearingKeepsTheNumberOfSlots};
 ghost use Rattle.d64_effects.specs.ClearLaws.{OneMoreSlotCounts, SlotsWhereAreSlots};
-ghost use Rattle.d64_effects.specs.KeepingLaws.{WritingKeepsFiles, DeletingKeepsOtherFiles, RenamingKeepsOtherFiles, NamingKeepsFiles, ValidatingKeepsClosedFiles};
+ghost use Rattle.d64_effects.specs.KeepingLaws.{WritingKeepsFiles, DeletingKeepsOtherFiles, RenamingKeepsOtherFiles, NamingKeepsFiles, ValidatingKeepsClosedFiles, UndeletingKeepsFiles};
 ghost use Rattle.d64_effects.specs.ContentsLaws.{FormattedListsNothing, WrittenListsTheFile, ScratchedListsTheOthers};
 ghost use Rattle.d64_effects.specs.ContentsLaws.{RenamedListsTheName, NamedListsTheSame, ValidatedListsTheClosed};
 ghost use Rattle.d64_effects.specs.ContentsLaws.{FormattedDiskLists, WrittenDiskLists, ScratchedDiskLists, RenamedDiskLists, NamedDiskLists, ValidatedDiskLists};
@@ -78,17 +80,32 @@ pub fn validated_disk_is_sound()
     ensures view { ValidatedShows }
 {}
 
+/// A sound image stays sound where a deleted file comes back whose slot isn't used, and whose chain
+/// is there and free, and shows that file in its slot beside all that it showed before.
+pub fn undeleted_disk_is_sound()
+    ensures image { UndeletedIsImage }
+    ensures sound { UndeletedIsSound }
+    ensures view { UndeletedShows }
+{}
+
+/// Where one closed file of a sound disk was deleted, it can come back, and with its kind the disk is
+/// the one from before, byte for byte but for its map, which is written anew and marks the same.
+pub fn deleted_file_comes_back()
+    ensures { DeletedFileComesBack }
+{}
+
 /// A file that a command doesn't name keeps its slot, its blocks and its content, and all else that
 /// a disk shows of it: under the writing of a file every file, under the deleting of files those
 /// that are locked, not closed or matched by no pattern, under the renaming of a file those of
-/// other names, under a new name of the disk every file, and under a validation those that are
-/// closed.
+/// other names, under a new name of the disk every file, under a validation those that are closed,
+/// and where a deleted file comes back every file, beside that one.
 pub fn files_that_are_not_named_stay()
     ensures writing { WritingKeepsFiles }
     ensures deleting { DeletingKeepsOtherFiles }
     ensures renaming { RenamingKeepsOtherFiles }
     ensures naming { NamingKeepsFiles }
     ensures validating { ValidatingKeepsClosedFiles }
+    ensures undeleting { UndeletingKeepsFiles }
 {}
 
 /// The step of each file command on what a disk shows is its step on the directory's list of names
