@@ -1,3 +1,4 @@
 pub mod Untouched
 pub mod LowestNumbers
 pub mod Noted
+pub mod NotLost

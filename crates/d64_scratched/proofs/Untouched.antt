@@ -77,7 +77,7 @@ no_file image block (file ∷ files) h =
     (sym (has-slot_owners image block file) ∙ both.0) (no_file image block files both.1)
 
 -- a block that isn't owned, and not unowned, is free
-is_free : (owned marked : Bool) → owned ≡ false → (not owned && not marked) ≡ false → marked ≡ true
+pub is_free : (owned marked : Bool) → owned ≡ false → (not owned && not marked) ≡ false → marked ≡ true
 is_free true marked e h = absurd (cc)
 is_free false true e h = refl
 is_free false false e h = absurd (cc)

@@ -8,5 +8,5 @@ mod lowest;
 mod scratched;
 
 pub use loss::{Loss, is_lost};
-pub use loss_laws::whole_files_are_untouched;
+pub use loss_laws::{files_that_are_not_lost_can_be_restored, whole_files_are_untouched};
 pub use scratched::{LOSSES, ScratchedSlots, is_scratched};
