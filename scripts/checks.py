@@ -45,6 +45,7 @@ SWEEPS = [
     "scripts/sweep-damage",
     "scripts/sweep-sessions",
     "scripts/sweep-surveys",
+    "scripts/sweep-g64",
     "scripts/check-schema",
     "scripts/sweep-differences",
     "scripts/sweep-catalogue",

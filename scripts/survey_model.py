@@ -354,7 +354,7 @@ def error_of(data):
     """Why a file isn't answered, if so: it is None where it cannot be read."""
     if data is None or len(data) > LIMIT:
         return "cannot be read"
-    return None if dumped(data) else "wrong length"
+    return None if dumped(data) else "bad G64" if g64_model.is_g64(data) else "wrong length"
 
 
 @functools.lru_cache(64)

@@ -1,5 +1,5 @@
 -- What `check` says of a file.
-use Rattle.std.specs.Prelude.{ℕ, Bool, List, [], length, Option, Some, None, if◌then◌else◌, codes}
+use Rattle.std.specs.Prelude.{ℕ, Bool, List, [], Option, Some, None, if◌then◌else◌, codes}
 use Rattle.sha2.specs.Sha256.{sha256}
 use Rattle.d64_image.specs.Disk.{Bytes}
 use Rattle.d64_survey.specs.Dump.{DumpView}
@@ -9,7 +9,7 @@ use Rattle.program_arguments.specs.declared.asked.Format.TheVariants.{Text, Json
 use Rattle.out_json_csv.specs.Values.{line_of}
 use Rattle.out_json_csv.specs.Checks.{check_object, check_row}
 use Rattle.out_json_csv.specs.Rows.{header_row, unanswered_row}
-use Rattle.out_json_csv.specs.Unanswered.{unread_object, wrong_length_object}
+use Rattle.out_json_csv.specs.Unanswered.{unread_object, no_dump_object, no_dump_error}
 use Rattle.out_messages.specs.CheckText.{check_text}
 use Rattle.out_messages.specs.FaultLines.{unread_line, wrong_length_line}
 use Rattle.program_batch.specs.Answers.{Answer, Rule}
@@ -32,11 +32,11 @@ printed_unread Text digest name = []
 printed_unread Json digest name = line_of (unread_object name)
 printed_unread Csv digest name = unanswered_row name digest (codes "cannot be read")
 
--- and of one whose length no dump has
-abbrev pub printed_wrong_length : Format → Bool → List ℕ → ℕ → List ℕ
-printed_wrong_length Text digest name length = []
-printed_wrong_length Json digest name length = line_of (wrong_length_object name length)
-printed_wrong_length Csv digest name length = unanswered_row name digest (codes "wrong length")
+-- and of one with these bytes, which is no dump
+abbrev pub printed_wrong_length : Format → Bool → List ℕ → Bytes → List ℕ
+printed_wrong_length Text digest name bytes = []
+printed_wrong_length Json digest name bytes = line_of (no_dump_object name bytes)
+printed_wrong_length Csv digest name bytes = unanswered_row name digest (no_dump_error bytes)
 
 -- what stands before all answers: the header row of CSV
 abbrev pub heading_of : Format → Bool → List ℕ
@@ -47,7 +47,7 @@ heading_of Csv digest = header_row digest
 -- what is answered of bytes: of a dump, what is found; and else that they are of a wrong length
 abbrev pub answer_of : Format → Bool → List ℕ → Bytes → Option DumpView → Answer
 answer_of form digest name bytes None =
-    record { printed = printed_wrong_length form digest name (length bytes); complaint = wrong_length_line name bytes; verdict = Failed }
+    record { printed = printed_wrong_length form digest name bytes; complaint = wrong_length_line name bytes; verdict = Failed }
 answer_of form digest name bytes (Some dump) =
     record { printed = printed_of form name dump (digest_of digest bytes); complaint = []; verdict = if is_amiss dump then Amiss else Clean }
 

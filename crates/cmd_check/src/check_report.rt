@@ -114,7 +114,7 @@ impl CheckReport {
             self.form,
             self.has_digest,
             name,
-            bytes.len(),
+            bytes,
             out,
         )?;
         wrong_length_line(&mut room.complaint, name, bytes)?;

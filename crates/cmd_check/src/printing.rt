@@ -4,8 +4,7 @@ ghost use Rattle.cmd_check.specs.Check.{heading_of, printed_of, printed_unread, 
 
 use d64_survey::Inspection;
 use out_json_csv::{
-    Scratch, check_csv, check_json, csv_header, unread_csv, unread_json, wrong_length_csv,
-    wrong_length_json,
+    Scratch, check_csv, check_json, csv_header, no_dump_csv, no_dump_json, unread_csv, unread_json,
 };
 use out_messages::check_text;
 use program_arguments::Format;
@@ -65,20 +64,20 @@ pub(crate) fn print_unread(
     }
 }
 
-/// Appends what is printed of a file of so many bytes, which no dump has.
+/// Appends what is printed of a file with these bytes, which is no dump.
 pub(crate) fn print_wrong_length(
     scratch: &mut Scratch,
     form: Format,
     has_digest: bool,
     name: &[u8],
-    length: usize,
+    bytes: &[u8],
     out: Vec<u8>,
 ) -> Result<Vec<u8>, AllocError>
-    ensures { IfOk result (λ text. text.items ≡ out.items ++ printed_wrong_length form has_digest name.now length) }
+    ensures { IfOk result (λ text. text.items ≡ out.items ++ printed_wrong_length form has_digest name.now bytes.now) }
 {
     match form {
         Format::Text => Ok(out),
-        Format::Json => wrong_length_json(scratch, name, length, out),
-        Format::Csv => wrong_length_csv(scratch, name, has_digest, out),
+        Format::Json => no_dump_json(scratch, name, bytes, out),
+        Format::Csv => no_dump_csv(scratch, name, has_digest, bytes, out),
     }
 }

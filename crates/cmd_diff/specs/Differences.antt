@@ -7,7 +7,7 @@ use Rattle.d64_image.specs.Image.{bytes_of}
 use Rattle.d64_survey.specs.Dump.{DumpView, code_bytes}
 use Rattle.out_json_csv.specs.Values.{line_of}
 use Rattle.d64_g64.specs.DumpOf.{dump_of}
-use Rattle.out_json_csv.specs.Unanswered.{unread_object, wrong_length_object}
+use Rattle.out_json_csv.specs.Unanswered.{unread_object, no_dump_object}
 use Rattle.out_messages.specs.FaultLines.{unread_line, wrong_length_line}
 use Rattle.program_batch.specs.Answers.{Answer}
 use Rattle.program_batch.specs.Reasons.{with_known_reason}
@@ -59,7 +59,7 @@ printed_difference Text old_name new_name old new = under_names old_name new_nam
 printed_difference Json old_name new_name old new = printed_changes Json (changes old new)
 
 -- the line on standard error of a file that isn't answered: it cannot be read, with the reason, or
--- no dump has its length
+-- it is no dump
 abbrev pub fault_line : Bytes → Contents → List ℕ
 fault_line name (Err reason) = with_known_reason reason (unread_line name)
 fault_line name (Ok bytes) = if is_some (dump_of bytes) then [] else wrong_length_line name bytes
@@ -68,7 +68,7 @@ fault_line name (Ok bytes) = if is_some (dump_of bytes) then [] else wrong_lengt
 abbrev pub printed_fault : DiffForm → Bytes → Contents → List ℕ
 printed_fault Text name contents = []
 printed_fault Json name (Err reason) = line_of (unread_object name)
-printed_fault Json name (Ok bytes) = if is_some (dump_of bytes) then [] else line_of (wrong_length_object name (length bytes))
+printed_fault Json name (Ok bytes) = if is_some (dump_of bytes) then [] else line_of (no_dump_object name bytes)
 
 -- what is answered where one of two files isn't, or neither
 abbrev pub unanswered_pair : DiffForm → Bytes → Contents → Bytes → Contents → Answer

@@ -4,7 +4,7 @@ ghost use Rattle.d64_g64.specs.DumpOf.{dump_of};
 ghost use Rattle.cmd_diff.specs.Differences.{contents_by, fault_line, printed_fault};
 
 use d64_g64::is_dump;
-use out_json_csv::{Scratch, unread_json, wrong_length_json};
+use out_json_csv::{Scratch, no_dump_json, unread_json};
 use out_messages::{unread_line, wrong_length_line};
 use program_arguments::DiffForm;
 use program_batch::{Reason, push_known_reason};
@@ -47,7 +47,7 @@ pub(crate) fn push_fault_lines(
     out.extend_from_slice(line.as_slice())
 }
 
-/// Appends the object of a file with these bytes, where no dump has so many.
+/// Appends the object of a file with these bytes, where it is no dump.
 fn print_wrong_length(
     scratch: &mut Scratch,
     name: &[u8],
@@ -59,7 +59,7 @@ fn print_wrong_length(
     if is_dump(bytes) {
         return Ok(out);
     }
-    wrong_length_json(scratch, name, bytes.len(), out)
+    no_dump_json(scratch, name, bytes, out)
 }
 
 /// Appends what is printed of a file that isn't answered.

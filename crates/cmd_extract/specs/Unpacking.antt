@@ -32,10 +32,10 @@ refused_answer setup name error complaint = record { printed = printed_error set
 abbrev pub unread_answer : SetupView → List ℕ → Answer
 unread_answer setup name = refused_answer setup name (codes "cannot be read") (unread_line name)
 
--- no dump has its length
+-- it is no dump
 abbrev pub wrong_length : SetupView → List ℕ → Bytes → Answer
 wrong_length setup name bytes =
-    record { printed = printed_length setup.form name (length bytes); complaint = wrong_length_line name bytes; verdict = Failed }
+    record { printed = printed_length setup.form name bytes; complaint = wrong_length_line name bytes; verdict = Failed }
 
 -- its folder, or what it was before, is there already at this path
 abbrev pub present_answer : TaskView → List ℕ → Answer

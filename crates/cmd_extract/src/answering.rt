@@ -57,7 +57,7 @@ pub(crate) fn tell_unread(
     refuse(setup, scratch, name, UNREAD, room)
 }
 
-/// Answers that no dump has as many bytes as a file.
+/// Answers that a file with these bytes is no dump.
 pub(crate) fn tell_wrong_length(
     setup: &Setup,
     scratch: &mut Scratch,
@@ -70,7 +70,7 @@ pub(crate) fn tell_wrong_length(
     room.complaint.clear();
     wrong_length_line(&mut room.complaint, name, bytes)?;
     let printed = emptied(scratch, room);
-    room.printed = print_length(setup.form, scratch, name, bytes.len(), printed)?;
+    room.printed = print_length(setup.form, scratch, name, bytes, printed)?;
     Ok(Verdict::Failed)
 }
 

@@ -5,7 +5,7 @@ use Rattle.d64_inventory.specs.Rows.{FileRowView}
 use Rattle.program_arguments.specs.declared.asked.Format.{Format}
 use Rattle.program_arguments.specs.declared.asked.Format.TheVariants.{Text, Json, Csv}
 use Rattle.out_json_csv.specs.Values.{line_of}
-use Rattle.out_json_csv.specs.Unanswered.{unanswered_object, wrong_length_object}
+use Rattle.out_json_csv.specs.Unanswered.{unanswered_object, no_dump_object, no_dump_error}
 use Rattle.cmd_files.specs.Extracted.{extracted_object, extracted_row, extracted_line, extracted_header, unextracted_row}
 
 -- what is printed of a used slot of an image with this host name, and the path of its host file
@@ -20,11 +20,11 @@ printed_error Text name error = []
 printed_error Json name error = line_of (unanswered_object name error)
 printed_error Csv name error = unextracted_row name error
 
--- and of a file of so many bytes, which no dump has
-abbrev pub printed_length : Format → Bytes → ℕ → List ℕ
-printed_length Text name length = []
-printed_length Json name length = line_of (wrong_length_object name length)
-printed_length Csv name length = unextracted_row name (codes "wrong length")
+-- and of a file with these bytes, which is no dump
+abbrev pub printed_length : Format → Bytes → Bytes → List ℕ
+printed_length Text name bytes = []
+printed_length Json name bytes = line_of (no_dump_object name bytes)
+printed_length Csv name bytes = unextracted_row name (no_dump_error bytes)
 
 -- what stands before all answers: the header row of CSV
 abbrev pub extract_heading : Format → List ℕ

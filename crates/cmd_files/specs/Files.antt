@@ -9,7 +9,7 @@ use Rattle.program_arguments.specs.declared.asked.Format.{Format}
 use Rattle.program_arguments.specs.declared.asked.Format.TheVariants.{Text, Json, Csv}
 use Rattle.out_json_csv.specs.Values.{line_of}
 use Rattle.d64_g64.specs.DumpOf.{dump_of}
-use Rattle.out_json_csv.specs.Unanswered.{unread_object, wrong_length_object}
+use Rattle.out_json_csv.specs.Unanswered.{unread_object, no_dump_object, no_dump_error}
 use Rattle.out_messages.specs.FaultLines.{unread_line, wrong_length_line}
 use Rattle.program_batch.specs.Answers.{Answer, Rule}
 use Rattle.program_batch.specs.declared.report.Verdict.TheVariants.{Clean, Amiss, Failed}
@@ -50,10 +50,10 @@ printed_unread Json name = line_of (unread_object name)
 printed_unread Csv name = unanswered_row name (codes "cannot be read")
 
 -- and of one whose length no dump has
-abbrev pub printed_wrong_length : Format → Bytes → ℕ → List ℕ
-printed_wrong_length Text name length = []
-printed_wrong_length Json name length = line_of (wrong_length_object name length)
-printed_wrong_length Csv name length = unanswered_row name (codes "wrong length")
+abbrev pub printed_wrong_length : Format → Bytes → Bytes → List ℕ
+printed_wrong_length Text name bytes = []
+printed_wrong_length Json name bytes = line_of (no_dump_object name bytes)
+printed_wrong_length Csv name bytes = unanswered_row name (no_dump_error bytes)
 
 -- what stands before all answers: the header row of CSV
 abbrev pub heading_of : Format → List ℕ
@@ -64,7 +64,7 @@ heading_of Csv = header_row
 -- what is answered of bytes: of a dump, its files, amiss where one isn't whole or some may be
 -- missing; and else that they are of a wrong length
 abbrev pub answer_of : Format → Bytes → Bytes → Option DumpView → Answer
-answer_of form name bytes None = record { printed = printed_wrong_length form name (length bytes); complaint = wrong_length_line name bytes; verdict = Failed }
+answer_of form name bytes None = record { printed = printed_wrong_length form name bytes; complaint = wrong_length_line name bytes; verdict = Failed }
 answer_of form name bytes (Some dump) =
     record { printed = printed_of form name dump; complaint = []; verdict = if is_listing_amiss dump then Amiss else Clean }
 

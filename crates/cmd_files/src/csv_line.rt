@@ -4,13 +4,14 @@ ghost use Rattle.std.specs.Option.{option_map_or};
 ghost use Rattle.csv.specs.Records.{fields_of, partial_of};
 ghost use Rattle.out_messages.specs.FileText.{kind_letters};
 ghost use Rattle.cmd_files.specs.FileRow.{name_alone, row_fields, columns, decimal_or_empty, truth_or_empty, name_fields, type_fields, entry_fields, way_fields, content_fields, state_fields, file_fields, file_row, header_row, unanswered_row};
+ghost use Rattle.out_json_csv.specs.Unanswered.{no_dump_error};
 
 use crate::spaced::{spell_flaws, spell_numbers};
 use csv::ByteRecord;
 use d64_files::{Kind, name_in};
 use d64_inventory::FileRow;
 use out_json_csv::{
-    Scratch, UNREAD, WRONG_LENGTH, end_row, push_boolean, push_field, push_fields,
+    Scratch, UNREAD, end_row, no_dump_error, push_boolean, push_field, push_fields,
     push_hexadecimal, push_host_name, push_name, push_number, push_pair,
 };
 use out_messages::kind_letters;
@@ -270,13 +271,14 @@ pub fn unread_file_csv(
     push_unanswered(scratch, name, UNREAD.as_bytes(), out)
 }
 
-/// Adds the row of an image whose length no dump has to a text.
-pub fn wrong_length_file_csv(
+/// Adds the row of a file with these bytes, which is no dump, to a text.
+pub fn no_dump_file_csv(
     scratch: &mut Scratch,
     name: &[u8],
+    bytes: &[u8],
     out: Vec<u8>,
 ) -> Result<Vec<u8>, AllocError>
-    ensures { IfOk result (λ text. text.items ≡ out.items ++ unanswered_row name.now (codes "wrong length")) }
+    ensures { IfOk result (λ text. text.items ≡ out.items ++ unanswered_row name.now (no_dump_error bytes.now)) }
 {
-    push_unanswered(scratch, name, WRONG_LENGTH.as_bytes(), out)
+    push_unanswered(scratch, name, no_dump_error(bytes).as_bytes(), out)
 }

@@ -6,7 +6,7 @@ use crate::extracted::{
     extracted_csv, extracted_header, extracted_json, push_extracted_line, unextracted_csv,
 };
 use d64_inventory::FileRow;
-use out_json_csv::{Scratch, WRONG_LENGTH, unanswered_json, wrong_length_json};
+use out_json_csv::{Scratch, no_dump_error, no_dump_json, unanswered_json};
 use program_arguments::Format;
 use std::alloc::AllocError;
 
@@ -64,19 +64,19 @@ pub fn print_error(
     }
 }
 
-/// Appends what is printed of a file of so many bytes, which no dump has.
+/// Appends what is printed of a file with these bytes, which is no dump.
 pub fn print_length(
     form: Format,
     scratch: &mut Scratch,
     name: &[u8],
-    length: usize,
+    bytes: &[u8],
     out: Vec<u8>,
 ) -> Result<Vec<u8>, AllocError>
-    ensures { IfOk result (λ text. text.items ≡ out.items ++ printed_length form name.now length) }
+    ensures { IfOk result (λ text. text.items ≡ out.items ++ printed_length form name.now bytes.now) }
 {
     match form {
         Format::Text => Ok(out),
-        Format::Json => wrong_length_json(scratch, name, length, out),
-        Format::Csv => unextracted_csv(scratch, name, WRONG_LENGTH.as_bytes(), out),
+        Format::Json => no_dump_json(scratch, name, bytes, out),
+        Format::Csv => unextracted_csv(scratch, name, no_dump_error(bytes).as_bytes(), out),
     }
 }

@@ -86,7 +86,7 @@ impl FilesReport {
             ≡ answer_of self.old.form name.now bytes.now None) }
     {
         let out = mem::replace(&mut room.printed, Vec::new(self.alloc));
-        room.printed = print_wrong_length(self.form, &mut self.scratch, name, bytes.len(), out)?;
+        room.printed = print_wrong_length(self.form, &mut self.scratch, name, bytes, out)?;
         wrong_length_line(&mut room.complaint, name, bytes)?;
         Ok(Verdict::Failed)
     }

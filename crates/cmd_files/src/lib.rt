@@ -14,9 +14,7 @@ mod printing;
 mod spaced;
 mod table;
 
-pub use csv_line::{
-    file_csv, files_header, push_file_fields, unread_file_csv, wrong_length_file_csv,
-};
+pub use csv_line::{file_csv, files_header, no_dump_file_csv, push_file_fields, unread_file_csv};
 pub use extract_printing::{print_error, print_extract_heading, print_file, print_length};
 pub use file_member::put_file_members;
 pub use files_report::FilesReport;

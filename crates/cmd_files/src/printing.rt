@@ -2,14 +2,14 @@
 ghost use Rattle.std.specs.Prelude.{◌≡◌, ◌++◌, IfOk, OnOk, length};
 ghost use Rattle.cmd_files.specs.Files.{printed_row, before_rows, after_rows, printed_rows, printed_of, printed_unread, printed_wrong_length, heading_of};
 
-use crate::csv_line::{file_csv, files_header, unread_file_csv, wrong_length_file_csv};
+use crate::csv_line::{file_csv, files_header, no_dump_file_csv, unread_file_csv};
 use crate::json_line::file_json;
 use crate::missing::push_missing_lines;
 use crate::table::{push_file_line, push_head_line};
 use d64_image::Image;
 use d64_inventory::{FileRow, Rows};
 use d64_survey::Inspection;
-use out_json_csv::{Scratch, unread_json, wrong_length_json};
+use out_json_csv::{Scratch, no_dump_json, unread_json};
 use program_arguments::Format;
 use std::alloc::AllocError;
 
@@ -125,19 +125,19 @@ pub(crate) fn print_unread(
     }
 }
 
-/// Appends what is printed of a file of so many bytes, which no dump has.
+/// Appends what is printed of a file with these bytes, which is no dump.
 pub(crate) fn print_wrong_length(
     form: Format,
     scratch: &mut Scratch,
     name: &[u8],
-    length: usize,
+    bytes: &[u8],
     out: Vec<u8>,
 ) -> Result<Vec<u8>, AllocError>
-    ensures { IfOk result (λ text. text.items ≡ out.items ++ printed_wrong_length form name.now length) }
+    ensures { IfOk result (λ text. text.items ≡ out.items ++ printed_wrong_length form name.now bytes.now) }
 {
     match form {
         Format::Text => Ok(out),
-        Format::Json => wrong_length_json(scratch, name, length, out),
-        Format::Csv => wrong_length_file_csv(scratch, name, out),
+        Format::Json => no_dump_json(scratch, name, bytes, out),
+        Format::Csv => no_dump_file_csv(scratch, name, bytes, out),
     }
 }

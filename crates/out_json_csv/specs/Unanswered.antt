@@ -1,8 +1,9 @@
 -- What is printed of a file that isn't answered.
-use Rattle.std.specs.Prelude.{ℕ, List, [], ◌∷◌, codes}
+use Rattle.std.specs.Prelude.{ℕ, List, [], ◌∷◌, codes, if◌then◌else◌, length}
 use Rattle.std.specs.Str.Lossy.{utf8_lossy}
 use Rattle.json.specs.Json.{Json, string}
 use Rattle.out_json_csv.specs.Values.{Field, object_of, numeral}
+use Rattle.d64_g64.specs.File.{begins_as_g64}
 
 -- a name of the host; what isn't UTF-8 becomes U+FFFD
 abbrev pub host_value : List ℕ → Json
@@ -22,5 +23,13 @@ unread_object name = unanswered_object name (codes "cannot be read")
 
 -- a file whose length no dump has
 abbrev pub wrong_length_object : List ℕ → ℕ → Json
-wrong_length_object name length =
-    object_of (image_member name ∷ (codes "error", string (codes "wrong length")) ∷ (codes "length", numeral length) ∷ [])
+wrong_length_object name count =
+    object_of (image_member name ∷ (codes "error", string (codes "wrong length")) ∷ (codes "length", numeral count) ∷ [])
+
+-- a file with these bytes, which is no dump: a bad G64, or one whose length no dump has
+abbrev pub no_dump_object : List ℕ → List ℕ → Json
+no_dump_object name bytes = if begins_as_g64 bytes then unanswered_object name (codes "bad G64") else wrong_length_object name (length bytes)
+
+-- and its error alone
+abbrev pub no_dump_error : List ℕ → List ℕ
+no_dump_error bytes = if begins_as_g64 bytes then codes "bad G64" else codes "wrong length"

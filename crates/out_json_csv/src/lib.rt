@@ -24,9 +24,9 @@ pub use field::{
 pub use json_line::check_json;
 pub use member::{put_boolean, put_hexadecimal, put_null, put_number, put_pair, put_text};
 pub use name::put_name;
-pub use row::{csv_header, end_row, unread_csv, wrong_length_csv};
+pub use row::{csv_header, end_row, no_dump_csv, unread_csv};
 pub use scratch::Scratch;
 pub use unanswered::{
-    IS_THERE, UNREAD, UNWRITTEN, WRONG_LENGTH, into_line, put_host_name, put_image,
-    unanswered_json, unread_json, wrong_length_json,
+    IS_THERE, UNREAD, UNWRITTEN, WRONG_LENGTH, into_line, no_dump_error, no_dump_json,
+    put_host_name, put_image, unanswered_json, unread_json, wrong_length_json,
 };

@@ -3,10 +3,11 @@ ghost use Rattle.std.specs.Prelude.{◌≡◌, [], ◌∷◌, ◌++◌, codes, O
 ghost use Rattle.csv.specs.Records.{fields_of, partial_of};
 ghost use Rattle.csv.specs.Writing.{row_text, default_writer};
 ghost use Rattle.out_json_csv.specs.Rows.{in_digest, field_where, header_row, unanswered_row};
+ghost use Rattle.out_json_csv.specs.Unanswered.{no_dump_error};
 
 use crate::field::{push_field, push_fields, push_host_name};
 use crate::scratch::Scratch;
-use crate::unanswered::{UNREAD, WRONG_LENGTH};
+use crate::unanswered::{UNREAD, no_dump_error};
 use csv::{ByteRecord, Writer};
 use std::alloc::AllocError;
 
@@ -112,14 +113,21 @@ pub fn unread_csv(
     push_unanswered(scratch, name, has_digest, UNREAD.as_bytes(), out)
 }
 
-/// Adds the row of a file whose length no dump has to a text.
-pub fn wrong_length_csv(
+/// Adds the row of a file with these bytes, which is no dump, to a text.
+pub fn no_dump_csv(
     scratch: &mut Scratch,
     name: &[u8],
     has_digest: bool,
+    bytes: &[u8],
     out: Vec<u8>,
 ) -> Result<Vec<u8>, AllocError>
-    ensures { IfOk result (λ text. text.items ≡ out.items ++ unanswered_row name.now has_digest (codes "wrong length")) }
+    ensures { IfOk result (λ text. text.items ≡ out.items ++ unanswered_row name.now has_digest (no_dump_error bytes.now)) }
 {
-    push_unanswered(scratch, name, has_digest, WRONG_LENGTH.as_bytes(), out)
+    push_unanswered(
+        scratch,
+        name,
+        has_digest,
+        no_dump_error(bytes).as_bytes(),
+        out,
+    )
 }

@@ -1,10 +1,11 @@
 //! What is printed as JSON of a file that cannot be read or has a wrong length.
 ghost use Rattle.std.specs.Prelude.{◌≡◌, [], ◌∷◌, ◌++◌, length, OnOk, IfOk};
 ghost use Rattle.out_json_csv.specs.Values.{line_of, member_tokens, printed_line};
-ghost use Rattle.out_json_csv.specs.Unanswered.{host_value, image_member, unanswered_object, unread_object, wrong_length_object};
+ghost use Rattle.out_json_csv.specs.Unanswered.{host_value, image_member, unanswered_object, unread_object, wrong_length_object, no_dump_object, no_dump_error};
 
 use crate::member::{put_number, put_text};
 use crate::scratch::Scratch;
+use d64_g64::begins_as_g64;
 use host_names::hide_in_json;
 use json::Writer;
 use std::alloc::AllocError;
@@ -15,6 +16,9 @@ pub const UNREAD: &str = "cannot be read";
 
 /// The error of a file whose length no dump has.
 pub const WRONG_LENGTH: &str = "wrong length";
+
+/// The error of a G64 whose header is cut off or of another version.
+const BAD_G64: &str = "bad G64";
 
 /// The error of an image whose folder is there before anything of it is written.
 pub const IS_THERE: &str = "is there already";
@@ -103,4 +107,31 @@ pub fn wrong_length_json(
     writer.end_object()?;
     let text = into_line(writer, start)?;
     Ok(text)
+}
+
+/// Adds the line of a file with these bytes, which is no dump, to a text.
+pub fn no_dump_json(
+    scratch: &mut Scratch,
+    name: &[u8],
+    bytes: &[u8],
+    out: Vec<u8>,
+) -> Result<Vec<u8>, AllocError>
+    ensures { IfOk result (λ text. text.items ≡ out.items ++ line_of (no_dump_object name.now bytes.now)) }
+{
+    if begins_as_g64(bytes) {
+        unanswered_json(scratch, name, BAD_G64, out)
+    } else {
+        wrong_length_json(scratch, name, bytes.len(), out)
+    }
+}
+
+/// The error of a file with these bytes, which is no dump.
+pub fn no_dump_error(bytes: &[u8]) -> &'static str
+    ensures { result.now ≡ no_dump_error bytes.now }
+{
+    if begins_as_g64(bytes) {
+        BAD_G64
+    } else {
+        WRONG_LENGTH
+    }
 }

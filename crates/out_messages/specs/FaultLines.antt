@@ -1,11 +1,12 @@
 -- The lines on standard error of files that are not answered, or not written, and what people are
 -- shown of a file that is no dump.
-use Rattle.std.specs.Prelude.{ℕ, List, [], ◌++◌, length, codes, decimal}
+use Rattle.std.specs.Prelude.{ℕ, List, [], ◌++◌, length, codes, decimal, if◌then◌else◌}
 use Rattle.std.specs.Option.{option_map_or}
 use Rattle.host_names.specs.Shown.{shown_name}
 use Rattle.out_messages.specs.Guesses.{guess_of, guess_text}
 use Rattle.out_messages.specs.Words.{count_of}
 use Rattle.out_messages.specs.declared.guess.Guess.{Guess}
+use Rattle.d64_g64.specs.File.{begins_as_g64}
 
 -- a line of the program about a file
 unfoldable pub line_about : List ℕ → List ℕ → List ℕ
@@ -47,6 +48,10 @@ no_dump_text bytes = seeming_text bytes ++ (codes " (" ++ (count_of (length byte
 abbrev pub wrong_length_text : List ℕ → List ℕ
 wrong_length_text bytes = codes "wrong length " ++ (decimal (length bytes) ++ option_map_or in_brackets (guess_of bytes) [])
 
--- a file with these bytes, whose length no dump has
+-- why a file with these bytes is no dump: it is a bad G64, or no dump has its length
+abbrev pub no_dump_reason : List ℕ → List ℕ
+no_dump_reason bytes = if begins_as_g64 bytes then codes "bad G64" else wrong_length_text bytes
+
+-- a file with these bytes, which is no dump
 abbrev pub wrong_length_line : List ℕ → List ℕ → List ℕ
-wrong_length_line name bytes = line_about name (wrong_length_text bytes)
+wrong_length_line name bytes = line_about name (no_dump_reason bytes)

@@ -4,11 +4,12 @@ ghost use Rattle.std.specs.Prelude.{◌≡◌, ◌++◌, [], codes, OnOk};
 ghost use Rattle.std.specs.Option.{option_map_or};
 ghost use Rattle.host_names.specs.Shown.{shown_name};
 ghost use Rattle.out_messages.specs.Guesses.{guess_of as guess_by_all};
-ghost use Rattle.out_messages.specs.FaultLines.{line_about, unread_line, unwritten_line, present_line, skipped_line, too_much_line, in_brackets, seeming_text, no_dump_text, wrong_length_text, wrong_length_line};
+ghost use Rattle.out_messages.specs.FaultLines.{line_about, unread_line, unwritten_line, present_line, skipped_line, too_much_line, in_brackets, seeming_text, no_dump_text, wrong_length_text, no_dump_reason, wrong_length_line};
 
 use crate::guess::{guess_of, guess_text};
 use crate::number::push_number;
 use crate::words::push_count;
+use d64_g64::begins_as_g64;
 use host_names::push_shown;
 use std::alloc::AllocError;
 
@@ -115,12 +116,23 @@ fn push_wrong_length(out: &mut Vec<u8>, bytes: &[u8]) -> Result<(), AllocError>
     Ok(())
 }
 
-/// Adds the line of a file with these bytes, of which there are as many as no dump has.
+/// Adds why a file is no dump: it is a bad G64, or it has as many bytes as no dump.
+fn push_no_dump_reason(out: &mut Vec<u8>, bytes: &[u8]) -> Result<(), AllocError>
+    ensures { OnOk result (out.new.items ≡ out.old.items ++ no_dump_reason bytes.now) }
+{
+    if begins_as_g64(bytes) {
+        out.extend_from_slice(b"bad G64")
+    } else {
+        push_wrong_length(out, bytes)
+    }
+}
+
+/// Adds the line of a file with these bytes, which is no dump.
 #[tactic(auto, unfolding(crate::specs::FaultLines::line_about))]
 pub fn wrong_length_line(out: &mut Vec<u8>, name: &[u8], bytes: &[u8]) -> Result<(), AllocError>
     ensures { OnOk result (out.new.items ≡ out.old.items ++ wrong_length_line name.now bytes.now) }
 {
     push_start(out, name)?;
-    push_wrong_length(out, bytes)?;
+    push_no_dump_reason(out, bytes)?;
     out.extend_from_slice(b"\n")
 }

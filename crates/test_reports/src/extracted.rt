@@ -20,7 +20,7 @@ fn prints(
     let lines = print_extract_heading(form, &mut scratch, Vec::new(rt.alloc()))?;
     let lines = print_file(form, &mut scratch, b"a.d64", row, path, lines)?;
     let lines = print_error(form, &mut scratch, b"b.d64", IS_THERE, lines)?;
-    let lines = print_length(form, &mut scratch, b"c,d", 9, lines)?;
+    let lines = print_length(form, &mut scratch, b"c,d", b"nine byte", lines)?;
     Ok(lines.as_slice() == expected)
 }
 

@@ -72,7 +72,7 @@ fn first_bytes_are_told(rt: HostRuntime) -> Result<(), Fail> {
     wrong_length_line(&mut out, b"x", b"MNIB-1541-RAW\x03")?;
     assert_eq!(rt;
         out.as_slice(),
-        b"d64sh: a\\u{a}b: cannot be read\nd64sh: x: wrong length 9 (a G64 image)\nd64sh: x: wrong length 4 (a zip archive)\nd64sh: x: wrong length 2 (a gzip file)\nd64sh: x: wrong length 19 (a T64 archive)\nd64sh: x: wrong length 9 (a P00 file)\nd64sh: x: wrong length 14 (a NIB image)\n".as_slice()
+        b"d64sh: a\\u{a}b: cannot be read\nd64sh: x: bad G64\nd64sh: x: wrong length 4 (a zip archive)\nd64sh: x: wrong length 2 (a gzip file)\nd64sh: x: wrong length 19 (a T64 archive)\nd64sh: x: wrong length 9 (a P00 file)\nd64sh: x: wrong length 14 (a NIB image)\n".as_slice()
     );
     Ok(())
 }
