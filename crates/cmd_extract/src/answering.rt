@@ -57,7 +57,7 @@ pub(crate) fn tell_unread(
     refuse(setup, scratch, name, UNREAD, room)
 }
 
-/// Answers that a file with these bytes is no dump.
+/// Reports that a file with these bytes is no dump.
 pub(crate) fn tell_wrong_length(
     setup: &Setup,
     scratch: &mut Scratch,

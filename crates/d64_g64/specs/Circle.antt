@@ -15,7 +15,7 @@ byte_on track place = slice_index track (place % length track)
 unfoldable pub bit_on : Bytes → ℕ → ℕ
 bit_on track place = bit_at (byte_on track (place / 8)) (7 - place % 8)
 
--- the number that so many bits from a place on make, the first of them the highest
+-- the number of count bits from a place on, the first of them the highest
 unfoldable pub bits_from : Bytes → ℕ → ℕ → ℕ
 bits_from track place zero = 0
 bits_from track place (suc count) = 2 * bits_from track place count + bit_on track (place + count)

@@ -19,7 +19,7 @@ block_code file block = code_of (id_in file) (track_of file (pair_at block).0) (
 unfoldable pub block_bytes : Bytes → ℕ → Bytes
 block_bytes file block = bytes_of (id_in file) (track_of file (pair_at block).0) (pair_at block).0 (pair_at block).1
 
--- the codes, and the bytes, of so many blocks
+-- the codes, and the bytes, of the first count blocks
 unfoldable pub first_codes : Bytes → ℕ → Bytes
 first_codes file count = map (block_code file) (range_with_len 0 count)
 

@@ -7,16 +7,16 @@ use Rattle.d64_survey.specs.Dump.{DumpView, codes_in, image_bytes}
 use Rattle.d64_g64.specs.File.{begins_as_g64, is_g64}
 use Rattle.d64_g64.specs.Dump.{g64_dump}
 
--- the dump of which so many first bytes are the image's, in blocks of 256, and the others the read
--- codes, where there are some
+-- the dump whose image is the first count bytes, in blocks of 256, and whose read codes are the
+-- others, if there are some
 abbrev pub dump_with : Bytes → ℕ → DumpView
 dump_with bytes count = record { image = first_chunks 256 (count / 256) (take count bytes); codes = codes_in (drop count bytes) }
 
--- the dump that the bytes of a D64 are; none where no dump has so many
+-- the dump that the bytes of a D64 are; none if no dump has that length
 unfoldable pub d64_dump : Bytes → Option DumpView
 d64_dump bytes = option_map (dump_with bytes) (image_bytes (length bytes))
 
--- the dump that the bytes of a G64 are; none where they are no G64, or a bad one
+-- the dump that the bytes of a G64 are; none if they are no G64, or a bad one
 unfoldable pub dump_of_g64 : Bytes → Option DumpView
 dump_of_g64 bytes = if begins_as_g64 bytes && is_g64 bytes then Some (g64_dump bytes) else None
 

@@ -32,7 +32,7 @@ unfoldable pub has_track : Bytes → ℕ → Bool
 has_track file number =
     nat_lt (2 * number - 2) (entries file) && not (offset_of file number == 0) && nat_le (offset_of file number + 2) (length file)
 
--- so many bytes from a place on; those that the file hasn't are 0
+-- count bytes from a place on; those that the file hasn't are 0
 abbrev pub padded : Bytes → ℕ → ℕ → Bytes
 padded file place count = take count (drop place file) ++ replicate (count - (length file - place)) 0
 

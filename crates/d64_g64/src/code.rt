@@ -1,4 +1,4 @@
-//! The group code, in which bytes stand on a track.
+//! The group code, in which a track holds its bytes.
 ghost use Rattle.std.specs.Prelude.{◌≡◌, ◌*◌, ◌<◌, IfSome, length};
 ghost use Rattle.d64_g64.specs.Circle.{IsTrack};
 ghost use Rattle.d64_g64.specs.Codes.{nibble_of, byte_of_bits, value_at, value_or_zero, is_value, xor_of, are_equal};
