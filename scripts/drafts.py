@@ -181,6 +181,9 @@ def false_size(draft):
 
 
 def geos_file(draft):
+    """A file more, if the directory isn't full."""
+    if not draft.empty:
+        return None
     file = draft.file(USR)
     draft.image[file.slot + 21:file.slot + 25] = bytes((*draft.chance.choice(draft.pairs), draft.chance.randrange(2), draft.chance.randrange(1, 256)))
     draft.size(file, draft.chance.choice((len(file.data), draft.chance.randrange(65_536))))
