@@ -1,4 +1,4 @@
--- what bits that are set in two neighbouring words make of the set
+-- the set after bits of two neighbouring words are set
 use Rattle.std.proofs.Common.{◌≡◌, ◌≢◌, ℕ, zero, suc, ◌+◌, ◌-◌, ◌*◌, ◌/◌, ◌%◌, ◌^◌, ◌<◌, ◌≤◌, max, ◌&&◌, ◌||◌, Bool, true, false, leb, ltb, nat_eq, List, length, get_or, bit_or, refl, sym, ap, ap₂, ◌∙◌, inl, inr, arith}
 use Rattle.std.specs.Int.{bit_at}
 use Rattle.std.specs.FinSet as set
@@ -13,7 +13,7 @@ use Rattle.d64_image.specs.Marks.{contains-marked_below}
 use Rattle.d64_image.proofs.Sets.{AreWords-set}
 use Rattle.d64_image.proofs.Windows.{bit_at-mod, bit_at-div, contains-held, word_fits}
 
--- words stay words where bits are set in one of them
+-- words stay words after bits of one of them are set
 pub AreWords-with_bits : (words : List ℕ) (place bits : ℕ) → AreWords words → bits < 2 ^ 32 → AreWords (with_bits words place bits)
 AreWords-with_bits words place bits are fit =
     AreWords-set words place (bit_or (get_or words place 0) bits) are (or_lt 32 (get_or words place 0) bits (word_fits words place are) fit)
@@ -70,7 +70,7 @@ bit_at-shifted bits count bit =
           ∙ ap (λ (b : Bool). b && nat_eq (bit_at bits (bit - count)) 1) (let e : true ≡ leb count bit = grind (arith, nat_tests) in e)
     ]
 
--- one of two tests that holds where it is the first, the second or neither
+-- if the first of two tests decides, it is their result
 pick_first : (t a u b g : Bool) → t ≡ true → u ≡ false → a ≡ g → ((t && a) || (u && b)) ≡ g
 pick_first t a u b g e f h = ap₂ (λ (x y : Bool). (x && a) || (y && b)) e f ∙ or_false a ∙ h
 
@@ -80,7 +80,7 @@ pick_second t a u b g e f h = ap₂ (λ (x y : Bool). (x && a) || (y && b)) e f 
 pick_neither : (t a u b g : Bool) → t ≡ false → u ≡ false → false ≡ g → ((t && a) || (u && b)) ≡ g
 pick_neither t a u b g e f h = ap₂ (λ (x y : Bool). (x && a) || (y && b)) e f ∙ h
 
--- no bit stands for a block of another word
+-- a block of another word has no bit here
 outside : (first bits block : ℕ) → bits < 2 ^ 32 → block / 32 ≢ first / 32 → block / 32 ≢ first / 32 + 1 → false ≡ is_given first bits block
 outside first bits block fit other beyond =
     elim (cases_lt block first) [
@@ -123,7 +123,7 @@ abbrev pub with_both : List ℕ → ℕ → ℕ → List ℕ
 with_both words first bits =
     with_bits (with_bits words (first / 32) (bits * 2 ^ (first % 32) % 2 ^ 32)) (first / 32 + 1) (bits * 2 ^ (first % 32) / 2 ^ 32)
 
--- a block is a member then where it was one, or its bit is 1
+-- a block is a member then if it was one, or its bit is 1
 pub contains-with_both : (words : List ℕ) (first bits block : ℕ) → AreWords words → AreWords (with_both words first bits) → bits < 2 ^ 32
     → set.contains (marked_blocks (with_both words first bits)) block ≡ (set.contains (marked_blocks words) block || (ltb block BLOCKS && is_given first bits block))
 contains-with_both words first bits block are still fit =

@@ -9,7 +9,7 @@ use Rattle.std.proofs.lemmas.List.Elements.{All-from_get_or, All-filter, All-con
 use Rattle.std.proofs.lemmas.List.FromFn.{length-range_with_len, get_or-range_with_len}
 use Rattle.d64_image.specs.Image.{sector_at, differences}
 
--- an element is among those that a test keeps, where it passes
+-- an element is among those that a test keeps if it is among the later ones
 later : (kept : Bool) (x : ℕ) (xs : List ℕ) (y : ℕ) → Contains xs y → Contains (cond kept (x ∷ xs) xs) y
 later true x xs y c = (suc c.0, (let h : c.0 < length xs = c.1 in omega arith), c.2)
 later false x xs y c = c
@@ -29,7 +29,7 @@ Contains-filter_at p (x ∷ xs) y (suc k) h e t = later (p x) x (filter p xs) y 
 differ : List (List ℕ) → List (List ℕ) → ℕ → Bool
 differ image other block = not (pointwise nat_eq (sector_at image block) (sector_at other block))
 
--- the test tells whether the sectors differ
+-- the test says whether the sectors differ
 Decides-differ : (image other : List (List ℕ)) (block : ℕ) → Decides (differ image other block) (sector_at image block ≢ sector_at other block)
 unfolding differ
 Decides-differ image other block =

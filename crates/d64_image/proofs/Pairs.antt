@@ -12,7 +12,7 @@ use Rattle.d64_image.specs.Zone.{LiesIn}
 use Rattle.d64_image.specs.declared.block.Zone.{Zone}
 use Rattle.d64_image.proofs.Zones.{equal_below, Placed, placed, counted_below}
 
--- on the tracks up to n, the pair of a track and a sector stands after the pairs of the tracks
+-- on the tracks up to n, the pair of a track and a sector comes after the pairs of the tracks
 -- before it
 get_or-tracks : (n i s : ℕ) → i < n → s < sectors_on (1 + i)
     → get_or (flat_map pairs_on (range_with_len 1 n)) (length (flat_map pairs_on (take i (range_with_len 1 n))) + s) (0, 0) ≡ (1 + i, s)
@@ -25,7 +25,7 @@ get_or-tracks n i s h k =
     ∙ ap (λ (x : ℕ). get_or (pairs_on x) s (0, 0)) e
     ∙ get_or-map-range_with_len (λ (j : ℕ). (1 + i, j)) 0 (sectors_on (1 + i)) s s (0, 0) k (omega arith)
 
--- as many pairs stand before a track as its first block says
+-- as many pairs come before a track as its first block says
 pairs_before : (i : ℕ) → i < 40 → length (flat_map pairs_on (take i (range_with_len 1 40))) ≡ first_block (1 + i)
 unfolding first_block
 pairs_before i h = equal_below (λ j. length (flat_map pairs_on (take j (range_with_len 1 40)))) (λ j. first_block (1 + j)) 40 refl i h
@@ -40,7 +40,7 @@ at_pairs : (k : ℕ) → get_or pairs k (0, 0) ≡ pair_at k
 unfolding pair_at
 at_pairs k = refl
 
--- the block of a legal pair stands for that pair
+-- the block of a legal pair has that pair
 pair_at-after : (i s : ℕ) → i < 40 → s < sectors_on (1 + i) → pair_at (first_block (1 + i) + s) ≡ (1 + i, s)
 unfolding pair_at pairs
 pair_at-after i s h k =
@@ -69,7 +69,7 @@ is_pair-other t s a b h = grind (arith, nat_tests)
 is_pair-not : (t s : ℕ) (x : ℕ × ℕ) → (x ≡ (t, s) → ⊥) → is_pair t s x ≡ false
 is_pair-not t s x h = is_pair-other t s x.0 x.1 (λ p q. h (ap₂ (λ (a b : ℕ). (a, b)) p q))
 
--- the place of a pair that stands there first
+-- the place of a pair that comes first there
 position-first : (xs : List (ℕ × ℕ)) (t s r : ℕ) → r < length xs → get_or xs r (0, 0) ≡ (t, s)
     → ((k : ℕ) → k < r → get_or xs k (0, 0) ≡ (t, s) → ⊥) → position (is_pair t s) xs ≡ Some r
 position-first xs t s r h here before =
@@ -79,7 +79,7 @@ position-first xs t s r h here before =
     let b : ltb r (length xs) ≡ true = grind (arith, nat_tests) in
     rw e (rw b)
 
--- a pair that stands nowhere has no place
+-- a pair that is not in a list has no place
 position-none : (xs : List (ℕ × ℕ)) (t s : ℕ) → ((k : ℕ) → k < length xs → get_or xs k (0, 0) ≡ (t, s) → ⊥)
     → position (is_pair t s) xs ≡ None
 position-none xs t s nowhere =
@@ -140,7 +140,7 @@ pair_at-in_zone zone block some one starts lies =
 is_pair-tells : (t s a b : ℕ) → is_pair t s (a, b) ≡ true → (a ≡ t) × (b ≡ s)
 is_pair-tells t s a b h = grind (arith, nat_tests)
 
--- a pair that has a block stands at that block
+-- a pair that has a block is at that block
 pub block_of-some : (t s block : ℕ) → block_of t s ≡ Some block → (block < 768) × (pair_at block ≡ (t, s))
 unfolding block_of
 block_of-some t s block e =

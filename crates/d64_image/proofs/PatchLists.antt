@@ -94,7 +94,7 @@ within-cut [] n h = absurd (omega arith)
 within-cut (len ∷ lens) zero h = omega arith
 within-cut (len ∷ lens) (suc n) h = let rest = within-cut lens n (omega arith) in omega arith
 
--- the lists are records: none of the blocks is left over, and each is a patch
+-- the lists are records: no block is left over, and each list is a patch
 abbrev pub AreRecords : List ℕ → Kept → Type 0
 AreRecords lens blocks = (total lens ≡ length blocks) × All IsPatch (cut_blocks lens blocks) × All HaveBlocks (cut_blocks lens blocks)
 
@@ -280,7 +280,7 @@ moved_front old new all place from to h start end joined =
     (ap (take place) joined ∙ take-append-le place old new h)
     (ap₂ (λ (n : ℕ) (xs : Kept). take n xs) count moved ∙ take_all (length new) new (omega arith))
 
--- so many blocks come before the patch after one
+-- how many blocks come before the patch after one
 pub before-next : (lens : List ℕ) (blocks : Kept) (patches : List Kept) (n d : ℕ) → total lens ≡ length blocks → cut_blocks lens blocks ≡ patches → n < length patches
     → blocks_before patches (n + 1) ≡ blocks_before patches n + get_or lens n d
 before-next lens blocks patches n d e is h =

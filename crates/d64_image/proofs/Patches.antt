@@ -11,7 +11,7 @@ use Rattle.std.proofs.lemmas.List.Sums.{sum_by-cons, fold-append}
 use Rattle.d64_image.specs.Image.{sector_at, with_sector, differences}
 use Rattle.d64_image.specs.Patch.{Kept, RisesBetween, restored_image, is_kept, with_kept, taken_blocks, trimmed_blocks, changed_blocks}
 
--- a block is none of those that are kept
+-- a block is not kept
 pub Absent : ℕ → Kept → Type 0
 Absent block [] = Unit {0}
 Absent block (entry ∷ patch) = (block ≢ entry.0) × Absent block patch
@@ -21,7 +21,7 @@ fails : (x y : Bool) → (x || y) ≡ false → (x ≡ false) × (y ≡ false)
 fails false y h = (refl, h)
 fails true y h = absurd (cc)
 
--- numbers that the test tells apart
+-- numbers that the test finds different
 different : (a b : ℕ) → (a == b) ≡ false → b ≢ a
 different a b h e = grind (arith, nat_tests)
 
@@ -71,7 +71,7 @@ absent-earlier (entry ∷ patch) low high (suc place) d r h =
     let f = at_least patch (entry.0 + 1) high place d r.2 (omega arith) in
     (λ e. absurd (omega arith), absent-earlier patch (entry.0 + 1) high place d r.2 (omega arith))
 
--- a block that is absent is so from the first ones
+-- a block that is absent is absent from the first ones too
 absent-take : (patch : Kept) (block n : ℕ) → Absent block patch → Absent block (take n patch)
 unfolding Absent
 absent-take [] block zero a = tt
@@ -238,7 +238,7 @@ differences_comm image other long =
     (λ (b : ℕ). ap not (pointwise_comm (sector_at image b) (sector_at other b))) (range_with_len 0 (length image))
     ∙ ap (λ (n : ℕ). filter (λ (b : ℕ). not (pointwise nat_eq (sector_at other b) (sector_at image b))) (range_with_len 0 n)) long
 
--- the bytes from after, taken where an image changed, are those of the change back
+-- the bytes from after a change, taken at the changed blocks, are the changes back
 pub taken_blocks-changed_blocks : (before after : List (List ℕ)) → length before ≡ length after → taken_blocks after (changed_blocks before after) ≡ changed_blocks after before
 unfolding taken_blocks changed_blocks
 taken_blocks-changed_blocks before after long =
@@ -478,7 +478,7 @@ pub taken_blocks-all : (patch kept : Kept) (image : List (List ℕ)) (place : �
 taken_blocks-all patch kept image place h e =
     e ∙ ap₂ (λ (first rest : Kept). taken_blocks image first ++ rest) (take_all place patch h) (drop_all place patch h) ∙ append-nil (taken_blocks image patch)
 
--- where the test tells no difference, the blocks are the same
+-- if the test finds no difference, the blocks are the same
 differ-same : (image other : List (List ℕ)) (block : ℕ) → differ image other block ≡ false → sector_at image block ≡ sector_at other block
 unfolding differ
 differ-same image other block e = elim (cases_Bool (pointwise nat_eq (sector_at image block) (sector_at other block))) [

@@ -1,4 +1,4 @@
--- what a change of a bit makes of the set that words stand for
+-- the set of the words after a bit is changed
 use Rattle.std.proofs.Common.{◌≡◌, ◌≢◌, ℕ, zero, suc, ◌+◌, ◌-◌, ◌*◌, ◌/◌, ◌%◌, ◌^◌, ◌<◌, ◌≤◌, ◌&&◌, ◌||◌, Bool, true, false, cond, not, ltb, nat_eq, List, length, replicate, get_or, w32, refl, sym, ap, ap₂, ◌∙◌, inl, inr, arith}
 use Rattle.std.specs.Prelude.{count_ones, bit_and, bit_or}
 use Rattle.std.specs.Int.{bit_at}
@@ -22,7 +22,7 @@ use Rattle.d64_image.specs.declared.block.TheConstants.{BLOCKS}
 use Rattle.d64_image.specs.BlockSet.{is_marked, marked_below, marked_blocks, AreWords, words_of, same_members, MembersAreBlocks}
 use Rattle.d64_image.specs.Marks.{both_true, contains-marked_below, words_of-marked_blocks, Decides-same_members}
 
--- words that are all alike
+-- words that are all equal
 get_or-alike : (n k word : ℕ) → get_or (replicate n word) k word ≡ word
 get_or-alike zero k word = refl
 get_or-alike (suc n) zero word = refl
@@ -118,7 +118,7 @@ len-marked_below (suc n) words =
       | inr misses ↦ let e = ap (λ (b : Bool). blocks.len (cond b (blocks.insert (marked_below n words) n) (marked_below n words))) misses in omega arith
     ]
 
--- a bit counts where it is 1
+-- a bit counts if it is 1
 bit_counted : (bit : ℕ) → bit < 2 → count_ones bit ≡ cond (nat_eq bit 1) 1 0
 unfolding ones
 bit_counted zero h = refl
@@ -167,11 +167,11 @@ bits_counted words place (suc bit) few =
     ap (λ (n : ℕ). blocks.len (marked_below n words)) e ∙ omega arith
     ∙ ap (λ (k : ℕ). blocks.len (marked_below (32 * place) words) + count_ones (get_or words place 0 % 2 ^ k)) next
 
--- equal words are those of equal sets
+-- equal sets have equal words
 same_marked : (xs ys : List ℕ) → AreWords xs → AreWords ys → marked_blocks xs ≡ marked_blocks ys → xs ≡ ys
 same_marked xs ys long far e = sym (words_of-marked_blocks xs long) ∙ ap words_of e ∙ words_of-marked_blocks ys far
 
--- a test of the words tells whether the sets are equal
+-- a comparison of the words says whether the sets are equal
 pub Decides-same_words : (xs ys : List ℕ) (s t : blocks.FinSet nat_cmp) → AreWords xs → AreWords ys → marked_blocks xs ≡ s → marked_blocks ys ≡ t
     → (r : Bool) → r ≡ pointwise nat_eq xs ys → Decides r (s ≡ t)
 Decides-same_words xs ys s t long far e f r is =
@@ -180,7 +180,7 @@ Decides-same_words xs ys s t long far e f r is =
       λ h. is ∙ told.1 (same_marked xs ys long far (e ∙ h ∙ sym f)),
     )
 
--- the same test answers whether they have the same members
+-- the same comparison says whether they have the same members
 pub same_words-same_members : (xs ys : List ℕ) (s t : blocks.FinSet nat_cmp) → AreWords xs → AreWords ys → marked_blocks xs ≡ s → marked_blocks ys ≡ t
     → (r : Bool) → r ≡ pointwise nat_eq xs ys → r ≡ same_members s t
 same_words-same_members xs ys s t long far e f r is =
@@ -190,7 +190,7 @@ same_words-same_members xs ys s t long far e f r is =
 pub word_held : (words : List ℕ) (block : ℕ) → AreWords words → block < BLOCKS → block / 32 < length words
 word_held words block are within = let all = are.all in omega arith
 
--- words with one of them replaced by a number of as many bits
+-- words in which one is replaced by a number of 32 bits
 pub AreWords-set : (words : List ℕ) (place new : ℕ) → AreWords words → new < 2 ^ 32 → AreWords (set words place new)
 AreWords-set words place new are fits = record {
   all = ap (λ (n : ℕ). 32 * n) (length-set words place new) ∙ are.all;

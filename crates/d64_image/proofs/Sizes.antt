@@ -32,7 +32,7 @@ counted_within count track sector size within held = elim size [
       omega arith
 ]
 
--- and none of the tracks beyond
+-- and it has no block of the tracks beyond
 pub tracks_counted : (count track : ℕ) → IsSize count → tracks_of count < track → track < 41 → count ≤ first_block track
 tracks_counted count track size beyond few = elim size [
   | inl fewer ↦

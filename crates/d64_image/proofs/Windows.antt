@@ -18,7 +18,7 @@ pub bit_at-mod : (n count bit : ℕ) → bit < count → bit_at (n % 2 ^ count) 
 bit_at-mod n count bit h =
     sym (bit_at_cat_low (n / 2 ^ count) count (n % 2 ^ count) bit h) ∙ ap (λ (m : ℕ). bit_at m bit) (div-add-mod' n (2 ^ count))
 
--- a bit where the lowest ones are dropped
+-- a bit after the lowest ones are dropped
 pub bit_at-div : (n count bit : ℕ) → bit_at (n / 2 ^ count) bit ≡ bit_at n (count + bit)
 bit_at-div n count bit =
     let e : count + bit - count ≡ bit = omega arith in
@@ -26,7 +26,7 @@ bit_at-div n count bit =
     ∙ sym (bit_at_cat_high (n / 2 ^ count) count (n % 2 ^ count) (count + bit) (mod-lt n (pow_pos count)) (omega arith))
     ∙ ap (λ (m : ℕ). bit_at m (count + bit)) (div-add-mod' n (2 ^ count))
 
--- a number is a member where it is marked
+-- a number is a member if it is marked
 pub contains-held : (words : List ℕ) (block : ℕ) → AreWords words → set.contains (marked_blocks words) block ≡ is_marked words block
 contains-held words block are =
     contains-marked_below BLOCKS words block
@@ -39,7 +39,7 @@ contains-held words block are =
           ap (λ (b : Bool). ltb block BLOCKS && b) none ∙ (let e : (ltb block BLOCKS && false) ≡ false = grind (arith, nat_tests) in e) ∙ sym none
     ]
 
--- each word has 32 bits, also where it is none of the words
+-- each word has 32 bits, and so has the zero past the last one
 pub word_fits : (words : List ℕ) (place : ℕ) → AreWords words → get_or words place 0 < 2 ^ 32
 word_fits words place are =
     elim (cases_lt place (length words)) [
@@ -70,7 +70,7 @@ bit_of_two words place bit are few =
           ∙ ap (bit_at (get_or words ((32 * place + bit) / 32) 0)) on
     ]
 
--- the 32 bits from that of a block on tell which blocks are members
+-- the 32 bits from that of a block on say which blocks are members
 pub bits_tell : (words : List ℕ) (first bit : ℕ) → AreWords words → bit < 32
     → bit_at (two_words words (first / 32) / 2 ^ (first % 32) % 2 ^ 32) bit ≡ cond (set.contains (marked_blocks words) (first + bit)) 1 0
 bits_tell words first bit are few =

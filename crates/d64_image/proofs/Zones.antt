@@ -144,7 +144,7 @@ track_end t l h =
     ap first_block next ∙ equal_below (λ k. first_block (k + 2)) (λ k. first_block (k + 1) + sectors_on (k + 1)) 40 refl (t - 1) (omega arith)
     ∙ ap (λ (n : ℕ). first_block n + sectors_on n) same
 
--- the table tells where each track begins, and where it ends
+-- the table has the block at which each track begins, and at which the last one ends
 pub starts_at : (t place : ℕ) → place ≡ t → t < 42 → get_or TRACK_STARTS place 0 ≡ first_block t
 unfolding first_block
 starts_at t place e h =

@@ -7,7 +7,7 @@ abbrev pub sectors_on : ℕ → ℕ
 sectors_on track =
     if nat_lt track 18 then 21 else (if nat_lt track 25 then 19 else (if nat_lt track 31 then 18 else 17))
 
--- the pairs of a track with each of its sectors, from 0
+-- the pairs of a track and each of its sectors, counted from 0
 abbrev pub pairs_on : ℕ → List (ℕ × ℕ)
 pairs_on track = map (λ sector. (track, sector)) (range_with_len 0 (sectors_on track))
 
@@ -16,7 +16,7 @@ pairs_on track = map (λ sector. (track, sector)) (range_with_len 0 (sectors_on 
 unfoldable pub pairs : List (ℕ × ℕ)
 pairs = flat_map pairs_on (range_with_len 1 40)
 
--- a disk of 40 tracks has that sector
+-- whether a track and a sector are legal: a disk of 40 tracks has such a sector
 abbrev pub IsLegal : ℕ → ℕ → Type 0
 IsLegal track sector = (1 ≤ track) × (track < 41) × (sector < sectors_on track)
 
@@ -24,10 +24,10 @@ IsLegal track sector = (1 ≤ track) × (track < 41) × (sector < sectors_on tra
 unfoldable pub first_block : ℕ → ℕ
 first_block track = sum_by sectors_on (range_with_len 1 (track - 1))
 
--- the pair that a block stands for: a block is its place in the list of pairs
+-- the track and sector of a block, whose number is its place in the list of pairs
 unfoldable pub pair_at : ℕ → ℕ × ℕ
 pair_at block = slice_index_or pairs block (0, 0)
 
--- the block of a track and a sector, where that pair is legal
+-- the block of a track and a sector; None if that pair is not legal
 unfoldable pub block_of : ℕ → ℕ → Option ℕ
 block_of track sector = position (λ pair. (pair.0 == track) && (pair.1 == sector)) pairs

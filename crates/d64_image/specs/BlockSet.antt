@@ -1,4 +1,4 @@
--- Sets of blocks, and the words whose bits stand for one.
+-- Sets of blocks, and the words whose bits say which blocks are members.
 use Rattle.std.specs.Prelude.{◌≡◌, ℕ, zero, suc, ◌+◌, ◌-◌, ◌*◌, ◌/◌, ◌%◌, ◌^◌, ◌<◌, ◌==◌, ◌&&◌, if◌then◌else◌, Bool, true, List, map, length, slice_index, All, nat_le, bit_or}
 use Rattle.std.specs.List.{range_with_len, slice_set}
 use Rattle.std.specs.Int.{bit_at}
@@ -25,33 +25,33 @@ marked_below (suc block) words =
 abbrev pub marked_blocks : List ℕ → BlockSet
 marked_blocks words = marked_below BLOCKS words
 
--- words that have a bit for each block of a disk
+-- words with one bit for each block of a disk
 pub record AreWords (words : List ℕ) : Type 0 where
   pub all : 32 * length words ≡ BLOCKS
   pub fit : All (λ word. word < 2 ^ 32) words
 
--- the words in which bits are set of the one at a place
+-- the words after some bits of the word at a place are set
 abbrev pub with_bits : List ℕ → ℕ → ℕ → List ℕ
 with_bits words place bits = slice_set words place (bit_or (slice_index words place) bits)
 
--- whether a block's bit is given: bit b is that of the block b after the first one
+-- whether the bit of a block is 1 in a number: bit b is that of block b after the first one
 abbrev pub is_given : ℕ → ℕ → ℕ → Bool
 is_given first bits block = nat_le first block && (bit_at bits (block - first) == 1)
 
--- the number of so many bits in which those are 1 that pass
+-- the number of n bits, in which bit b is 1 if b passes a test
 unfoldable pub bits_where : (ℕ → Bool) → ℕ → ℕ
 bits_where passes zero = 0
 bits_where passes (suc bit) = (if passes bit then 1 else 0) * 2 ^ bit + bits_where passes bit
 
--- the words in which the members are marked
+-- the words in which exactly the members are marked
 unfoldable pub words_of : BlockSet → List ℕ
 words_of blocks = map (λ place. bits_where (λ bit. set.contains blocks (32 * place + bit)) 32) (range_with_len 0 (BLOCKS / 32))
 
--- whether each member of either set is one of the other
+-- whether two sets have the same members
 abbrev pub same_members : BlockSet → BlockSet → Bool
 same_members blocks others = set.is_subset blocks others && set.is_subset others blocks
 
--- each member is one of so many blocks
+-- each member is below a number
 abbrev pub MembersAreBelow : ℕ → BlockSet → Type 0
 MembersAreBelow count blocks = (block : ℕ) → set.contains blocks block ≡ true → block < count
 

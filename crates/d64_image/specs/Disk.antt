@@ -1,11 +1,11 @@
--- What definitions speak of: bytes, blocks by their numbers, and disks.
+-- The subjects of the definitions: bytes, blocks by their numbers, and disks.
 use Rattle.std.specs.Prelude.{ℕ, List}
 
--- bytes one after another, each a number
+-- a sequence of bytes, each a number
 abbrev pub Bytes : Type 0
 Bytes = List ℕ
 
--- blocks one after another, each by its number: its place in the image
+-- a sequence of blocks, each by its number, which is its place in the image
 abbrev pub Blocks : Type 0
 Blocks = List ℕ
 

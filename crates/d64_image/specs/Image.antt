@@ -5,31 +5,31 @@ use Rattle.std.specs.Cmp.Lexicographic.{pointwise}
 use Rattle.d64_image.specs.Disk.{Disk, Bytes, Blocks}
 use Rattle.d64_image.specs.declared.image.TheConstants.{BLOCK_BYTES}
 
--- a block's content: 256 bytes, and a byte is a number below 256
+-- a block's content is 256 bytes, each a number below 256
 abbrev pub IsBlock : Bytes → Type 0
 IsBlock bytes = (length bytes ≡ BLOCK_BYTES) × All (λ byte. byte < 256) bytes
 
--- how many blocks an image has: those of 35 tracks or of 40
+-- how many blocks an image has: 683 of 35 tracks or 768 of 40
 abbrev pub IsSize : ℕ → Type 0
 IsSize count = (count ≡ 683) ⊎ (count ≡ 768)
 
--- how many tracks an image of so many blocks has
+-- how many tracks an image of n blocks has
 abbrev pub tracks_of : ℕ → ℕ
 tracks_of count = if count == 768 then 40 else 35
 
--- how many blocks an image has, of 40 tracks or of 35
+-- how many blocks an image has: those of 40 tracks or those of 35
 abbrev pub count_of_tracks : ℕ → ℕ
 count_of_tracks tracks = if tracks == 40 then 768 else 683
 
--- how many blocks an image of so many tracks has; none where no image has so many
+-- how many blocks an image of n tracks has; None if no image has n tracks
 abbrev pub blocks_of : ℕ → Option ℕ
 blocks_of tracks = if tracks == 35 then Some 683 else (if tracks == 40 then Some 768 else None)
 
--- so many bytes make an image: 683 blocks of 256 bytes, or 768
+-- whether n bytes make an image: 683 blocks of 256 bytes, or 768
 abbrev pub is_image_length : ℕ → Bool
 is_image_length len = (len == 174848) || (len == 196608)
 
--- an image is a list of so many blocks
+-- an image is a list of blocks, of either size
 abbrev pub IsImage : Disk → Type 0
 IsImage image = IsSize (length image) × All IsBlock image
 

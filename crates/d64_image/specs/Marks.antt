@@ -1,4 +1,4 @@
--- the words of a set, and the set that they stand for
+-- the words of a set, and the set that they mark
 use Rattle.std.proofs.Common.{◌≡◌, ℕ, zero, suc, ◌+◌, ◌-◌, ◌*◌, ◌/◌, ◌%◌, ◌^◌, ◌<◌, ◌&&◌, ◌||◌, Bool, true, false, cond, eqb, ltb, nat_eq, List, length, get_or, refl, sym, ap, ap₂, ◌∙◌, subst, inl, inr, arith}
 use Rattle.std.specs.Int.{bit_at}
 use Rattle.std.specs.Ordering.{nat_cmp}
@@ -15,7 +15,7 @@ use Rattle.std.proofs.lemmas.Nat.Bits.{bit_at-lt, bit_at_cat_low, bit_at_cat_hig
 use Rattle.d64_image.specs.BlockSet.{BlockSet, is_marked, marked_below, marked_blocks, AreWords, bits_where, words_of, same_members}
 use Rattle.d64_image.specs.declared.block.TheConstants.{BLOCKS}
 
--- where both of two tests pass, each does
+-- if both of two tests pass, each of them passes
 pub both_true : (a b : Bool) → (a && b) ≡ true → (a ≡ true) × (b ≡ true)
 both_true true b h = (refl, h)
 both_true false b h = (h, absurd (cc))
@@ -50,7 +50,7 @@ contains-marked_below (suc n) words q =
           | inr e ↦ grind (arith, nat_tests)
         ]
 
--- a block is a member where it is marked
+-- a block is a member if it is marked
 pub contains-marked_blocks : (words : List ℕ) (block : ℕ) → block < BLOCKS → set.contains (marked_blocks words) block ≡ is_marked words block
 contains-marked_blocks words block h =
     contains-marked_below BLOCKS words block
@@ -68,7 +68,7 @@ bit_below : (b : Bool) → as_bit b < 2
 bit_below true = omega arith
 bit_below false = omega arith
 
--- so many bits make a number below the value of the next one
+-- a number of n bits is below 2 to the power of n
 bits_where-below : (p : ℕ → Bool) (n : ℕ) → bits_where p n < 2 ^ n
 unfolding bits_where
 bits_where-below p zero = omega arith
@@ -80,7 +80,7 @@ bits_where-below p (suc n) =
       | inr misses ↦ let e : as_bit (p n) * 2 ^ n ≡ 0 = ap (λ (b : Bool). as_bit b * 2 ^ n) misses ∙ omega arith in omega arith
     ]
 
--- each of them is the test at its place
+-- each bit is the test at its place
 bit_at-where : (p : ℕ → Bool) (n bit : ℕ) → bit < n → bit_at (bits_where p n) bit ≡ as_bit (p bit)
 unfolding bits_where
 bit_at-where p zero bit h = absurd (omega arith)
@@ -95,7 +95,7 @@ bit_at-where p (suc n) bit h =
           ∙ ap (λ (k : ℕ). as_bit (p k)) same
     ]
 
--- a bit is what its test makes of it
+-- a bit is the result of its test
 pub bit_tested : (b : ℕ) → b < 2 → as_bit (nat_eq b 1) ≡ b
 bit_tested zero h = refl
 bit_tested (suc zero) h = refl
@@ -123,7 +123,7 @@ words_of-marked_blocks words are =
     sym (fill_by_all (λ place. bits_where (λ bit. set.contains (marked_blocks words) (32 * place + bit)) 32) words (BLOCKS / 32) 0 long (λ place h.
     sym (word-is words place are (omega arith))))
 
--- two answers that imply one another are one
+-- two truth values that imply one another are equal
 alike : (a b : Bool) → (a ≡ true → b ≡ true) → (b ≡ true → a ≡ true) → a ≡ b
 alike true b to from = sym (to refl)
 alike false true to from = from refl
@@ -139,6 +139,6 @@ Decides-same_members s t = (
       (let h : set.is_subset s s ≡ true = contains-is_subset nat_cmp_total s s (λ q one. one) in ap₂ ◌&&◌ h h),
 )
 
--- so the test is an equality
+-- so the comparison is an equivalence
 pub same_members-is_equivalence : IsEquivalence same_members
 same_members-is_equivalence = decided same_members Decides-same_members

@@ -10,20 +10,20 @@ use Rattle.d64_image.specs.Image.{IsBlock, sector_at, with_sector, differences}
 abbrev pub Kept : Type 0
 Kept = List (ℕ × Bytes)
 
--- the kept blocks lie between these two, ascending and so each once
+-- the kept blocks lie between two numbers, ascending, so that each comes once
 unfoldable pub RisesBetween : ℕ → ℕ → Kept → Type 0
 RisesBetween low high [] = Unit {0}
 RisesBetween low high (entry ∷ patch) = (low ≤ entry.0) × (entry.0 < high) × RisesBetween (entry.0 + 1) high patch
 
--- a patch keeps blocks that a disk may have, ascending
+-- a patch keeps blocks that a disk can have, ascending
 abbrev pub IsPatch : Kept → Type 0
 IsPatch patch = RisesBetween 0 BLOCKS patch
 
--- a patch keeps blocks of that image
+-- a patch keeps blocks of an image
 abbrev pub IsPatchOf : Disk → Kept → Type 0
 IsPatchOf image patch = RisesBetween 0 (length image) patch
 
--- what a patch keeps of each block are the bytes of one
+-- each kept block has the bytes of a block
 abbrev pub HaveBlocks : Kept → Type 0
 HaveBlocks patch = All (λ entry. IsBlock entry.1) patch
 
@@ -31,11 +31,11 @@ HaveBlocks patch = All (λ entry. IsBlock entry.1) patch
 unfoldable pub restored_image : Disk → Kept → Disk
 restored_image image patch = fold (λ held entry. with_sector held entry.0 entry.1) image patch
 
--- a patch keeps the block
+-- whether a patch keeps a block
 abbrev pub is_kept : Kept → ℕ → Bool
 is_kept patch block = list_any (λ entry. entry.0 == block) patch
 
--- the patch with a block added in its place, where it isn't kept yet
+-- the patch with a block added in its place, if the patch does not keep it yet
 unfoldable pub with_kept : Kept → ℕ → Bytes → Kept
 with_kept patch block bytes =
     if is_kept patch block then patch else insert patch (count_by (λ entry. nat_lt entry.0 block) patch) (block, bytes)
@@ -44,7 +44,7 @@ with_kept patch block bytes =
 unfoldable pub taken_blocks : Disk → Kept → Kept
 taken_blocks image patch = map (λ entry. (entry.0, sector_at image entry.0)) patch
 
--- the kept blocks whose bytes an image doesn't have
+-- the kept blocks whose bytes differ from the image's
 unfoldable pub trimmed_blocks : Disk → Kept → Kept
 trimmed_blocks image patch = filter (λ entry. not (pointwise nat_eq entry.1 (sector_at image entry.0))) patch
 

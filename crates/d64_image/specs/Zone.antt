@@ -1,10 +1,10 @@
--- Zones: neighbouring tracks with equally many sectors each.
+-- Zones: neighbouring tracks with the same number of sectors.
 use Rattle.std.specs.Prelude.{◌≡◌, ℕ, ◌+◌, ◌-◌, ◌*◌, ◌<◌, ◌≤◌}
 use Rattle.d64_image.specs.Block.{sectors_on, first_block}
 use Rattle.d64_image.specs.declared.block.Zone.{Zone}
 
--- a track lies in a zone: it has the zone's number of sectors, and the zone's tracks before it have
--- as many blocks as lie between
+-- a track lies in a zone: it has the zone's number of sectors, and its first block is counted from
+-- the zone's first block by whole tracks
 pub record LiesIn (zone : Zone) (track : ℕ) : Type 0 where
   pub starts : zone.first_track ≤ track
   pub within : track < 41

@@ -10,7 +10,7 @@ use std::marker::Model;
 /// How many blocks an image has at most: those of 40 tracks.
 pub const BLOCKS: usize = 768;
 
-/// Neighbouring tracks with equally many sectors each.
+/// Neighbouring tracks with the same number of sectors.
 #[derive(Clone, Copy)]
 struct Zone {
     first_track: u8,
@@ -42,8 +42,8 @@ const ZONES: [Zone; 4] = [
     },
 ];
 
-/// Where each track begins: its first block, by the track's number, which counts from 1. The last
-/// one is where the last track ends.
+/// The first block of each track, by the track's number, which counts from 1. The last one is where
+/// the last track ends.
 const TRACK_STARTS: [u16; 42] = [
     0, 0, 21, 42, 63, 84, 105, 126, 147, 168, 189, 210, 231, 252, 273, 294, 315, 336, 357, 376,
     395, 414, 433, 452, 471, 490, 508, 526, 544, 562, 580, 598, 615, 632, 649, 666, 683, 700, 717,
@@ -77,12 +77,12 @@ impl Zone {
     }
 }
 
-/// The number of a block, which stands for a track (from 1) and a sector (from 0) of it.
+/// The number of a block, which has a track (from 1) and a sector (from 0).
 ///
 /// Blocks are numbered as they lie in a D64 image: track by track from 1, on each track by sector
 /// from 0. Tracks 1 to 17 have 21 sectors, 18 to 24 have 19, 25 to 30 have 18, and 31 to 35 have 17
-/// (the 1541 User's Guide, "Disk format"); so have the tracks 36 to 40 that some disks have
-/// besides. The default is the first block.
+/// (the 1541 User's Guide, "Disk format"). Tracks 36 to 40, which some disks have, have 17 as well.
+/// The default is the first block.
 #[derive(Clone, Copy, Debug, Default, PartialEq, Eq, PartialOrd, Ord, Hash)]
 pub struct BlockNo {
     index: u16,
@@ -123,7 +123,7 @@ impl Model for Blocks {
 }
 
 impl Blocks {
-    /// The first so many blocks.
+    /// The first `count` blocks.
     pub(crate) fn up_to(count: usize) -> Blocks
         requires { count ≤ BLOCKS }
         ensures { result ≡ range_with_len 0 count }
@@ -160,8 +160,8 @@ impl BlockNo {
         Blocks::up_to(BLOCKS)
     }
 
-    /// The block of a track (from 1) and a sector (from 0), or None where no disk has such a
-    /// sector. Whether an image has it, `Image::holds` tells.
+    /// The block of a track (from 1) and a sector (from 0), or None if no disk has such a sector.
+    /// `Image::holds` says whether an image has it.
     pub fn of(track: u8, sector: u8) -> Option<BlockNo>
         ensures place { result ≡ block_of track sector }
         ensures within { IfSome result (λ block. block < BLOCKS) }
@@ -178,7 +178,7 @@ impl BlockNo {
         }
     }
 
-    /// The block of that place in the image, from 0, or None from 768 on.
+    /// The block at a place in the image, from 0, or None from 768 on.
     pub fn at(index: usize) -> Option<BlockNo>
         ensures { SomeIff result (index < BLOCKS) index }
     {
@@ -199,8 +199,7 @@ impl BlockNo {
         usize::from(self.index)
     }
 
-    /// For the contract alone, and does nothing: what each block is, which a caller knows only from
-    /// the contract of a call.
+    /// Does nothing: its contract states what a block is, for callers that need it in a proof.
     pub fn known_block(self)
         ensures { self < BLOCKS }
     {}

@@ -9,7 +9,7 @@ use std::simd::prelude::*;
 /// How many bytes are compared at a time.
 const LANES: usize = 32;
 
-/// Whether blocks have the same 32 bytes from one on.
+/// Whether two blocks have the same 32 bytes from a place on.
 #[inline(always)]
 fn same_lanes(block: &[u8], other: &[u8], start: usize) -> bool
     requires block { start + 32 ≤ length block.now }

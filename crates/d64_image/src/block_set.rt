@@ -16,7 +16,7 @@ const WORD_BITS: usize = 32;
 /// How many words have a bit for each block.
 const WORDS: usize = BLOCKS / WORD_BITS;
 
-/// A set of blocks. It takes no memory of its own.
+/// A set of blocks. It needs no memory of its own.
 #[derive(Clone, Copy, Debug)]
 pub struct BlockSet {
     /// Which blocks are members: each word has the bits of 32 blocks, the lowest for the first of
@@ -62,7 +62,7 @@ fn set_bits(words: &mut [u32; WORDS], place: usize, bits: u32)
     }
 }
 
-/// The 32 bits from one on, of the 64 of a word and the next one.
+/// The 32 bits from a place on in the 64 bits of two neighbouring words.
 fn bits_within(word: u32, next: u32, start: usize) -> u32
     requires { start < 32 }
     ensures { result ≡ (next * 2 ^ 32 + word) / 2 ^ start % 2 ^ 32 }
@@ -72,7 +72,7 @@ fn bits_within(word: u32, next: u32, start: usize) -> u32
 }
 
 impl BlockSet {
-    /// The set with no blocks.
+    /// The empty set.
     pub fn empty() -> BlockSet
         ensures value { result ≡ set.empty }
         ensures blocks { MembersAreBlocks result }
@@ -89,8 +89,8 @@ impl BlockSet {
         (self.words[index / WORD_BITS] >> (index % WORD_BITS)) & 1 == 1
     }
 
-    /// Which of the 32 blocks from a number on are members: bit b is 1 where the block b after the
-    /// first one is a member.
+    /// Which of the 32 blocks from a number on are members: bit b is 1 if block b after the first
+    /// one is a member.
     pub fn bits_from(&self, first: usize) -> u32
         ensures { (bit : ℕ) → bit < 32 → bit_at result bit ≡ (if set.contains self.now (first + bit) then 1 else 0) }
     {
@@ -100,15 +100,14 @@ impl BlockSet {
         bits_within(word, next, first % WORD_BITS)
     }
 
-    /// For the contract alone, and does nothing: what each set is, which a caller knows only from
-    /// the contract of a call.
+    /// Does nothing: its contract states what a set is, for callers that need it in a proof.
     pub fn known_members(&self)
         ensures { MembersAreBlocks self.now }
     {
         self.has(BlockNo::default());
     }
 
-    /// Makes a block a member, if it is not one yet.
+    /// Adds a block, if it is not a member yet.
     pub fn add(&mut self, block: BlockNo)
         ensures value { self.new ≡ set.insert self.old block }
         ensures blocks { MembersAreBlocks self.new }
@@ -117,8 +116,8 @@ impl BlockSet {
         self.words[index / WORD_BITS] |= 1 << (index % WORD_BITS);
     }
 
-    /// Makes those of the 32 blocks from a number on members whose bits are 1: bit b is that of the
-    /// block b after the first one. A bit of which no disk has the block counts for nothing.
+    /// Adds those of the 32 blocks from a number on whose bits are 1: bit b is that of block b
+    /// after the first one. A bit that belongs to no block of a disk is ignored.
     pub fn add_bits(&mut self, first: usize, bits: u32)
         ensures { (block : ℕ) → set.contains self.new block ≡ (set.contains self.old block || (nat_lt block BLOCKS && is_given first bits block)) }
     {
@@ -128,7 +127,7 @@ impl BlockSet {
         set_bits(&mut self.words, place + 1, (both >> WORD_BITS) as u32);
     }
 
-    /// Removes a block from the members, if it is one.
+    /// Removes a block, if it is a member.
     pub fn remove(&mut self, block: BlockNo)
         ensures value { self.new ≡ set.remove self.old block }
         ensures blocks { MembersAreBlocks self.new }

@@ -18,21 +18,21 @@ pub const BLOCK_BYTES: usize = 256;
 /// How many blocks an image of 35 tracks has.
 const BLOCKS_OF_35: usize = 683;
 
-/// How many tracks an image has that doesn't have all 40.
+/// How many tracks the smaller image has.
 const FEWER_TRACKS: u8 = 35;
 
 /// Why bytes make no image.
 #[derive(Clone, Debug, PartialEq, Eq, Drop, Error)]
 pub enum ImageFault {
-    /// There are this many bytes, and an image has 174,848 or 196,608.
+    /// There are this many bytes. An image has 174,848 or 196,608.
     #[error("an image has 174848 or 196608 bytes, and these are {0}")]
     WrongLength(usize),
     #[error("out of memory")]
     Memory(AllocError),
 }
 
-/// The content of a disk: its blocks of 256 bytes, 683 on 35 tracks or 768 on 40, in one buffer.
-/// What is written to it goes through a `Patch`.
+/// The content of a disk: its blocks of 256 bytes, 683 on 35 tracks or 768 on 40, in one buffer. It
+/// is written through a `Patch`.
 #[derive(Debug, Drop)]
 pub struct Image {
     sectors: Vec<[u8; BLOCK_BYTES]>,
@@ -49,18 +49,18 @@ impl Model for Image {
     ghost invariant = { λ image. IsSize (length image.sectors.items) };
 }
 
-/// The sectors of a slice are known to have the bytes of a block.
+/// Does nothing: its contract states that each sector of a slice has the bytes of a block.
 fn known_lengths(_sectors: &[[u8; BLOCK_BYTES]])
     ensures { All (λ sector. length sector ≡ BLOCK_BYTES) _sectors.now }
 {}
 
-/// For the contract alone, and does nothing: what each byte of a slice is, which a caller knows
-/// only from the contract of a call.
+/// Does nothing: its contract states what the bytes of a slice are, for callers that need it in a
+/// proof.
 pub fn known_bytes(_bytes: &[u8])
     ensures { All (λ byte. byte < 256) _bytes.now }
 {}
 
-/// How many blocks an image of so many tracks has, or None where no image has so many.
+/// How many blocks an image of this many tracks has, or None if no image has as many.
 pub fn blocks_of(tracks: u8) -> Option<usize>
     ensures count { result ≡ blocks_of tracks }
     ensures size { IfSome result IsSize }
@@ -72,7 +72,7 @@ pub fn blocks_of(tracks: u8) -> Option<usize>
     }
 }
 
-/// The blocks of these bytes, where an image has so many.
+/// The blocks that some bytes make, or `WrongLength` if their number is not that of an image.
 fn sectors_in(bytes: &[u8]) -> Result<&[[u8; BLOCK_BYTES]], ImageFault>
     ensures refused { wrong_length result ≡ (if is_image_length (length bytes.now) then None else Some (length bytes.now)) }
     ensures ample { IfErr result (λ fault. fault ≡ ImageFault.WrongLength (length bytes.now)) }
@@ -87,7 +87,7 @@ fn sectors_in(bytes: &[u8]) -> Result<&[[u8; BLOCK_BYTES]], ImageFault>
     Ok(sectors)
 }
 
-/// So many blocks, all of whose bytes are 0.
+/// Allocates `count` blocks of zeros.
 fn blank(alloc: Global, count: usize) -> Result<Vec<[u8; BLOCK_BYTES]>, AllocError>
     ensures { IfOk result (λ sectors. sectors.items ≡ replicate count (replicate BLOCK_BYTES 0)) }
 {
@@ -101,8 +101,8 @@ fn blank(alloc: Global, count: usize) -> Result<Vec<[u8; BLOCK_BYTES]>, AllocErr
 impl Image {
     ghost use Rattle.d64_image.specs.Lending.{LendsSector};
 
-    /// The image with these bytes, as they lie in a D64 file. Refused where they are neither
-    /// 174,848, as of 35 tracks, nor 196,608, as of 40.
+    /// Makes an image of bytes as they lie in a D64 file. `WrongLength` comes unless there are
+    /// 174,848 bytes, as of 35 tracks, or 196,608, as of 40.
     pub fn from_bytes(alloc: Global, bytes: &[u8]) -> Result<Image, ImageFault>
         ensures refused { wrong_length result ≡ (if is_image_length (length bytes.now) then None else Some (length bytes.now)) }
         ensures kept { IfOk result (λ image. bytes_of image ≡ bytes.now) }
@@ -114,9 +114,9 @@ impl Image {
         })
     }
 
-    /// Puts the image with these bytes, as `from_bytes` takes them, in the place of this one. Where
-    /// that is refused the image is as before. Memory is asked for only where the new image has
-    /// more blocks than each one before it.
+    /// Replaces the image by the one of these bytes, as `from_bytes` makes it. After an error the
+    /// image is unchanged. Memory is needed only if the new image has more blocks than any before
+    /// it.
     pub fn refill(&mut self, bytes: &[u8]) -> Result<(), ImageFault>
         ensures refused { wrong_length result ≡ (if is_image_length (length bytes.now) then None else Some (length bytes.now)) }
         ensures filled { OnOk result (bytes_of self.new ≡ bytes.now) }
@@ -135,7 +135,7 @@ impl Image {
         Ok(())
     }
 
-    /// The blank image of 35 tracks, all of whose bytes are 0.
+    /// A blank image of 35 tracks, with zeros in all its blocks.
     pub fn zeroed(alloc: Global) -> Result<Image, AllocError>
         ensures { IfOk result (λ image. image ≡ replicate 683 (replicate BLOCK_BYTES 0)) }
     {
@@ -144,7 +144,7 @@ impl Image {
         })
     }
 
-    /// The blank image of 40 tracks, all of whose bytes are 0.
+    /// A blank image of 40 tracks, with zeros in all its blocks.
     pub fn zeroed40(alloc: Global) -> Result<Image, AllocError>
         ensures { IfOk result (λ image. image ≡ replicate 768 (replicate BLOCK_BYTES 0)) }
     {
@@ -174,8 +174,7 @@ impl Image {
         bytes
     }
 
-    /// For the contract alone, and does nothing: what each image is, which a caller knows only from
-    /// the contract of a call.
+    /// Does nothing: its contract states what an image is, for callers that need it in a proof.
     pub fn known_image(&self)
         ensures size { IsSize (length self.now) }
         ensures image { IsImage self.now }
@@ -195,8 +194,8 @@ impl Image {
         }
     }
 
-    /// Whether the image has a block: all of 35 tracks are in each image, and those of tracks 36 to
-    /// 40 in one of 40 tracks.
+    /// Whether the image has a block. Each image has the blocks of tracks 1 to 35, and one of 40
+    /// tracks those of tracks 36 to 40 too.
     pub fn holds(&self, block: BlockNo) -> bool
         ensures value { result ≡ nat_lt block (length self.now) }
         ensures size { IsSize (length self.now) }
@@ -212,7 +211,7 @@ impl Image {
         Blocks::up_to(self.sectors.len())
     }
 
-    /// The 256 bytes of a block that the image has, lent from its own buffer.
+    /// The 256 bytes of a block that the image has, borrowed from its buffer.
     pub fn sector(&self, block: BlockNo) -> &[u8; BLOCK_BYTES]
         requires { block < length self.now }
         ensures value { result.now ≡ sector_at self.now block }
@@ -223,7 +222,7 @@ impl Image {
         sector
     }
 
-    /// The 256 bytes of a block that the image has, to be written in place. No other block changes.
+    /// The 256 bytes of a block that the image has, to be written in place.
     pub(crate) fn sector_mut(&mut self, block: BlockNo) -> &mut [u8; BLOCK_BYTES]
         requires { block < length self.old }
         ensures* written { sem 𝓛 (LendsSector self.entry block result) }
@@ -232,7 +231,7 @@ impl Image {
         &mut self.sectors[block.index()]
     }
 
-    /// Whether the image has a block, and that has these 256 bytes.
+    /// Whether the image has a block with these 256 bytes.
     pub fn has_bytes(&self, block: BlockNo, bytes: &[u8; BLOCK_BYTES]) -> bool
         ensures { result ≡ pointwise nat_eq bytes.now (sector_at self.now block) }
     {

@@ -9,8 +9,8 @@ ghost use Rattle.d64_image.specs.Laws.{EmptyPatchPutsNothingBack, ChangesPutBack
 ghost use Rattle.d64_image.specs.Laws.{DifferencesTell, AlikeImagesAreEqual, AlikeSetsAreEqual, SameMembersTells};
 ghost use Rattle.d64_image.specs.declared.block.TheConstants.{BLOCKS};
 
-/// Blocks and legal pairs of track and sector stand for one another, and an image has the blocks of
-/// its tracks.
+/// Each block has one legal pair of track and sector and each pair one block, and an image has the
+/// blocks of its tracks.
 pub fn blocks_stand_for_pairs()
     ensures count { length pairs ≡ BLOCKS }
     ensures pair { EachBlockHasItsPair }
@@ -19,20 +19,20 @@ pub fn blocks_stand_for_pairs()
     ensures tracks { EachSizeHasItsTracks }
 {}
 
-/// The list of differences names exactly the blocks in which two images differ.
+/// The list of differences has exactly the blocks in which two images differ.
 pub fn differences_tell()
     ensures members { DifferencesTell }
     ensures none { AlikeImagesAreEqual }
 {}
 
-/// Two sets with the same members are equal, and `==` tells whether they are.
+/// Two sets with the same members are equal, and `==` says whether they are.
 pub fn alike_sets_are_equal()
     ensures members { AlikeSetsAreEqual }
     ensures test { SameMembersTells }
 {}
 
-/// The patch of all blocks that changed puts back the image from before, and an empty patch puts
-/// back nothing.
+/// Putting back all blocks that changed gives the image from before, and putting back an empty
+/// patch changes nothing.
 pub fn changes_put_back()
     ensures empty { EmptyPatchPutsNothingBack }
     ensures back { ChangesPutBack }

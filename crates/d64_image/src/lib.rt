@@ -2,7 +2,8 @@
 //! keep what blocks had before.
 //!
 //! A D64 image is the plain copy of a disk of 35 or 40 tracks: its 683 or 768 blocks, track by
-//! track (the VICE manual, "The D64 disk image format"). Nothing here knows what the blocks mean.
+//! track (the VICE manual, "The D64 disk image format"). What the blocks mean is the subject of
+//! other crates.
 #![tactic(auto)]
 
 mod block;

@@ -1,4 +1,4 @@
-//! Patches: blocks with the bytes that put an image back.
+//! Patches: blocks with the bytes that restore an image.
 ghost use Rattle.std.specs.Prelude.{◌≡◌, ◌<◌, ◌≤◌, ◌++◌, ◌∷◌, false, [], length, nat_lt, count_by, vec_len, vec_capacity, OnOk, OnErr};
 ghost use Rattle.d64_image.specs.declared.block.TheConstants.{BLOCKS};
 ghost use Rattle.d64_image.specs.Image.{sector_at, with_sector};
@@ -10,12 +10,12 @@ use std::alloc::{AllocError, Global};
 use std::marker::Model;
 use std::mem;
 
-/// Blocks of an image that were written over, each once and ascending, with their 256 bytes from
-/// before.
+/// The blocks of an image that were overwritten, each once and ascending, with the 256 bytes that
+/// each had before.
 ///
-/// What writes to an image through a patch can be taken back: the image with the patch put back is
-/// the one from before. A patch that is exchanged with its image keeps the bytes from after, so
-/// that a second exchange redoes.
+/// A change that is written through a patch can be undone: putting the patch back gives the image
+/// from before. A patch that is swapped with its image keeps the bytes from after the change, so
+/// that a second swap redoes it.
 #[derive(Debug, Drop)]
 pub struct Patch {
     kept: Vec<(BlockNo, [u8; BLOCK_BYTES])>,
@@ -31,8 +31,7 @@ impl Model for Patch {
     ghost invariant = { λ patch. IsPatch patch.kept.items × HaveBlocks patch.kept.items };
 }
 
-/// Makes room for one more. Where there is none, room for one is asked for first, and then for as
-/// many again as there are.
+/// Makes room for one more block. An empty list first gets room for one, and a full list doubles.
 fn make_room(kept: &mut Vec<(BlockNo, [u8; BLOCK_BYTES])>) -> Result<(), AllocError>
     ensures same { kept.new.items ≡ kept.old.items }
     ensures room { OnOk result (vec_len kept.new < vec_capacity kept.new) }
@@ -43,7 +42,7 @@ fn make_room(kept: &mut Vec<(BlockNo, [u8; BLOCK_BYTES])>) -> Result<(), AllocEr
     kept.reserve_exact(kept.len().max(1))
 }
 
-/// Exchanges the bytes of each kept block with those that the image has there: it has each of them.
+/// Swaps the bytes of each kept block with those of the image, which has each of these blocks.
 pub(crate) fn swap_blocks(kept: &mut [(BlockNo, [u8; BLOCK_BYTES])], image: &mut Image)
     requires { IsPatchOf image.old kept.old }
     ensures image { image.new ≡ restored_image image.old kept.old }
@@ -56,7 +55,7 @@ pub(crate) fn swap_blocks(kept: &mut [(BlockNo, [u8; BLOCK_BYTES])], image: &mut
 }
 
 impl Patch {
-    /// The patch that keeps nothing. Takes no memory.
+    /// A patch that keeps no block. It allocates nothing.
     pub fn new(alloc: Global) -> Patch
         ensures { result ≡ [] }
     {
@@ -81,7 +80,7 @@ impl Patch {
         self.kept.as_slice()
     }
 
-    /// Forgets all blocks. What was allocated stays.
+    /// Removes all blocks. The allocated memory is kept.
     pub fn clear(&mut self)
         ensures { self.new ≡ [] }
     {
@@ -108,7 +107,7 @@ impl Patch {
             .count()
     }
 
-    /// Keeps the bytes of a block that isn't kept yet.
+    /// Keeps the bytes of a block that is not kept yet.
     fn keep(&mut self, block: BlockNo, bytes: &[u8; BLOCK_BYTES]) -> Result<(), AllocError>
         requires { is_kept self.old block ≡ false }
         ensures kept { OnOk result (self.new ≡ with_kept self.old block bytes.now) }
@@ -120,8 +119,8 @@ impl Patch {
         Ok(())
     }
 
-    /// Keeps a block that lies above all that are kept, with these bytes. Refused where there is no
-    /// memory to keep them.
+    /// Keeps a block above all that are kept, with these bytes. An error comes if there is no
+    /// memory for them.
     pub fn push(&mut self, block: BlockNo, bytes: &[u8; BLOCK_BYTES]) -> Result<(), AllocError>
         requires above { RisesBetween 0 block self.old }
         ensures kept { OnOk result (self.new ≡ self.old ++ (block, bytes.now) ∷ []) }
@@ -133,9 +132,9 @@ impl Patch {
         Ok(())
     }
 
-    /// Writes a block that the image has, and keeps the bytes that stood there if the block isn't
-    /// kept yet. Refused where there is no memory to keep them: then the block wasn't kept, and
-    /// neither image nor patch is changed. A block that is kept already takes no memory.
+    /// Writes a block that the image has, and keeps the bytes that it had, unless the block is kept
+    /// already. An error comes if there is no memory for them, and leaves image and patch
+    /// unchanged. A block that is kept already needs no memory.
     pub fn write(
         &mut self,
         image: &mut Image,
@@ -158,8 +157,8 @@ impl Patch {
         Ok(())
     }
 
-    /// Exchanges the bytes of each kept block with those that the image has there: it has each of
-    /// them. Takes no memory.
+    /// Swaps the bytes of each kept block with those of the image, which has each of these blocks.
+    /// It allocates nothing.
     pub fn swap(&mut self, image: &mut Image)
         requires { IsPatchOf image.old self.old }
         ensures image { image.new ≡ restored_image image.old self.old }
@@ -172,8 +171,8 @@ impl Patch {
         swap_blocks(&mut self.kept, image);
     }
 
-    /// Forgets the blocks whose kept bytes the image has: those in which it doesn't differ from the
-    /// image with the patch put back. The image has each kept block. Takes no memory.
+    /// Removes the blocks whose kept bytes are those of the image, since putting them back changes
+    /// nothing. The image has each kept block. It allocates nothing.
     pub fn trim(&mut self, image: &Image)
         requires { IsPatchOf image.now self.old }
         ensures kept { self.new ≡ trimmed_blocks image.now self.old }

@@ -1,4 +1,4 @@
-//! Patches, one after another.
+//! Lists of patches.
 ghost use Rattle.std.specs.Prelude.{◌≡◌, ◌+◌, ◌<◌, ◌≤◌, ◌++◌, ◌∷◌, [], length, take, slice_index_or, slice_set, nat_lt, if◌then◌else◌, Some, None, vec_capacity, All, OnOk, OnErr};
 ghost use Rattle.d64_image.specs.Patch.{HaveBlocks, IsPatch, IsPatchOf, restored_image, taken_blocks};
 ghost use Rattle.d64_image.specs.PatchList.{blocks_before};
@@ -18,11 +18,11 @@ pub struct Place {
     pub blocks: usize,
 }
 
-/// How many blocks a list makes room for at first. What is not written to takes no memory, and a
+/// How many blocks a list has room for at first. Memory that is not written to costs nothing, and a
 /// list that begins smaller is moved, and leaves memory behind, each time that it doubles.
 const FIRST_BLOCKS: usize = 512;
 
-/// Patches, one after another, in two lists.
+/// A list of patches, kept as two lists.
 #[derive(Drop)]
 pub struct PatchList {
     /// How many blocks each patch keeps.
@@ -45,7 +45,7 @@ impl Model for PatchList {
         × All HaveBlocks (cut_blocks patches.lens.items patches.blocks.items) };
 }
 
-/// Makes room for the first blocks of a list, where it has no room yet.
+/// Makes room for the first blocks of a list that has no room yet.
 fn make_first_room(blocks: &mut Vec<(BlockNo, [u8; BLOCK_BYTES])>) -> Result<(), AllocError>
     ensures same { blocks.new.items ≡ blocks.old.items }
     ensures room { OnOk result (0 < vec_capacity blocks.new) }
@@ -57,7 +57,7 @@ fn make_first_room(blocks: &mut Vec<(BlockNo, [u8; BLOCK_BYTES])>) -> Result<(),
 }
 
 impl PatchList {
-    /// No patches. Takes no memory.
+    /// An empty list. It allocates nothing.
     pub fn new(alloc: Global) -> PatchList
         ensures { result ≡ [] }
     {
@@ -74,15 +74,14 @@ impl PatchList {
         self.lens.len()
     }
 
-    /// For the contract alone, and does nothing: what each patch is, which a caller knows only from
-    /// the contract of a call.
+    /// Does nothing: its contract states what each patch is, for callers that need it in a proof.
     pub fn known_patches(&self)
         ensures { All HaveBlocks self.now }
     {
         self.blocks.len();
     }
 
-    /// The place after all patches.
+    /// The place after the last patch.
     pub fn end(&self) -> Place
         ensures number { result.number ≡ length self.now }
         ensures blocks { result.blocks ≡ blocks_before self.now (length self.now) }
@@ -93,7 +92,7 @@ impl PatchList {
         }
     }
 
-    /// The place before a patch, or after all. The blocks are counted from the beginning.
+    /// The place before a patch, or after the last one. It counts the blocks from the beginning.
     pub fn place_before(&self, number: usize) -> Place
         requires { number ≤ length self.now }
         ensures number { result.number ≡ number }
@@ -146,7 +145,7 @@ impl PatchList {
         blocks
     }
 
-    /// Forgets the patches after a place, and adds one there.
+    /// Removes the patches after a place, and adds one there.
     pub fn replace_from(&mut self, place: Place, patch: &Patch) -> Result<(), AllocError>
         requires within { place.number ≤ length self.old }
         requires place { place.blocks ≡ blocks_before self.old place.number }
@@ -165,7 +164,7 @@ impl PatchList {
         Ok(())
     }
 
-    /// Adds a patch after all.
+    /// Adds a patch at the end.
     pub fn push(&mut self, patch: &Patch) -> Result<(), AllocError>
         ensures pushed { OnOk result (self.new ≡ self.old ++ patch.now ∷ []) }
         ensures unchanged { OnErr result (self.new ≡ self.old) }
@@ -174,8 +173,8 @@ impl PatchList {
         self.replace_from(end, patch)
     }
 
-    /// Exchanges the bytes of each block of the patch that begins at a place with those that the
-    /// image has there: it has each of them. Takes no memory.
+    /// Swaps the bytes of each block of the patch that begins at a place with those of the image,
+    /// which has each of these blocks. It allocates nothing.
     pub fn swap(&mut self, place: Place, image: &mut Image)
         requires within { place.number < length self.old }
         requires place { place.blocks ≡ blocks_before self.old place.number }
@@ -191,7 +190,7 @@ impl PatchList {
     }
 
     /// Writes the bytes of each block of the patch that begins at a place into the image, which has
-    /// each of them. Takes no memory.
+    /// each of these blocks. It allocates nothing.
     pub fn put_back(&self, place: Place, image: &mut Image)
         requires within { place.number < length self.now }
         requires place { place.blocks ≡ blocks_before self.now place.number }
@@ -203,7 +202,7 @@ impl PatchList {
         }
     }
 
-    /// How many blocks a patch keeps.
+    /// How many blocks a patch keeps, or None if there is no such patch.
     pub fn len_of(&self, number: usize) -> Option<usize>
         ensures { result ≡ (if nat_lt number (length self.now) then Some (length (slice_index_or self.now number [])) else None) }
     {

@@ -1,4 +1,4 @@
--- where the entries of the tracks stand in the map's block
+-- the places of the tracks' entries in the map's block
 use Rattle.std.proofs.Common.{◌≡◌, ℕ, ◌+◌, ◌-◌, ◌*◌, ◌/◌, ◌%◌, ◌<◌, ◌≤◌, ◌==◌, ◌&&◌, ◌⊎◌, true, false, leb, ltb, sym, ap, ◌∙◌, inl, inr, arith}
 use Rattle.std.proofs.lemmas.Bool.{cases_lt, and_parts, and_from, or_cases, or_left, or_right, eq-eqb, eqb-true, leb-true, ltb-true, le-leb, lt-ltb, le-ltb, cond-true, cond-false}
 use Rattle.d64_image.specs.Image.{IsSize, tracks_of}
@@ -37,7 +37,7 @@ entry_below track h = elim (cases_lt track 36) [
   | inr high ↦ let e = entry_of-high track high in omega arith
 ]
 
--- the first one begins after what stands before the map
+-- the first one begins after the four bytes before the map
 pub entry_above : (track : ℕ) → 1 ≤ track → 4 ≤ entry_of track
 entry_above track h = elim (cases_lt track 36) [
   | inl low ↦ let e = entry_of-low track low in omega arith

@@ -19,14 +19,14 @@ all_blocks n e = ap (range_with_len 0) e
 pub any-below : (n q : ℕ) → list_any (λ y. nat_eq y q) (range_with_len 0 n) ≡ ltb q n
 any-below n q = any-range 0 n q ∙ grind (arith, nat_tests)
 
--- a number is that of a free block where the image has it and its bit is 1
+-- a block is free if the image has it and its bit is 1
 pub contains-free_blocks-both : (image : List (List ℕ)) (block : ℕ) → set.contains (free_blocks image) block ≡ (ltb block (length image) && is_free image block)
 unfolding free_blocks
 contains-free_blocks-both image block =
     contains-filtered (is_free image) (range_with_len 0 (length image)) block
     ∙ ap (λ (b : Bool). b && is_free image block) (any-below (length image) block)
 
--- a block is free where its bit is 1
+-- a block is free if its bit is 1
 pub contains-free_blocks : (image : List (List ℕ)) (block : ℕ) → block < length image → set.contains (free_blocks image) block ≡ is_free image block
 contains-free_blocks image block h =
     contains-free_blocks-both image block
@@ -38,7 +38,7 @@ contains-free_blocks-past image block h =
     contains-free_blocks-both image block
     ∙ ap (λ (b : Bool). b && is_free image block) (let e : ltb block (length image) ≡ false = grind (arith, nat_tests) in e)
 
--- the bit of a block's track and sector tells whether the block is free
+-- the bit of a block's track and sector says whether the block is free
 pub bit_tells : (image : List (List ℕ)) (block track sector : ℕ) (bytes : List ℕ) → bytes ≡ sector_at image map_block
     → track ≡ (pair_at block).0 → sector ≡ (pair_at block).1 → nat_eq (bit_in bytes track sector) 1 ≡ is_free image block
 unfolding is_free
@@ -47,7 +47,7 @@ bit_tells image block track sector bytes e f g =
     ∙ ap (λ (t : ℕ). nat_eq (bit_in (sector_at image map_block) t sector) 1) f
     ∙ ap (λ (s : ℕ). nat_eq (bit_in (sector_at image map_block) (pair_at block).0 s) 1) g
 
--- the bit of a sector that the disk has tells whether its block is one of the free blocks
+-- the bit of a sector that the disk has says whether its block is one of the free blocks
 pub bit_is_member : (image : List (List ℕ)) (track sector : ℕ) (bytes : List ℕ) → bytes ≡ sector_at image map_block
     → 1 ≤ track → track < 41 → sector < sectors_on track → first_block track + sector < length image
     → nat_eq (bit_in bytes track sector) 1 ≡ set.contains (free_blocks image) (first_block track + sector)

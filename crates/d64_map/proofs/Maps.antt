@@ -175,7 +175,7 @@ track_within count block size h =
       | inr within ↦ within
     ]
 
--- the bit of a block in the map that is written for a set tells whether it is a member
+-- the bit of a block in the map that is written for a set says whether it is a member
 pub is_free-with_map : (image : List (List ℕ)) (free : set.FinSet nat_cmp) (block : ℕ) → IsSize (length image) → block < length image
     → is_free (with_map image free) block ≡ set.contains free block
 unfolding is_free

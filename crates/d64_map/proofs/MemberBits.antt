@@ -1,4 +1,4 @@
--- the bits of a track's members, read from the set at once and held against those of the map
+-- the bits of a track's members, read from the set at once and compared with those of the map
 use Rattle.std.proofs.Common.{◌≡◌, ◌≢◌, ℕ, zero, suc, ◌+◌, ◌%◌, ◌^◌, ◌<◌, ◌≤◌, min, Bool, false, cond, nat_eq, Some, None, bit_and, refl, sym, ap, ◌∙◌, inl, inr, arith}
 use Rattle.std.specs.List.{range_with_len, sum_by, find}
 use Rattle.std.specs.Int.{bit_at}
@@ -50,7 +50,7 @@ share_none a b n below each =
     ]
     ∙ sym (bit_at-zero s))
 
--- where no bit of a track is set, none of its blocks is a member
+-- if no bit of a track is set, no block of it is a member
 find_none : (p : ℕ → Bool) (a n : ℕ) → ((s : ℕ) → s < n → p (a + s) ≡ false) → find p (range_with_len a n) ≡ None
 find_none p a zero none = refl
 find_none p a (suc n) none =

@@ -31,8 +31,8 @@ use Rattle.d64_map.proofs.Searching.{next_order-directory, next_order-other, dir
 abbrev pub is_among : List ℕ → ℕ → Bool
 is_among xs x = list_any (λ y. nat_eq y x) xs
 
--- what a search finds passes and is among the list, and where it finds nothing all that is among
--- the list fails
+-- what a search finds passes and is in the list, and if it finds nothing each element of the list
+-- fails
 record Finds (p : ℕ → Bool) (xs : List ℕ) (x : ℕ) : Type 0 where
   passes : p x ≡ true
   among : is_among xs x ≡ true
@@ -174,7 +174,7 @@ among-rotated_list a x xs =
     list_any-append (λ y. nat_eq y x) (drop a xs) (take a xs) ∙ or_comm (is_among (drop a xs) x) (is_among (take a xs) x)
     ∙ sym (list_any-append (λ y. nat_eq y x) (take a xs) (drop a xs)) ∙ ap (λ (ys : List ℕ). is_among ys x) (take-append-drop a xs)
 
--- an order of search for files: its blocks are those outside track 18
+-- an order of search for files has exactly the blocks outside track 18
 record IsFileOrder (order : List ℕ) : Type 0 where
   legal : (block : ℕ) → is_among order block ≡ true → (block < BLOCKS) × (is_file_track (pair_at block).0 ≡ true)
   whole : (block : ℕ) → block < BLOCKS → is_file_track (pair_at block).0 ≡ true → is_among order block ≡ true
@@ -218,7 +218,7 @@ next_order-whole last h =
           }
     ]
 
--- counts along a range, where nothing passes, and where one number less passes
+-- counts along a range of a test that no number passes, and of one that one number less passes
 count_none : (p : ℕ → Bool) (a n : ℕ) → ((k : ℕ) → a ≤ k → k < a + n → p k ≡ false) → count_by p (range_with_len a n) ≡ 0
 count_none p a zero none = refl
 count_none p a (suc n) none =
@@ -278,8 +278,7 @@ room-is free n e = ap (count_by (for_files free)) (sym (all_blocks n e))
 outside_from : (block : ℕ) → is_file_track (pair_at block).0 ≡ true → is_outside block ≡ true
 outside_from block h = let f = file_track (pair_at block).0 h in ap not (ne_eqb (pair_at block).0 18 f.outside)
 
--- where a search in a whole order finds nothing there is no room, and a block that it finds takes
--- room for one
+-- if a search in a whole order finds nothing no block is left, and a block that it finds is one less
 no_room : (free : set.FinSet nat_cmp) (order : List ℕ) → IsFileOrder order → find (set.contains free) order ≡ None → room free ≡ 0
 no_room free order is none =
     room-is free BLOCKS refl
@@ -377,7 +376,7 @@ plan-is_choice (suc count) free taken e =
 pub plan-choice : (count : ℕ) (free : set.FinSet nat_cmp) (taken : List ℕ) → plan free count ≡ Some taken → (length taken ≡ count) × All (IsFreeForFiles free) taken × IsDistinct nat_eq taken
 plan-choice count free taken e = let is = plan-is_choice count free taken e in (is.long, is.members, is.distinct)
 
--- a plan is there exactly where there is room
+-- there is a plan exactly if enough blocks are free
 is_some-map : (block : ℕ) (o : Option (List ℕ)) → is_some (option_map (λ rest. block ∷ rest) o) ≡ is_some o
 is_some-map block None = refl
 is_some-map block (Some rest) = refl

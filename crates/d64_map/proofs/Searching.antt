@@ -60,7 +60,7 @@ take-range a n zero h = refl
 take-range a zero (suc k) h = absurd (omega arith)
 take-range a (suc n) (suc k) h = ap (λ (xs : List ℕ). a ∷ xs) (take-range (a + 1) n k (omega arith))
 
--- what stands on a track from a sector on, and what before it
+-- the blocks of a track from a sector on, and those before it
 pub drop_on : (track start : ℕ) → drop start (blocks_on track) ≡ range_with_len (first_block track + start) (sectors_on track - start)
 unfolding blocks_on
 drop_on track start = drop-range (first_block track) (sectors_on track) start

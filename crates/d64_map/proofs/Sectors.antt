@@ -10,14 +10,14 @@ use Rattle.d64_image.proofs.Pairs.{block_of-legal, block_of-none}
 use Rattle.d64_map.specs.Track.{has_sector}
 use Rattle.d64_map.proofs.Ranges.{sum_by-range_push}
 
--- where the disk has a sector, its block decides
+-- if the disk has a sector, its block decides
 pub has_sector-legal : (blocks : set.FinSet nat_cmp) (track sector : ℕ) → 1 ≤ track → track < 41 → sector < sectors_on track
     → has_sector blocks track sector ≡ set.contains blocks (first_block track + sector)
 unfolding has_sector
 has_sector-legal blocks track sector one last held =
     ap (λ (o : Option ℕ). option_map_or (set.contains blocks) o false) (block_of-legal track sector one last held)
 
--- a sector that the disk does not have is none of the set
+-- a sector that the disk does not have is not in the set
 pub has_sector-none : (blocks : set.FinSet nat_cmp) (track sector : ℕ) → sectors_on track ≤ sector → has_sector blocks track sector ≡ false
 unfolding has_sector
 has_sector-none blocks track sector past =

@@ -45,7 +45,7 @@ bytes_read bytes track sector a b c low_fits middle_fits e f g short =
           ]
     ]
 
--- a bit counts where it is set
+-- a bit counts if it is set
 one_bit : (bit : ℕ) → bit < 2 → count_ones bit ≡ cond (nat_eq bit 1) 1 0
 unfolding ones
 one_bit zero h = refl
@@ -82,7 +82,7 @@ counted_alike p q a (suc n) same =
     ∙ sym (count_by-range_push q a n)
     ∙ ap (λ (k : ℕ). count_by q (range_with_len a k)) more
 
--- two numbers of bits are equal where their tests agree
+-- two numbers of bits are equal if their tests agree
 bits_alike : (p q : ℕ → Bool) (n : ℕ) → ((k : ℕ) → k < n → p k ≡ q k) → sum_by (value_of p) (range_with_len 0 n) ≡ sum_by (value_of q) (range_with_len 0 n)
 bits_alike p q zero same = refl
 bits_alike p q (suc n) same =

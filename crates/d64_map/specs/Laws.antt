@@ -15,17 +15,17 @@ use Rattle.d64_map.specs.Plan.{plan, room}
 abbrev pub FreeBlocksHaveTheirBit : Type 0
 FreeBlocksHaveTheirBit = (image : Disk) (block : ℕ) → set.contains (free_blocks image) block ≡ (nat_lt block (length image) && is_free image block)
 
--- the map that is written for a set marks free exactly that set
+-- the map that is written for a set marks exactly that set free
 abbrev pub MapIsTheSet : Type 0
 MapIsTheSet =
     (image : Disk) (free : BlockSet) → IsImage image → MembersAreBelow (length image) free → free_blocks (with_map image free) ≡ free
 
--- the counts of a map that is written for a set fit
+-- the counts of a map that is written for a set fit its bits
 abbrev pub WrittenCountsFit : Type 0
 WrittenCountsFit =
     (image : Disk) (free : BlockSet) → IsImage image → MembersAreBelow (length image) free → CountsFit (with_map image free)
 
--- a written map leaves an image, with the same other blocks, and in the map's block the same bytes
+-- writing the map gives an image with the same other blocks, and in the map's block the same bytes
 -- outside the entries
 abbrev pub OnlyEntriesChange : Type 0
 OnlyEntriesChange =
@@ -39,14 +39,14 @@ OnlyEntriesChange =
 abbrev pub IsFreeForFiles : BlockSet → ℕ → Type 0
 IsFreeForFiles free block = (set.contains free block ≡ true) × (block < BLOCKS) × ((pair_at block).0 ≢ 18)
 
--- a plan has as many blocks as it is asked for, and they are distinct, free, and outside track 18
+-- a plan has as many blocks as are asked for, and they are distinct, free, and outside track 18
 abbrev pub PlanTakesFreeBlocks : Type 0
 PlanTakesFreeBlocks =
     (free : BlockSet) (count : ℕ) (taken : Blocks)
     → plan free count ≡ Some taken
     → (length taken ≡ count) × All (IsFreeForFiles free) taken × IsDistinct nat_eq taken
 
--- a plan is there exactly where so many blocks outside track 18 are free
+-- there is a plan exactly if enough blocks outside track 18 are free
 abbrev pub PlanIsThere : Type 0
 PlanIsThere = (free : BlockSet) (count : ℕ) → is_some (plan free count) ≡ nat_le count (room free)
 
@@ -54,8 +54,8 @@ PlanIsThere = (free : BlockSet) (count : ℕ) → is_some (plan free count) ≡ 
 abbrev pub IsFreeForDirectory : BlockSet → ℕ → Type 0
 IsFreeForDirectory free block = (set.contains free block ≡ true) × (block < BLOCKS) × ((pair_at block).0 ≡ 18)
 
--- a pick for the directory is a free block of track 18; where there is none, no block of track 18
--- is free
+-- the block chosen for the directory is a free block of track 18; if there is no such block, none
+-- is chosen
 abbrev pub DirPickIsOnTrack18 : Type 0
 DirPickIsOnTrack18 =
     (free : BlockSet) (last : ℕ)

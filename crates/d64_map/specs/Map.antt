@@ -11,7 +11,7 @@ use Rattle.d64_image.specs.declared.block.TheConstants.{BLOCKS}
 use Rattle.d64_image.specs.declared.image.TheConstants.{BLOCK_BYTES}
 use Rattle.d64_map.specs.Track.{has_sector, members_on}
 
--- the block in which the map stands: track 18, sector 0
+-- the block that has the map: track 18, sector 0
 abbrev pub map_block : ℕ
 map_block = 357
 
@@ -45,7 +45,7 @@ is_free image block = bit_of image (pair_at block).0 (pair_at block).1 == 1
 unfoldable pub blocks : Blocks
 blocks = range_with_len 0 BLOCKS
 
--- all blocks of a disk that has so many
+-- all blocks of a disk of n blocks
 abbrev pub all_of : ℕ → BlockSet
 all_of count = set.from_list (range_with_len 0 count)
 
@@ -57,12 +57,12 @@ free_below image n = set.from_list (filter (is_free image) (range_with_len 0 n))
 unfoldable pub free_blocks : Disk → BlockSet
 free_blocks image = free_below image (length image)
 
--- the map marks none of the members from one block up to another free
+-- the map marks no member of a set free from one block up to another
 abbrev pub NoneIsFreeBetween : Disk → BlockSet → ℕ → ℕ → Type 0
 NoneIsFreeBetween image members first end =
     (block : ℕ) → first ≤ block → block < end → set.contains members block ≡ true → set.contains (free_blocks image) block ≡ false
 
--- 'blocks free': the sum of the count bytes of all tracks but 18
+-- the number of free blocks that a directory shows: the sum of the count bytes of all tracks but 18
 unfoldable pub blocks_free : Disk → ℕ
 blocks_free image = sum_by (count_of image) (filter (λ track. not (track == 18)) (range_with_len 1 (tracks_of (length image))))
 
@@ -70,7 +70,7 @@ blocks_free image = sum_by (count_of image) (filter (λ track. not (track == 18)
 pub record CountsFit (image : Disk) : Type 0 where
   pub each : (track : ℕ) → 1 ≤ track → track ≤ tracks_of (length image) → count_of image track ≡ members_on (free_blocks image) track
 
--- the byte of bits for eight sectors of a track, in which bit b stands for the b-th of them
+-- the byte of bits for eight sectors of a track, in which bit b is that of the b-th of them
 unfoldable pub bits_for : BlockSet → ℕ → ℕ → ℕ
 bits_for free track first = sum_by (λ b. if has_sector free track (first + b) then 2 ^ b else 0) (range_with_len 0 8)
 
@@ -85,18 +85,18 @@ map_byte free place =
     then members_on free (entry_track place)
     else bits_for free (entry_track place) (8 * (place % 4 - 1))
 
--- whether a place in the map's block of a disk of so many tracks belongs to a track's entry: from
--- $04 to $8F, and on 40 tracks from $C0 to $D3 besides
+-- whether a place in the map's block belongs to a track's entry: from $04 to $8F, and on a disk of
+-- 40 tracks from $C0 to $D3 too
 abbrev pub is_entry : ℕ → ℕ → Bool
 is_entry tracks place =
     (nat_le 0x04 place && nat_lt place 0x90) || ((tracks == 40) && (nat_le 0xC0 place && nat_lt place 0xD4))
 
--- the map's block of a disk of so many tracks, rewritten for a set of free blocks: its entries are
--- new, all its other bytes are the old ones
+-- the map's block of a disk of n tracks, rewritten for a set of free blocks: its entries are new,
+-- all its other bytes are the old ones
 unfoldable pub map_for : ℕ → Bytes → BlockSet → Bytes
 map_for tracks bytes free =
     map (λ place. if is_entry tracks place then map_byte free place else slice_index bytes place) (range_with_len 0 BLOCK_BYTES)
 
--- the image whose map marks free exactly that set
+-- the image whose map marks exactly that set free
 unfoldable pub with_map : Disk → BlockSet → Disk
 with_map image free = with_sector image map_block (map_for (tracks_of (length image)) (sector_at image map_block) free)

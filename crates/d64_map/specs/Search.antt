@@ -19,8 +19,8 @@ unfoldable pub first_order : Blocks
 first_order =
     flat_map (λ distance. blocks_on (18 - distance) ++ blocks_on (18 + distance)) (range_with_len 1 17) ++ flat_map blocks_on (range_with_len 36 5)
 
--- the sector at which the search goes on after a sector of a track: so many sectors further on, and
--- where that is past the track's end, counted from its beginning and one less
+-- the sector at which the search goes on after a sector of a track: the interleave further on, and
+-- if that is past the track's end, counted from its beginning and one less
 abbrev pub sector_after : ℕ → ℕ → ℕ → ℕ
 sector_after interleave sectors sector =
     if nat_lt (sector + interleave) sectors then sector + interleave else one_less (sector + interleave - sectors)

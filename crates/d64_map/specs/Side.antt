@@ -19,7 +19,7 @@ abbrev pub reach : Side → ℕ
 reach Lower = 17
 reach Upper = 22
 
--- the tracks of a side at so many distances, from one on
+-- the tracks of a side at n distances, from one on
 unfoldable pub tracks_along : Side → ℕ → ℕ → List ℕ
 tracks_along side from count = map (track_at side) (range_with_len from count)
 

@@ -11,7 +11,7 @@ use Rattle.d64_image.specs.Block.{sectors_on, first_block, block_of}
 unfoldable pub blocks_on : ℕ → Blocks
 blocks_on track = range_with_len (first_block track) (sectors_on track)
 
--- the disk has that sector, and its block is a member
+-- whether the disk has a sector whose block is a member
 unfoldable pub has_sector : BlockSet → ℕ → ℕ → Bool
 has_sector blocks track sector = option_map_or (set.contains blocks) (block_of track sector) false
 

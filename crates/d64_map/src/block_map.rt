@@ -13,13 +13,13 @@ use crate::tracks::{DIRECTORY_TRACK, first_block, member_bits, sector_mask};
 use d64_image::{BLOCK_BYTES, BlockNo, BlockSet, Image, Patch};
 use std::alloc::AllocError;
 
-/// The first track whose entry in the map doesn't stand right after that of the track before it.
+/// The first track whose entry in the map isn't right after that of the track before it.
 const FIRST_TRACK_BEYOND: u8 = 36;
 
 /// How many bytes lie between the entries of tracks 35 and 36.
 const BEYOND: usize = 0x30;
 
-/// The block in which the map stands: track 18, sector 0.
+/// The block that has the map: track 18, sector 0.
 pub fn map_block() -> BlockNo
     ensures { result ≡ map_block }
 {
@@ -120,7 +120,7 @@ pub fn free_set(image: &Image) -> BlockSet
     free
 }
 
-/// Whether the map marks none of a track's blocks free that are members.
+/// Whether the map marks no member among a track's blocks free.
 fn none_is_free_on(image: &Image, blocks: &BlockSet, track: u8) -> bool
     requires track { (1 ≤ track) × (track ≤ tracks_of (length image.now)) }
     ensures none { IsTrue result ↔ NoneIsFreeBetween image.now blocks.now (first_block track) (first_block (track + 1)) }
@@ -130,7 +130,7 @@ fn none_is_free_on(image: &Image, blocks: &BlockSet, track: u8) -> bool
     free & member_bits(blocks, track) == 0
 }
 
-/// Whether the map marks none of these blocks free.
+/// Whether the map marks no member of a set free.
 pub fn none_is_free(image: &Image, blocks: &BlockSet) -> bool
     ensures { IsTrue result ↔ ((block : ℕ) → set.contains blocks.now block ≡ true → set.contains (free_blocks image.now) block ≡ false) }
 {
@@ -178,11 +178,10 @@ fn put_entry(map: &mut [u8; BLOCK_BYTES], free: &BlockSet, track: u8)
     map[entry + 3] = ((bits >> 16) % 256) as u8;
 }
 
-/// Writes the map for a set of free blocks of the image: the count and the bits of each track. No
-/// other byte of the image changes.
+/// Writes the map for a set of free blocks of the image: the count and the bits of each track.
 ///
-/// The patch keeps the map's block: the image with the patch put back stays the same. Refused where
-/// there is no memory to keep it.
+/// The patch keeps the map's block: putting it back still gives the same image. An error comes if
+/// there is no memory to keep it, and leaves both unchanged.
 pub fn put_map(image: &mut Image, patch: &mut Patch, free: &BlockSet) -> Result<(), AllocError>
     requires members { MembersAreBelow (length image.old) free.now }
     ensures written { OnOk result (image.new ≡ with_map image.old free.now) }

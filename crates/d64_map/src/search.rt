@@ -10,10 +10,10 @@ ghost use Rattle.d64_map.specs.Side.{track_at, other_side, reach, tracks_along, 
 use crate::tracks::{DIRECTORY_TRACK, first_block, member_bits, sector_count};
 use d64_image::{BLOCKS, BlockNo, BlockSet};
 
-/// How many sectors further on a file's next block is looked for.
+/// How many sectors further on the search for a file's next block begins.
 const FILE_INTERLEAVE: u8 = 10;
 
-/// How many sectors further on the directory's next block is looked for.
+/// How many sectors further on the search for the directory's next block begins.
 const DIRECTORY_INTERLEAVE: u8 = 3;
 
 /// How far track 1 lies from track 18, and on the other side track 35.
@@ -155,7 +155,7 @@ fn pick_beyond(free: &BlockSet, side: Side, distance: u8) -> Option<BlockNo>
     }
 }
 
-/// The sector at which the search goes on after a sector of a track of so many sectors.
+/// The sector at which the search goes on after a sector of a track with this many sectors.
 fn sector_after(interleave: u8, sectors: u8, sector: u8) -> u8
     requires interleave { interleave ≤ 10 }
     requires sectors { (17 ≤ sectors) × (sectors < 22) }
@@ -189,7 +189,7 @@ fn pick_outward(free: &BlockSet) -> Option<BlockNo>
 }
 
 /// The free block that a file's first block takes: on the tracks nearest to track 18 first, 17
-/// before 19, by sectors rising. None where no block outside track 18 is free.
+/// before 19, by sectors rising; or None if no block outside track 18 is free.
 pub fn pick_first(free: &BlockSet) -> Option<BlockNo>
     ensures { result ≡ find (set.contains free.now) first_order }
 {
@@ -201,7 +201,7 @@ pub fn pick_first(free: &BlockSet) -> Option<BlockNo>
 
 /// The free block that a file's next block takes after the block that was taken last: ten sectors
 /// further on the same track, around its end, then on the tracks away from track 18, then on the
-/// other side, then on the rest of the first side. None where no block outside track 18 is free.
+/// other side, then on the rest of the first side; or None if no block outside track 18 is free.
 pub fn pick_next(free: &BlockSet, last: BlockNo) -> Option<BlockNo>
     ensures { result ≡ find (set.contains free.now) (next_order last) }
 {
@@ -219,7 +219,7 @@ pub fn pick_next(free: &BlockSet, last: BlockNo) -> Option<BlockNo>
 }
 
 /// The free block that the directory's next block takes after its last one: three sectors further
-/// on track 18, around its end. None where no block of track 18 is free.
+/// on track 18, around its end; or None if no block of track 18 is free.
 pub fn pick_dir(free: &BlockSet, last: BlockNo) -> Option<BlockNo>
     ensures { result ≡ find (set.contains free.now) (dir_order last) }
 {

@@ -23,7 +23,7 @@ pub fn sector_count(track: u8) -> u8
     }
 }
 
-/// As many bits as a track has sectors, all of which are 1.
+/// A bit of 1 for each sector of a track.
 pub fn sector_mask(track: u8) -> u32
     ensures { result ≡ 2 ^ sectors_on track - 1 }
 {
@@ -42,8 +42,8 @@ pub fn first_block(track: u8) -> usize
     }
 }
 
-/// The bits of a track's sectors: bit s is 1 where the block of sector s is a member. Bits that
-/// stand for no sector are 0.
+/// The bits of a track's sectors: bit s is 1 if the block of sector s is a member. Bits past the
+/// last sector are 0.
 pub fn member_bits(blocks: &BlockSet, track: u8) -> u32
     requires track { (1 ≤ track) × (track < 41) }
     ensures bits { (count : ℕ) → sectors_on track ≤ count → result ≡ sum_by (λ s. if has_sector blocks.now track s then 2 ^ s else 0) (range_with_len 0 count) }

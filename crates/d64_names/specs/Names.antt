@@ -18,6 +18,6 @@ disk_name image = name_in (disk_field image)
 abbrev pub disk_dos : Disk → Bytes
 disk_dos image = slice_range (sector_at image map_block) 0xA5 0xA7
 
--- the name in a slot of the directory's way; empty where there is no such slot
+-- the name in a slot of the directory; empty if there is no such slot
 abbrev pub slot_name : Disk → ℕ → Bytes
 slot_name image slot = option_map_or name_of (slice_get (way_slots image) slot) []

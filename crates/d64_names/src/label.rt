@@ -9,7 +9,7 @@ use d64_files::name_in;
 use d64_image::{BLOCK_BYTES, Image};
 use d64_map::map_block;
 
-/// The map's block of an image, in which the disk's name and id stand too.
+/// The map's block of an image, which has the disk's name and id too.
 fn header_of(image: &Image) -> &[u8; BLOCK_BYTES]
     ensures value { result.now ≡ sector_at image.now map_block }
     ensures block { IsBlock result.now }

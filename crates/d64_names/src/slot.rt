@@ -5,8 +5,7 @@ ghost use Rattle.d64_names.specs.Names.{slot_name as slot_name_of};
 use d64_files::SlotNo;
 use d64_survey::Survey;
 
-/// The name in a slot of the directory's way, of at most 16 bytes; empty where there is no such
-/// slot.
+/// The name in a slot of the directory, of at most 16 bytes; empty if there is no such slot.
 pub fn slot_name<'a>(survey: &Survey<'a>, slot: SlotNo) -> &'a [u8]
     ensures { result.now ≡ slot_name_of survey.now slot }
 {

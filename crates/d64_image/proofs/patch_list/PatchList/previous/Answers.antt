@@ -13,7 +13,7 @@ index-requires c =
     let within = c.requires.within in
     omega arith
 
--- so many blocks come before the place, of which the patch has its own
+-- the blocks that come before the place include the patch's own
 pub overflow_sub-result : goal.overflow_sub-result
 overflow_sub-result c =
     let before : c.args.place.number - 1 < length c.args.self.now = omega (arith, c.requires.within.0, c.requires.within.1) in

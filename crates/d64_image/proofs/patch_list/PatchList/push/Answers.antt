@@ -4,7 +4,7 @@ use Rattle.std.proofs.lemmas.List.{take_all}
 use Rattle.d64_image.specs.Patch.{Kept}
 use Rattle.d64_image.proofs.patch_list.PatchList.push.Goals as goal
 
--- none of the patches goes
+-- no patch is removed
 pub returns-clause-pushed : goal.returns-clause-pushed
 returns-clause-pushed c =
     let number = c.end-end.ensures.number in

@@ -7,7 +7,7 @@ use Rattle.d64_image.proofs.PatchLists.{AreRecords, before-cut_blocks, total-tak
 use Rattle.d64_image.proofs.patch_list.PatchList.replace_from.Goals as goal
 use Rattle.d64_image.proofs.patch_list.PatchList.replace_from.Goals.{After-unwrap, After-extend_from_slice}
 
--- so many blocks come before the records that go
+-- how many blocks come before the records that go
 before : (lens : List ℕ) (blocks : Kept) (records : List Kept) (number place : ℕ) → AreRecords lens blocks → cut_blocks lens blocks ≡ records
     → place ≡ blocks_before records number → (place ≡ total (take number lens)) × (place ≤ length blocks)
 before lens blocks records number place are is at =
