@@ -1,4 +1,4 @@
--- The parts of a path name something in the folder that they stand in.
+-- Each part of a path names something in its folder.
 use Rattle.std.proofs.Common.{◌≡◌, ◌≢◌, ℕ, ◌-◌, ◌≤◌, Bool, true, false, cond, List, [], ◌∷◌, length, take, get_or, All, refl, ap, arith}
 use Rattle.std.specs.Prelude.{filter, codes, ◌==◌, not}
 use Rattle.std.specs.List.{slice_split, onto_first}

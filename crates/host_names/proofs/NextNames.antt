@@ -5,7 +5,7 @@ use Rattle.host_names.specs.declared.ending.Ending.{Ending}
 use Rattle.host_names.specs.HostName.{stem, tail, mark, numbered_name}
 use Rattle.host_names.specs.TakenNames.{first_free, next_name}
 
--- the end of a name, and what stands before it
+-- the end of a name, and the part before it
 pub tail_at : (front back whole : List ℕ) (place : ℕ) → place ≡ length front → whole ≡ front ++ back → drop place whole ≡ back
 tail_at front back whole place at is = ap (drop place) is ∙ drop_at front back place (sym at)
 

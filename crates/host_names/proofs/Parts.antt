@@ -80,7 +80,7 @@ last-one path none = ap last_in (one_part path none)
 abbrev pub IsCut : List ℕ → List ℕ → List ℕ → Type 0
 IsCut path before after = (before ≡ before_first is_slash path) × (after ≡ after_first is_slash path) × (position_or_len is_slash path < length path)
 
--- what follows is text where the path is
+-- what follows is text if the path is
 pub text_after : (path before after : List ℕ) → IsCut path before after → IsUtf8 path → IsUtf8 after
 text_after path before after cut text =
     let place = position_or_len is_slash path in

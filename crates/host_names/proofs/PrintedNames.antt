@@ -84,7 +84,7 @@ hidden_text_is_printed Text number =
     (All-append IsPrinted (hexadecimal number) (codes "}") (hexadecimal_is_printed number) (from_test (codes "}") refl))
 hidden_text_is_printed Json number = All-append IsPrinted (codes "\\u") (four_digits number) (from_test (codes "\\u") refl) (four_digits_are_printed number)
 
--- a character is printed where its bytes are, unless it is hidden
+-- a character is printed if its bytes are, unless it is hidden
 character_is_printed : (medium : Medium) (number : ℕ) (bytes : List ℕ) → (is_hidden number ≡ false → All IsPrinted bytes)
     → All IsPrinted (shown_character medium number bytes)
 unfolding shown_character
@@ -199,7 +199,7 @@ character_bytes first rest count is =
         let least : low ≤ first = low_of_range low high first (and_left (is_in_range low high first) more is) in
         omega arith
 
--- a character that isn't hidden has a first byte that is printed, where that is all of it
+-- a character that isn't hidden has a first byte that is printed, if that is all of it
 plain_is_printed : (number : ℕ) → is_hidden number ≡ false → number < 128 → IsPrinted number
 plain_is_printed number plain small =
     printed_from_test number (or_plain (is_printed number) (is_hidden number) (agree_below_at (λ n. is_printed n || is_hidden n) (λ _. true) 128 number refl small) plain)
@@ -244,7 +244,7 @@ first_is_printed medium first rest = by_count (following_count first rest) refl
     by_count (Some count) is =
         character_is_printed medium (character_number first count rest) (first ∷ take count rest) (bytes_are_printed first rest count (character_bytes first rest count is))
 
--- a name, of which so many bytes are shown already
+-- a name whose first n bytes are shown already
 name_is_printed : (medium : Medium) (count : ℕ) (name : List ℕ) → All IsPrinted (shown_after medium count name)
 unfolding shown_after
 name_is_printed medium zero [] = All-nil IsPrinted

@@ -61,14 +61,14 @@ same_at_taken (first ∷ records) name place within at =
     (omega (arith, length-map all (λ (taken : Taken). taken.name.items)))
     (ap (is_same_name name) (get_or-map (λ (taken : Taken). taken.name.items) all place first [] within) ∙ same_laws.symm name (get_or all place first).name.items ∙ at first)
 
--- what was looked for is found exactly where it is taken
+-- what was looked for is found exactly if it is taken
 pub found_is_taken : (records : List Taken) (name : List ℕ) (found : Option ℕ) → IfSome found (λ place. place < length records)
     → MatchOption found (is_taken (names_of records) name ≡ false) (λ place. HoldsAt (λ taken. is_same_name taken.name.items name ≡ true) records place)
     → is_some found ≡ is_taken (names_of records) name
 found_is_taken records name None within is = sym is
 found_is_taken records name (Some place) within is = sym (same_at_taken records name place within is)
 
--- where the search may begin: the names before are taken
+-- the search begins after names that are taken
 abbrev pub BeginsAt : List Taken → List ℕ → ℕ → List ℕ → ℕ → Type 0
 BeginsAt records name stem_len back first =
     (1 ≤ first) × ((number : ℕ) → 1 ≤ number → number < first → is_taken (names_of records) (numbered_name (take stem_len name) back number) ≡ true)
@@ -88,7 +88,7 @@ made_alike names taken name stem_len number ending is_part same within ends fits
     (ap str_to_ascii_lowercase (sym is) ∙ sym (drop-map to_ascii_lowercase stem_len name) ∙ ap (drop stem_len) (sym lower)
     ∙ ap (λ (n : ℕ). drop n (str_to_ascii_lowercase kept)) (sym places) ∙ drop-map to_ascii_lowercase taken.stem_len kept)
 
--- the record of a name that is the same tells where
+-- the record of a name that is the same gives the beginning of the search
 begins_at_record : (records : List Taken) (name : List ℕ) (stem_len : ℕ) (ending : Ending) (is_part : Bool) (place first : ℕ)
     → AreRecords records → stem_len ≤ length name → drop stem_len name ≡ tail ending is_part → place < length records
     → HoldsAt (λ taken. is_same_name taken.name.items name ≡ true) records place → HoldsAt (λ taken. first ≡ taken.next) records place
@@ -150,7 +150,7 @@ whole_name : (name : List ℕ) (stem_len : ℕ) → numbered_name (take stem_len
 unfolding numbered_name
 whole_name name stem_len = ap (λ (t : List ℕ). take stem_len name ++ (t ++ drop stem_len name)) first_mark ∙ take-append-drop stem_len name
 
--- a record still holds where one name more is taken
+-- a record stays right if one more name is taken
 still_record : (names : List (List ℕ)) (more : List ℕ) (taken : Taken) → IsRecord names taken → IsRecord (names ++ more ∷ []) taken
 still_record names more taken holds = record {
   digest = holds.digest;

@@ -1,4 +1,4 @@
--- Names that are the same where small and capital letters are taken as one.
+-- Names that are the same if small and capital letters count as the same.
 use Rattle.std.proofs.Common.{◌≡◌, ℕ, Bool, true, false, List, [], ◌∷◌, ◌++◌, refl, sym, ap, ◌∙◌}
 use Rattle.std.specs.Prelude.{fold}
 use Rattle.std.specs.Cmp.{IsEquivalence}
@@ -40,7 +40,7 @@ digest_from_same one other is = ap (λ (name : List ℕ). fold next_digest 0 nam
 
 -- ---- taken names
 
--- of two names that are the same both are taken, or none
+-- of two names that are the same, either both are taken or neither is
 pub taken_alike : (taken : List (List ℕ)) (one other : List ℕ) → is_same_name one other ≡ true → is_taken taken one ≡ is_taken taken other
 taken_alike taken one other is = list_any_congr same_laws one other taken is
 

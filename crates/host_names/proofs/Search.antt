@@ -14,7 +14,7 @@ use Rattle.host_names.specs.TakenNames.{is_taken, is_free, first_free}
 use Rattle.host_names.proofs.SameNames.{same_laws, taken_alike}
 use Rattle.host_names.proofs.Numbers.{same_number}
 
--- what is found among so many numbers from one on: the first that passes, or none where none does
+-- the result of a search among n numbers from one on: the first that passes, or None if none does
 abbrev FoundIn : (ℕ → Bool) → ℕ → ℕ → Option ℕ → Type 0
 FoundIn p from count None = (n : ℕ) → from ≤ n → n < from + count → p n ≡ false
 FoundIn p from count (Some n) = (from ≤ n) × (n < from + count) × (p n ≡ true) × ((k : ℕ) → from ≤ k → k < n → p k ≡ false)
@@ -54,7 +54,7 @@ is_found p from count n low high passes before = by_result (find p (range_with_l
           ]
         ]
 
--- where none passes none is found
+-- if no number passes, the search finds none
 none_is_found : (p : ℕ → Bool) (from count : ℕ) → ((k : ℕ) → from ≤ k → k < from + count → p k ≡ false) → find p (range_with_len from count) ≡ None
 none_is_found p from count all = by_result (find p (range_with_len from count)) (found_in p from count)
   where
@@ -64,7 +64,7 @@ none_is_found p from count all = by_result (find p (range_with_len from count)) 
 
 -- ---- the first free name
 
--- the first name that is free, where the ones before it are taken
+-- the first free name is found, if the ones before it are taken
 pub first_free_at : (taken : List (List ℕ)) (front back : List ℕ) (number : ℕ) → 1 ≤ number → number ≤ length taken
     → is_taken taken (numbered_name front back number) ≡ false
     → ((k : ℕ) → 1 ≤ k → k < number → is_taken taken (numbered_name front back k) ≡ true) → number ≡ first_free taken front back
@@ -74,7 +74,7 @@ first_free_at taken front back number low high free before =
     (sym (is_found (is_free taken front back) 1 (length taken) number low (omega arith) (not_from_false (is_taken taken (numbered_name front back number)) free)
     (λ k from below. not_from_true (is_taken taken (numbered_name front back k)) (before k from below))))
 
--- the one after those, as many as names are taken, where all of them are taken
+-- the one after those, as many as names are taken, if all of them are taken
 pub first_free_past : (taken : List (List ℕ)) (front back : List ℕ)
     → ((k : ℕ) → 1 ≤ k → k < length taken + 1 → is_taken taken (numbered_name front back k) ≡ true) → length taken + 1 ≡ first_free taken front back
 unfolding first_free

@@ -5,7 +5,7 @@ use Rattle.std.specs.Prelude.{unwrap_or}
 use Rattle.host_names.specs.Shown.{following_count, shown_first, shown_after, shown_in}
 use Rattle.host_names.specs.declared.medium.Medium.{Medium}
 
--- what is shown after so many bytes is what is left without them
+-- what is shown after the first n bytes is what is left without them
 pub shown_after-drop : (medium : Medium) (count : ℕ) (bytes : List ℕ) → shown_after medium count bytes ≡ shown_after medium 0 (drop count bytes)
 unfolding shown_after
 shown_after-drop medium zero [] = refl

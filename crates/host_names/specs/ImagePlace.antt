@@ -1,5 +1,5 @@
--- Where the files of an image go: folders below the one that is asked for, and in the last of them
--- a folder of their own.
+-- The place for the files of an image: folders below the one that is asked for, and in the last of
+-- them a folder for the image.
 use Rattle.std.specs.Prelude.{ℕ, ◌-◌, ◌==◌, not, Bool, List, [], ◌∷◌, ◌++◌, length, take, filter, slice_index_or, codes}
 use Rattle.std.specs.List.{list_any, slice_split}
 use Rattle.std.specs.Str.{bytes_eq}
@@ -9,15 +9,15 @@ use Rattle.host_names.specs.HostName.{slash}
 unfoldable pub parts : List ℕ → List (List ℕ)
 parts path = slice_split (λ byte. byte == slash) path
 
--- the parts that name no folder below: the empty one, `.` and `..`
+-- the parts that name no folder below: an empty one, `.` and `..`
 abbrev pub no_folders : List (List ℕ)
 no_folders = [] ∷ codes "." ∷ codes ".." ∷ []
 
--- a part names a folder below
+-- whether a part names a folder below
 abbrev pub is_folder : List ℕ → Bool
 is_folder part = not (list_any (bytes_eq part) no_folders)
 
--- the folders of a file's path: all parts but the last one that name a folder below
+-- the folders of a file's path: all parts before the last one that name a folder below
 unfoldable pub folders_of : List ℕ → List (List ℕ)
 folders_of path = filter is_folder (take (length (parts path) - 1) (parts path))
 
@@ -29,11 +29,11 @@ last_part path = slice_index_or (parts path) (length (parts path) - 1) []
 unfoldable pub finished_name : List ℕ → List ℕ
 finished_name last = last ++ codes ".files"
 
--- the name that this folder has until all is in it
+-- the name that this folder has until it is complete
 unfoldable pub unfinished_name : List ℕ → List ℕ
 unfinished_name last = finished_name last ++ codes ".partial"
 
--- both by the path of the image
+-- the name of an image's folder, finished and unfinished, by the path of the image
 abbrev pub image_name : List ℕ → List ℕ
 image_name path = finished_name (last_part path)
 

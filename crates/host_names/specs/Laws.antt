@@ -1,4 +1,4 @@
--- What holds of names and folders.
+-- What follows from the definitions of names and folders.
 use Rattle.std.specs.Prelude.{◌≡◌, ◌≢◌, ℕ, ◌+◌, ◌^◌, ◌<◌, ◌≤◌, Bool, false, List, [], ◌++◌, length, All, codes}
 use Rattle.std.specs.List.{IsDistinct}
 use Rattle.host_names.specs.declared.ending.Ending.{Ending}
@@ -6,12 +6,11 @@ use Rattle.host_names.specs.HostName.{slash, is_forbidden, is_reserved, is_same_
 use Rattle.host_names.specs.TakenNames.{Named, is_taken, next_name, with_names}
 use Rattle.host_names.specs.ImagePlace.{folders_of, image_name, partial_name}
 
--- so many names can be counted by a host
+-- a host can count this many names
 abbrev pub AreCounted : List (List ℕ) → Type 0
 AreCounted taken = length taken + 1 < 2 ^ 64
 
--- a name that names something in the folder that it stands in: it isn't empty, `.` or `..`, and has
--- no `/`
+-- a name is that of something in its folder: it isn't empty, `.` or `..`, and has no `/`
 pub record StaysInFolder (name : List ℕ) : Type 0 where
   pub some : name ≢ []
   pub not_here : name ≢ codes "."
@@ -23,12 +22,12 @@ abbrev pub NamesStayInTheirFolder : Type 0
 NamesStayInTheirFolder = (taken : List (List ℕ)) (text : List ℕ) (ending : Ending) (is_part : Bool) → AreCounted taken
     → StaysInFolder (next_name taken text ending is_part)
 
--- a name that each host takes: no byte of it is forbidden, and it is no device
+-- each host accepts a name: it has no forbidden byte, and is not that of a device
 pub record IsTakenByHosts (name : List ℕ) : Type 0 where
   pub allowed : All (λ byte. is_forbidden byte ≡ false) name
   pub no_device : is_reserved (device_name name) ≡ false
 
--- each name of a file is one
+-- each host accepts each name of a file
 abbrev pub NamesAreTakenByHosts : Type 0
 NamesAreTakenByHosts = (taken : List (List ℕ)) (text : List ℕ) (ending : Ending) (is_part : Bool) → AreCounted taken
     → IsTakenByHosts (next_name taken text ending is_part)
@@ -37,7 +36,7 @@ NamesAreTakenByHosts = (taken : List (List ℕ)) (text : List ℕ) (ending : End
 abbrev pub IsPrinted : ℕ → Type 0
 IsPrinted byte = (32 ≤ byte) × (byte < 127)
 
--- the name of a printed text is printed
+-- the name made of a printed text is printed
 abbrev pub NamesArePrinted : Type 0
 NamesArePrinted = (taken : List (List ℕ)) (text : List ℕ) (ending : Ending) (is_part : Bool) → AreCounted taken
     → All IsPrinted text → All IsPrinted (next_name taken text ending is_part)
@@ -64,6 +63,6 @@ NoTwoNamesAreTheSame = (files : List Named) → length files < 2 ^ 63 → IsDist
 abbrev pub FoldersLeadDown : Type 0
 FoldersLeadDown = (path : List ℕ) → All StaysInFolder (folders_of path)
 
--- the folder of an image lies in the last of them, under both of its names
+-- the folder of an image lies in the last of them, under either of its names
 abbrev pub ImagesStayInTheirFolder : Type 0
 ImagesStayInTheirFolder = (path : List ℕ) → StaysInFolder (image_name path) × StaysInFolder (partial_name path)

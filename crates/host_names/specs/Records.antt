@@ -1,4 +1,4 @@
--- What is kept of the names that are taken.
+-- The records of the names that are taken.
 use Rattle.std.specs.Prelude.{◌≡◌, ℕ, ◌<◌, ◌≤◌, Bool, true, List, map, length, take, drop, All}
 use Rattle.host_names.specs.declared.ending.Ending.{Ending}
 use Rattle.host_names.specs.declared.taken_names.Taken.{Taken}
@@ -6,7 +6,7 @@ use Rattle.host_names.specs.Digest.{digest_of}
 use Rattle.host_names.specs.HostName.{tail, numbered_name}
 use Rattle.host_names.specs.TakenNames.{is_taken}
 
--- the names
+-- the names of the records
 unfoldable pub names_of : List Taken → List (List ℕ)
 names_of records = map (λ taken. taken.name.items) records
 
@@ -14,13 +14,13 @@ names_of records = map (λ taken. taken.name.items) records
 abbrev pub EndsAt : List ℕ → ℕ → Type 0
 EndsAt name stem_len = (ending : Ending) × (is_part : Bool) × (drop stem_len name ≡ tail ending is_part)
 
--- the names with numbers below this one that are made of the name of a record are taken
+-- the numbered names made of a record's name are taken below a number
 abbrev pub AreTried : List (List ℕ) → Taken → ℕ → Type 0
 AreTried names taken next = (number : ℕ) → 1 ≤ number → number < next
     → is_taken names (numbered_name (take taken.stem_len taken.name.items) (drop taken.stem_len taken.name.items) number) ≡ true
 
--- what a record says of a name: its digest, where its ending begins, and up to which number the
--- names that are made of it are taken
+-- a record is right: it has the name's digest, the place of its ending, and a number below which
+-- the names made of it are taken
 pub record IsRecord (names : List (List ℕ)) (taken : Taken) : Type 0 where
   pub digest : taken.digest ≡ digest_of taken.name.items
   pub within : taken.stem_len ≤ length taken.name.items
@@ -28,6 +28,6 @@ pub record IsRecord (names : List (List ℕ)) (taken : Taken) : Type 0 where
   pub from : 1 ≤ taken.next
   pub tried : AreTried names taken taken.next
 
--- each record says what holds
+-- each record is right
 unfoldable pub AreRecords : List Taken → Type 0
 AreRecords records = All (IsRecord (names_of records)) records

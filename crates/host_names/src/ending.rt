@@ -15,7 +15,7 @@ pub enum Ending {
 }
 
 impl Ending {
-    /// The ending, with its full stop.
+    /// The ending's text, with its full stop.
     #[tactic(auto, unfolding(crate::specs::HostName::ending_text))]
     fn text(self) -> &'static [u8]
         ensures { result.now ≡ ending_text self }
@@ -30,7 +30,7 @@ impl Ending {
     }
 }
 
-/// Adds the ending, and `.part` where the file is written in part.
+/// Appends the ending, and `.part` if the file is written in part.
 #[tactic(auto, unfolding(crate::specs::HostName::tail, crate::specs::HostName::part_text))]
 pub(crate) fn push_tail(name: &mut Vec<u8>, ending: Ending, is_part: bool) -> Result<(), AllocError>
     ensures { OnOk result (name.new.items ≡ name.old.items ++ tail ending is_part) }

@@ -4,7 +4,7 @@ ghost use Rattle.host_names.specs.Shown.{digit_at, digit_from, hexadecimal, four
 
 use std::alloc::AllocError;
 
-/// The digit of a number at a place that is worth so much, in small letters.
+/// The digit of a number at the place with this worth, in small letters.
 #[tactic(auto, unfolding(petscii::specs::Spelling::hex_digit))]
 pub(crate) fn digit_at(worth: u32, number: u32) -> u8
     requires { 0 < worth }
@@ -13,7 +13,7 @@ pub(crate) fn digit_at(worth: u32, number: u32) -> u8
     b"0123456789abcdef"[(number / worth % 16) as usize]
 }
 
-/// Adds the digit at a place, where the number reaches it.
+/// Appends the digit at a place, if the number reaches it.
 fn push_digit(out: &mut Vec<u8>, worth: u32, number: u32) -> Result<(), AllocError>
     requires { 0 < worth }
     ensures { OnOk result (out.new.items ≡ out.old.items ++ digit_from worth number) }
@@ -25,7 +25,7 @@ fn push_digit(out: &mut Vec<u8>, worth: u32, number: u32) -> Result<(), AllocErr
     Ok(())
 }
 
-/// Adds a number below 65536 without zeros in front.
+/// Appends a number below 65536 without zeros in front.
 #[tactic(auto, unfolding(crate::specs::Shown::hexadecimal))]
 pub(crate) fn push_hexadecimal(out: &mut Vec<u8>, number: u32) -> Result<(), AllocError>
     ensures { OnOk result (out.new.items ≡ out.old.items ++ hexadecimal number) }
@@ -37,7 +37,7 @@ pub(crate) fn push_hexadecimal(out: &mut Vec<u8>, number: u32) -> Result<(), All
     Ok(())
 }
 
-/// Adds a number below 65536 in four digits.
+/// Appends a number below 65536 in four digits.
 #[tactic(auto, unfolding(crate::specs::Shown::four_digits))]
 pub(crate) fn push_four_digits(out: &mut Vec<u8>, number: u32) -> Result<(), AllocError>
     ensures { OnOk result (out.new.items ≡ out.old.items ++ four_digits number) }

@@ -5,7 +5,7 @@ ghost use Rattle.host_names.specs.ImagePlace.{is_folder, folders_of, last_part, 
 
 use std::alloc::{AllocError, Global};
 
-/// Where the files of an image go, by the path of the image.
+/// The folders for the files of an image, by the image's path.
 #[derive(Drop)]
 pub struct ImagePlace<'a> {
     /// The folders of the path, without empty parts, `.` and `..`: each lies in the one before it.
@@ -15,7 +15,7 @@ pub struct ImagePlace<'a> {
 }
 
 impl<'a> ImagePlace<'a> {
-    /// Where the files of the image with this path go.
+    /// The folders for the files of the image with this path.
     pub fn of(alloc: Global, path: &'a str) -> Result<ImagePlace<'a>, AllocError>
         ensures folders { IfOk result (λ place. map (λ folder. folder.now) place.folders.items ≡ folders_of path.now) }
         ensures last { IfOk result (λ place. place.last.now ≡ last_part path.now) }
@@ -34,7 +34,7 @@ impl<'a> ImagePlace<'a> {
         })
     }
 
-    /// Adds the name of the folder for the image.
+    /// Appends the name of the image's folder.
     #[tactic(auto, unfolding(crate::specs::ImagePlace::finished_name))]
     pub fn push_name(&self, out: &mut String) -> Result<(), AllocError>
         ensures { OnOk result (string_bytes out.new ≡ string_bytes out.old ++ finished_name self.now.last.now) }
@@ -43,7 +43,7 @@ impl<'a> ImagePlace<'a> {
         out.push_str(".files")
     }
 
-    /// Adds the name that this folder has until all is in it.
+    /// Appends the name that this folder has until it is complete.
     #[tactic(auto, unfolding(crate::specs::ImagePlace::unfinished_name))]
     pub fn push_partial_name(&self, out: &mut String) -> Result<(), AllocError>
         ensures { OnOk result (string_bytes out.new ≡ string_bytes out.old ++ unfinished_name self.now.last.now) }

@@ -2,8 +2,8 @@
 ghost use Rattle.host_names.specs.Laws.{NamesStayInTheirFolder, NamesAreTakenByHosts, NamesArePrinted, NamesKeepTheirEnding, NamesAreFree, NoTwoNamesAreTheSame, FoldersLeadDown, ImagesStayInTheirFolder};
 ghost use Rattle.host_names.specs.Shown.{NoNameMakesALine};
 
-/// Each name of a file names something in the folder that it stands in, and each host takes it. It
-/// is printed ASCII where the text is that it is made of, as each text form is.
+/// Each name of a file names something in the folder that it is in, and each host accepts it. It is
+/// printed ASCII if the text of which it is made is, as each text form is.
 #[inline]
 pub fn names_are_safe()
     ensures stays { NamesStayInTheirFolder }
@@ -11,13 +11,14 @@ pub fn names_are_safe()
     ensures printed { NamesArePrinted }
 {}
 
-/// Each name of a file ends with its ending, and `.part` after it where it is written in part.
+/// Each name of a file ends with its ending, and with `.part` after it if the file is written in
+/// part.
 #[inline]
 pub fn names_keep_their_ending()
     ensures { NamesKeepTheirEnding }
 {}
 
-/// No two files of an image get the same name, small and capital letters taken as one.
+/// No two files of an image get the same name, also if small and capital letters count as the same.
 #[inline]
 pub fn no_two_names_are_the_same()
     ensures free { NamesAreFree }
@@ -31,8 +32,8 @@ pub fn folders_stay_below()
     ensures image { ImagesStayInTheirFolder }
 {}
 
-/// No name of the host shows a control byte, and no line of JSON does: none commands a terminal, and
-/// none makes a line.
+/// No name of the host shows a control byte, and no line of JSON does, so that no name controls a
+/// terminal or begins a new line.
 #[inline]
 pub fn no_name_makes_a_line()
     ensures { NoNameMakesALine }

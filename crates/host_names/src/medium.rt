@@ -1,4 +1,4 @@
-//! Where a name of the host is shown: in a text or in JSON.
+//! What a name of the host is shown in: a text or JSON.
 
 /// What a name is shown in: a text for people, or JSON.
 #[derive(Clone, Copy, Debug, PartialEq, Eq)]

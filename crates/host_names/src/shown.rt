@@ -39,7 +39,7 @@ fn is_second(first: u8, rest: &[u8]) -> bool
     }
 }
 
-/// How many bytes more the character has that begins with this byte; None where no character does.
+/// How many bytes follow this one in a character that it begins; None if it begins no character.
 #[tactic(auto, unfolding(crate::specs::Shown::following_count))]
 fn following(first: u8, rest: &[u8]) -> Option<usize>
     ensures value { result ≡ following_count first rest.now }
@@ -56,7 +56,7 @@ fn following(first: u8, rest: &[u8]) -> Option<usize>
     }
 }
 
-/// What the byte at a place adds to the number of a character.
+/// The bits that the byte at a place adds to the number of a character.
 fn six_bits(rest: &[u8], place: usize) -> u32
     ensures value { result ≡ six_bits rest.now place }
     ensures small { result < 64 }
@@ -67,7 +67,7 @@ fn six_bits(rest: &[u8], place: usize) -> u32
     }
 }
 
-/// The number of the character with this first byte and so many that continue it.
+/// The number of the character with this first byte and `count` more.
 #[tactic(auto, unfolding(crate::specs::Shown::character_number))]
 fn character_number(first: u8, count: usize, rest: &[u8]) -> u32
     ensures { result ≡ character_number first count rest.now }
@@ -86,14 +86,14 @@ fn character_number(first: u8, count: usize, rest: &[u8]) -> u32
     }
 }
 
-/// Whether a character commands a terminal, or turns the direction of text.
+/// Whether a character controls a terminal, or turns the direction of text.
 fn is_hidden(number: u32) -> bool
     ensures { result ≡ is_hidden number }
 {
     matches!(number, 0..=0x1f | 0x7f..=0x9f | 0x61c | 0x200e..=0x200f | 0x202a..=0x202e | 0x2066..=0x2069)
 }
 
-/// Whether a character is doubled.
+/// Whether a character is written twice.
 fn is_doubled(medium: Medium, number: u32) -> bool
     ensures { result ≡ is_doubled medium number }
 {
@@ -103,7 +103,7 @@ fn is_doubled(medium: Medium, number: u32) -> bool
     }
 }
 
-/// Adds a hidden character by its number.
+/// Appends a hidden character by its number.
 #[tactic(auto, unfolding(crate::specs::Shown::hidden_text))]
 fn push_hidden(out: &mut Vec<u8>, medium: Medium, number: u32) -> Result<(), AllocError>
     ensures { OnOk result (out.new.items ≡ out.old.items ++ hidden_text medium number) }
@@ -121,7 +121,7 @@ fn push_hidden(out: &mut Vec<u8>, medium: Medium, number: u32) -> Result<(), All
     }
 }
 
-/// Adds a character of this number, whose bytes are these.
+/// Appends the character with this number and these bytes.
 #[tactic(auto, unfolding(crate::specs::Shown::shown_character))]
 fn push_character(
     out: &mut Vec<u8>,
@@ -142,7 +142,7 @@ fn push_character(
     out.extend_from_slice(more)
 }
 
-/// Adds a byte that begins no character.
+/// Appends a byte that begins no character.
 #[tactic(auto, unfolding(crate::specs::Shown::shown_byte))]
 fn push_byte(out: &mut Vec<u8>, medium: Medium, byte: u8) -> Result<(), AllocError>
     ensures { OnOk result (out.new.items ≡ out.old.items ++ shown_byte medium byte) }
@@ -158,7 +158,7 @@ fn push_byte(out: &mut Vec<u8>, medium: Medium, byte: u8) -> Result<(), AllocErr
     }
 }
 
-/// Adds the character that begins with this byte, or else the byte; what follows it.
+/// Appends the character that begins with this byte, or else the byte. Returns what follows it.
 fn push_first<'a>(
     out: &mut Vec<u8>,
     medium: Medium,
@@ -182,7 +182,7 @@ fn push_first<'a>(
     }
 }
 
-/// Adds bytes as they are shown.
+/// Appends bytes as they are shown.
 fn push_in(out: &mut Vec<u8>, medium: Medium, bytes: &[u8]) -> Result<(), AllocError>
     ensures { OnOk result (out.new.items ≡ out.old.items ++ shown_in medium bytes.now) }
 {
@@ -193,8 +193,8 @@ fn push_in(out: &mut Vec<u8>, medium: Medium, bytes: &[u8]) -> Result<(), AllocE
     Ok(())
 }
 
-/// Adds a name as it is shown in text: a `\` doubled, control characters and the marks of direction
-/// by their numbers as `\u{1b}`, bytes that aren't UTF-8 as `\xff`, and all else as it is.
+/// Appends a name as it is shown in text: a `\` doubled, control characters and direction marks by
+/// their numbers as `\u{1b}`, bytes that aren't UTF-8 as `\xff`, and all else as it is.
 #[tactic(auto, unfolding(crate::specs::Shown::shown_name))]
 pub fn push_shown(out: &mut Vec<u8>, name: &[u8]) -> Result<(), AllocError>
     ensures { OnOk result (out.new.items ≡ out.old.items ++ shown_name name.now) }
@@ -202,14 +202,14 @@ pub fn push_shown(out: &mut Vec<u8>, name: &[u8]) -> Result<(), AllocError>
     push_in(out, Medium::Text, name)
 }
 
-/// Whether a byte is ASCII and no control, so that it is shown as it is in JSON.
+/// Whether a byte is ASCII and no control character, so that JSON shows it as it is.
 fn is_plain(byte: u8) -> bool
     ensures { result ≡ is_plain byte }
 {
     matches!(byte, 0x20..=0x7e)
 }
 
-/// Whether all bytes are so.
+/// Whether all bytes are plain.
 fn are_plain(bytes: &[u8]) -> bool
     ensures { result ≡ list_all is_plain bytes.now }
 {
@@ -220,8 +220,8 @@ fn are_plain(bytes: &[u8]) -> bool
     are_plain
 }
 
-/// Puts control characters and the marks of direction by their numbers, as `\u007f`, in the part of
-/// a text that is JSON: what it has from this place on.
+/// Replaces control characters and direction marks by their numbers, as `\u007f`, in the JSON that
+/// a text has from a place on.
 #[tactic(auto, unfolding(crate::specs::Shown::shown_json))]
 pub fn hide_in_json(text: &mut Vec<u8>, start: usize) -> Result<(), AllocError>
     requires { start ≤ length text.old.items }

@@ -5,7 +5,7 @@ ghost use Rattle.host_names.specs.HostName.{is_forbidden, allowed_name, unhidden
 
 use std::alloc::AllocError;
 
-/// Whether some host takes this byte in no name.
+/// Whether some host accepts this byte in no name.
 #[tactic(auto, unfolding(crate::specs::HostName::is_forbidden, crate::specs::HostName::forbidden_characters))]
 fn is_forbidden(byte: u8) -> bool
     ensures { result ≡ is_forbidden byte }
@@ -16,7 +16,7 @@ fn is_forbidden(byte: u8) -> bool
     )
 }
 
-/// Puts a text in the place of the name, in which each forbidden byte is a `_`.
+/// Replaces the name by a text in which each forbidden byte becomes a `_`.
 #[tactic(auto, unfolding(crate::specs::HostName::allowed_name))]
 fn put_allowed(name: &mut Vec<u8>, text: &[u8]) -> Result<(), AllocError>
     ensures { OnOk result (name.new.items ≡ allowed_name text.now) }
@@ -28,7 +28,7 @@ fn put_allowed(name: &mut Vec<u8>, text: &[u8]) -> Result<(), AllocError>
     Ok(())
 }
 
-/// Makes a first `.` a `_`.
+/// Replaces a `.` at the beginning by a `_`.
 fn show(name: &mut [u8])
     ensures { name.new ≡ unhidden_name name.old }
 {
@@ -39,7 +39,7 @@ fn show(name: &mut [u8])
     }
 }
 
-/// Makes a last `.` or space a `_`.
+/// Replaces a `.` or space at the end by a `_`.
 fn close(name: &mut [u8])
     ensures { name.new ≡ closed_name name.old }
 {
@@ -57,7 +57,7 @@ fn is_port(name: &[u8]) -> bool
     name.len() == 4 && matches!(name[3], b'1'..=b'9') && is_port_word(&name[..3])
 }
 
-/// Whether ports have this word in front of their numbers.
+/// Whether ports have this prefix before their numbers.
 fn is_port_word(word: &[u8]) -> bool
     ensures { result ≡ list_any (is_same_name word.now) ports }
 {
@@ -79,7 +79,7 @@ fn is_reserved(name: &[u8]) -> bool
         || is_port(name)
 }
 
-/// What stands before the first `.` of a name, or all of it.
+/// The part of a name before the first `.`, or all of it.
 fn before_dot(name: &[u8]) -> &[u8]
     ensures { result.now ≡ before_dot name.now }
 {
@@ -110,15 +110,14 @@ fn without_last_spaces(name: &[u8]) -> &[u8]
     left
 }
 
-/// What some host takes for the name of a device where it is one, as in `aux .txt`.
+/// The part of a name that some host compares with the names of devices, as `aux` in `aux .txt`.
 fn device_name(name: &[u8]) -> &[u8]
     ensures { result.now ≡ device_name name.now }
 {
     without_last_spaces(before_dot(name))
 }
 
-/// Puts what the host name of a file with this name in text form begins with in the place of the
-/// name.
+/// Replaces the name by the beginning of the host name of a file with this name in text form.
 #[tactic(auto, unfolding(crate::specs::HostName::stem))]
 pub(crate) fn put_stem(name: &mut Vec<u8>, text: &[u8]) -> Result<(), AllocError>
     ensures { OnOk result (name.new.items ≡ stem text.now) }

@@ -1,4 +1,4 @@
-//! The names that the files of an image got.
+//! The names given to the files of an image.
 ghost use Rattle.std.specs.Prelude.{◌≡◌, ◌<◌, ◌≤◌, ℕ, [], ◌∷◌, ◌++◌, length, take, true, false, MatchOption, OnOk, OnErr, IfOk, IfSome};
 ghost use Rattle.std.specs.List.{HoldsAt};
 ghost use Rattle.host_names.specs.HostName.{is_same_name, numbered_name, tail};
@@ -16,16 +16,16 @@ use std::marker::Model;
 #[derive(Drop)]
 pub(crate) struct Taken {
     name: Vec<u8>,
-    /// A number that all names have that are the same as this one.
+    /// A number that is the same for all names that count as the same.
     digest: u32,
-    /// How many bytes stand before its ending.
+    /// How many bytes of it come before its ending.
     stem_len: usize,
-    /// The names with numbers below this one, which are made of this name, are all taken.
+    /// The numbered names made of this one are all taken below this number.
     next: usize,
 }
 
-/// The names that the files of an image got so far, in order. No two are the same, small and
-/// capital letters taken as one.
+/// The names given so far to the files of an image, in order. No two are the same, also if small
+/// and capital letters count as the same.
 #[derive(Drop)]
 pub struct TakenNames {
     alloc: Global,
@@ -44,7 +44,7 @@ impl Model for TakenNames {
 }
 
 impl TakenNames {
-    /// No name is taken. Takes no memory.
+    /// No name is taken. It allocates nothing.
     pub fn new(alloc: Global) -> TakenNames
         ensures { result ≡ [] }
     {
@@ -54,19 +54,19 @@ impl TakenNames {
         }
     }
 
-    /// No name is taken any more.
+    /// Removes all names.
     pub fn clear(&mut self)
         ensures { self.new ≡ [] }
     {
         self.names.clear();
     }
 
-    /// Puts the host name of the next file, whose name in text form is this text, in the place of
-    /// `name`: the first one that is not taken. It is taken from then on. The work is that of
-    /// looking at each taken name two or three times.
+    /// Replaces `name` by the host name of the next file, whose name in text form is this text: the
+    /// first one that is not taken. It is taken from then on. The work is to look at each taken
+    /// name two or three times.
     ///
-    /// An `Err` comes only where there is no memory for the name. It is not taken then, and `name`
-    /// is any bytes.
+    /// An `Err` comes only if there is no memory for the name. The name is not taken then, and
+    /// `name` has any bytes.
     pub fn take(
         &mut self,
         text: &[u8],
@@ -94,7 +94,7 @@ impl TakenNames {
     }
 }
 
-/// A number that all names have that are the same.
+/// A number that is the same for all names that count as the same.
 fn digest(name: &[u8]) -> u32
     ensures { result ≡ digest_of name.now }
 {
@@ -123,7 +123,7 @@ fn find(names: &[Taken], name: &[u8]) -> Option<usize>
     None
 }
 
-/// Whether a name is the same as one of these.
+/// Whether a name is the same as one of some.
 fn is_taken(names: &[Taken], name: &[u8]) -> bool
     requires { AreRecords names.now }
     ensures { result ≡ is_taken (names_of names.now) name.now }
@@ -131,7 +131,7 @@ fn is_taken(names: &[Taken], name: &[u8]) -> bool
     find(names, name).is_some()
 }
 
-/// Whether this is the record of a name that is the same as the one of this digest.
+/// Whether this record is that of the same name as this one, which has this digest.
 fn has_name(taken: &Taken, digest: u32, name: &[u8]) -> bool
     requires kept { taken.now.digest ≡ digest_of taken.now.name.items }
     requires asked { digest ≡ digest_of name.now }
@@ -140,8 +140,8 @@ fn has_name(taken: &Taken, digest: u32, name: &[u8]) -> bool
     taken.digest == digest && taken.name.eq_ignore_ascii_case(name)
 }
 
-/// The number from which on a name may be free that is made of the one at this place; 1 where there
-/// is none.
+/// The first number that may give a free name, by the record of the taken name at this place; 1 if
+/// there is no such record.
 fn first_number(names: &[Taken], found: Option<usize>) -> usize
     requires { IfSome found (λ place. place < length names.now) }
     ensures { MatchOption found (result ≡ 1) (λ place. HoldsAt (λ taken. result ≡ taken.next) names.now place) }
@@ -152,7 +152,7 @@ fn first_number(names: &[Taken], found: Option<usize>) -> usize
     }
 }
 
-/// Adds a name to those that are taken, so many bytes of which stand before its ending.
+/// Keeps a name as taken, and how many bytes of it come before its ending.
 fn keep(
     names: &mut Vec<Taken>,
     alloc: Global,
@@ -177,8 +177,7 @@ fn keep(
     Ok(())
 }
 
-/// Notes that the names with numbers below this one that are made of the name at this place are
-/// taken.
+/// Notes that the numbered names made of the name at this place are taken below a number.
 fn pass(names: &mut [Taken], place: usize, next: usize)
     requires within { place < length names.old }
     requires records { AreRecords names.old }
@@ -190,8 +189,7 @@ fn pass(names: &mut [Taken], place: usize, next: usize)
     names[place].next = next;
 }
 
-/// Puts the first name in the place of `name` that is free, from this number on, and tells its
-/// number.
+/// Replaces `name` by the first free name from this number on. Returns its number.
 fn put_free(
     names: &[Taken],
     name: &mut Vec<u8>,
@@ -219,7 +217,7 @@ fn put_free(
     Ok(last)
 }
 
-/// Puts the name with this number in the place of one that begins with the same bytes.
+/// Replaces a name by the numbered one that begins with the same bytes.
 #[tactic(auto, unfolding(crate::specs::HostName::numbered_name, crate::specs::HostName::mark))]
 fn put_numbered(
     name: &mut Vec<u8>,

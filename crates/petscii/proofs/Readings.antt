@@ -107,11 +107,11 @@ same_stop (x ∷ xs) (y ∷ ys) before_x before_y left_x left_y (rest_x, begins_
 
 -- ---- the laws
 
--- a text stands for no two lists of bytes
+-- a text stands for at most one list of bytes
 pub one_reading : (text a b : List ℕ) → IsTextOf a text → IsTextOf b text → a ≡ b
 one_reading text a b read_a read_b = (same_stop a b text text [] [] read_a read_b refl stuck_end stuck_end).bytes
 
--- no fault begins where a text ends
+-- no fault begins at the end of a text
 not_empty : (place : ℕ) (fault : TextFault) → ¬ (BeginsFault place [] fault)
 not_empty place (UnknownName at) (is, begins) = let same : [] ≡ open_brace ∷ ((begins.name ++ close_brace ∷ []) ++ begins.rest) = begins.joined in absurd cc
 not_empty place (OpenBrace at) (is, begins) = let same : [] ≡ open_brace ∷ begins.rest = begins.joined in absurd cc

@@ -41,7 +41,7 @@ control_back b lt name is = eqb-true _ _ (at_some (λ x. code_in control_names x
 pub control_once : (a b : ℕ) (name : List ℕ) → a < 256 → b < 256 → control_name a ≡ Some name → control_name b ≡ Some name → a ≡ b
 control_once a b name small_a small_b at_a at_b = sym (control_back a small_a name at_a) ∙ control_back b small_b name at_b
 
--- where the test says that there is nothing, there is nothing
+-- if the test says that there is nothing, there is nothing
 none_from_test : (o : Option ℕ) → is_none o ≡ true → o ≡ None
 none_from_test None h = refl
 none_from_test (Some c) h = absurd (false≢true h)

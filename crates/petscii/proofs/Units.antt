@@ -79,13 +79,13 @@ unit_not_empty : (u x : List ℕ) → IsUnit u → [] ≢ u ++ x
 unit_not_empty u x (inl one) same = let joined : [] ≡ one.byte ∷ x = same ∙ ap (λ (w : List ℕ). w ++ x) one.is in absurd cc
 unit_not_empty u x (inr one) same = let joined : [] ≡ open_brace ∷ (one.name ++ close_brace ∷ x) = same ∙ ap (λ (w : List ℕ). w ++ x) one.is ∙ braced_joined one.name x in absurd cc
 
--- ---- where no unit goes on
+-- ---- if no unit goes on
 
 -- the text begins with no byte
 abbrev pub IsStuck : List ℕ → Type 0
 IsStuck text = (b : ℕ) (rest : List ℕ) → ¬ (BeginsWith text b rest)
 
--- nothing begins where a text ends
+-- nothing begins at the end of a text
 pub stuck_end : IsStuck []
 stuck_end b rest begins = unit_not_empty begins.unit rest begins.is_unit begins.joined
 
@@ -142,12 +142,12 @@ closes_at text i found =
           eqb-false _ _ (at.2 k before) (sym (get_or-take i text k close_brace before) ∙ is);
     }
 
--- an option that is none by a test
+-- an option that is None by a test
 past_none : (b : Bool) (x : ℕ) → cond b (Some x) None ≡ None → b ≡ false
 past_none true x is = absurd cc
 past_none false x is = refl
 
--- where there is no place of a `}`, there is none
+-- if no place has a `}`, no `}` follows
 pub never_closes : (text : List ℕ) → position (λ b. b == close_brace) text ≡ None → ¬ (Contains text close_brace)
 never_closes text none (k, within, is) =
     let past : length text ≤ position_or_len (λ b. b == close_brace) text = ltb-false _ _ (past_none (nat_lt (position_or_len (λ b. b == close_brace) text) (length text)) (position_or_len (λ b. b == close_brace) text) none) in

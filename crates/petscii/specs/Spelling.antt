@@ -15,7 +15,7 @@ character_ranges =
     ∷ (0xff, 0xff, slice_index (codes "~") 0)
     ∷ []
 
--- The character of a byte by the first range that has it.
+-- The character of a byte, by the first range that has it.
 abbrev pub character_in : List (ℕ × ℕ × ℕ) → ℕ → Option ℕ
 character_in [] b = None
 character_in (range ∷ ranges) b = if nat_le range.0 b && nat_le b range.1 then Some (range.2 + (b - range.0)) else character_in ranges b

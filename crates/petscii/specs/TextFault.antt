@@ -1,4 +1,4 @@
--- What is wrong with a text that stands for no bytes.
+-- The faults of a text that stands for no bytes.
 use Rattle.std.specs.Prelude.{◌≡◌, ◌≢◌, ℕ, List, [], ◌∷◌, ◌++◌, length, Contains}
 use Rattle.petscii.specs.declared.fault.TextFault.{TextFault}
 use Rattle.petscii.specs.declared.fault.TextFault.TheVariants.{UnknownName, OpenBrace, BadByte, Memory}
@@ -31,14 +31,14 @@ pub record BeginsBadByte (text : List ℕ) : Type 0 where
   pub no_brace : byte ≢ open_brace
   pub unknown : IsUnknown (byte ∷ [])
 
--- What is left of a text from a place on begins with this fault.
+-- The rest of a text, from a place on, begins with a fault.
 abbrev pub BeginsFault : ℕ → List ℕ → TextFault → Type 0
 BeginsFault from left (UnknownName place) = (place ≡ from) × BeginsUnknownName left
 BeginsFault from left (OpenBrace place) = (place ≡ from) × BeginsOpenBrace left
 BeginsFault from left (BadByte place) = (place ≡ from) × BeginsBadByte left
 BeginsFault from left (Memory error) = ⊥
 
--- The leftmost fault of a text: what stands before it is the text of some bytes.
+-- The leftmost fault of a text: the part before it is the text of some bytes.
 pub record IsFirstFault (text : List ℕ) (fault : TextFault) : Type 0 where
   pub bytes : List ℕ
   pub before : List ℕ
@@ -47,7 +47,7 @@ pub record IsFirstFault (text : List ℕ) (fault : TextFault) : Type 0 where
   pub read : IsTextOf bytes before
   pub begins : BeginsFault (length before) left fault
 
--- There was no memory for the bytes.
+-- The fault is that there was no memory for the bytes.
 abbrev pub IsOfMemory : TextFault → Type 0
 IsOfMemory (Memory error) = Unit {0}
 IsOfMemory fault = ⊥
@@ -56,6 +56,6 @@ IsOfMemory fault = ⊥
 abbrev pub HasNoFaultIfRead : List ℕ → Type 0
 HasNoFaultIfRead text = (bytes : List ℕ) (fault : TextFault) → IsTextOf bytes text → ¬ (IsFirstFault text fault)
 
--- A text has no two leftmost faults.
+-- A text has at most one leftmost fault.
 abbrev pub HasOneFault : List ℕ → Type 0
 HasOneFault text = (a b : TextFault) → IsFirstFault text a → IsFirstFault text b → a ≡ b

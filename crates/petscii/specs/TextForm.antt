@@ -28,8 +28,8 @@ pub record IsOneByte (unit : List ℕ) : Type 0 where
 abbrev pub IsUnit : List ℕ → Type 0
 IsUnit unit = IsOneByte unit ⊎ IsBraced unit
 
--- A unit is accepted for a byte where it is its spelling, or in braces its spelling or its value,
--- in either case of the letters.
+-- A unit is accepted for a byte if it is its spelling, or in braces its spelling or its value, in
+-- either case of the letters.
 unfoldable pub IsAccepted : ℕ → List ℕ → Type 0
 IsAccepted b unit = (b < 256) × ((unit ≡ spell b)
     ⊎ (IsBraced unit × ((str_to_ascii_lowercase unit ≡ spell b) ⊎ (str_to_ascii_lowercase unit ≡ braced_name (hex_name b)))))
@@ -38,7 +38,7 @@ IsAccepted b unit = (b < 256) × ((unit ≡ spell b)
 unfoldable pub Names : List ℕ → ℕ → Type 0
 Names name b = (b < 256) × ((control_name b ≡ Some name) ⊎ (hex_name b ≡ name))
 
--- The text begins with a unit that stands for the byte, and goes on with rest.
+-- The text begins with a unit that stands for a byte, and goes on with the rest.
 pub record BeginsWith (text : List ℕ) (b : ℕ) (rest : List ℕ) : Type 0 where
   pub unit : List ℕ
   pub is_unit : IsUnit unit
@@ -50,6 +50,6 @@ unfoldable pub IsTextOf : List ℕ → List ℕ → Type 0
 IsTextOf [] text = text ≡ []
 IsTextOf (b ∷ bytes) text = (rest : List ℕ) × BeginsWith text b rest × IsTextOf bytes rest
 
--- The text stands for no two lists of bytes.
+-- The text stands for at most one list of bytes.
 abbrev pub HasOneReading : List ℕ → Type 0
 HasOneReading text = (a b : List ℕ) → IsTextOf a text → IsTextOf b text → a ≡ b

@@ -6,8 +6,8 @@ ghost use Rattle.petscii.specs.Spelling.{spelling};
 ghost use Rattle.petscii.specs.TextForm.{IsTextOf, HasOneReading};
 ghost use Rattle.petscii.specs.TextFault.{IsFirstFault, HasNoFaultIfRead, HasOneFault};
 
-/// A text has one outcome: it stands for at most one list of bytes, it has a fault only where it
-/// stands for none, and its leftmost fault is one.
+/// A text has one outcome: it stands for at most one list of bytes, it has a fault only if it
+/// stands for no bytes, and only one fault is its leftmost one.
 #[inline]
 pub fn one_outcome(text: &[u8])
     ensures one_reading { HasOneReading text.now }
@@ -15,8 +15,8 @@ pub fn one_outcome(text: &[u8])
     ensures one_fault { HasOneFault text.now }
 {}
 
-/// What `from_text` makes of what `to_text` wrote is the bytes, unless memory runs out: the text of
-/// bytes stands for these bytes and no others, and has no fault.
+/// `from_text` gives back the bytes of which `to_text` made the text, unless memory runs out: that
+/// text stands for these bytes and no others, and has no fault.
 #[inline]
 pub fn spelling_reads_back(bytes: &[u8])
     ensures read { IsTextOf bytes.now (spelling bytes.now) }

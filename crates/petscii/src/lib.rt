@@ -3,8 +3,8 @@
 //!
 //! A byte that shows as a character of its own is that character: `$41` is `a` and `$C1` is `A`, as
 //! on a Commodore 64 in its second character set. A control code is a name in braces, as `{clr}`,
-//! and every other byte is its value, as `{$07}`. What the codes do is in the Commodore 64
-//! Programmer's Reference Guide; the names are this project's.
+//! and every other byte is its value, as `{$07}`. The Commodore 64 Programmer's Reference Guide
+//! describes the codes; the names are this project's.
 #![tactic(auto)]
 
 mod character;

@@ -14,7 +14,7 @@ use std::alloc::{AllocError, Global};
 /// The text of bytes of PETSCII: each byte's character, else the name of the control code in
 /// braces, else its value as `{$xx}`, two hexadecimal digits in small letters.
 ///
-/// An `Err` comes only where there is no memory for the text.
+/// An `Err` comes only if there is no memory for the text.
 pub fn to_text(alloc: Global, bytes: &[u8]) -> Result<Vec<u8>, AllocError>
     ensures spelled { IfOk result (λ text. text.items ≡ spelling bytes.now) }
 {
@@ -23,10 +23,10 @@ pub fn to_text(alloc: Global, bytes: &[u8]) -> Result<Vec<u8>, AllocError>
     Ok(text)
 }
 
-/// Adds the text of bytes of PETSCII, as `to_text` writes it, to a text. It asks for memory only
-/// where the text has no room for it.
+/// Appends the text of bytes of PETSCII, as `to_text` writes it, to a text. It allocates only if
+/// the text has no room for it.
 ///
-/// An `Err` comes only where there is no memory for the text.
+/// An `Err` comes only if there is no memory for the text.
 #[tactic(auto, unfolding(crate::specs::Spelling::spelling))]
 pub fn push_spelling(text: &mut Vec<u8>, bytes: &[u8]) -> Result<(), AllocError>
     ensures { OnOk result (text.new.items ≡ text.old.items ++ spelling bytes.now) }
@@ -37,7 +37,7 @@ pub fn push_spelling(text: &mut Vec<u8>, bytes: &[u8]) -> Result<(), AllocError>
     Ok(())
 }
 
-/// Adds the text of one byte.
+/// Appends the text of one byte.
 #[tactic(auto, unfolding(crate::specs::Spelling::spell))]
 pub(crate) fn push_unit(text: &mut Vec<u8>, byte: u8) -> Result<(), AllocError>
     ensures spelled { OnOk result (text.new.items ≡ text.old.items ++ spell byte) }
@@ -55,11 +55,12 @@ pub(crate) fn push_unit(text: &mut Vec<u8>, byte: u8) -> Result<(), AllocError>
     Ok(())
 }
 
-/// The bytes of PETSCII that a text stands for. Beside what `to_text` writes, names and hexadecimal
-/// digits may be in either case, and `{$xx}` stands for every byte.
+/// The bytes of PETSCII that a text stands for. Unlike what `to_text` writes, names and hexadecimal
+/// digits can be in either case, and `{$xx}` can stand for any byte.
 ///
 /// An `Err` is the leftmost fault with its place: `UnknownName` and `OpenBrace` at the offset of
-/// the `{`, `BadByte` at the offset of the byte; or there is no memory for the bytes.
+/// the `{`, `BadByte` at the offset of the byte. `Memory` comes if there is no memory for the
+/// bytes.
 pub fn from_text(alloc: Global, text: &[u8]) -> Result<Vec<u8>, TextFault>
     ensures read { IfOk result (λ bytes. IsTextOf bytes.items text.now) }
     ensures fault { IfErr result (λ fault. IsOfMemory fault ⊎ IsFirstFault text.now fault) }

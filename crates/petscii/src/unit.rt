@@ -10,8 +10,8 @@ use crate::character::{byte_of_character, number_of};
 use crate::control::code_of_name;
 use crate::fault::TextFault;
 
-/// Reads the unit that begins with a byte at a place of a text: the byte that the unit stands for,
-/// and what follows the unit.
+/// Reads the unit that begins with a byte at a place of a text. Returns the byte that the unit
+/// stands for, and what follows the unit.
 pub(crate) fn read_unit(first: u8, after: &[u8], place: usize) -> Result<(u8, &[u8]), TextFault>
     ensures read { IfOk result (λ unit. BeginsWith (first ∷ after.now) unit.0 unit.1.now) }
     ensures fault { IfErr result (BeginsFault place (first ∷ after.now)) }
@@ -25,7 +25,8 @@ pub(crate) fn read_unit(first: u8, after: &[u8], place: usize) -> Result<(u8, &[
     }
 }
 
-/// Reads the unit whose `{` is at a place of a text, from the byte after the `{` on.
+/// Reads the unit whose `{` is at a place of a text, from the byte after the `{` on. Returns as
+/// `read_unit` does.
 fn read_name(after: &[u8], place: usize) -> Result<(u8, &[u8]), TextFault>
     ensures read { IfOk result (λ unit. BeginsWith (open_brace ∷ after.now) unit.0 unit.1.now) }
     ensures fault { IfErr result (BeginsFault place (open_brace ∷ after.now)) }
