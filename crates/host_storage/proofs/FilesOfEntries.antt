@@ -1,4 +1,4 @@
--- The files of a map's entries: what stands under a name, and what an insertion makes of them.
+-- The files of a map's entries: the content of a name, and the effect of an insertion on them.
 use Rattle.std.proofs.Common.{◌≡◌, ℕ, Bool, true, false, true≢false, cond, List, [], ◌∷◌, ◌++◌, map, Some, None, Option, is_some, String, Vec, BTreeMap, string_bytes, refl, sym, ap, ◌∙◌}
 use Rattle.std.specs.Prelude.{option_map}
 use Rattle.std.specs.Ordering.{nat_cmp, eq_by_cmp}
@@ -11,7 +11,7 @@ use Rattle.std.proofs.lemmas.Map.Text.{is_eq-slice_cmp}
 use Rattle.std.proofs.lemmas.Slice.Eq.{bytes_eq-Decides}
 use Rattle.host_storage.specs.MemoryHost.{MemoryFiles, files_of}
 
--- a name stands for the same bytes among the pairs as among the entries
+-- a name has the same bytes among the pairs as among the entries
 find-entries : {A B : Type 0} (entries : List (String A × Vec ℕ B)) (name : List ℕ) → find (slice_cmp nat_cmp) name (map (λ entry. (string_bytes entry.0, entry.1.items)) entries) ≡ option_map (λ value. value.items) (lookup (is_at (λ key. slice_cmp nat_cmp name (string_bytes key))) entries)
 find-entries [] name = refl
 find-entries (entry ∷ entries) name =
@@ -20,7 +20,7 @@ find-entries (entry ∷ entries) name =
       | false ↦ find-entries entries name
     ]
 
--- a name stands for the bytes that the map has under its text
+-- a name has the bytes that the map has for its text
 get-files_of : {A B : Type 0} (m : BTreeMap (String A) (Vec ℕ B)) (name : List ℕ) → get (files_of m.entries) name ≡ option_map (λ value. value.items) (get_by_text m name)
 get-files_of m name = get-from_entries nat_list_cmp_total _ name ∙ find-entries m.entries name
 
@@ -44,11 +44,11 @@ files_of-update old new name value updates =
     ∙ ap (λ same. cond same (Some value.items) (get (files_of old.entries) other)) (same_name name other)
     ∙ sym (get-insert nat_list_cmp_total (files_of old.entries) name value.items other))
 
--- what a look-up found among the entries is what stands under the name
+-- what a look-up found among the entries is the content of the name
 pub found_file : {A B : Type 0} (m : BTreeMap (String A) (Vec ℕ B)) (name : List ℕ) (found : Option (Vec ℕ B)) (host : MemoryFiles) → found ≡ get_by_text m name → files_of m.entries ≡ host.files → option_map (λ value. value.items) found ≡ get host.files name
 found_file m name found host is files = ap (option_map (λ value. value.items)) is ∙ sym (get-files_of m name) ∙ ap (λ all. get all name) files
 
--- the files after an insertion, where key and value hold the name and the bytes
+-- the files after an insertion, if key and value have the name and the bytes
 pub set_file : {A B : Type 0} (old new : BTreeMap (String A) (Vec ℕ B)) (key name : List ℕ) (value : Vec ℕ B) (bytes : List ℕ) → ((other : List ℕ) → get_by_text new other ≡ update bytes_eq (get_by_text old) key (Some value) other) → key ≡ name → value.items ≡ bytes → files_of new.entries ≡ insert (files_of old.entries) name bytes
 set_file old new key name value bytes updates is_name is_bytes =
     files_of-update old new key value updates ∙ ap (λ k. insert (files_of old.entries) k value.items) is_name ∙ ap (insert (files_of old.entries) name) is_bytes
@@ -69,7 +69,7 @@ pub unnamed : {A : Type 0} (name : List ℕ) (key : String A) (answer : Bool) �
 unnamed name key answer is_false told =
     not_true (is_named name key) (λ is. true≢false (sym (told (sym ((bytes_eq-Decides name (string_bytes key)).0 (sym (is_eq-slice_cmp name (string_bytes key)) ∙ is)))) ∙ is_false))
 
--- an entry that stands among others is found, or one before it
+-- an entry among others is found, or one before it
 found_among : {A X : Type 0} (test : A → Bool) (before after : List (A × X)) (entry : A × X) → test entry.0 ≡ true → is_some (lookup test (before ++ entry ∷ after)) ≡ true
 found_among test [] after entry is = ap (λ t. is_some (cond t (Some entry.1) (lookup test after))) is
 found_among test (other ∷ before) after entry is =
@@ -92,7 +92,7 @@ is_some-map : {A B : Type 0} (f : A → B) (value : Option A) → is_some (optio
 is_some-map f None = refl
 is_some-map f (Some value) = refl
 
--- there is a file of a name exactly where it is found among the entries
+-- there is a file of a name exactly if it is found among the entries
 contains-files_of : {A B : Type 0} (m : BTreeMap (String A) (Vec ℕ B)) (name : List ℕ) → contains_key (files_of m.entries) name ≡ is_some (lookup (is_named name) m.entries)
 contains-files_of m name = ap is_some (get-files_of m name) ∙ is_some-map (λ value. value.items) (get_by_text m name)
 

@@ -1,15 +1,15 @@
--- The files of a host, and what else it shows.
+-- The files of a host, and what else it exposes.
 use Rattle.std.specs.Prelude.{ℕ, List, Option}
 use Rattle.std.specs.Ordering.{nat_cmp}
 use Rattle.std.specs.Cmp.Lexicographic.{slice_cmp}
 use Rattle.std.specs.FinMap.{FinMap}
 
--- a host's files: from names, as the bytes of their texts, to the files' bytes; a folder stands
--- among them as in archives, as a file of no bytes whose name ends with a slash
+-- a host's files: a map from names, as the bytes of their texts, to the files' bytes; a folder is
+-- an empty file whose name ends with a slash, as in archives
 abbrev pub Files : Type 0
 Files = FinMap (slice_cmp nat_cmp) (List ℕ)
 
--- what a host shows: its files, where it tells them, and how many of its calls failed, up to the
+-- what a host exposes: its files, if it exposes them, and how many of its calls failed, up to the
 -- greatest number that it can count to
 pub record HostState : Type 0 where
   pub files : Option Files

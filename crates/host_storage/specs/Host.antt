@@ -1,30 +1,30 @@
--- What a host may answer to a fetch and a store, and how it counts its failures.
+-- What a host can return for a fetch and a store, and how it counts its failures.
 use Rattle.std.specs.Prelude.{◌≡◌, ◌≢◌, ℕ, ◌+◌, ◌-◌, min, ◌^◌, ◌<◌, ◌≤◌, ⊤, List, length, Option, Some, None, option_map, IsSomeAnd, Result, Ok, Err, Vec}
 use Rattle.std.specs.FinMap.{get, insert}
 use Rattle.host_storage.specs.Files.{Files}
 use Rattle.host_storage.specs.declared.host.HostFault.{HostFault}
 use Rattle.host_storage.specs.declared.host.HostFault.TheVariants.{Missing, Device, TooLong, Memory}
 
--- the number by which answers name a fault
+-- the number by which status lines name a fault
 abbrev pub fault_number : HostFault → ℕ
 fault_number Missing = 1
 fault_number Device = 2
 fault_number TooLong = 3
 fault_number (Memory error) = 4
 
--- the answer to a fetch, with the bytes as a list
+-- the result of a fetch, with the bytes as a list
 abbrev pub fetched_bytes : {A : Type 0} → Result (Vec ℕ A) HostFault → Result (List ℕ) HostFault
 fetched_bytes (Ok bytes) = Ok bytes.items
 fetched_bytes (Err fault) = Err fault
 
--- the answer to a fetch that fills a buffer, which then has the bytes
+-- the result of a fetch that fills a buffer, which then has the bytes
 abbrev pub filled_bytes : {A B : Type 0} → Result B HostFault → Vec ℕ A → Result (List ℕ) HostFault
 filled_bytes (Ok done) bytes = Ok bytes.items
 filled_bytes (Err fault) bytes = Err fault
 
--- what a fetch of a name may answer where these are the files: the file, of at most `limit` bytes;
--- that it is not there; that it is longer; and in place of any of these the device's fault or want
--- of memory
+-- what a fetch of a name can return if these are the files: the file, of at most `limit` bytes;
+-- that it is not there; that it is longer; and in place of any of these the device's fault or that
+-- memory is out
 abbrev pub FetchesOf : Files → List ℕ → ℕ → Result (List ℕ) HostFault → Type 0
 FetchesOf files name limit (Ok bytes) = (get files name ≡ Some bytes) × (length bytes ≤ limit)
 FetchesOf files name limit (Err Missing) = get files name ≡ None
@@ -32,20 +32,19 @@ FetchesOf files name limit (Err TooLong) = IsSomeAnd (get files name) (λ bytes.
 FetchesOf files name limit (Err Device) = ⊤
 FetchesOf files name limit (Err (Memory error)) = ⊤
 
--- what a host may answer to a fetch: where it tells nothing, an accepted one has at most `limit`
--- bytes
+-- what a fetch can return: if the host exposes no files, a successful one has at most `limit` bytes
 abbrev pub Fetches : Option Files → List ℕ → ℕ → Result (List ℕ) HostFault → Type 0
 Fetches (Some files) name limit answer = FetchesOf files name limit answer
 Fetches None name limit (Ok bytes) = length bytes ≤ limit
 Fetches None name limit (Err fault) = ⊤
 
--- the answer to an opening, with the bytes that the file has left, as far as it tells them
+-- the result of an opening, with the bytes that the file has left, as far as it exposes them
 abbrev pub opened_bytes : {F : Type 0} → (F → Option (List ℕ)) → Result F HostFault → Result (Option (List ℕ)) HostFault
 opened_bytes remaining (Ok file) = Ok (remaining file)
 opened_bytes remaining (Err fault) = Err fault
 
--- what an opening of a name may answer where these are the files: all bytes of the file, which it
--- tells; that it is not there; and in place of either the device's fault or want of memory
+-- what an opening of a name can return if these are the files: all bytes of the file, which it
+-- exposes; that it is not there; and in place of either the device's fault or that memory is out
 abbrev pub OpensOf : Files → List ℕ → Result (Option (List ℕ)) HostFault → Type 0
 OpensOf files name (Ok rest) = IsSomeAnd rest (λ bytes. get files name ≡ Some bytes)
 OpensOf files name (Err Missing) = get files name ≡ None
@@ -53,26 +52,26 @@ OpensOf files name (Err TooLong) = ⊥
 OpensOf files name (Err Device) = ⊤
 OpensOf files name (Err (Memory error)) = ⊤
 
--- what a host may answer to an opening: no file is too long for it
+-- what an opening can return: no file is too long for it
 abbrev pub Opens : Option Files → List ℕ → Result (Option (List ℕ)) HostFault → Type 0
 Opens (Some files) name answer = OpensOf files name answer
 Opens None name answer = answer ≢ Err TooLong
 
--- the faults that may come whatever the files are
+-- whether a fault can come whatever the files are
 abbrev pub IsOfDeviceOrMemory : HostFault → Type 0
 IsOfDeviceOrMemory Device = ⊤
 IsOfDeviceOrMemory (Memory error) = ⊤
 IsOfDeviceOrMemory Missing = ⊥
 IsOfDeviceOrMemory TooLong = ⊥
 
--- what a host may answer to a store, and the files then, where it tells them: accepted, the named
--- file alone has the new bytes; refused, by the device's fault or for want of memory, no file has
--- changed
+-- what a store can return, and the host's files after it, if it exposes them: after success only
+-- the named file has the new bytes; after an error, the device's fault or that memory is out, no
+-- file has changed
 abbrev pub Stores : {A : Type 0} → Option Files → List ℕ → List ℕ → Result A HostFault → Option Files → Type 0
 Stores files name bytes (Ok done) after = after ≡ option_map (λ all. insert all name bytes) files
 Stores files name bytes (Err fault) after = (after ≡ files) × IsOfDeviceOrMemory fault
 
--- the count of failures with one more, up to the greatest number of 64 bits
+-- a count of failures with one more, up to the greatest number of 64 bits
 abbrev pub one_more_failure : ℕ → ℕ
 one_more_failure count = min (count + 1) (2 ^ 64 - 1)
 
@@ -81,12 +80,12 @@ abbrev pub failures_after : {A : Type 0} → ℕ → Result A HostFault → ℕ
 failures_after count (Err Device) = one_more_failure count
 failures_after count answer = count
 
--- the count of failures never falls, and rises by one exactly where the device's fault is answered,
--- up to its greatest value
+-- the count of failures never falls, and rises by one exactly if the device's fault is returned, up
+-- to its greatest value
 abbrev pub CountsDevice : {A : Type 0} → ℕ → ℕ → Result A HostFault → Type 0
 CountsDevice before after answer = after ≡ failures_after before answer
 
--- the fault that a call answered, want of memory aside
+-- the fault that a call returned, unless memory was out
 abbrev pub answered_fault : {A : Type 0} → Result A HostFault → Option HostFault
 answered_fault (Ok value) = None
 answered_fault (Err Missing) = Some Missing

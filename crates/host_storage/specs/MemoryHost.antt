@@ -1,4 +1,4 @@
--- What a host in memory is seen as, and what keeps its calls from being accepted.
+-- The view of a host in memory, and why its calls fail.
 use Rattle.std.specs.Prelude.{zero, suc, refl, ℕ, ◌-◌, ◌==◌, nat_lt, List, map, length, if◌then◌else◌, Option, Some, None, String, Vec, string_bytes}
 use Rattle.std.specs.FinMap.{contains_key, get, from_entries, code}
 use Rattle.std.specs.Coded.{Coded, code_by, coded×, coded_list, coded_ℕ}
@@ -10,8 +10,8 @@ use Rattle.host_storage.specs.declared.host.FolderFault.TheVariants as making
 use Rattle.host_storage.specs.declared.host.HostFault.{HostFault}
 use Rattle.host_storage.specs.declared.host.HostFault.TheVariants.{Missing, Device, TooLong}
 
--- what a host in memory is seen as: its files, the number of the call from now on that will fail,
--- where 1 is the next and 0 is none, and how many have failed
+-- the view of a host in memory: its files, the number of the call from now on that will fail, where
+-- 1 is the next and 0 is no call, and how many have failed
 pub record MemoryFiles : Type 0 where
   pub files : Files
   pub countdown : ℕ
@@ -29,8 +29,8 @@ memory_files_code =
 abbrev pub files_of : {A B : Type 0} → List (String A × Vec ℕ B) → Files
 files_of entries = from_entries (map (λ entry. (string_bytes entry.0, entry.1.items)) entries)
 
--- what a fetch or a store does to a host beside the files: the countdown falls, and where it stood
--- at 1 the call fails, and the failures rise up to the greatest number of 64 bits
+-- the effect of a fetch or a store on a host beside the files: the countdown falls, and if it was 1
+-- the call fails, and the count of failures rises, up to the greatest number of 64 bits
 abbrev pub after_call : MemoryFiles → MemoryFiles
 after_call host = record host {
   countdown = host.countdown - 1;
@@ -42,32 +42,33 @@ abbrev pub countdown_after : ℕ → ℕ → ℕ
 countdown_after zero countdown = countdown
 countdown_after (suc calls) countdown = countdown_after calls (countdown - 1)
 
--- why what stands under a name cannot be fetched: there is no file, or it is longer than the limit
+-- why the content of a name cannot be fetched: there is no file, or it is longer than the limit
 abbrev pub file_refusal : Option (List ℕ) → ℕ → Option HostFault
 file_refusal None limit = Some Missing
 file_refusal (Some bytes) limit = if nat_lt limit (length bytes) then Some TooLong else None
 
--- why a fetch is refused, want of memory aside: the call that was to fail, or else the file itself
+-- why a fetch fails, unless memory is out: it is the call that was to fail, or else because of the
+-- file itself
 abbrev pub fetch_refusal : MemoryFiles → List ℕ → ℕ → Option HostFault
 fetch_refusal host name limit = if host.countdown == 1 then Some Device else file_refusal (get host.files name) limit
 
--- why opening what stands under a name is refused, want of memory aside: the call that was to fail,
--- or there is no file
+-- why opening a name fails, unless memory is out: it is the call that was to fail, or there is no
+-- file
 abbrev pub open_refusal : MemoryFiles → List ℕ → Option HostFault
 open_refusal host name =
     if host.countdown == 1 then Some Device else if contains_key host.files name then None else Some Missing
 
--- why a store is refused, want of memory aside
+-- why a store fails, unless memory is out
 abbrev pub store_refusal : MemoryFiles → Option HostFault
 store_refusal host = if host.countdown == 1 then Some Device else None
 
--- why adding bytes to the file at a path is refused, want of memory aside: the call that was to
+-- why appending bytes to the file at a path fails, unless memory is out: it is the call that was to
 -- fail, or there is no file
 abbrev pub extending_refusal : MemoryFiles → List ℕ → Option FolderFault
 extending_refusal host path =
     if host.countdown == 1 then Some making.Device else if contains_key host.files path then None else Some making.Device
 
--- why making something at a path is refused, want of memory aside: the call that was to fail, or
+-- why making something at a path fails, unless memory is out: it is the call that was to fail, or
 -- something is there
 abbrev pub making_refusal : MemoryFiles → List ℕ → Option FolderFault
 making_refusal host path =

@@ -1,8 +1,8 @@
 -- A file that is replaced by a new one beside it, step by step.
 use Rattle.std.specs.Prelude.{◌≡◌, Bool, true, false, ℕ, List, Option, Some, None, option_map, unwrap_or, IsSome}
 
--- a file that is to be replaced, as the system has it: the bytes that its name stands for, those of
--- the new file beside it, where there is one, and whether the new file's bytes are on the disk
+-- a file that is being replaced, as the system has it: the bytes under its name, those of the new
+-- file beside it, if there is one, and whether the new file's bytes are on the disk
 pub record Place : Type 0 where
   pub content : List ℕ
   pub beside : Option (List ℕ)
@@ -12,15 +12,15 @@ pub record Place : Type 0 where
 abbrev pub file_alone : List ℕ → Place
 file_alone content = record { content = content; beside = None; is_synced = false }
 
--- the new file holds these bytes
+-- the new file has these bytes
 abbrev pub filled_place : List ℕ → Place → Place
 filled_place bytes place = record place { beside = Some bytes; is_synced = false }
 
--- what the new file holds is on the disk
+-- the content of the new file is on the disk
 abbrev pub synced_place : Place → Place
 synced_place place = record place { is_synced = true }
 
--- the name stands for the new file's bytes
+-- the name has the new file's bytes
 abbrev pub published_place : Place → Place
 published_place place = file_alone (unwrap_or place.beside place.content)
 
@@ -28,7 +28,7 @@ published_place place = file_alone (unwrap_or place.beside place.content)
 abbrev pub discarded_place : Place → Place
 discarded_place place = file_alone place.content
 
--- what the name stands for, where it is told
+-- the bytes under the name, if they are exposed
 abbrev pub content_of : Option Place → Option (List ℕ)
 content_of place = option_map (λ told. told.content) place
 

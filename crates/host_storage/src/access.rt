@@ -9,7 +9,7 @@ use std::os::fd::AsFd;
 use std::os::unix::fs::{MetadataExt, PermissionsExt, fchown};
 
 /// Gives the new file the group, the owner and the permissions of the old one, as far as the system
-/// lets the user.
+/// allows it.
 pub fn keep_access<F: OpenFile + AsFd>(old: &F, new: &F) -> io::Result<()> {
     let wanted = old.metadata()?;
     let made = new.metadata()?;
@@ -19,8 +19,8 @@ pub fn keep_access<F: OpenFile + AsFd>(old: &F, new: &F) -> io::Result<()> {
     set_mode(new, made.mode() % 0o1000, mode)
 }
 
-/// Sets these permissions of a file that has others. Where the system refuses it, as it does where
-/// files belong to another owner by their mount, the file keeps what it has, if that is no more.
+/// Sets the permissions of a file that has others. If the system refuses it, as for files that
+/// belong to another owner by their mount, the file keeps its own, if they are no more.
 fn set_mode<F: OpenFile>(file: &F, made: u32, wanted: u32) -> io::Result<()> {
     if made == wanted {
         return Ok(());
@@ -31,15 +31,15 @@ fn set_mode<F: OpenFile>(file: &F, made: u32, wanted: u32) -> io::Result<()> {
     }
 }
 
-/// Whether these permissions are no more than those.
+/// Whether these permissions are no more than others.
 fn is_within(made: u32, wanted: u32) -> bool
     ensures { (result ≡ true) ↔ (bit_and made wanted ≡ made) }
 {
     made & wanted == made
 }
 
-/// The mode of the new file: the permissions of the old one, and where its owner or its group is
-/// another, to the group and to all others what both had.
+/// The mode of the new file: the permissions of the old one. If its owner or its group is another,
+/// the group and all others get only what both had.
 fn kept_mode(mode: u32, is_of_same: bool) -> u32
     ensures { result ≡ kept_mode mode is_of_same }
 {

@@ -1,4 +1,4 @@
-//! A file that is replaced by a new one beside it, once that is whole and on the disk.
+//! Replacing a file by a new one beside it, once that is whole and on the disk.
 
 ghost use Rattle.std.specs.Prelude.{◌≡◌, Option, option_map, IfErr, IfSome, OnOk, OnErr};
 ghost use Rattle.host_storage.specs.Replacement.{Place, file_alone, filled_place, synced_place, published_place, discarded_place, content_of, IsReady};
@@ -7,13 +7,13 @@ use crate::host::HostFault;
 
 /// A new file beside the one that it is to replace.
 ///
-/// A draft may tell a proof what the system holds, as one made for tests does, or tell nothing, as
-/// one over a disk.
+/// A draft can expose to proofs what the system has, as one made for tests does, or expose nothing,
+/// as one over a disk.
 pub trait Draft {
-    // The file and what stands beside it, where the draft tells them.
+    // The file and what is beside it, if the draft exposes them.
     ghost place: { Self → Option Place };
 
-    /// Writes these bytes, all that the new file is to hold.
+    /// Writes these bytes, the whole content of the new file.
     fn fill(&mut self, bytes: &[u8]) -> Result<(), HostFault>
         ensures filled { OnOk result (place self.new ≡ option_map (filled_place bytes.now) (place self.old)) }
         ensures kept { OnErr result (content_of (place self.new) ≡ content_of (place self.old)) }
@@ -25,7 +25,7 @@ pub trait Draft {
         ensures kept { OnErr result (content_of (place self.new) ≡ content_of (place self.old)) }
         ensures refused { IfErr result (λ fault. fault ≡ HostFault.Device) };
 
-    /// Puts the new file in the place of the old one, in one step.
+    /// Puts the new file in place of the old one, in one step.
     fn publish(&mut self) -> Result<(), HostFault>
         requires { IfSome (place self.old) IsReady }
         ensures published { OnOk result (place self.new ≡ option_map published_place (place self.old)) }
@@ -37,7 +37,7 @@ pub trait Draft {
         ensures { place self.new ≡ option_map discarded_place (place self.old) };
 }
 
-/// Replaces the file by these bytes, or removes the new file and leaves the old one as it is.
+/// Replaces the file by these bytes, or removes the new file and keeps the old one.
 pub fn replace_by<D: Draft>(draft: &mut D, bytes: &[u8]) -> Result<(), HostFault>
     ensures replaced { OnOk result (D.place draft.new ≡ option_map (λ place. file_alone bytes.now) (D.place draft.old)) }
     ensures kept { OnErr result (D.place draft.new ≡ option_map discarded_place (D.place draft.old)) }
@@ -52,7 +52,7 @@ pub fn replace_by<D: Draft>(draft: &mut D, bytes: &[u8]) -> Result<(), HostFault
     }
 }
 
-/// Writes the new file, waits for the disk, and only then puts it in the place of the old one.
+/// Writes the new file, waits for the disk, and only then puts it in place of the old one.
 fn write_and_publish<D: Draft>(draft: &mut D, bytes: &[u8]) -> Result<(), HostFault>
     ensures replaced { OnOk result (D.place draft.new ≡ option_map (λ place. file_alone bytes.now) (D.place draft.old)) }
     ensures kept { OnErr result (content_of (D.place draft.new) ≡ content_of (D.place draft.old)) }

@@ -1,4 +1,4 @@
-//! A host over the files of the system, as they lie in the current folder.
+//! A host over the files of the system, in the current folder.
 
 ghost use Rattle.std.specs.Prelude.{◌≡◌, ◌≢◌, ◌+◌, ◌<◌, ◌≤◌, ◌↔◌, ◌++◌, length, vec_len, None, IfOk, IfErr, IfSome, OnOk, OnErr};
 ghost use Rattle.host_storage.specs.Folders.{failures_after_making};
@@ -19,22 +19,21 @@ use std::os::unix::fs::FileTypeExt;
 use std::path::Path;
 use std::rt::Files;
 
-/// How many bytes each read of a file asks for: an image takes eleven of them.
+/// How many bytes each read of a file asks for. An image takes eleven reads.
 const READ_BYTES: usize = 16_384;
 
 /// The files of the system, by their paths from the current folder.
-///
-/// It tells a proof nothing of its files, since others write to them too. A store replaces a file
-/// that is there in one step, or leaves it as it was; a new file is removed again where its writing
-/// fails. What is made new waits for no disk.
+/// It exposes no files to proofs, since others write to them too. A store replaces an existing file
+/// in one step, or leaves it unchanged; a new file is removed again if writing it fails. What is
+/// made new does not wait for the disk.
 #[derive(Drop)]
 pub struct FolderHost<R> {
     rt: R,
-    /// Through what files are read, once the first one was. It is kept, so that it is cleared once
-    /// and not for each file.
+    /// The buffer for reads, from the first read on. It is kept, so that it is cleared once and not
+    /// for each file.
     buffer: Option<Box<[u8; READ_BYTES]>>,
     writes: Writes,
-    /// What is open as the standard streams, once the first file was to be stored.
+    /// What is open as the standard streams, from the first store on.
     streams: Option<StandardStreams>,
     failures: u64,
 }
@@ -48,7 +47,7 @@ impl<R> Model for FolderHost<R> {
 }
 
 impl<R: Files + Drop> FolderHost<R> {
-    /// A host over the files of this runtime, with no failure counted.
+    /// A host over the files of this runtime, which has counted no failure.
     pub fn new(rt: R) -> FolderHost<R>
         ensures { result ≡ 0 }
     {
@@ -160,7 +159,7 @@ where
     }
 }
 
-/// Counts an outcome that is the device's fault.
+/// Counts an outcome if it is a failure of the device.
 fn count_failure<T>(failures: &mut u64, outcome: &Result<T, HostFault>)
     ensures { failures.new ≡ failures_after failures.old outcome.now }
 {
@@ -169,7 +168,7 @@ fn count_failure<T>(failures: &mut u64, outcome: &Result<T, HostFault>)
     }
 }
 
-/// Counts an outcome of a call that makes something new, where it is the device's fault.
+/// Counts an outcome of a call that makes something new, if it is a failure of the device.
 fn count_refusal(failures: &mut u64, outcome: &Result<(), FolderFault>)
     ensures { failures.new ≡ failures_after_making failures.old outcome.now }
 {
@@ -178,7 +177,7 @@ fn count_refusal(failures: &mut u64, outcome: &Result<(), FolderFault>)
     }
 }
 
-/// Puts the bytes of the file at this path in the place of what `bytes` has.
+/// Replaces `bytes` by the bytes of the file at this path.
 fn read_file<R: Files>(
     rt: &R,
     path: &str,
@@ -201,8 +200,8 @@ fn read_file<R: Files>(
     }
 }
 
-/// Whether a named pipe is at this path: to open it may wait for ever for someone who writes to it.
-/// A pipe that the process has open already, as by `<(..)` of a shell, isn't one.
+/// Whether a named pipe is at this path: opening one may wait for ever for its writer. A pipe that
+/// the process has open already, such as `<(..)` of a shell, does not count.
 fn is_named_pipe<R: Files>(rt: &R, path: &str) -> bool {
     if is_open_already(path) {
         return false;
@@ -213,12 +212,12 @@ fn is_named_pipe<R: Files>(rt: &R, path: &str) -> bool {
     }
 }
 
-/// Whether a path is one of those by which a system shows a process the files that it has open.
+/// Whether a path is one under which a system shows a process the files that it has open.
 fn is_open_already(path: &str) -> bool {
     path == "/dev/stdin" || path.starts_with("/dev/fd/") || path.starts_with("/proc/self/fd/")
 }
 
-/// Opens the file at this path, to be read.
+/// Opens the file at this path for reading.
 fn open_file<R: Files>(rt: &R, path: &str) -> Result<Retrying<R::File>, HostFault>
     ensures { result ≢ Err HostFault.TooLong }
 {
@@ -228,8 +227,8 @@ fn open_file<R: Files>(rt: &R, path: &str) -> Result<Retrying<R::File>, HostFaul
     }
 }
 
-/// Why a file could not be opened: the system says of a path that it leads to no file, or has
-/// another fault.
+/// The fault of a file that could not be opened: the path leads to no file, or anything else that
+/// the system reports.
 fn open_fault(kind: ErrorKind) -> HostFault
     ensures missing { (result ≡ HostFault.Missing) ↔ (kind ≡ ErrorKind.NotFound) }
     ensures device { kind ≢ ErrorKind.NotFound → result ≡ HostFault.Device }
@@ -240,8 +239,7 @@ fn open_fault(kind: ErrorKind) -> HostFault
     }
 }
 
-/// Puts all that a file has left in the place of what `bytes` has. The read that passes the limit is
-/// the last one.
+/// Replaces `bytes` by all that a file has left. The read that passes the limit is the last one.
 fn read_to_end<F: Read>(
     file: &mut F,
     buffer: &mut [u8],
@@ -265,7 +263,7 @@ fn read_to_end<F: Read>(
     unreachable!()
 }
 
-/// Adds a piece that was read, where with it there are at most `limit` bytes.
+/// Appends a piece that was read, if there are at most `limit` bytes with it.
 fn add_piece(bytes: &mut Vec<u8>, piece: &[u8], limit: usize) -> Result<(), HostFault>
     requires { vec_len bytes.old ≤ limit }
     ensures added { OnOk result (bytes.new.items ≡ bytes.old.items ++ piece.now) }

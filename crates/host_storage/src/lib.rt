@@ -1,7 +1,7 @@
 //! Hosts, which read and store the files of the shell by their names: one in memory, and one over
 //! the folders of the system, whose stores are whole or not at all.
 //!
-//! Contracts show the files of a host in memory, and none of a host over folders.
+//! Contracts speak of the files of a host in memory, but not of those of a host over folders.
 #![tactic(auto)]
 
 mod access;

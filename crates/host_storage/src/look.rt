@@ -1,4 +1,4 @@
-//! What keeps a file of the system from being read or written, by its path.
+//! What prevents the reading or writing of a file of the system, by its path.
 
 ghost use Rattle.std.specs.Prelude.{◌≡◌, ◌≢◌, ◌⊎◌, ◌↔◌, Some};
 
@@ -7,8 +7,8 @@ use std::fs::{self, File, OpenOptions};
 use std::io::ErrorKind;
 use std::rt::Files;
 
-/// What keeps the file at this path from being read, as far as the system says. Nothing but a plain
-/// file is opened: the opening of a pipe waits for its other end.
+/// What prevents the reading of the file at this path, as far as the system says. Only a plain file
+/// is opened, since opening a pipe waits for its other end.
 pub fn obstacle<R: Files>(rt: &R, path: &str) -> Option<Obstacle> {
     let found = match fs::metadata(rt, path) {
         Ok(found) => found,
@@ -26,7 +26,7 @@ pub fn obstacle<R: Files>(rt: &R, path: &str) -> Option<Obstacle> {
     }
 }
 
-/// What an error of the system says of a path.
+/// What an error of the system says about a path.
 fn obstacle_of(kind: ErrorKind) -> Option<Obstacle>
     ensures nothing { (result ≡ Some Obstacle.Nothing) ↔ ((kind ≡ ErrorKind.NotFound) ⊎ (kind ≡ ErrorKind.NotADirectory)) }
     ensures permission { (result ≡ Some Obstacle.NoPermission) ↔ (kind ≡ ErrorKind.PermissionDenied) }
@@ -39,8 +39,8 @@ fn obstacle_of(kind: ErrorKind) -> Option<Obstacle>
     }
 }
 
-/// What keeps the file at this path from being written, as far as the system says it of what is
-/// there. Nothing but a plain file is opened, and none is changed.
+/// What prevents the writing of the file at this path, as far as the system says it of what is
+/// there. Only a plain file is opened, and no file is changed.
 pub fn write_obstacle<R: Files>(rt: &R, path: &str) -> Option<WriteObstacle> {
     let found = match fs::metadata(rt, path) {
         Ok(found) => found,
@@ -59,7 +59,7 @@ pub fn write_obstacle<R: Files>(rt: &R, path: &str) -> Option<WriteObstacle> {
     }
 }
 
-/// What an error of the system says of a path that was to be written.
+/// What an error of the system says about a path that was to be written.
 pub fn write_obstacle_of(kind: ErrorKind) -> Option<WriteObstacle>
     ensures no_folder { (result ≡ Some WriteObstacle.NoFolder) ↔ (kind ≡ ErrorKind.NotFound) }
     ensures not_folder { (result ≡ Some WriteObstacle.NotFolder) ↔ (kind ≡ ErrorKind.NotADirectory) }

@@ -1,4 +1,4 @@
-//! A host in memory, for tests and for what needs no disk.
+//! A host in memory, for tests and for whatever needs no disk.
 
 ghost use Rattle.std.specs.Prelude.{◌≡◌, ℕ, ◌+◌, ◌-◌, ◌↔◌, ◌++◌, [], None, Some, Ok, Err, MatchOption, true, OnOk, OnErr, IfOk, IfErr, IfSome, IsTrue, option_copied, unwrap_or, string_bytes};
 ghost use Rattle.std.specs.FinMap.{contains_key, empty, get, insert};
@@ -12,8 +12,8 @@ use std::alloc::{AllocError, Global};
 use std::collections::{BTreeMap, VecDeque};
 use std::marker::Model;
 
-/// Files in memory, by name. One of its calls can be made to fail, as a disk would. A folder is a
-/// file of no bytes whose name ends with a slash; a file needs none around it.
+/// Files in memory, by name. One of its calls can be made to fail, as a disk would. A folder is an
+/// empty file whose name ends with a slash; a file needs no folder around it.
 #[derive(Drop)]
 pub struct MemoryHost {
     alloc: Global,
@@ -33,7 +33,7 @@ impl Model for MemoryHost {
 }
 
 impl MemoryHost {
-    /// A host with no file, of which no call fails.
+    /// A host with no file, whose calls do not fail.
     pub fn new(alloc: Global) -> MemoryHost
         ensures { result ≡ record { files = empty; countdown = 0; failures = 0 } }
     {
@@ -45,7 +45,7 @@ impl MemoryHost {
         }
     }
 
-    /// Makes these bytes the content of the named file. It is no call that `fail_at` counts.
+    /// Makes these bytes the content of the named file. `fail_at` does not count this call.
     pub fn put(&mut self, name: &str, bytes: &[u8]) -> Result<(), AllocError>
         ensures accepted { OnOk result (self.new ≡ record self.old { files = insert self.old.files name.now bytes.now }) }
         ensures refused { OnErr result (self.new ≡ self.old) }
@@ -56,16 +56,16 @@ impl MemoryHost {
         Ok(())
     }
 
-    /// The bytes of the named file, where there is one.
+    /// The bytes of the named file, if there is one.
     pub fn file(&self, name: &str) -> Option<&[u8]>
         ensures { option_copied result ≡ get self.now.files name.now }
     {
         self.entries.get(name).map(|bytes| bytes.as_slice())
     }
 
-    /// Makes the `k`-th call from now on, but for those that look, answer `Device` and change no
-    /// file, where 1 is the next; none where `k` is 0. It takes the place of what an earlier call
-    /// of this asked for.
+    /// Makes the `k`-th call from now on return `Device` and change no file, where 1 is the next
+    /// one; no call if `k` is 0. Calls that only look do not count. It replaces what an earlier
+    /// call of this asked for.
     pub fn fail_at(&mut self, k: u64)
         ensures countdown { self.new ≡ record self.old { countdown = k } }
 
@@ -76,7 +76,7 @@ impl MemoryHost {
         self.countdown = k;
     }
 
-    /// Counts a fetch or a store, and says whether it is the one to fail.
+    /// Counts a fetch or a store. Returns whether it is the one to fail.
     fn count_call(&mut self) -> bool
         ensures fails { IsTrue result ↔ (self.old.countdown ≡ 1) }
         ensures counted { self.new ≡ after_call self.old }
@@ -89,7 +89,7 @@ impl MemoryHost {
         fails
     }
 
-    /// Counts a call that makes something new at this path, and refuses it where it is the one to
+    /// Counts a call that makes something new at this path. An error comes if it is the one to
     /// fail, or something is there.
     fn begin_making(&mut self, path: &str) -> Result<(), FolderFault>
         ensures exactly { MatchOption (making_refusal self.old path.now) (result ≡ Ok tt) (λ fault. result ≡ Err fault) }
@@ -106,7 +106,7 @@ impl MemoryHost {
         Ok(())
     }
 
-    /// Puts a file. Want of memory is the device's fault, as a full disk is.
+    /// Stores a file. If memory is out, the error is the device's, as for a full disk.
     fn put_or_refuse(&mut self, name: &str, bytes: &[u8]) -> Result<(), FolderFault>
         ensures countdown { self.new.countdown ≡ self.old.countdown }
         ensures accepted { OnOk result (self.new.files ≡ with_file name.now bytes.now self.old.files) }
@@ -120,8 +120,8 @@ impl MemoryHost {
         }
     }
 
-    /// The bytes of the named file with these behind them, or None where there is no such file, or
-    /// no memory.
+    /// The bytes of the named file followed by these, or None if there is no such file, or no
+    /// memory.
     fn longer(&self, name: &str, bytes: &[u8]) -> Option<Vec<u8>>
         ensures { IfSome result (λ longer. contains_key self.now.files name.now ≡ true × longer.items ≡ unwrap_or (get self.now.files name.now) [] ++ bytes.now) }
     {
@@ -152,7 +152,7 @@ impl MemoryHost {
         false
     }
 
-    /// The entries once a folder has another path.
+    /// The entries after a folder gets another path.
     fn moved(&self, from: &str, to: &str) -> Result<BTreeMap<String, Vec<u8>>, AllocError>
         ensures { IfOk result (λ entries. files_of entries.entries ≡ with_moved from.now to.now self.now.files) }
     {
@@ -168,7 +168,7 @@ impl MemoryHost {
     }
 }
 
-/// The name that stands for the folder at this path: the path and a slash.
+/// The name of the folder at this path: the path and a slash.
 fn folder_name(alloc: Global, path: &str) -> Result<String, AllocError>
     ensures { IfOk result (λ name. string_bytes name ≡ folder_name path.now) }
 {
@@ -177,7 +177,7 @@ fn folder_name(alloc: Global, path: &str) -> Result<String, AllocError>
     Ok(name)
 }
 
-/// Whether a name stands for the folder at this path.
+/// Whether a name is that of the folder at this path.
 fn is_folder_name(name: &str, path: &str) -> bool
     ensures { IsTrue result ↔ (name.now ≡ folder_name path.now) }
 {
@@ -187,7 +187,7 @@ fn is_folder_name(name: &str, path: &str) -> bool
     }
 }
 
-/// The name of a file once what began with the one text begins with the other.
+/// The name of a file after its beginning is replaced by another.
 fn moved_name(alloc: Global, name: &str, from: &str, to: &str) -> Result<String, AllocError>
     ensures { IfOk result (λ moved. string_bytes moved ≡ moved_name from.now to.now name.now) }
 {

@@ -1,4 +1,4 @@
-//! New files and folders of the system, which take no other's place, and files that grow.
+//! New files and folders of the system, which replace nothing, and files that grow.
 
 ghost use Rattle.std.specs.Prelude.{◌≡◌, ◌≢◌, ◌↔◌, Err};
 
@@ -21,8 +21,8 @@ pub fn make_folder<R: Files>(rt: &R, writes: &Writes, path: &str) -> Result<(), 
     fs::create_dir(rt, path).map_err(|error| refused(writes, error.kind()))
 }
 
-/// Makes a file of these bytes, where the limit lets a file have so many, or takes it away again
-/// where its writing fails. It waits for no disk.
+/// Makes a file of these bytes, if the limit allows a file of this length, and removes it again if
+/// writing fails. It does not wait for the disk.
 pub fn make_file<R: Files>(
     rt: &R,
     writes: &Writes,
@@ -35,15 +35,15 @@ pub fn make_file<R: Files>(
     let mut file = File::create_new(rt, path).map_err(|error| refused(writes, error.kind()))?;
     if let Err(error) = write_to_end(&mut file, bytes) {
         writes.keep(error.kind());
-        // The call is refused already, and no more can be done where the file cannot be removed.
+        // The call has failed already, and no more can be done if the file cannot be removed.
         let _ = fs::remove_file(rt, path);
         return Err(FolderFault::Device);
     }
     Ok(())
 }
 
-/// Adds these bytes at the end of the plain file at this path, where the limit lets it have them. It
-/// waits for no disk. Where the writing fails, a first part of them may be there.
+/// Appends these bytes to the plain file at this path, if the limit allows it. It does not wait for
+/// the disk. If writing fails, a first part of them may be there.
 pub fn extend_file<R: Files>(
     rt: &R,
     writes: &Writes,
@@ -61,8 +61,8 @@ pub fn extend_file<R: Files>(
     }
 }
 
-/// Adds these bytes at the end of the plain file at this path. What a link leads to, or what came to
-/// the path meanwhile, is left as it is.
+/// Appends these bytes to the plain file at this path. A link, or what others have put at the path
+/// meanwhile, is left as it is.
 fn try_extend<R: Files>(rt: &R, writes: &Writes, path: &str, bytes: &[u8]) -> io::Result<()> {
     let found = fs::symlink_metadata(rt, path)?;
     if !found.is_file() {
@@ -80,8 +80,8 @@ fn try_extend<R: Files>(rt: &R, writes: &Writes, path: &str, bytes: &[u8]) -> io
     write_to_end(&mut file, bytes)
 }
 
-/// Gives a folder another path, where nothing is at that. The system itself would put it in the
-/// place of an empty folder.
+/// Gives a folder another path, if nothing is there. The system itself would replace an empty
+/// folder.
 pub fn rename_folder<R: Files>(
     rt: &R,
     writes: &Writes,
@@ -94,7 +94,7 @@ pub fn rename_folder<R: Files>(
     fs::rename(rt, from, to).map_err(|error| refused(writes, error.kind()))
 }
 
-/// Why nothing was made, where what the system says of it is kept.
+/// The fault for which nothing was made. What the system says of it is kept.
 fn refused(writes: &Writes, kind: ErrorKind) -> FolderFault
     ensures exists { (result ≡ FolderFault.Exists) ↔ (kind ≡ ErrorKind.AlreadyExists) }
     ensures device { kind ≢ ErrorKind.AlreadyExists → result ≡ FolderFault.Device }
@@ -103,7 +103,8 @@ fn refused(writes: &Writes, kind: ErrorKind) -> FolderFault
     entry_fault(kind)
 }
 
-/// Why nothing was made: the system says of a path that something is there, or has another fault.
+/// The fault for which nothing was made: something is at the path, or anything else that the system
+/// reports.
 fn entry_fault(kind: ErrorKind) -> FolderFault
     ensures exists { (result ≡ FolderFault.Exists) ↔ (kind ≡ ErrorKind.AlreadyExists) }
     ensures device { kind ≢ ErrorKind.AlreadyExists → result ≡ FolderFault.Device }

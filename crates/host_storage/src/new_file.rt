@@ -1,4 +1,4 @@
-//! New files of the system, beside those that they are to replace.
+//! New files of the system, beside those that they replace.
 
 ghost use Rattle.std.specs.Prelude.{◌≡◌, None, IfErr, OnOk};
 ghost use Rattle.std.specs.Io.KnownBytes.{Appends};
@@ -15,7 +15,7 @@ use std::os::unix::fs::OpenOptionsExt;
 use std::path::{Path, PathBuf};
 use std::rt::Files;
 
-/// A new file in the folder of the one that it is to replace, which is open for writing.
+/// A new file in the folder of the one that it replaces, which is open for writing.
 #[derive(Drop)]
 pub struct NewFile<'a, R: Files> {
     rt: &'a R,
@@ -26,9 +26,8 @@ pub struct NewFile<'a, R: Files> {
 }
 
 impl<'a, R: Files> NewFile<'a, R> {
-    /// Makes a new file beside the old one, which is open and lies at this path, under a name that
-    /// no file has. Only its owner can open it. What others have left under such names is passed
-    /// over.
+    /// Makes a new file beside the old one, which is open and at this path, under a name that no
+    /// file has. Only its owner can open it. Such names that others have left behind are skipped.
     pub fn beside(
         rt: &'a R,
         alloc: Global,
@@ -79,12 +78,12 @@ where
     }
 
     fn discard(&mut self) {
-        // The store was refused already, and no more can be done where the file cannot be removed.
+        // The store has failed already, and no more can be done if the file cannot be removed.
         let _ = fs::remove_file(self.rt, self.new_path.as_path());
     }
 }
 
-/// Writes these bytes to a file, and what it holds back of them.
+/// Writes these bytes to a file, and flushes it.
 pub fn write_to_end<F: Write>(file: &mut F, bytes: &[u8]) -> io::Result<()>
     ensures { OnOk result (Appends (F.contents file.old) (F.contents file.new) bytes.now) }
 {
@@ -110,7 +109,7 @@ fn open_new<R: Files>(rt: &R, path: Path<'_>) -> io::Result<R::File> {
         .open(rt, path)
 }
 
-/// Waits until the disk has the folder's new entry, where the system can tell: the file is whole
+/// Waits until the disk has the folder's new entry, if the system offers that. The file is whole
 /// either way.
 fn sync_folder_of<R: Files>(rt: &R, path: Path<'_>) {
     let folder = match path.parent() {

@@ -9,7 +9,7 @@ use std::str;
 /// The most bytes that are read of such a file, which is shorter.
 const STATUS_BYTES: usize = 4096;
 
-/// The number after these words in such a file, or None where there is none.
+/// The number after this text in such a file, or None if there is no number.
 pub fn number_after<R: Files>(rt: &R, path: &str, words: &str) -> Option<u64> {
     let mut bytes = [0; STATUS_BYTES];
     let count = File::open(rt, path).ok()?.read(&mut bytes).ok()?;
@@ -18,7 +18,7 @@ pub fn number_after<R: Files>(rt: &R, path: &str, words: &str) -> Option<u64> {
     rest.split_whitespace().next()?.parse().ok()
 }
 
-/// The device on which the files of processes lie, where the system shows them.
+/// The device on which the files of processes are, if the system shows them.
 pub fn device_of_processes<R: Files>(rt: &R) -> Option<u64> {
     let link = fs::symlink_metadata(rt, "/proc/self").ok()?;
     // The system's own link has no length; one that was copied from it has that of its text.

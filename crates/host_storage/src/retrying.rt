@@ -1,4 +1,4 @@
-//! Reading and writing on where a signal interrupts.
+//! Reads and writes that are repeated after a signal interrupts them.
 
 ghost use Rattle.std.specs.Prelude.{◌≢◌, IfErr};
 ghost use Rattle.std.specs.Io.{ReadsAtMost, WritesAtMost};
@@ -7,8 +7,7 @@ ghost use Rattle.std.specs.IoError.{error_kind};
 
 use std::io::{self, ErrorKind, Read, Write};
 
-/// A reader that reads again where a read is interrupted, or a writer that writes again where a
-/// write is.
+/// A reader or a writer that repeats a read or a write after an interruption.
 #[derive(Drop)]
 pub struct Retrying<R>(pub R);
 

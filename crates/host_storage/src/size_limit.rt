@@ -1,18 +1,18 @@
 //! The limit of the system on the size of a file. A write at the limit ends the process by a
-//! signal, so what writes to a file looks first.
+//! signal, so the limit is looked up before a write.
 
 use crate::process_status::number_after;
 use crate::standard_streams::StandardStream;
 use std::cell::Cell;
 use std::rt::Files;
 
-/// How many bytes the system lets a file of this process have. The system is asked once, before the
-/// first write: what only reads need not wait for its answer.
+/// How many bytes the system allows a file of this process. The system is asked once, before the
+/// first write, so that reading does not wait for it.
 #[derive(Debug, Default, Drop)]
 pub struct SizeLimit(Cell<Option<u64>>);
 
 impl SizeLimit {
-    /// The number of bytes: the greatest one where there is no limit, or the system does not say.
+    /// The number of bytes: the greatest number if there is no limit, or the system does not say.
     fn bytes<R: Files>(&self, rt: &R) -> u64 {
         if let Some(bytes) = self.0.get() {
             return bytes;
@@ -22,13 +22,13 @@ impl SizeLimit {
         bytes
     }
 
-    /// Whether a file may have so many bytes.
+    /// Whether a file can have this many bytes.
     pub fn holds<R: Files>(&self, rt: &R, length: u64) -> bool {
         length <= self.bytes(rt)
     }
 
-    /// Whether a standard stream goes to a file that has all the bytes that it may have: a write to
-    /// it would end the process by a signal.
+    /// Whether a standard stream goes to a file that has reached the limit: a write to it would end
+    /// the process by a signal.
     pub fn is_reached_by<R: Files>(&self, rt: &R, stream: StandardStream) -> bool {
         let limit = self.bytes(rt);
         if limit == u64::MAX {

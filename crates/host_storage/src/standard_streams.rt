@@ -18,7 +18,7 @@ pub enum StandardStream {
 }
 
 impl StandardStream {
-    /// What the system says of what is open as this stream, where something is.
+    /// The system's metadata of what is open as this stream, if something is.
     pub fn metadata<R: Files>(self, rt: &R) -> Option<Metadata> {
         let path = match self {
             StandardStream::Input => "/proc/self/fd/0",
@@ -39,12 +39,12 @@ impl StandardStream {
     }
 }
 
-/// What the system says of what is open as each standard stream of the process, where something is.
+/// The system's metadata of what is open as each standard stream of the process, if something is.
 #[derive(Drop)]
 pub struct StandardStreams([Option<Metadata>; 3]);
 
 impl StandardStreams {
-    /// The streams of this process. They are asked for before anything is opened, which could get
+    /// The streams of this process. They are looked up before anything is opened, which could get
     /// the descriptor of a stream that is closed.
     pub fn of_process<R: Files>(rt: &R) -> StandardStreams {
         let streams = [
@@ -60,7 +60,7 @@ impl StandardStreams {
         self.0.iter().flatten().any(|open| is_same_file(open, file))
     }
 
-    /// Whether what this name leads to is open as one of them too, or may be, since the system does
+    /// Whether the file of this name is open as one of them too, or may be, since the system does
     /// not say.
     pub fn may_have<R: Files>(&self, rt: &R, name: &str) -> bool {
         match fs::metadata(rt, name) {

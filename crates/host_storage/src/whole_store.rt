@@ -21,20 +21,20 @@ use std::os::unix::fs::MetadataExt;
 use std::path::{AsPath, PathBuf};
 use std::rt::Files;
 
-/// How many links are followed from a name, as many as the system follows.
+/// How many links are followed from a name: as many as the system follows.
 const MOST_LINKS: u32 = 40;
 
-/// How often a store looks again for a file in whose place another one came meanwhile.
+/// How often a store looks again for a file that another one has replaced meanwhile.
 const MOST_TRIES: u32 = 1_000;
 
-/// Where the links from a name end, and what lies there: a link is one of the system's own.
+/// The end of the links from a name, and what is there. A link there is one of the system's own.
 #[derive(Drop)]
 struct End {
     path: PathBuf,
     found: Option<Metadata>,
 }
 
-/// What a store does about what it has opened.
+/// What a store does with the file that it has opened.
 #[derive(Clone, Copy, Debug, PartialEq, Eq)]
 enum Way {
     /// It writes to it as it is.
@@ -47,9 +47,9 @@ enum Way {
 
 /// Makes these bytes the whole content of what this name leads to.
 ///
-/// A file that is there is replaced in one step, or stays as it is. One that is not there is made,
-/// and removed again where its writing fails. What isn't a file is written as it is. What is open
-/// as a standard stream is refused, and a file of more bytes than the limit lets one have.
+/// An existing file is replaced in one step, or stays as it is. A new file is made, and removed
+/// again if writing fails. What isn't a plain file is written in place. An error comes if it is
+/// open as a standard stream, or if the limit does not allow as many bytes.
 pub fn store_file<R: Files>(
     rt: &R,
     alloc: Global,
@@ -70,8 +70,8 @@ where
     Err(HostFault::Device)
 }
 
-/// Stores to what this name leads to, unless others change that between two looks at it. Returns
-/// whether it has stored.
+/// Stores to the file of this name, unless others change what the name leads to between two looks.
+/// Returns whether it has stored.
 fn try_store<R: Files>(
     rt: &R,
     alloc: Global,
@@ -87,7 +87,7 @@ where
     if streams.may_have(rt, name) {
         return Err(HostFault::Device);
     }
-    // The system opens the file, by its own rules of which links may be followed.
+    // The system opens the file, by its own rules for links.
     let opened = OpenOptions::new().write(true).open(rt, name);
     let end = end_of_links(rt, alloc, name)?;
     match opened {
@@ -102,8 +102,8 @@ where
     }
 }
 
-/// Stores where something is, which is open for writing, if it still lies where the links end.
-/// Returns whether it has stored.
+/// Stores to what exists and is open for writing, if it is still at the end of the links. Returns
+/// whether it has stored.
 fn store_over<R: Files>(
     rt: &R,
     alloc: Global,
@@ -137,7 +137,7 @@ impl End {
         self.found.as_ref().is_some_and(|found| found.is_symlink())
     }
 
-    /// Whether this file is what lies there.
+    /// Whether this file is what is there.
     fn has(&self, file: &Metadata) -> bool {
         self.found
             .as_ref()
@@ -145,8 +145,8 @@ impl End {
     }
 }
 
-/// How a store goes on from what it has opened: a plain file or not, to which a link of the system's
-/// own leads or none, and which still lies where the links end or does not.
+/// What a store does with what it has opened, by whether it is a plain file, whether a link of the
+/// system's own leads to it, and whether it is still at the end of the links.
 fn way_of(is_file: bool, is_by_system_link: bool, is_found: bool) -> Way
     ensures in_place { (result ≡ Way.InPlace) ↔ (is_file ≡ false ⊎ is_by_system_link ≡ true) }
     ensures replaced { (result ≡ Way.Replaced) ↔ (is_file ≡ true × is_by_system_link ≡ false × is_found ≡ true) }
@@ -160,7 +160,7 @@ fn way_of(is_file: bool, is_by_system_link: bool, is_found: bool) -> Way
     }
 }
 
-/// Puts a new file of these bytes in the place of the old one.
+/// Puts a new file of these bytes in place of the old one.
 fn replace_file<R: Files>(
     rt: &R,
     alloc: Global,
@@ -176,7 +176,7 @@ where
     replace_by(&mut file, bytes)
 }
 
-/// Writes to what no new file can stand for: a pipe, a device, or a file that is open already.
+/// Writes to what no new file can replace: a pipe, a device, or a file that is open already.
 fn write_in_place<F: OpenFile + Write + Drop>(
     mut old: F,
     is_file: bool,
@@ -190,7 +190,7 @@ fn write_in_place<F: OpenFile + Write + Drop>(
     write_to_end(&mut old, bytes).map_err(|_| HostFault::Device)
 }
 
-/// Follows the links from a name to what they lead to, but for one of the system's own.
+/// Follows the links from a name to their end, except those of the system's own.
 fn end_of_links<R: Files>(rt: &R, alloc: Global, name: &str) -> Result<End, HostFault>
     ensures { IfErr result IsOfDeviceOrMemory }
 {
@@ -212,8 +212,8 @@ fn end_of_links<R: Files>(rt: &R, alloc: Global, name: &str) -> Result<End, Host
     Err(HostFault::Device)
 }
 
-/// Whether a link on this device is one of the system's own, as those that stand for the streams of
-/// a process: what they lead to is open already, and a new file in its place would not be.
+/// Whether a link on this device is one of the system's own, such as those for the streams of a
+/// process: what they lead to is open already, and a new file would not be.
 fn is_of_system(device: u64, processes: Option<u64>) -> bool
     ensures { (result ≡ true) ↔ (processes ≡ Some device) }
 {

@@ -1,4 +1,4 @@
-//! What is known of the writes of a host: how long a file may be, and why the last one was refused.
+//! The writes of a host: how long a file can be, and why the last one failed.
 
 use crate::host::WriteObstacle;
 use crate::look::write_obstacle_of;
@@ -6,8 +6,7 @@ use crate::size_limit::SizeLimit;
 use std::cell::Cell;
 use std::io::ErrorKind;
 
-/// The limit on the size of files, and what kept the last call from writing, as far as the system
-/// said it.
+/// The limit on the size of files, and what prevented the last write, as far as the system said it.
 #[derive(Debug, Default, Drop)]
 pub struct Writes {
     pub limit: SizeLimit,
@@ -15,7 +14,7 @@ pub struct Writes {
 }
 
 impl Writes {
-    /// Begins a call: what kept the one before from writing is forgotten.
+    /// Begins a call: what prevented the one before is forgotten.
     pub fn begin(&self) {
         self.obstacle.set(None);
     }
@@ -25,7 +24,7 @@ impl Writes {
         self.obstacle.set(write_obstacle_of(kind));
     }
 
-    /// What kept the last call from writing.
+    /// What prevented the last write.
     pub fn obstacle(&self) -> Option<WriteObstacle> {
         self.obstacle.get()
     }

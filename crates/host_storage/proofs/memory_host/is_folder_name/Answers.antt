@@ -5,7 +5,7 @@ use Rattle.std.proofs.lemmas.Str.Pattern.{strip_suffix_char}
 use Rattle.std.proofs.lemmas.Slice.Eq.{bytes_eq-Decides}
 use Rattle.host_storage.proofs.memory_host.is_folder_name.Goals as goal
 
--- what stands before the slash is the path, or the name is another one
+-- the part before the slash is the path, or the name is another one
 pub returns-in-Some : goal.returns-in-Some
 returns-in-Some c =
     let told = strip_suffix_char 47 c.args.name.now c.strip_suffix.result c.strip_suffix.ensures.cases (omega arith) in

@@ -7,7 +7,7 @@ use Rattle.host_storage.specs.Folders.{folder_name}
 use Rattle.host_storage.proofs.FilesOfEntries.{is_named, unnamed, lookup-push, has_file, lacks_file}
 use Rattle.host_storage.proofs.memory_host.MemoryHost.has_folder.Goals as goal
 
--- the name that is found stands among the entries
+-- the name that is found is among the entries
 pub returns-then-is_folder_name : goal.returns-then-is_folder_name
 returns-then-is_folder_name c =
     let all : c.self.inside.entries.entries ≡ map deref_pair c.loop-name.yielded ++ deref_pair (c.in-Some.name, c.in-Some.field-0-1) ∷ c.next.new.self =

@@ -10,7 +10,7 @@ use Rattle.host_storage.specs.Folders.{folder_name, with_moved}
 use Rattle.host_storage.proofs.Moves.{as_file, moved_in, moved_all, moved_step, moved_name-same}
 use Rattle.host_storage.proofs.memory_host.MemoryHost.moved.Goals as goal
 
--- one more entry has its new name, where no other had that, and where one had
+-- one more entry has its new name, whether or not another one had that name
 pub loop-name-preserved-in_ok-insert : goal.loop-name-preserved-in_ok-insert
 loop-name-preserved-in_ok-insert c =
     let from = c.as_str-in-loop-name.ensures.value ∙ c.in_ok-old.ensures in
