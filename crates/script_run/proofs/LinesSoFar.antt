@@ -202,7 +202,7 @@ RunsLine-skipped manner raw writer world after tally skipped =
       written = Appends-nil writer;
     })
 
--- a line that is answered has run, and its answer was written
+-- a line that prints has run, and what it prints was written
 pub RunsLine-answered : {E : Type 0} (manner : Manner) (raw : List ℕ) (old new : Option (List ℕ)) (world left : World) (before after : Tally) (answer : LineAnswer) (wrote : Result (Unit {0}) E)
     → IsAnswered manner.home world.history raw world answer left → after.closed ≡ (answer.closes || ends_script manner.refusals answer.status)
     → after.outcome.accepted ≡ before.outcome.accepted + (if is_accepted answer.status then 1 else 0)
@@ -216,7 +216,7 @@ RunsLine-answered manner raw old new world left before after answer (Ok done) an
 }
 RunsLine-answered manner raw old new world left before after answer (Err error) answered closes accepted refused written = tt
 
--- a write of its answer failed
+-- a write of what it prints failed
 pub StopsInLine-answered : {E : Type 0} (manner : Manner) (raw : List ℕ) (old new : Option (List ℕ)) (world left : World) (before : Tally) (answer : LineAnswer) (wrote : Result (Unit {0}) E)
     → IsAnswered manner.home world.history raw world answer left → OnErr wrote (AppendsPart old new (printed_bytes answer))
     → OnErr wrote (StopsInLine manner raw (record { writer = old; world = world }) (record { writer = new; world = left }) before)

@@ -30,11 +30,11 @@ in_false : (test : Bool) (P Q : Type 0) → test ≡ false → Q → MatchBool t
 in_false true P Q holds q = absurd (false≢true (sym holds))
 in_false false P Q holds q = q
 
--- an ended line is what stands before its LF, and the LF
+-- an ended line is the part before its LF, and the LF
 pub is_with_line_feed : (part : List ℕ) → IsRaw part → is_ended part ≡ true → part ≡ before_end part ++ 10 ∷ []
 is_with_line_feed part raw ended = of_true (is_ended part) (part ≡ before_end part ++ 10 ∷ []) (part ≡ before_end part) ended raw.1
 
--- a line that isn't ended is what stands before its end
+-- a line that isn't ended is the part before its end
 is_without_line_feed : (part : List ℕ) → IsRaw part → is_ended part ≡ false → part ≡ before_end part
 is_without_line_feed part raw open_part = of_false (is_ended part) (part ≡ before_end part ++ 10 ∷ []) (part ≡ before_end part) open_part raw.1
 
@@ -147,7 +147,7 @@ stopped_at_line manner first old new tally line longer ended before done part fr
     (StoppedAt-ended manner first old new tally line (before ++ done) (before_end part) rest more come raw.0
     (stops ((come.begun ++ before_end part) ++ 10 ∷ []) says come.open_run))
 
--- where the run comes to, by whether a `quit` was accepted
+-- the end of a step, by whether a `quit` was accepted
 pub has_closed : (manner : Manner) (first stand : ScriptState) (tally : Tally) (line : HeldLine) (bytes : List ℕ)
     → tally.closed ≡ true → ComesTo manner first stand tally line bytes → HasClosed manner first stand tally bytes
 has_closed manner first stand tally line bytes closed_run comes =

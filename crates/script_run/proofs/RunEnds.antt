@@ -22,7 +22,7 @@ use Rattle.script_run.specs.declared.runner.Tally.{Tally}
 use Rattle.script_run.proofs.LinesSoFar.{lines_of-whole}
 use Rattle.script_run.proofs.ScriptRuns.{StoppedAt-more}
 
--- the stand after a flush
+-- the state after a flush
 abbrev pub flushed_stand : ScriptState → Option (List ℕ) → ScriptState
 flushed_stand stand flushed = record { writer = flushed; world = stand.world }
 
@@ -174,15 +174,15 @@ last_line manner (line ∷ second ∷ lines) start out after some told is_open =
       answered = last.answered;
     }
 
--- where a line was answered, there is a line
+-- if a line has printed, there is a line
 some_lines : (manner : Manner) (first stand : ScriptState) (lines : List (List ℕ)) (after : RunProgress)
     → RanLines manner first stand lines after → 0 < after.accepted + after.refused → 0 < length lines
 unfolding Transcript
 some_lines manner first stand [] after ran some = absurd (omega (arith, some, ap (λ p. p.accepted + p.refused) ran.told.1))
 some_lines manner first stand (line ∷ lines) after ran some = omega arith
 
--- a flush failed after a line was answered: the last line is the one at which the run stopped, its
--- answer written whole
+-- a flush failed after a line: that is the line at which the run stopped, and all that it prints
+-- was written
 StoppedAt-flush : (manner : Manner) (first stand : ScriptState) (lines : List (List ℕ)) (after : RunProgress) (flushed : Option (List ℕ))
     → RanLines manner first stand lines after → after.closed ≡ false → 0 < after.accepted + after.refused → Keeps stand.writer flushed
     → StoppedAt manner first (flushed_stand stand flushed) lines
@@ -254,7 +254,7 @@ pub length-read : (bytes more : List ℕ) (count least room : ℕ) → length by
 length-read bytes more count least room full held fits is =
     omega (arith, full, held, fits, is, length-append bytes (take least more), length-take least more)
 
--- a run that ends with its script has read it without a failure, and is a fault where a write has
+-- a run that ends with its script has read it without a failure, and is a fault if a write has
 -- failed
 pub EndsWith-last : (manner : Manner) (first stand : ScriptState) (script : List ℕ) (ended : Result Outcome ShellFault) (input : Reading) (old new : Bool)
     → EndsRun manner first stand script ended → input.has_failed ≡ false → old ≡ false → FailsWith ended old new → EndsWith ended input new

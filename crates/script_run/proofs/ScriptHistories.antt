@@ -64,7 +64,7 @@ given-known (Crunch text) old bytes new (crunches, same) = file_small program_st
 given-known (Expand file) old bytes new gives = tt
 given-known Room old bytes new gives = tt
 
--- none of the bytes is among others
+-- a byte that a test does not find is not among others
 absent : (byte : ℕ) (others : List ℕ) → list_any (λ f. f == byte) others ≡ false → ¬ (Contains others byte)
 absent byte [] none (k, within, is) = absurd (omega arith)
 absent byte (other ∷ others) none (zero, within, is) = eqb-false other byte (or_parts _ _ none).0 is
@@ -110,7 +110,7 @@ Leads IsOne history (Give ending) = IsStepFrom IsOne history ending.history
 Leads IsOne history (Refuse status) = Unit {0}
 Leads IsOne history (Then call next) = (bytes : List ℕ) → Known call bytes → Leads IsOne history (next bytes)
 
--- whatever comes before, it is so where it is so of the rest
+-- after any act, it holds if it holds of the rest
 after_any : {A : Type 0} (IsOne : Asked → Type 0) (history : History) (act : Act A) (next : A → Act Ending)
     → ((value : A) → Leads IsOne history (next value)) → Leads IsOne history (act >>= next)
 after_any IsOne history (Give value) next each = each value
@@ -129,7 +129,7 @@ after_need : (IsOne : Asked → Type 0) (history : History) (test : Bool) (statu
 after_need IsOne history true status next passed = passed refl
 after_need IsOne history false status next passed = tt
 
--- where no refusal applies
+-- if no refusal applies
 after_allowed : (IsOne : Asked → Type 0) (history : History) (refusal : Option Refusal) (next : Unit {0} → Act Ending)
     → (refusal ≡ None → Leads IsOne history (next tt)) → Leads IsOne history (refuse_by refusal >>= next)
 after_allowed IsOne history None next none = none refl
@@ -252,7 +252,7 @@ found-leads IsOne history first (row ∷ rows) each =
     row_or IsOne history (bytes_eq first row.0) row (find (λ r. bytes_eq first r.0) rows)
     (λ has. each.0 ((bytes_eq-Decides first row.0).0 has)) (found-leads IsOne history first rows each.1)
 
--- and so do the words of a line
+-- and so does each word of a line
 words-lead : (IsOne : Asked → Type 0) (home : List ℕ) (history : History) (words : List (List ℕ))
     → ((request : Asked) → KeepsDisksSound request → IsOne request)
     → ((more : List (List ℕ)) → words ≡ codes "bwrite" ∷ more → (request : Asked) → IsOne request)
@@ -281,7 +281,7 @@ line-leads manner history line =
     (λ words cut. words-lead (AsksIn line) manner.home history words (λ request keeps. inr keeps)
     (λ more is request. inl (record { words = more; cut = cut ∙ ap Some is }))))
 
--- where a call may be refused, what follows it leads
+-- if a call can be refused, what follows it leads
 given-leads : (IsOne : Asked → Type 0) (history : History) (call : Call) (next : List ℕ → Act Ending) (given : Result (List ℕ) Status) (host : HostState) (world : World) (answer : LineAnswer) (left : World)
     → world.history ≡ history → Gives call world.host given host
     → ((bytes : List ℕ) → Known call bytes → Does (next bytes) (record { host = host; history = world.history }) answer left → IsStepFrom IsOne history left.history)
@@ -292,7 +292,7 @@ given-leads : (IsOne : Asked → Type 0) (history : History) (call : Call) (next
 given-leads IsOne history call next (Ok bytes) host world answer left here gives each does = each bytes (given-known call world.host bytes host gives) does
 given-leads IsOne history call next (Err status) host world answer left here gives each does = inl (ap (λ (w : World). w.history) does.1 ∙ here)
 
--- what is done leads where the act leads
+-- what is done leads if the act leads
 done-leads : (IsOne : Asked → Type 0) (history : History) (act : Act Ending) (world : World) (answer : LineAnswer) (left : World)
     → world.history ≡ history → Leads IsOne history act → Does act world answer left → IsStepFrom IsOne history left.history
 unfolding Does
@@ -371,7 +371,7 @@ line-sound line before after other (inl same) holds = subst HoldsSoundDisks (sym
 line-sound line before after other (inr (request, answer, inl is, step)) holds = absurd (other is)
 line-sound line before after other (inr (request, answer, inr keeps, step)) holds = step-sound before request answer after step keeps holds
 
--- and so do lines of which none is one
+-- and so do lines without block writes
 pub scripts-keep_disks_sound : ScriptsKeepDisksSound
 unfolding Transcript
 scripts-keep_disks_sound manner [] progress out left silent none holds =

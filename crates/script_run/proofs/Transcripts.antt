@@ -6,7 +6,7 @@ use Rattle.script_commands.specs.Line.{act_of_line, IsSkipped, IsAnswered}
 use Rattle.script_text.specs.Status.{is_accepted}
 use Rattle.script_run.specs.Transcript.{ends_script, Manner, RunProgress, Line, Transcript, IsSilent, counted_progress}
 
--- a line that is answered is one of the open run
+-- a line that prints is one of the open run
 answered_by : (manner : Manner) (asked : Option (Act Ending)) (progress : RunProgress) (answer : LineAnswer) (world : World)
     → MatchOption asked ⊥ (λ act. Does act progress.world answer world)
     → MatchOption asked (IsSilent progress (printed_bytes answer) (counted_progress manner.refusals progress answer world))
@@ -94,7 +94,7 @@ Transcript-closed manner (line ∷ lines) more start out after told ended =
     let (said, rest, next, split, one, others) = told in
     (said, rest, next, split, one, Transcript-closed manner lines more next rest after others ended)
 
--- the run after a line that was answered: an answer more, counted
+-- the run after a line that has printed: one more line is counted
 pub Transcript-answered : (manner : Manner) (lines : List (List ℕ)) (line : List ℕ) (start : RunProgress) (out : List ℕ) (world after : World)
     (accepted refused accepted' refused' : ℕ) (closed' : Bool) (answer : LineAnswer)
     → Transcript manner lines start out (record { world = world; closed = false; accepted = accepted; refused = refused })

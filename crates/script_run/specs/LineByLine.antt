@@ -13,19 +13,19 @@ use Rattle.script_run.specs.declared.runner.Outcome.{Outcome}
 use Rattle.script_run.specs.declared.runner.ShellFault.{ShellFault}
 use Rattle.script_run.specs.declared.runner.ShellFault.TheVariants.{Write}
 
--- the progress that a tally counts, in a world
+-- the progress of a run with these counts, in a world
 abbrev pub progress_of : Tally → World → RunProgress
 progress_of tally world = record { world = world; closed = tally.closed; accepted = tally.outcome.accepted; refused = tally.outcome.refused }
 
--- the first bytes of a script are cut: into lines that are ended, and the begin of a line that goes
--- on with whatever comes next
+-- the first bytes of a script are cut into lines that are ended, and the beginning of a line that
+-- goes on with whatever comes next
 pub record AreCutInto (bytes : List ℕ) (lines : List (List ℕ)) (begun : List ℕ) : Type 0 where
   pub ended : filter is_ended lines ≡ lines
   pub is_open : IsOpen begun
   pub goes_on : (more : List ℕ) → lines_of (bytes ++ more) ≡ lines ++ lines_of (begun ++ more)
 
--- an open run has come through the first bytes of a script: their ended lines have run, and what
--- has come of the next is held
+-- an open run has come through the first bytes of a script: their ended lines have run, and the
+-- rest of them is held
 pub record ScriptHasCome (manner : Manner) (first stand : ScriptState) (tally : Tally) (line : HeldLine) (bytes : List ℕ) : Type 0 where
   pub lines : List (List ℕ)
   pub begun : List ℕ
@@ -34,7 +34,7 @@ pub record ScriptHasCome (manner : Manner) (first stand : ScriptState) (tally : 
   pub held : Holds line begun
   pub open_run : tally.closed ≡ false
 
--- the run has ended: whatever comes after the first bytes of the script, it has run
+-- the run has ended: it has run the script, whatever comes after these first bytes
 pub record HasClosed (manner : Manner) (first stand : ScriptState) (tally : Tally) (bytes : List ℕ) : Type 0 where
   pub ran : (more : List ℕ) → RanLines manner first stand (lines_of (bytes ++ more)) (progress_of tally stand.world)
   pub closed_run : tally.closed ≡ true
@@ -58,7 +58,7 @@ pub record RunsLine (manner : Manner) (line : List ℕ) (old new : ScriptState) 
   pub written : Appends old.writer new.writer said
 
 -- a write failed at a line of an open run: a part of what it prints was written, and the world is
--- that after it
+-- that after the line
 pub record StopsInLine (manner : Manner) (line : List ℕ) (old new : ScriptState) (before : Tally) : Type 0 where
   pub said : List ℕ
   pub after : RunProgress

@@ -1,4 +1,4 @@
--- What a run of a script leaves, however it ends.
+-- The effect of running a script, however it ends.
 use Rattle.std.specs.Prelude.{◌≡◌, ℕ, List, ◌∷◌, ◌++◌, take, Bool, true, false, Option, IfSome, Result, Ok, Err}
 use Rattle.std.specs.Io.KnownBytes.{Appends, Consumes}
 use Rattle.script_text.specs.Input.{Reading, IsUnreadable}
@@ -12,12 +12,11 @@ use Rattle.script_run.specs.declared.runner.ShellFault.TheVariants.{Read, Write,
 use Rattle.script_run.specs.declared.runner.Tally.{Tally}
 use Rattle.script_run.specs.declared.manners.Manner.{Manner as CodeManner}
 
--- how the code runs a script
+-- how the code's script is run
 abbrev pub manner_of : CodeManner → Manner
 manner_of manner = record { home = manner.home.now; refusals = manner.refusals }
 
--- what a run writes to, and what it works on: the writer's bytes, where they are known, and the
--- world
+-- the writer's bytes, if they are known, and the world on which a run works
 pub record ScriptState : Type 0 where
   pub writer : Option (List ℕ)
   pub world : World
@@ -25,7 +24,7 @@ pub record ScriptState : Type 0 where
 abbrev pub script_state : Option (List ℕ) → World → ScriptState
 script_state writer world = record { writer = writer; world = world }
 
--- a run that begins
+-- the progress of a run that begins
 abbrev pub first_progress : World → RunProgress
 first_progress world = record { world = world; closed = false; accepted = 0; refused = 0 }
 
@@ -36,13 +35,13 @@ pub record RanLines (manner : Manner) (old new : ScriptState) (lines : List (Lis
   pub written : Appends old.writer new.writer out
   pub world : new.world ≡ after.world
 
--- the counts of a run, and whether it was closed
+-- a tally has the counts of a run, and whether it was closed
 abbrev pub Counts : Tally → RunProgress → Type 0
 Counts tally after =
     (tally.outcome.accepted ≡ after.accepted) × (tally.outcome.refused ≡ after.refused) × (tally.closed ≡ after.closed)
 
--- a write failed at a line: what was written is what the lines before it print, and a part of its
--- answer; the world is that after it
+-- a write failed at a line: what the lines before it print was written, and a part of what it
+-- prints; the world is that after the line
 pub record StoppedAt (manner : Manner) (old new : ScriptState) (lines : List (List ℕ)) : Type 0 where
   pub before : List (List ℕ)
   pub line : List ℕ
@@ -61,7 +60,7 @@ pub record StoppedAt (manner : Manner) (old new : ScriptState) (lines : List (Li
   pub written : Appends old.writer new.writer (out ++ part)
   pub world : new.world ≡ after.world
 
--- the whole script has run, and the outcome counts its lines
+-- the whole script has run, and the outcome has the counts of its lines
 pub record RanWhole (manner : Manner) (reader : Option (List ℕ)) (old new : ScriptState) (outcome : Outcome) : Type 0 where
   pub script : List ℕ
   pub all : IfSome reader (λ bytes. script ≡ bytes)
@@ -70,7 +69,7 @@ pub record RanWhole (manner : Manner) (reader : Option (List ℕ)) (old new : Sc
   pub accepted : outcome.accepted ≡ after.accepted
   pub refused : outcome.refused ≡ after.refused
 
--- reading failed: the lines that were ended before have run, and the run did not end among them
+-- reading failed: the lines that were ended before have run, and did not end the run
 pub record RanRead (manner : Manner) (reader left : Option (List ℕ)) (old new : ScriptState) : Type 0 where
   pub consumed : List ℕ
   pub lost : Consumes reader left consumed
@@ -84,16 +83,17 @@ pub record RanUpTo (manner : Manner) (reader : Option (List ℕ)) (old new : Scr
   pub all : IfSome reader (λ bytes. script ≡ bytes)
   pub stopped : StoppedAt manner old new (lines_of script)
 
--- what a run leaves, by how it ends; it takes no memory but in commands, so it never wants any
+-- the effect of a run, by how it ends; it allocates nothing but in commands, so `Memory` never
+-- comes
 abbrev pub Ran : Manner → Option (List ℕ) → Option (List ℕ) → ScriptState → ScriptState → Result Outcome ShellFault → Type 0
 Ran manner reader left old new (Ok outcome) = RanWhole manner reader old new outcome
 Ran manner reader left old new (Err Read) = RanRead manner reader left old new
 Ran manner reader left old new (Err Write) = RanUpTo manner reader old new
 Ran manner reader left old new (Err (Memory error)) = ⊥
 
--- how the streams of a run stand, by how it ends: well where no read, no write and no flush failed;
--- as a fault of reading where a read failed or a limit was passed, and no write or flush failed;
--- and as a fault of writing where a write or a flush failed, and no read
+-- how the streams of a run ended: without a failure if the run came to its end; if it is a fault of
+-- reading, a read failed or a limit was passed, and no write or flush failed; if it is a fault of
+-- writing, a write or a flush failed, and no read
 abbrev pub EndsWith : Result Outcome ShellFault → Reading → Bool → Type 0
 EndsWith (Ok outcome) input output_failed = (input.has_failed ≡ false) × (output_failed ≡ false)
 EndsWith (Err Read) input output_failed = IsUnreadable input × (output_failed ≡ false)

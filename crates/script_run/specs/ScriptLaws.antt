@@ -8,15 +8,14 @@ use Rattle.script_text.specs.RawLines.{text_of}
 use Rattle.script_text.specs.Words.{words_of}
 use Rattle.script_run.specs.Transcript.{Manner, RunProgress, Transcript}
 
--- a run of at most so many requests leads from one history to another
+-- a run of at most n requests leads from one history to another
 pub record IsReachedIn (most : ℕ) (before after : History) : Type 0 where
   pub requests : List Asked
   pub answers : List Answer
   pub few : length requests ≤ most
   pub run : Run before requests answers after
 
--- what the lines of a script leave of the history is what a run of requests leaves, at most one a
--- line
+-- a script changes the history as a run of requests does, with at most one request for each line
 abbrev pub ScriptsAreRuns : Type 0
 ScriptsAreRuns =
     (manner : Manner) (lines : List (List ℕ)) (progress : RunProgress) (out : List ℕ) (after : RunProgress)
@@ -28,7 +27,7 @@ pub record IsBlockWrite (line : List ℕ) : Type 0 where
   pub words : List (List ℕ)
   pub cut : words_of (text_of line) ≡ Some (codes "bwrite" ∷ words)
 
--- lines of which none is a block write leave sound disks, whatever the host does
+-- lines without block writes leave sound disks sound, whatever the host does
 abbrev pub ScriptsKeepDisksSound : Type 0
 ScriptsKeepDisksSound =
     (manner : Manner) (lines : List (List ℕ)) (progress : RunProgress) (out : List ℕ) (after : RunProgress)

@@ -1,4 +1,4 @@
--- What a script prints and leaves: its lines, one after another.
+-- What a script prints and changes, line by line.
 use Rattle.std.specs.Prelude.{◌≡◌, ℕ, ◌+◌, List, [], ◌∷◌, ◌++◌, Bool, MatchBool, MatchOption, if◌then◌else◌, ◌||◌, false, not}
 use Rattle.script_commands.specs.Act.{Does, LineAnswer, World, printed_bytes}
 use Rattle.script_commands.specs.Line.{act_of_line}
@@ -7,8 +7,8 @@ use Rattle.script_text.specs.declared.status.Status.{Status}
 use Rattle.script_run.specs.declared.manners.Refusals.{Refusals}
 use Rattle.script_run.specs.declared.manners.Refusals.TheVariants.{GoOn, Stop}
 
--- how a script is run: with the name of the host file in which `save` stores by default, and with
--- what a refused line does
+-- how a script is run: the name of the host file in which `save` stores by default, and the effect
+-- of a refused line
 pub record Manner : Type 0 where
   pub home : List ℕ
   pub refusals : Refusals
@@ -17,12 +17,13 @@ pub record Manner : Type 0 where
 abbrev pub going_on : List ℕ → Manner
 going_on home = record { home = home; refusals = GoOn }
 
--- a line of this status ends its script, since it is refused
+-- whether a line of this status ends its script: it does if the line is refused and refused lines
+-- stop
 abbrev pub ends_script : Refusals → Status → Bool
 ends_script GoOn status = false
 ends_script Stop status = not (is_accepted status)
 
--- how far a run has come: the world, whether it has ended, by an accepted `quit` or a refused line,
+-- how far a run has come: the world, whether it was ended by an accepted `quit` or a refused line,
 -- and how many lines were accepted and refused
 pub record RunProgress : Type 0 where
   pub world : World
@@ -30,7 +31,7 @@ pub record RunProgress : Type 0 where
   pub accepted : ℕ
   pub refused : ℕ
 
--- the run after an answer
+-- the progress of a run after a line with this response
 abbrev pub counted_progress : Refusals → RunProgress → LineAnswer → World → RunProgress
 counted_progress refusals progress answer world = record {
   world = world;
@@ -43,7 +44,7 @@ counted_progress refusals progress answer world = record {
 abbrev pub IsSilent : RunProgress → List ℕ → RunProgress → Type 0
 IsSilent progress out after = (out ≡ []) × (after ≡ progress)
 
--- a line of a run that has not ended: it is skipped, or what it asks for is done and answered
+-- one line of a run that has not ended: it is skipped, or its command runs and prints
 unfoldable pub Line : Manner → List ℕ → RunProgress → List ℕ → RunProgress → Type 0
 Line manner line progress out after =
     MatchOption (act_of_line manner.home progress.world.history line)
@@ -51,7 +52,7 @@ Line manner line progress out after =
     (λ act. (answer : LineAnswer) × (world : World)
     × Does act progress.world answer world × (out ≡ printed_bytes answer) × (after ≡ counted_progress manner.refusals progress answer world))
 
--- lines in turn, each with what it prints; after the run's end they are silent
+-- lines in turn, each with what it prints; after the run's end they print nothing
 unfoldable pub Transcript : Manner → List (List ℕ) → RunProgress → List ℕ → RunProgress → Type 0
 Transcript manner [] progress out after = IsSilent progress out after
 Transcript manner (line ∷ lines) progress out after =

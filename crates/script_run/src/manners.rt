@@ -9,11 +9,11 @@ use script_text::status::Status;
 pub struct Manner<'n> {
     /// The name of the host file in which `save` stores by default, or empty.
     pub home: &'n str,
-    /// What a refused line does.
+    /// The effect of a refused line.
     pub refusals: Refusals,
 }
 
-/// What a refused line does to its script.
+/// The effect of a refused line on its script.
 #[derive(Clone, Copy, Debug, PartialEq, Eq)]
 pub enum Refusals {
     /// The script goes on with the next line.
@@ -23,7 +23,8 @@ pub enum Refusals {
 }
 
 impl Refusals {
-    /// Whether a line of this status ends its script, since it is refused.
+    /// Whether a line of this status ends its script: it does if the line is refused and refused
+    /// lines stop.
     pub(crate) fn ends_script(self, status: &Status) -> bool
         ensures { result ≡ ends_script self status.now }
     {

@@ -40,19 +40,19 @@ pub struct Outcome {
 #[derive(Clone, Copy, Debug, PartialEq, Eq, Error)]
 pub enum ShellFault {
     /// A read failed, or the script has more than 16,777,216 bytes or takes more than 1,000,000
-    /// reads. Every line that was ended before has run, and no other.
+    /// reads. All lines that were ended before have run, and no other.
     #[error("the script cannot be read to its end")]
     Read,
-    /// A write failed, or took nothing. A part of the answers was written.
+    /// A write failed, or wrote nothing. A part of the output was written.
     #[error("the answers cannot be written")]
     Write,
-    /// There is no memory but for a command, whose line answers that. It never comes, since reading
-    /// takes no memory.
+    /// There is no memory. It never comes, since reading allocates nothing, and a command that
+    /// finds no memory prints that as its status.
     #[error("out of memory")]
     Memory(AllocError),
 }
 
-/// How far a run has come: its counts, and whether it has ended, by an accepted `quit` or a refused
+/// How far a run has come: its counts, and whether it was ended by an accepted `quit` or a refused
 /// line.
 #[derive(Clone, Copy)]
 struct Tally {
@@ -65,7 +65,7 @@ impl Tally {
     ghost use Rattle.script_text.specs.Status.{is_accepted};
     ghost use Rattle.script_run.specs.Transcript.{ends_script};
 
-    /// No line was answered.
+    /// The counts before the first line.
     fn new() -> Tally
         ensures { result ≡ record { outcome = record { accepted = 0; refused = 0 }; closed = false } }
     {
@@ -78,7 +78,7 @@ impl Tally {
         }
     }
 
-    /// Counts an answer.
+    /// Counts a line with this response.
     fn count(&mut self, response: &Response, refusals: Refusals)
         requires { self.old.outcome.accepted + self.old.outcome.refused < 2 ^ 63 }
         ensures accepted { self.new.outcome.accepted ≡ self.old.outcome.accepted + (if is_accepted response.now.status then 1 else 0) }
@@ -94,8 +94,8 @@ impl Tally {
     }
 }
 
-/// How far a run has come in its script: what came of the next line, and what the lines before it
-/// counted; and who is told of it.
+/// How far a run has come in its script: the bytes of the next line, the counts of the lines before
+/// it, and the listener.
 #[derive(Drop)]
 struct RunState<'l, L: Listener> {
     line: HeldLine,
@@ -110,7 +110,7 @@ impl<'l, L: Listener> RunState<'l, L> {
     ghost use Rattle.script_commands.specs.Act.{printed_bytes};
     ghost use Rattle.std.specs.Io.KnownBytes.{Appends};
 
-    /// Nothing has come.
+    /// The state before anything was read.
     fn new(listener: &'l mut L) -> RunState<'l, L>
         ensures lent { result.listener.ghost_name ≡ listener.entry.ghost_name }
         ensures line { Holds result.line [] }
@@ -123,8 +123,8 @@ impl<'l, L: Listener> RunState<'l, L> {
         }
     }
 
-    /// Writes the answer to the line, where this is the session that it left, and tells a listener
-    /// of it, once it is delivered where that is needed.
+    /// Writes the response to a line that left this session, and calls the listener, after a
+    /// delivery if the listener needs it.
     fn write_answer<W: Write>(
         &mut self,
         home: &str,
@@ -150,7 +150,7 @@ impl<'l, L: Listener> RunState<'l, L> {
     }
 }
 
-/// What runs the lines of a script: memory, and the manner of the run.
+/// What runs the lines of a script: memory, and how the script is run.
 #[derive(Clone, Copy)]
 struct LineRunner<'n> {
     alloc: Global,
@@ -159,10 +159,10 @@ struct LineRunner<'n> {
 
 /// Runs a script. `home` is the name of the host file in which `save` stores by default, or empty.
 ///
-/// The answers are those of the transcript, however the script is cut into reads. A line is
-/// answered, and the writer flushed, before the next read, so that a person at a terminal sees an
-/// answer before typing on. After an accepted `quit` nothing more is read. Reading takes no memory:
-/// one line is held, and what one read gave.
+/// It prints what the transcript says, however the script is cut into reads. Before the next read,
+/// what a line prints is written and flushed, so that a person at a terminal sees it before typing
+/// on. After an accepted `quit` nothing more is read. Reading allocates nothing: only one line and
+/// the bytes of one read are held.
 pub fn run<R: Read, W: Write, H: Host>(
     alloc: Global,
     reader: &mut R,
@@ -181,12 +181,12 @@ pub fn run<R: Read, W: Write, H: Host>(
     run_on(alloc, &mut input, &mut output, host, home, session)
 }
 
-/// Runs the script of an input of which nothing was read yet, and prints on an output that has not
+/// Runs the script of an input of which nothing was read, and prints to an output that has not
 /// failed.
 ///
-/// `Read` comes where a read failed or a limit was reached, and `Write` where a write or a flush
-/// failed; no read is made while something printed has not been delivered, nor after a call that
-/// failed or an accepted `quit`.
+/// `Read` comes if a read failed or a limit was reached, and `Write` if a write or a flush failed.
+/// No read is made while something printed is not delivered, nor after a call that failed or an
+/// accepted `quit`.
 pub fn run_on<R: Read, W: Write, H: Host>(
     alloc: Global,
     input: &mut InputStream<'_, R>,
@@ -213,8 +213,8 @@ pub fn run_on<R: Read, W: Write, H: Host>(
     run_script(alloc, input, output, host, manner, session)
 }
 
-/// Runs the script of an input of which nothing was read yet in this manner, and prints on an
-/// output that has not failed. Nobody listens to it.
+/// Runs the script of an input of which nothing was read, and prints to an output that has not
+/// failed. There is no listener.
 pub fn run_script<R: Read, W: Write, H: Host>(
     alloc: Global,
     input: &mut InputStream<'_, R>,
@@ -243,7 +243,7 @@ pub fn run_script<R: Read, W: Write, H: Host>(
     runner.run(input, output, host, session)
 }
 
-/// What runs a script: memory, the manner of the run, and who is told of it.
+/// What runs a script: memory, how the script is run, and the listener.
 #[derive(Drop)]
 pub struct ScriptRunner<'n, 'l, L: Listener> {
     pub alloc: Global,
@@ -252,14 +252,14 @@ pub struct ScriptRunner<'n, 'l, L: Listener> {
 }
 
 impl<'n, 'l, L: Listener> ScriptRunner<'n, 'l, L> {
-    /// Runs the script of an input of which nothing was read yet, and prints on an output that has
-    /// not failed.
+    /// Runs the script of an input of which nothing was read, and prints to an output that has not
+    /// failed.
     ///
-    /// `Read` comes where a read failed or a limit was reached, and `Write` where a write or a
-    /// flush failed; no read is made while something printed has not been delivered, nor after a
-    /// call that failed, an accepted `quit`, or a refused line that ends the script. All this is
-    /// the same with every listener, which is told of each read before it is made, of each line
-    /// once it has run or was skipped, and of the script's end.
+    /// `Read` comes if a read failed or a limit was reached, and `Write` if a write or a flush
+    /// failed. No read is made while something printed is not delivered, nor after a call that
+    /// failed, an accepted `quit`, or a refused line that ends the script. All this is the same
+    /// with every listener, which is called before each read, after each line that has run or was
+    /// skipped, and at the script's end.
     pub fn run<R: Read, W: Write, H: Host>(
         self,
         input: &mut InputStream<'_, R>,
@@ -286,10 +286,10 @@ impl<'n, 'l, L: Listener> ScriptRunner<'n, 'l, L> {
         runner.run_all(input, output, host, session, &mut state)
     }
 
-    /// Runs a script that is this text, and prints on an output that has not failed.
+    /// Runs this text as a script, and prints to an output that has not failed.
     ///
-    /// No read is made: `Read` comes only where the text is longer than a script may be, after the
-    /// lines that end within that length. `Write` comes only where a write or a flush failed.
+    /// No read is made. `Read` comes only if the text is longer than a script may be, after the
+    /// lines that end within that length; `Write` only if a write or a flush failed.
     pub fn run_text<W: Write, H: Host>(
         self,
         text: &[u8],
@@ -318,7 +318,7 @@ impl<'n, 'l, L: Listener> ScriptRunner<'n, 'l, L> {
     }
 }
 
-/// Delivers what was printed, where something was since the last time.
+/// Delivers what was printed, if something was printed since the last time.
 fn deliver<W: Write>(output: &mut OutputStream<'_, W>) -> Result<(), WriteFault>
     ensures same { output.new.writer.ghost_name ≡ output.old.writer.ghost_name }
     ensures kept { Keeps (W.contents output.old.writer.now) (W.contents output.new.writer.now) }
@@ -333,7 +333,7 @@ fn deliver<W: Write>(output: &mut OutputStream<'_, W>) -> Result<(), WriteFault>
 }
 
 impl<'n> LineRunner<'n> {
-    /// Runs the script of an input of which nothing was read yet.
+    /// Runs the script of an input of which nothing was read.
     fn run_all<R: Read, W: Write, H: Host, L: Listener>(
         self,
         input: &mut InputStream<'_, R>,
@@ -383,7 +383,7 @@ impl<'n> LineRunner<'n> {
         Err(ShellFault::Read)
     }
 
-    /// Runs a script that is this text, as far as a script may be long.
+    /// Runs this text as a script, up to the most bytes that a script has.
     fn run_lines<W: Write, H: Host, L: Listener>(
         self,
         output: &mut OutputStream<'_, W>,
@@ -419,7 +419,7 @@ impl<'n> LineRunner<'n> {
         self.run_last(output, host, session, state)
     }
 
-    /// Runs the line that the script's end ends, if bytes of one have come.
+    /// Runs the line that ends with the script, if bytes of it were read.
     fn run_last<W: Write, H: Host, L: Listener>(
         self,
         output: &mut OutputStream<'_, W>,
@@ -451,7 +451,7 @@ impl<'n> LineRunner<'n> {
     }
 
     /// Runs the lines that end in the next piece of the script, up to the run's end, and holds what
-    /// comes after the last.
+    /// comes after the last one.
     fn run_piece<W: Write, H: Host, L: Listener>(
         self,
         output: &mut OutputStream<'_, W>,
@@ -497,7 +497,7 @@ impl<'n> LineRunner<'n> {
         Ok(())
     }
 
-    /// Runs a line that has come to its end, and writes its answer.
+    /// Runs a line that was read to its end, and writes its response.
     fn run_line<W: Write, H: Host, L: Listener>(
         self,
         output: &mut OutputStream<'_, W>,

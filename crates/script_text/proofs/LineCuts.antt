@@ -19,7 +19,7 @@ pub lines_of-end : (byte : ℕ) (rest : List ℕ) → eqb byte 10 ≡ true → l
 unfolding lines_of
 lines_of-end byte rest ends = cond-true (eqb byte 10) ((byte ∷ []) ∷ lines_of rest) (onto_first byte (lines_of rest)) ends
 
--- any other byte stands in the line of the next
+-- any other byte is in the line of the next one
 pub lines_of-inside : (byte : ℕ) (rest : List ℕ) → eqb byte 10 ≡ false → lines_of (byte ∷ rest) ≡ onto_first byte (lines_of rest)
 unfolding lines_of
 lines_of-inside byte rest inside = cond-false (eqb byte 10) ((byte ∷ []) ∷ lines_of rest) (onto_first byte (lines_of rest)) inside
@@ -104,7 +104,7 @@ pub is_ended-cons : (byte : ℕ) (line : List ℕ) → eqb byte 10 ≡ false →
 is_ended-cons byte [] inside = inside
 is_ended-cons byte (next ∷ line) inside = is_ended-before byte next line
 
--- the first line is ended where the script has an LF
+-- the first line is ended if the script has an LF
 pub is_ended-through : (script : List ℕ) → is_ended (take_through 10 script) ≡ list_any is_line_feed script
 is_ended-through [] = refl
 is_ended-through (byte ∷ rest) =
@@ -115,7 +115,7 @@ is_ended-through (byte ∷ rest) =
     ∙ others ∙ sym (ap (λ b. b || list_any is_line_feed rest) inside))
     (cases_Bool (eqb byte 10))
 
--- where no LF stands, the first line is all that there is
+-- if there is no LF, the first line is all that there is
 pub take_through-none : (script : List ℕ) → list_any is_line_feed script ≡ false → take_through 10 script ≡ script
 take_through-none [] none = refl
 take_through-none (byte ∷ rest) none =
@@ -218,7 +218,7 @@ pub lines_of-split : (script : List ℕ) → lines_of script ≡ ended_lines scr
 lines_of-split script =
     ap lines_of (sym (append-nil script)) ∙ lines_of-goes_on script [] ∙ ap (λ l. ended_lines script ++ lines_of l) (append-nil (open_line script))
 
--- where there is no LF
+-- if there is no LF
 pub open_line-open : (script : List ℕ) → list_any is_line_feed (open_line script) ≡ false
 open_line-open [] = refl
 open_line-open (byte ∷ rest) =

@@ -1,4 +1,4 @@
--- Lines in which no LF stands but, at most, at their end.
+-- Lines that have no LF except, at most, at their end.
 use Rattle.std.proofs.Common.{◌≡◌, ℕ, ◌-◌, ◌<◌, Bool, true, false, cond, eqb, ◌&&◌, ◌⊎◌, inl, inr, lt-ltb, le-ltb, ltb, ◌≤◌, drop, take-append-drop, take_at, length-append, List, [], ◌∷◌, ◌++◌, length, take, get_or, refl, sym, ap, ◌∙◌, subst, arith, ⊎_elim, eq-eqb, eqb-true}
 use Rattle.std.specs.Prelude.{MatchBool}
 use Rattle.std.proofs.lemmas.Bool.{cases_Bool, or_parts, or_from, false≢true}

@@ -2,7 +2,7 @@
 use Rattle.std.proofs.Common.{◌≡◌, ℕ, suc, zero, ◌+◌, List, ◌++◌, ap, sym, ◌∙◌, append-nil, append_assoc, add-one, arith}
 use Rattle.std.specs.List.{flat_map, range_with_len}
 
--- what so many numbers and one more give
+-- a list of the values at n numbers and one more
 flat_map-range_suc : (f : ℕ → List ℕ) (a n : ℕ) → flat_map f (range_with_len a (suc n)) ≡ flat_map f (range_with_len a n) ++ f (a + n)
 flat_map-range_suc f a zero = let e : a + 0 ≡ a = omega arith in append-nil (f a) ∙ ap f (sym e)
 flat_map-range_suc f a (suc n) =

@@ -48,7 +48,7 @@ quoted_gives rest =
       printable_rest = λ h. All-drop IsPrintable (end + 1) rest (All-tail IsPrintable quote rest h);
     })))
 
--- a run of bytes is not empty where its first byte doesn't end it
+-- a run of bytes is not empty if its first byte doesn't end it
 pub run_goes_on : (b : ℕ) (rest : List ℕ) → ends_run b ≡ false → 0 < position_or_len ends_run (b ∷ rest)
 run_goes_on b rest goes_on = subst (λ t. 0 < cond t (1 + prefix_len (λ x. not (ends_run x)) rest) 0) (sym (not_from_false (ends_run b) goes_on)) (omega arith)
 
@@ -207,7 +207,7 @@ line_words line n printable h = sym (words_of-printable line printable ∙ words
 pub line_words-printable : (line : List ℕ) (words : List (List ℕ)) → Some words ≡ words_of line → All (All IsPrintable) words
 line_words-printable line words e = subst (λ o. IfSome o (All (All IsPrintable))) (sym e) (words_of-all_printable line)
 
--- what is known of the first word, where it was found
+-- what is known of the first word, if it was found
 pub first_word_known : (b : ℕ) (text after word left : List ℕ) → text ≡ b ∷ after → b ≢ space → first_word text ≡ Some (word, left) → IsFirstWord text (word, left)
 first_word_known b text after word left e not_space first =
     subst (λ o. IfSome o (IsFirstWord text)) first (subst (λ t. IfSome (first_word t) (IsFirstWord t)) (sym e) (first_word_gives b after not_space))
@@ -226,7 +226,7 @@ word_then words (Some ws) word n e h =
     let count : suc (length ws) ≡ n = ap (λ o. unwrap_or o 0) (ap (option_map length) (sym e) ∙ h) in
     (ap (λ o. unwrap_or o []) e, ap Some (omega (arith, count)), omega (arith, count))
 
--- a text that is over where a word may end does not begin with a space
+-- a text that is left where a word can end does not begin with a space
 not_at_space : (b : ℕ) (after : List ℕ) → (ends_word (b ∷ after) ≡ true → b ∷ after ≡ []) → b ≢ space
 not_at_space b after begun e = omega (arith, ap length (begun (eq-eqb b space e)))
 
@@ -238,7 +238,7 @@ next_word text (b ∷ after) word rest n same begun found h =
     let then_words = word_then (split_words text) (split_words rest) word n (sym same ∙ split_words-first b after word rest not_space found) h in
     record { words = then_words.0; count = then_words.1; more = then_words.2 }
 
--- and no word, where there is none at the text's begin
+-- and there is no word if the text begins with none
 pub no_next_word : (text after : List ℕ) (n : ℕ) → split_words after ≡ split_words text → (ends_word after ≡ true → after ≡ []) → first_word after ≡ None
     → option_map length (split_words text) ≡ Some n → words_left text ≡ []
 no_next_word text [] n same begun found h = ap (λ o. unwrap_or o []) (sym same ∙ split_words-nil)

@@ -2,7 +2,7 @@
 use Rattle.std.specs.Prelude.{ℕ, ◌+◌, ◌*◌, ◌/◌, ◌%◌, nat_lt, if◌then◌else◌, List, [], ◌∷◌, ◌++◌, codes, slice_range}
 use Rattle.std.specs.List.{flat_map, range_with_len}
 
--- a hexadecimal digit, with small letters from 10 on
+-- a hexadecimal digit, in small letters
 abbrev pub hex_digit : ℕ → ℕ
 hex_digit n = if nat_lt n 10 then 48 + n else 87 + n
 
@@ -10,10 +10,10 @@ hex_digit n = if nat_lt n 10 then 48 + n else 87 + n
 abbrev pub hex_digits : ℕ → List ℕ
 hex_digits byte = hex_digit (byte / 16) ∷ hex_digit (byte % 16) ∷ []
 
--- the line of sixteen bytes that stand from an offset on
+-- the line of the sixteen bytes at an offset
 abbrev pub dump_line : ℕ → List ℕ → List ℕ
 dump_line offset bytes = hex_digits offset ++ codes ":" ++ flat_map (λ b. codes " " ++ hex_digits b) bytes ++ codes "\n"
 
--- the lines of a block, one for each sixteen bytes
+-- the lines of a block, one for every sixteen bytes
 unfoldable pub dump : List ℕ → List ℕ
 dump block = flat_map (λ row. dump_line (16 * row) (slice_range block (16 * row) (16 * row + 16))) (range_with_len 0 16)

@@ -1,14 +1,14 @@
--- What is held of a line while it is being read, and what it says once it has come to its end.
+-- The part of a line that is held while it is being read, and its text at its end.
 use Rattle.std.specs.Prelude.{◌≡◌, ◌<◌, ℕ, false, true, List, length, MatchBool, ◌==◌}
 use Rattle.std.specs.List.{list_any}
 use Rattle.script_text.specs.RawLines.{is_ended, is_too_long, line_feed, line_limit, text_of}
 use Rattle.script_text.specs.declared.held_line.HeldLine.{HeldLine}
 
--- no LF stands among the bytes
+-- there is no LF among the bytes
 abbrev pub IsOpen : List ℕ → Type 0
 IsOpen bytes = list_any (λ byte. byte == line_feed) bytes ≡ false
 
--- these bytes of the line have come: all of them are held, or they are more than a line may have
+-- these bytes of the line were read: all of them are held, or they are more than a line may have
 abbrev pub Holds : HeldLine → List ℕ → Type 0
 Holds line bytes = MatchBool line.is_long (line_limit < length bytes) (line.bytes.items ≡ bytes)
 

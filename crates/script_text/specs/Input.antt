@@ -1,9 +1,9 @@
--- What may be read of an input, and why it cannot be read to its end.
+-- The limits on reading an input, and when it can't be read to its end.
 use Rattle.std.specs.Prelude.{◌≡◌, ℕ, ◌<◌, ◌≤◌, Bool, true, false, ◌⊎◌}
 use Rattle.script_text.specs.Script.{script_limit}
 
--- how an input was read so far: the reads that were made, the bytes that they gave, and whether one
--- of them failed
+-- how far an input was read: the reads that were made, the bytes that they gave, and whether one of
+-- them failed
 pub record Reading : Type 0 where
   pub reads : ℕ
   pub came : ℕ
@@ -12,7 +12,7 @@ pub record Reading : Type 0 where
 abbrev pub reading_of : ℕ → ℕ → Bool → Reading
 reading_of reads came has_failed = record { reads = reads; came = came; has_failed = has_failed }
 
--- the most reads that are made of an input, the one that finds the end counted
+-- the most reads that are made of an input, including the one that finds the end
 abbrev pub reads_limit : ℕ
 reads_limit = 1000000
 
@@ -20,15 +20,15 @@ reads_limit = 1000000
 abbrev pub read_limit : ℕ
 read_limit = 4096
 
--- nothing was read yet
+-- nothing was read of the input
 abbrev pub IsUnread : Reading → Type 0
 IsUnread input = input ≡ reading_of 0 0 false
 
--- one read more may be made: no read has failed, and no limit is reached
+-- one more read is allowed: no read has failed, and no limit is reached
 abbrev pub MayBeRead : Reading → Type 0
 MayBeRead input = (input.has_failed ≡ false) × (input.reads < reads_limit) × (input.came ≤ script_limit)
 
--- the input cannot be read to its end: a read failed, or more bytes came than a script may have, or
--- all reads were made that may be
+-- the input can't be read to its end: a read failed, it gave more bytes than a script may have, or
+-- all reads that are allowed were made
 abbrev pub IsUnreadable : Reading → Type 0
 IsUnreadable input = (input.has_failed ≡ true) ⊎ ((script_limit < input.came) ⊎ (input.reads ≡ reads_limit))

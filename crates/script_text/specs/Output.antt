@@ -1,16 +1,16 @@
--- What a write and a flush leave of an output, and what a write that stopped leaves in its writer.
+-- The effect of a write and of a flush on an output, and of a write that stopped on its writer.
 use Rattle.std.specs.Prelude.{◌≡◌, ℕ, Bool, true, Option, List, ◌++◌, ◌⊎◌, Result, MatchResult}
 use Rattle.std.specs.Io.KnownBytes.{Appends}
 
--- the writer gained the first part of the bytes
+-- a first part of the bytes was appended to the writer's
 pub record AppendsPart (old new : Option (List ℕ)) (bytes : List ℕ) : Type 0 where
   pub part : List ℕ
   pub rest : List ℕ
   pub all : part ++ rest ≡ bytes
   pub gained : Appends old new part
 
--- what is known of an output: the bytes of its writer, where they are known, and whether a write or
--- a flush of it has failed
+-- the state of an output: the bytes of its writer, if they are known, and whether a write or a
+-- flush of it has failed
 pub record Account : Type 0 where
   pub contents : Option (List ℕ)
   pub has_failed : Bool
@@ -25,6 +25,6 @@ Writes old new bytes =
     (Appends old.contents new.contents bytes × (new.has_failed ≡ old.has_failed))
     ⊎ (AppendsPart old.contents new.contents bytes × (new.has_failed ≡ true))
 
--- the output has failed where the call of it has, and nowhere else
+-- after a call the output has failed exactly if it had failed before or the call failed
 abbrev pub FailsWith : {T E : Type 0} → Result T E → Bool → Bool → Type 0
 FailsWith result old new = MatchResult result (λ _. new ≡ old) (λ _. new ≡ true)

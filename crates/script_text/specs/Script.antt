@@ -1,14 +1,14 @@
--- What a script may be, and what reading it takes from its reader.
+-- The limit of a script, and what its reader has left after it was read.
 use Rattle.std.specs.Prelude.{◌≡◌, ℕ, Option, ◌≤◌, List, length, take, IsTrue}
 use Rattle.std.specs.Io.KnownBytes.{Consumes, IsAtEnd}
 use Rattle.script_text.specs.declared.script.Script.{Script}
 
--- the most bytes of a script
+-- the most bytes that a script has
 abbrev pub script_limit : ℕ
 script_limit = 16777216
 
--- the script holds the first bytes, up to the limit, of those that the reader lost, and is whole
--- only where the reader has no more and lost no more than that
+-- the script has the bytes that the reader gave, up to the limit, and is whole only if the reader
+-- has no more and gave no more than that
 pub record IsReadFrom (old new : Option (List ℕ)) (script : Script) : Type 0 where
   pub consumed : List ℕ
   pub lost : Consumes old new consumed

@@ -1,4 +1,4 @@
--- The status lines, which answer the lines of a script.
+-- The status lines that a script prints.
 use Rattle.std.specs.Prelude.{ℕ, nat_lt, Bool, if◌then◌else◌, List, [], ◌++◌, codes}
 use Rattle.std.specs.Fmt.{decimal}
 use Rattle.script_text.specs.declared.status.Status.{Status}
@@ -50,6 +50,6 @@ status_line status =
     ++ codes "," ++ two_digits (status_details status).1
     ++ codes "\n"
 
--- the line that a status answers was accepted
+-- whether a line with this status was accepted
 abbrev pub is_accepted : Status → Bool
 is_accepted status = nat_lt (status_row status).0 30

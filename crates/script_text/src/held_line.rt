@@ -1,4 +1,4 @@
-//! The line of a script that is being read, held in a fixed room.
+//! The line of a script that is being read, held in a fixed buffer.
 
 ghost use Rattle.std.specs.Prelude.{◌≡◌, ◌≤◌, ◌++◌, ◌∷◌, [], ◌==◌, ℕ, List, true, false, length, IfSome, MatchOption};
 ghost use Rattle.std.specs.Io.BufRead.{ends_with_byte};
@@ -8,8 +8,8 @@ ghost use Rattle.script_text.specs.HeldLine.{Holds, IsOpen, Says};
 use crate::raw_lines::LINE_BYTES;
 use arrayvec::ArrayVec;
 
-/// The bytes of a line before its LF, as far as they have come. A line of more than `LINE_BYTES`
-/// bytes is passed over, and only that it is too long is held.
+/// The bytes of a line before its LF, as far as they were read. Of a line of more than `LINE_BYTES`
+/// bytes only that it is too long is kept.
 #[derive(Drop)]
 pub struct HeldLine {
     bytes: ArrayVec<u8, LINE_BYTES>,
@@ -17,7 +17,7 @@ pub struct HeldLine {
 }
 
 impl HeldLine {
-    /// A line of which nothing has come.
+    /// A line of which nothing was read.
     pub fn new() -> HeldLine
         ensures { Holds result [] }
     {
@@ -27,7 +27,7 @@ impl HeldLine {
         }
     }
 
-    /// Forgets the line for the next one.
+    /// Empties the line, for the next one.
     pub fn clear(&mut self)
         ensures { Holds self.new [] }
     {
@@ -35,14 +35,14 @@ impl HeldLine {
         self.is_long = false;
     }
 
-    /// Whether nothing has come.
+    /// Whether nothing was read of the line.
     pub fn is_empty(&self) -> bool
         ensures { (before : List ℕ) → Holds self.now before → result ≡ (length before == 0) }
     {
         self.bytes.is_empty() && !self.is_long
     }
 
-    /// Takes the next bytes of the line.
+    /// Appends the next bytes of the line.
     pub fn push(&mut self, bytes: &[u8])
         ensures { (before : List ℕ) → Holds self.old before → Holds self.new (before ++ bytes.now) }
     {
@@ -51,7 +51,7 @@ impl HeldLine {
         }
     }
 
-    /// Ends the line with its LF: a CR right before it is no part of the text.
+    /// Ends the line with its LF: a CR right before it is not part of the text.
     pub fn end_with_line_feed(&mut self)
         ensures { (before : List ℕ) → Holds self.old before → IsOpen before → Says self.new (before ++ 10 ∷ []) }
     {
@@ -60,14 +60,14 @@ impl HeldLine {
         }
     }
 
-    /// Ends the line with the script's end: all of it is text, a CR at its end too.
+    /// Ends the line with the end of the script: all of it is text, also a CR at its end.
     pub fn end_with_script(&self)
         ensures { (before : List ℕ) → Holds self.now before → IsOpen before → Says self.now before }
     {
         let _fits = self.bytes.len() <= LINE_BYTES;
     }
 
-    /// What the line says, or None where it is too long.
+    /// The text of the line, or None if it is too long.
     pub fn text(&self) -> Option<&[u8]>
         ensures fits { IfSome result (λ text. length text.now ≤ line_limit) }
         ensures says { (raw : List ℕ) → Says self.now raw → MatchOption result

@@ -1,4 +1,4 @@
-//! Reading an input under the limits of a script.
+//! Reading an input within the limits of a script.
 
 ghost use Rattle.std.specs.Prelude.{◌≡◌, ◌+◌, true, false, length, is_err, MatchResult};
 ghost use Rattle.std.specs.Io.{ReadsAtMost};
@@ -8,7 +8,7 @@ ghost use Rattle.script_text.specs.Input.{IsUnread, MayBeRead, read_limit, readi
 use crate::output::OutputStream;
 use std::io::{Read, Result, Write};
 
-/// A reader, with how many reads were made of it, how many bytes they gave, and whether one of them
+/// A reader that counts its reads and the bytes that they gave, and knows whether one of them
 /// failed.
 #[derive(Drop)]
 pub struct InputStream<'r, R: Read> {
@@ -19,7 +19,7 @@ pub struct InputStream<'r, R: Read> {
 }
 
 impl<'r, R: Read> InputStream<'r, R> {
-    /// An input of which nothing was read yet.
+    /// An input of which nothing was read.
     pub fn new(reader: &'r mut R) -> Self
         ensures same { result.reader.ghost_name ≡ reader.entry.ghost_name }
         ensures kept { result.reader.now ≡ reader.old }
@@ -33,14 +33,14 @@ impl<'r, R: Read> InputStream<'r, R> {
         }
     }
 
-    /// Whether a read of it failed.
+    /// Whether a read failed.
     pub fn has_failed(&self) -> bool
         ensures { result ≡ self.now.has_failed }
     {
         self.has_failed
     }
 
-    /// Reads once, at a time when all that was written to the output has been delivered.
+    /// Reads once, after all that was written to the output was delivered.
     pub fn read_after<W: Write>(
         &mut self,
         _output: &OutputStream<'_, W>,

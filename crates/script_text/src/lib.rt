@@ -1,7 +1,7 @@
 //! The text of a script and of its output: its lines, the words and numbers in them, the status
 //! lines, and the lines that show a block.
 //!
-//! Nothing here knows of images, sessions or hosts.
+//! Images, sessions and hosts are the subject of other crates.
 #![tactic(auto)]
 
 pub mod dump;

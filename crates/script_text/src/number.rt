@@ -6,11 +6,11 @@ ghost use Rattle.script_text.specs.Number.{number_of};
 
 use std::str;
 
-/// The most digits of a number.
+/// The most digits that a number has.
 const MAX_DIGITS: usize = 3;
 
-/// The number that a word spells: one to three decimal digits, leading zeros among them, of value
-/// at most 255. It is `None` for every other word. It takes no memory.
+/// The number that a word spells in one to three decimal digits, of which the first may be zeros;
+/// None if the word is anything else or the number is above 255. It allocates nothing.
 #[tactic(auto, unfolding(crate::specs::Number::number_of))]
 pub fn number(word: &[u8]) -> Option<u8>
     ensures { result ≡ number_of word.now }

@@ -1,4 +1,4 @@
-//! Writing what is printed, and how much of it was delivered.
+//! Writing what is printed, and whether it was delivered.
 
 ghost use Rattle.std.specs.Prelude.{◌≡◌, true, false, OnOk, OnErr};
 ghost use Rattle.std.specs.Io.KnownBytes.{Appends, Keeps};
@@ -7,13 +7,12 @@ ghost use Rattle.script_text.specs.Output.{AppendsPart, FailsWith, Writes, accou
 use std::io::Write;
 use thiserror::Error;
 
-/// A write failed, or took nothing.
+/// A write failed, or wrote nothing.
 #[derive(Debug, Drop, Error)]
 #[error("the output took no more bytes")]
 pub struct WriteFault;
 
-/// A writer, with whether all that was written to it has been delivered, and whether a call of it
-/// has failed.
+/// A writer that knows whether all that was written was delivered, and whether a call failed.
 #[derive(Drop)]
 pub struct OutputStream<'w, W: Write> {
     writer: &'w mut W,
@@ -22,7 +21,7 @@ pub struct OutputStream<'w, W: Write> {
 }
 
 impl<'w, W: Write> OutputStream<'w, W> {
-    /// An output to which nothing was written yet.
+    /// An output to which nothing was written.
     pub fn new(writer: &'w mut W) -> Self
         ensures same { result.writer.ghost_name ≡ writer.entry.ghost_name }
         ensures kept { result.writer.now ≡ writer.old }
@@ -43,7 +42,7 @@ impl<'w, W: Write> OutputStream<'w, W> {
         self.is_delivered
     }
 
-    /// Writes all of the bytes. Where a write fails or takes nothing, a first part of them is
+    /// Writes all of the bytes. If a write fails or writes nothing, a first part of them was
     /// written.
     pub fn write(&mut self, bytes: &[u8]) -> Result<(), WriteFault>
         ensures same { self.new.writer.ghost_name ≡ self.old.writer.ghost_name }
@@ -83,7 +82,7 @@ impl<'w, W: Write> OutputStream<'w, W> {
     }
 }
 
-/// Writes all of the bytes. Where a write fails or takes nothing, a first part of them is written.
+/// Writes all of the bytes. If a write fails or writes nothing, a first part of them was written.
 pub fn write_answer<W: Write>(writer: &mut W, bytes: &[u8]) -> Result<(), WriteFault>
     ensures ok { OnOk result (Appends (W.contents writer.old) (W.contents writer.new) bytes.now) }
     ensures err { OnErr result (AppendsPart (W.contents writer.old) (W.contents writer.new) bytes.now) }

@@ -1,14 +1,15 @@
-//! A script cut into raw lines, and whether one is skipped or too long.
+//! Cutting a script into raw lines, and which of them are skipped or too long.
 
 ghost use Rattle.std.specs.Prelude.{◌≡◌, length};
 ghost use Rattle.std.specs.Io.BufRead.{take_through};
 ghost use Rattle.std.specs.Iterator.{YieldsFirstRef, item_count};
 ghost use Rattle.script_text.specs.RawLines.{before_end, is_ended, is_skipped, is_too_long, lines_of, text_of};
 
-/// The most bytes of a line before its LF.
+/// The most bytes that a line has before its LF.
 pub const LINE_BYTES: usize = 1024;
 
-/// The raw lines of a script, each with the LF that ends it, which the last may lack.
+/// The raw lines of a script, each with the LF that ends it, except that the last one may have no
+/// LF.
 #[derive(Drop)]
 pub struct RawLines<'a>(pub &'a [u8]);
 
@@ -29,7 +30,7 @@ impl<'a> Iterator for RawLines<'a> {
     }
 }
 
-/// How many bytes the first line has, its LF counted.
+/// How many bytes the first line has, including its LF.
 fn line_end(script: &[u8]) -> usize
     ensures { result ≡ length (take_through 10 script.now) }
 {
@@ -46,7 +47,7 @@ pub fn is_ended(line: &[u8]) -> bool
     line.last() == Some(&b'\n')
 }
 
-/// What stands before the line's LF, or the whole of a line without one.
+/// The part of the line before its LF, or all of a line without one.
 pub fn before_end(line: &[u8]) -> &[u8]
     ensures { result.now ≡ before_end line.now }
 {
@@ -56,7 +57,7 @@ pub fn before_end(line: &[u8]) -> &[u8]
     }
 }
 
-/// What the line says: without its LF, and without one CR right before it.
+/// The text of the line: without its LF, and without one CR right before it.
 pub fn text(line: &[u8]) -> &[u8]
     ensures { result.now ≡ text_of line.now }
 {
@@ -67,14 +68,14 @@ pub fn text(line: &[u8]) -> &[u8]
     }
 }
 
-/// Whether more than `LINE_BYTES` bytes stand before the line's LF, a CR counted.
+/// Whether the line has more than `LINE_BYTES` bytes before its LF, including a CR.
 pub fn is_too_long(line: &[u8]) -> bool
     ensures { result ≡ is_too_long line.now }
 {
     before_end(line).len() > LINE_BYTES
 }
 
-/// Whether the text asks for nothing: it is empty, spaces alone, or a comment after spaces.
+/// Whether the text has no command: it is empty, spaces alone, or a comment after spaces.
 pub fn is_skipped(text: &[u8]) -> bool
     ensures { result ≡ is_skipped text.now }
 {

@@ -8,10 +8,10 @@ use crate::input::InputStream;
 use std::alloc::{AllocError, Global};
 use std::io::Read;
 
-/// The most bytes of a script.
+/// The most bytes that a script has.
 pub const SCRIPT_BYTES: usize = 16_777_216;
 
-/// The most reads of a script, the one that finds the end counted.
+/// The most reads that a script takes, including the one that finds the end.
 pub const SCRIPT_READS: u32 = 1_000_000;
 
 /// The most bytes that one read asks for.
@@ -20,21 +20,21 @@ pub const READ_BYTES: usize = 4096;
 /// What was read of a script.
 #[derive(Debug, Drop)]
 pub struct Script {
-    /// The bytes that came, at most `SCRIPT_BYTES`.
+    /// The bytes that were read, at most `SCRIPT_BYTES`.
     pub bytes: Vec<u8>,
     /// Whether the end was found within the limits.
     pub whole: bool,
 }
 
 impl Script {
-    /// A script that came to its end.
+    /// A script that was read to its end.
     fn to_its_end(bytes: Vec<u8>) -> Self
         ensures { result ≡ record { bytes = bytes; whole = true } }
     {
         Script { bytes, whole: true }
     }
 
-    /// What came of a script before its reading stopped.
+    /// What was read of a script before its reading stopped.
     fn cut_short(bytes: Vec<u8>) -> Self
         ensures { result ≡ record { bytes = bytes; whole = false } }
     {
@@ -45,9 +45,9 @@ impl Script {
     }
 }
 
-/// Reads a script to its end. A read that fails, an interrupted one too, ends it before.
+/// Reads a script to its end. A read that fails stops it, also one that is interrupted.
 ///
-/// Where memory runs out, nothing is known of what the reader has left.
+/// If memory runs out, nothing is promised of what the reader has left.
 pub fn read_script<R: Read>(alloc: Global, reader: &mut R) -> Result<Script, AllocError>
     ensures read { IfOk result (IsReadFrom (R.remaining reader.old) (R.remaining reader.new)) }
     ensures bounded { IfOk result (λ script. vec_len script.bytes ≤ script_limit) }
@@ -55,7 +55,7 @@ pub fn read_script<R: Read>(alloc: Global, reader: &mut R) -> Result<Script, All
     read_input(alloc, &mut InputStream::new(reader))
 }
 
-/// Reads an input of which nothing was read yet to its end, as a script.
+/// Reads an input to its end, as a script. Nothing was read of it before.
 pub fn read_input<R: Read>(
     alloc: Global,
     input: &mut InputStream<'_, R>,

@@ -7,30 +7,30 @@ use arrayvec::ArrayVec;
 use itoa::Buffer;
 use std::alloc::AllocError;
 
-/// The room for a status line, in bytes.
+/// How many bytes a status line takes at most.
 pub const MAX_STATUS_LINE: usize = 128;
 
-/// The least number of a refusal.
+/// The least number of a refused line.
 const FIRST_REFUSAL: u8 = 30;
 
-/// What a line of a script is answered. The numbers to 72 are those of the drive's error channel
+/// The status of a line of a script. The numbers up to 72 are those of the drive's error channel
 /// (1541 User's Guide); those from 80 on are this project's own.
 #[derive(Clone, Copy, Debug, PartialEq, Eq)]
 pub enum Status {
     /// 00: the line was accepted.
     Done,
-    /// 01: the line was accepted, and so many files were deleted.
+    /// 01: the line was accepted, and this many files were deleted.
     FilesScratched { count: usize },
-    /// 30: a byte or a quote that no line holds, too many words, or a word that isn't what its
-    /// command takes.
+    /// 30: the line has a byte or a quote that no line has, too many words, or a word that its
+    /// command does not take.
     SyntaxError,
     /// 31: the first word is no command.
     UnknownCommand,
-    /// 32: the line has more than 1,024 bytes.
+    /// 32: the line is longer than 1,024 bytes.
     LongLine,
-    /// 33: a name, a pattern, an id or the name of a host file that can't be one.
+    /// 33: a name, a pattern, an id or the name of a host file is not valid.
     BadName,
-    /// 34: the command takes more words.
+    /// 34: the command takes more arguments.
     MissingWord,
     /// 60: the file was never closed.
     WriteFileOpen,
@@ -44,11 +44,11 @@ pub enum Status {
     IllegalBlock { track: u8, sector: u8 },
     /// 71: the directory or the block map fails this condition of a sound disk, from 1 to 6.
     DirectoryError { condition: u8 },
-    /// 72: there is no room on the disk or in its directory.
+    /// 72: the disk or its directory is full.
     DiskFull,
     /// 80: the host file is missing (1), its device fails (2), or it is too long (3).
     HostFile { fault: u8 },
-    /// 81: no command stands before the present image.
+    /// 81: no command comes before the present image.
     NothingToUndo,
     /// 82: no command was undone.
     NothingToRedo,
@@ -56,9 +56,9 @@ pub enum Status {
     NotOneBlock,
     /// 84: the text isn't a BASIC program, for this fault in this line of the text, from 1.
     BasicText { fault: u8, line: u32 },
-    /// 85: the file isn't a BASIC program, for this fault.
+    /// 85: the file isn't a BASIC program, because of this fault.
     NotBasic { fault: u8 },
-    /// 90: there is no memory.
+    /// 90: memory is out.
     OutOfMemory,
 }
 
@@ -74,7 +74,7 @@ impl From<AllocError> for Status {
 }
 
 impl Status {
-    /// The number that the status line begins with.
+    /// The number at the beginning of the status line.
     pub fn number(&self) -> u8
         ensures { result ≡ (status_row self.now).0 }
     {
@@ -88,7 +88,7 @@ impl Status {
         self.number() < FIRST_REFUSAL
     }
 
-    /// The status line `NN,TEXT,TT,SS` with its line feed. It takes no memory.
+    /// The status line `NN,TEXT,TT,SS` with its line feed. It allocates nothing.
     pub fn line(&self) -> ArrayVec<u8, MAX_STATUS_LINE>
         ensures { result.items ≡ status_line self.now }
     {
@@ -106,7 +106,7 @@ impl Status {
         line
     }
 
-    /// The number that the status line begins with, and its text.
+    /// The number at the beginning of the status line, and its text.
     fn row(&self) -> (u8, &'static [u8])
         ensures number { result.0 ≡ (status_row self.now).0 }
         ensures text { result.1.now ≡ (status_row self.now).1 }

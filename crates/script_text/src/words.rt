@@ -9,16 +9,15 @@ use crate::raw_lines::LINE_BYTES;
 use std::marker::Model;
 use thiserror::Error;
 
-/// The most words of a line, since a space stands between two words.
+/// The most words that a line has, since there is a space between two words.
 pub const MAX_WORDS: usize = 512;
 
-/// Why a line has no words.
+/// The error of a line that can't be split into words.
 #[derive(Clone, Copy, Debug, PartialEq, Eq, Error)]
 #[error("a byte or a quote stands where no line holds it")]
 pub struct NoWords;
 
-/// The words that are left of a walk along those of a line, in order, without the quotes round a
-/// quoted word.
+/// The words of a line that are left, in order. A quoted word comes without its quotes.
 #[derive(Drop)]
 pub struct Words<'a> {
     rest: &'a [u8],
@@ -38,9 +37,9 @@ impl<'a> Model for Words<'a> {
 }
 
 impl<'a> Words<'a> {
-    /// The words of a line. Spaces separate words. It is refused where the line has more than
-    /// `LINE_BYTES` bytes, where a byte is no printable ASCII character, or where a quote neither
-    /// begins a word nor ends it. It takes no memory.
+    /// Splits a line into its words, at its spaces. An error comes if the line has more than
+    /// `LINE_BYTES` bytes, if a byte is no printable ASCII character, or if a quote neither begins
+    /// a word nor ends it. It allocates nothing.
     #[tactic(auto, unfolding(crate::specs::Words::words_of))]
     pub fn of(line: &'a [u8]) -> Result<Words<'a>, NoWords>
         ensures words { IfOk result (λ words. Some words ≡ (if nat_le (length line.now) line_limit then words_of line.now else None)) }
@@ -87,8 +86,8 @@ impl<'a> Iterator for Words<'a> {
     }
 }
 
-/// The words of a line are those of the rule: runs of bytes other than spaces and quotes, and what
-/// stands between two quotes, each before a space or the line's end. At most one list of words is.
+/// The words of a line follow the rule: each is a run of bytes other than spaces and quotes, or the
+/// part between two quotes, before a space or the line's end. At most one list of words does so.
 #[inline]
 pub fn words_of_rule(line: &[u8])
     ensures { HasWordsOfRule line.now }
@@ -101,7 +100,7 @@ fn is_printable_line(line: &[u8]) -> bool
     line.iter().all(|byte| (b' '..=b'~').contains(byte))
 }
 
-/// How many words a line has, or `None` where a quote is misplaced.
+/// How many words a line has, or None if a quote is misplaced.
 fn word_count(line: &[u8]) -> Option<usize>
     requires short { length line.now ≤ 1024 }
     ensures count { result ≡ option_map length (split_words line.now) }
@@ -123,7 +122,7 @@ fn word_count(line: &[u8]) -> Option<usize>
     Some(count)
 }
 
-/// What follows the spaces with which a text begins.
+/// The rest of a text after the spaces with which it begins.
 fn after_spaces(text: &[u8]) -> &[u8]
     ensures words { split_words result.now ≡ split_words text.now }
     ensures begun { ends_word result.now ≡ true → result.now ≡ [] }
@@ -138,7 +137,7 @@ fn after_spaces(text: &[u8]) -> &[u8]
     rest
 }
 
-/// The word with which a text begins, and what follows it; `None` where a quote is misplaced.
+/// The word with which a text begins, and what follows it; None if a quote is misplaced.
 fn first_word(text: &[u8]) -> Option<(&[u8], &[u8])>
     ensures { option_map (λ first. (first.0.now, first.1.now)) result ≡ first_word text.now }
 {
@@ -166,7 +165,7 @@ fn closing_quote(text: &[u8]) -> Option<usize>
     text.iter().position(|byte| *byte == b'"')
 }
 
-/// The word that a run of bytes other than spaces and quotes makes, and what follows the word.
+/// The word made of a run of bytes other than spaces and quotes, and what follows the word.
 #[tactic(auto, using(crate::proofs::Runs::unwrap_or_position), unfolding(crate::specs::Words::bare_word))]
 fn bare_word(text: &[u8]) -> Option<(&[u8], &[u8])>
     ensures { option_map (λ first. (first.0.now, first.1.now)) result ≡ bare_word text.now }
@@ -183,7 +182,7 @@ fn run_end(text: &[u8]) -> Option<usize>
     text.iter().position(|byte| *byte == b' ' || *byte == b'"')
 }
 
-/// A word and what follows it, if a word may end there: before a space or at the line's end.
+/// A word and what follows it, if a word can end there: before a space or at the line's end.
 fn word_before<'a>(word: &'a [u8], rest: &'a [u8]) -> Option<(&'a [u8], &'a [u8])>
     ensures { option_map (λ first. (first.0.now, first.1.now)) result ≡ word_before word.now rest.now }
 {

@@ -10,7 +10,7 @@ use Rattle.script_text.proofs.dump.push_hex.Goals as goal
 abbrev table : List ℕ
 table = flat_map hex_digits (range_with_len 0 256)
 
--- those of a byte stand at twice its number
+-- the digits of a byte are at twice its number
 abbrev stands : ℕ → Bool
 stands byte = eqb (get_or table (2 * byte) 0) (hex_digit (byte / 16)) && eqb (get_or table (2 * byte + 1) 0) (hex_digit (byte % 16))
 

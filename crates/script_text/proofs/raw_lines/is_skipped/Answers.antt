@@ -5,7 +5,7 @@ use Rattle.std.proofs.lemmas.Iterator.{YieldsList-from_slice}
 use Rattle.std.proofs.lemmas.Iterator.Search.{find_from_yields_List}
 use Rattle.script_text.proofs.raw_lines.is_skipped.Goals as goal
 
--- what the answer is, by the first such byte
+-- the result, by the first such byte
 abbrev decides : Option ℕ → Bool
 decides first = option_map_or (λ byte. eqb byte 59) first true
 
