@@ -72,7 +72,8 @@ claims_more image seen cell block number =
           ∙ sym (ap (λ (b : Bool). test (take number seen) || (is_scratched cell && (in_way && b))) t)
     ]
 
--- the table says of each block whether it is in the way of a scratched slot of these below a number
+-- the table says for each block whether it is in the way of a scratched slot of these below a
+-- number
 abbrev pub Tells : List (List ℕ) → List (List ℕ) → LowestSlots → Type 0
 Tells image seen table =
     (block number : ℕ)

@@ -18,7 +18,7 @@ use Rattle.d64_scratched.specs.Scratched.{scratched_way, is_claimed_below, is_mi
 use Rattle.d64_scratched.specs.declared.loss.Loss.TheVariants.{Chain, Reused, Marked, Size, Claimed, Unreadable}
 use Rattle.d64_scratched.proofs.Untouched.{is_free}
 
--- where no reason is fatal, the four tests fail
+-- if no reason is fatal, the four tests fail
 not_fatal : (chain reused marked size claimed unreadable : Bool)
     → is_lost (where_lost chain Chain ++ (where_lost reused Reused ++ (where_lost marked Marked ++ (where_lost size Size ++ (where_lost claimed Claimed ++ where_lost unreadable Unreadable))))) ≡ false
     → (chain ≡ false) × (reused ≡ false) × (marked ≡ false) × (size ≡ false)

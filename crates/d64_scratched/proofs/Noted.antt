@@ -31,7 +31,7 @@ length-entries : (image : List (List ℕ)) (n : ℕ) (cells : List (List ℕ)) �
 length-entries image n [] = refl
 length-entries image n (cell ∷ cells) = ap suc (length-entries image (n + 1) cells)
 
--- at first none is noted
+-- at first no slot is noted
 pub noting-none : (image : List (List ℕ)) (table : LowestSlots) (walk : List EntryView) → walk ≡ entries image (way_slots image) → length walk ≤ 8 * BLOCKS
     → ((block number : ℕ) → block < BLOCKS → number < 65536 → nat_lt (lowest_of table block) number ≡ false) → Noting image table walk
 noting-none image table walk is few none = record {

@@ -1,4 +1,4 @@
--- what is called whole is touched by nothing that is in use
+-- a file that is called whole has no block that is in use
 use Rattle.std.proofs.Common.{◌≡◌, ℕ, suc, ◌||◌, arith, Bool, true, false, not, cond, nat_eq, List, [], ◌∷◌, ◌++◌, length, map, refl, sym, ap, ◌∙◌}
 use Rattle.std.specs.Prelude.{◌&&◌, All, filter, nat_lt}
 use Rattle.std.specs.List.{flat_map, list_any}
@@ -20,7 +20,7 @@ use Rattle.d64_scratched.specs.LossLaws.{IsUntouched, WholeFilesAreUntouched}
 use Rattle.d64_scratched.specs.Scratched.{scratched_way, is_claimed_below, is_missized, where_lost, losses}
 use Rattle.d64_scratched.specs.declared.loss.Loss.TheVariants.{Chain, Reused, Marked, Size, Claimed, Unreadable}
 
--- where no reason holds, each test fails
+-- if no reason holds, each test fails
 none_lost : (chain reused marked size claimed unreadable : Bool)
     → where_lost chain Chain ++ (where_lost reused Reused ++ (where_lost marked Marked ++ (where_lost size Size ++ (where_lost claimed Claimed ++ where_lost unreadable Unreadable)))) ≡ []
     → (reused ≡ false) × (marked ≡ false) × (claimed ≡ false)

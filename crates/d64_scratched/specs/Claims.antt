@@ -6,7 +6,7 @@ use Rattle.d64_image.specs.declared.block.TheConstants.{BLOCKS}
 use Rattle.d64_scratched.specs.Scratched.{is_claimed_below}
 use Rattle.d64_scratched.specs.declared.lowest.LowestSlots.{LowestSlots}
 
--- the number that the table has of a block
+-- the number in the table for a block
 abbrev pub lowest_of : LowestSlots → ℕ → ℕ
 lowest_of table block = slice_index_or table.lowest block 0
 
@@ -17,7 +17,7 @@ Lowers old blocks slot new =
     → block < BLOCKS
     → nat_lt (lowest_of new block) number ≡ (nat_lt (lowest_of old block) number || (list_any (nat_eq block) blocks && nat_lt slot number))
 
--- the table says of each block whether it is in the way of a scratched slot below a number
+-- the table says for each block whether it is in the way of a scratched slot below a number
 abbrev pub TellsClaims : Disk → LowestSlots → Type 0
 TellsClaims image table =
     (block slot : ℕ) → block < BLOCKS → slot ≤ 8 * BLOCKS → nat_lt (lowest_of table block) slot ≡ is_claimed_below image slot block

@@ -1,5 +1,5 @@
--- Scratched slots: what the directory still says of files that were deleted, and why one of them
--- isn't whole.
+-- Scratched slots: what the directory still says of deleted files, and why one of these isn't
+-- whole.
 use Rattle.std.specs.Prelude.{ℕ, ◌==◌, ◌&&◌, nat_eq, Bool, true, false, not, if◌then◌else◌, List, [], ◌∷◌, ◌++◌, length, take, filter, Option}
 use Rattle.std.specs.List.{flat_map, list_any}
 use Rattle.d64_image.specs.Disk.{Disk, Bytes, Blocks}
@@ -11,11 +11,11 @@ use Rattle.d64_survey.specs.declared.way_end.WayEnd.{WayEnd}
 use Rattle.d64_scratched.specs.declared.loss.Loss.{Loss}
 use Rattle.d64_scratched.specs.declared.loss.Loss.TheVariants.{Chain, Reused, Marked, Size, Claimed, Unreadable}
 
--- a slot is scratched where its type byte is 0 and the track of its first pair isn't
+-- a slot is scratched if its type byte is 0 and the track of its first pair isn't
 abbrev pub is_scratched : Bytes → Bool
 is_scratched cell = not (is_used cell) && not ((first_pair cell).0 == 0)
 
--- its way: that from its first pair
+-- the way of a scratched slot: that from its first pair
 abbrev pub scratched_way : Disk → Bytes → Blocks × WayEnd
 scratched_way image cell = way image (first_pair cell)
 
@@ -23,15 +23,15 @@ scratched_way image cell = way image (first_pair cell)
 abbrev pub blocks_left : Disk → List Bytes → Blocks
 blocks_left image cells = flat_map (λ cell. (scratched_way image cell).0) (filter is_scratched cells)
 
--- a block is in the way of a scratched slot of a lower number
+-- whether a block is in the way of a scratched slot with a lower number
 abbrev pub is_claimed_below : Disk → ℕ → ℕ → Bool
 is_claimed_below image slot block = list_any (nat_eq block) (blocks_left image (take slot (way_slots image)))
 
--- the way ends after a last block, and has not as many blocks as the shown size says
+-- whether the way ends after a last block, and has another number of blocks than the slot's size
 abbrev pub is_missized : Bytes → Blocks × WayEnd → Bool
 is_missized cell way = is_whole way.1 && not (length way.0 == size_of cell)
 
--- the reason, where it holds
+-- a list of the reason if it applies, and else the empty list
 abbrev pub where_lost : Bool → Loss → List Loss
 where_lost holds loss = if holds then loss ∷ [] else []
 
@@ -49,7 +49,7 @@ losses_by image codes slot cell way =
 unfoldable pub losses : Disk → Option Bytes → ℕ → Bytes → List Loss
 losses image codes slot cell = losses_by image codes slot cell (scratched_way image cell)
 
--- a reason for which the file can't be brought back
+-- whether the file can't be brought back for this reason
 abbrev pub is_fatal : Loss → Bool
 is_fatal Chain = true
 is_fatal Reused = true
@@ -58,6 +58,6 @@ is_fatal Size = true
 is_fatal Claimed = false
 is_fatal Unreadable = false
 
--- a file with these reasons is lost
+-- whether a file with these reasons is lost
 abbrev pub is_lost : List Loss → Bool
 is_lost losses = list_any is_fatal losses

@@ -1,5 +1,5 @@
-//! Scratched slots: what the directory still says of files that were deleted, and why one of them
-//! isn't whole.
+//! Scratched slots: what the directory still says of deleted files, and why one of these isn't
+//! whole.
 #![tactic(auto)]
 
 mod loss;

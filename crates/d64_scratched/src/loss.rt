@@ -1,4 +1,4 @@
-//! Why what is left of a deleted file isn't whole.
+//! The reasons why what is left of a deleted file isn't whole.
 ghost use Rattle.std.specs.Prelude.{◌≡◌};
 ghost use Rattle.d64_scratched.specs.Scratched.{is_fatal, is_lost};
 
@@ -13,7 +13,7 @@ pub enum Loss {
     Reused,
     /// A block of its way has no owner, and the map doesn't mark it free.
     Marked,
-    /// Its way is a whole chain, and isn't as long as the size that the slot shows.
+    /// Its way is a whole chain, but not as long as the size in the slot.
     Size,
     /// A block of its way is in that of a scratched slot of a lower number, whose file is younger.
     Claimed,

@@ -11,8 +11,8 @@ use d64_files::{BlockList, Entry};
 use d64_image::{BLOCKS, BlockNo, Image};
 use d64_survey::{Survey, walk};
 
-/// Of each block that a disk may have the lowest number of the scratched slots whose ways have it,
-/// and a number that no slot has where there is none.
+/// For each block that a disk may have the lowest number of the scratched slots whose ways have it,
+/// or a number above that of any slot.
 #[derive(Drop)]
 pub(crate) struct LowestSlots {
     lowest: [u16; BLOCKS],
@@ -28,7 +28,7 @@ impl LowestSlots {
         }
     }
 
-    /// The lowest slots of all blocks of an image. It walks the way of each scratched slot once.
+    /// The lowest slots for all blocks of an image. It walks the way of each scratched slot once.
     pub(crate) fn of(survey: &Survey) -> LowestSlots
         ensures told { TellsClaims survey.now result }
         ensures few { length (way_slots survey.now) ≤ 8 * BLOCKS }
@@ -42,7 +42,7 @@ impl LowestSlots {
         lowest
     }
 
-    /// Whether a slot of a lower number than this has the block.
+    /// Whether a slot with a lower number than this has the block.
     pub(crate) fn is_below(&self, block: BlockNo, slot: usize) -> bool
         ensures { result ≡ nat_lt (lowest_of self.now block) slot }
     {

@@ -29,8 +29,8 @@ pub fn is_scratched(entry: &Entry) -> bool
     !entry.used() && track != 0
 }
 
-/// What must be known of an image to say of each scratched slot why its file isn't whole. It takes
-/// no memory of its own.
+/// What is needed of an image to find why the file of a scratched slot isn't whole. It allocates
+/// nothing.
 ///
 /// In clauses it is the image itself.
 #[derive(Drop)]
@@ -56,7 +56,7 @@ impl<'s, 'a> Model for ScratchedSlots<'s, 'a> {
         × (length (way_slots slots.survey.now) ≤ 8 * BLOCKS) };
 }
 
-/// Appends a reason where it holds.
+/// Appends a reason if it applies.
 fn loss_if(list: &mut ArrayVec<Loss, LOSSES>, loss: Loss, holds: bool)
     requires { length list.old.items < 6 }
     ensures list { list.new.items ≡ list.old.items ++ where_lost holds loss }
@@ -67,14 +67,14 @@ fn loss_if(list: &mut ArrayVec<Loss, LOSSES>, loss: Loss, holds: bool)
     }
 }
 
-/// Whether a way is a whole chain, and isn't as long as the size that the slot shows.
+/// Whether a way is a whole chain, but not as long as the size in the slot.
 fn is_missized(entry: &Entry, end: WayEnd, way: &[BlockNo]) -> bool
     ensures { result ≡ is_missized entry.now.bytes (way.now, end) }
 {
     end.is_whole() && way.len() != usize::from(entry.blocks())
 }
 
-/// Whether one of the blocks couldn't be read well.
+/// Whether one of the blocks has a read error.
 fn any_unreadable(codes: Option<&[u8]>, blocks: &[BlockNo]) -> bool
     ensures { result ≡ any_unreadable (option_map (λ codes. codes.now) codes.entry) blocks.now }
 {
@@ -86,7 +86,8 @@ fn any_unreadable(codes: Option<&[u8]>, blocks: &[BlockNo]) -> bool
 }
 
 impl<'s, 'a> ScratchedSlots<'s, 'a> {
-    /// What must be known of the image of a survey. It walks the way of each scratched slot once.
+    /// Collects what is needed of the image of a survey. It walks the way of each scratched slot
+    /// once.
     pub fn of(survey: &'s Survey<'a>) -> ScratchedSlots<'s, 'a>
         ensures { result ≡ survey.now }
     {
@@ -97,8 +98,8 @@ impl<'s, 'a> ScratchedSlots<'s, 'a> {
         }
     }
 
-    /// Why the file of a scratched slot of the image isn't whole, in order, by the read codes of the
-    /// dump, where there are some. It walks the way once more.
+    /// Why the file of a scratched slot of the image isn't whole, in order, by the dump's read
+    /// codes, if it has some. It walks the way once more.
     pub fn losses(&self, codes: Option<&[u8]>, entry: &Entry) -> ArrayVec<Loss, LOSSES>
         ensures { result.items ≡ losses self.now (option_map (λ codes. codes.now) codes.entry) entry.now.slot entry.now.bytes }
     {
@@ -108,7 +109,7 @@ impl<'s, 'a> ScratchedSlots<'s, 'a> {
         self.losses_along(codes, entry, end, way.as_slice())
     }
 
-    /// The same, where this is the way of the slot.
+    /// The same, by the way of the slot.
     fn losses_along(
         &self,
         codes: Option<&[u8]>,
@@ -151,7 +152,7 @@ impl<'s, 'a> ScratchedSlots<'s, 'a> {
         !self.survey.is_owned(block) && !self.free.has(block)
     }
 
-    /// Whether one of the blocks is such a block.
+    /// Whether one of the blocks has no owner, and isn't marked free.
     fn any_marked(&self, blocks: &[BlockNo]) -> bool
         ensures { result ≡ list_any (is_unowned self.now) blocks.now }
     {
@@ -162,7 +163,7 @@ impl<'s, 'a> ScratchedSlots<'s, 'a> {
         is_marked
     }
 
-    /// Whether a block is in the way of a scratched slot of a lower number.
+    /// Whether a block is in the way of a scratched slot with a lower number.
     fn is_claimed(&self, block: BlockNo, slot: usize) -> bool
         ensures { result ≡ is_claimed_below self.now slot block }
     {
@@ -173,7 +174,7 @@ impl<'s, 'a> ScratchedSlots<'s, 'a> {
         }
     }
 
-    /// Whether one of the blocks is in such a way.
+    /// Whether one of the blocks is in the way of a scratched slot with a lower number.
     fn any_claimed(&self, blocks: &[BlockNo], slot: usize) -> bool
         ensures { result ≡ list_any (is_claimed_below self.now slot) blocks.now }
     {
