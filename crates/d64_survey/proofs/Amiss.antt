@@ -22,7 +22,7 @@ pub by_fault : (dump : DumpView) (sound : Bool) → sound ≡ is_sound dump.imag
 unfolding is_amiss
 by_fault dump sound is fact = sym (ap (λ (t : Bool). not t || beside_faults dump) (sym is ∙ fact))
 
--- there is none
+-- there is no doubt
 pub past_faults : (dump : DumpView) (sound : Bool) → sound ≡ is_sound dump.image → sound ≡ true → is_amiss dump ≡ beside_faults dump
 unfolding is_amiss
 past_faults dump sound is fact = ap (λ (t : Bool). not t || beside_faults dump) (sym is ∙ fact)
@@ -33,7 +33,7 @@ pub by_error : (dump : DumpView) (sound none : Bool) → sound ≡ is_sound dump
 by_error dump sound none is fact is_none some =
     sym (past_faults dump sound is fact ∙ ap (λ (t : Bool). not t || (ltb 0 (unwhole_count dump) || is_doubted dump)) (sym is_none ∙ some))
 
--- there is none
+-- there is no doubt
 pub past_errors : (dump : DumpView) (sound none : Bool) → sound ≡ is_sound dump.image → sound ≡ true → none ≡ no_error dump → none ≡ true
     → is_amiss dump ≡ (ltb 0 (unwhole_count dump) || is_doubted dump)
 past_errors dump sound none is fact is_none no_error =
@@ -44,7 +44,7 @@ pub by_files : (dump : DumpView) (rest : Bool) (unwhole : ℕ) → is_amiss dump
     → ltb 0 unwhole ≡ true → true ≡ is_amiss dump
 by_files dump rest unwhole past count some = sym (past ∙ ap (λ (t : Bool). t || rest) (ap (ltb 0) (sym count) ∙ some))
 
--- none is, so doubts decide
+-- no other sign is there, so doubts decide
 pub by_doubts : (dump : DumpView) (rest : Bool) (unwhole : ℕ) → is_amiss dump ≡ (ltb 0 (unwhole_count dump) || rest) → unwhole ≡ unwhole_count dump
     → ltb 0 unwhole ≡ false → rest ≡ is_amiss dump
 by_doubts dump rest unwhole past count none = sym (past ∙ ap (λ (t : Bool). t || rest) (ap (ltb 0) (sym count) ∙ none))

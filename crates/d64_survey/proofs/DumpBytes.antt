@@ -15,7 +15,7 @@ length-bytes (sector ∷ image) each =
     let rest = length-bytes image (All-tail IsBlock sector image each) in
     omega (arith, length-append sector (bytes_of image))
 
--- so many bytes of an image, and so many with its codes
+-- an image of n bytes, and the same with its codes
 abbrev pub IsCoded : ℕ → ℕ → Type 0
 IsCoded of_image all = ((of_image ≡ 174848) × (all ≡ 175531)) ⊎ ((of_image ≡ 196608) × (all ≡ 197376))
 
@@ -47,7 +47,7 @@ bytes_of_codes : (codes : List ℕ) → code_bytes (codes_in codes) ≡ codes
 bytes_of_codes [] = refl
 bytes_of_codes (code ∷ codes) = refl
 
--- where there are codes there is one for each block
+-- if there are codes there is one for each block
 some_fit : (image : List (List ℕ)) (codes : List ℕ) → ((length codes ≡ 0 → ⊥) → length codes ≡ length image) → HasCodes image (codes_in codes)
 some_fit image [] h = tt
 some_fit image (code ∷ codes) h = h (λ (none : length (code ∷ codes) ≡ 0). omega arith)

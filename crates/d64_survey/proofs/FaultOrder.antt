@@ -41,7 +41,7 @@ use Rattle.d64_survey.proofs.Owning.{few_roots, slots_are, owned_are, blocks_own
 abbrev first_number : List Fault → Option ℕ
 first_number list = option_map number (slice_get list 0)
 
--- faults are there exactly where a test says so, and the first has this number
+-- faults are there exactly if a test says so, and the first has this number
 record Tells (failed : Bool) (n : ℕ) (list : List Fault) : Type 0 where
   none : failed ≡ false → list ≡ []
   first : failed ≡ true → first_number list ≡ Some n
@@ -51,7 +51,7 @@ first_before : (list rest : List Fault) (n : ℕ) → first_number list ≡ Some
 first_before [] rest n e = absurd (let f : None ≡ Some n = e in cc)
 first_before (fault ∷ list) rest n e = e
 
--- what is told of two lists
+-- what holds of two lists
 both_tell : (failed others_failed : Bool) (n : ℕ) (list others : List Fault) → Tells failed n list → Tells others_failed n others → Tells (failed || others_failed) n (list ++ others)
 both_tell true others_failed n list others t u = record {
   none = λ (e : true ≡ false). absurd (cc);
@@ -60,17 +60,17 @@ both_tell true others_failed n list others t u = record {
 both_tell false others_failed n list others t u =
     subst (λ (l : List Fault). Tells others_failed n (l ++ others)) (sym (t.none refl)) u
 
--- what is told of each list is told of all together
+-- what holds of each list holds of all together
 all_tell : {X : Type 0} (test : X → Bool) (n : ℕ) (list : X → List Fault) → ((x : X) → Tells (test x) n (list x)) → (xs : List X) → Tells (list_any test xs) n (flat_map list xs)
 all_tell test n list each [] = record { none = λ _. refl; first = λ (e : false ≡ true). absurd (cc) }
 all_tell test n list each (x ∷ xs) = both_tell (test x) (list_any test xs) n (list x) (flat_map list xs) (each x) (all_tell test n list each xs)
 
--- a fault where there is one
+-- a fault if there is one
 one_tells : (there : Bool) (fault : Fault) → Tells there (number fault) (where_so there fault)
 one_tells true fault = record { none = λ (e : true ≡ false). absurd (cc); first = λ _. refl }
 one_tells false fault = record { none = λ _. refl; first = λ (e : false ≡ true). absurd (cc) }
 
--- some fail where not all pass
+-- some fail if not all pass
 not_all : {X : Type 0} (test : X → Bool) (xs : List X) → list_any (λ x. not (test x)) xs ≡ not (list_all test xs)
 not_all test [] = refl
 not_all test (x ∷ xs) = by_test (test x) (not_all test xs)
@@ -103,7 +103,7 @@ nil_is_not : (list : List ℕ) → is_nil list ≡ true → list ≡ []
 nil_is_not [] e = refl
 nil_is_not (x ∷ list) e = absurd (let f : false ≡ true = e in cc)
 
--- a way doesn't end as a chain where there is none
+-- a way doesn't end as a chain if there is no chain
 not_whole : (image : List (List ℕ)) (pair : ℕ × ℕ) → not (is_whole (way image pair).1) ≡ is_nil (chain_at image pair)
 not_whole image pair =
     let b = bounded image pair in
@@ -117,7 +117,7 @@ not_whole image pair =
           ap (λ (end : WayEnd). not (is_whole end)) (b.end some) ∙ sym f
     ]
 
--- the fault of a way is there where the chain isn't
+-- the fault of a way is there if the chain isn't
 way_tells : (image : List (List ℕ)) (pair : ℕ × ℕ) (fault : Fault) → Tells (is_nil (chain_at image pair)) (number fault) (where_so (not (is_whole (way image pair).1)) fault)
 way_tells image pair fault =
     subst (λ (t : Bool). Tells t (number fault) (where_so (not (is_whole (way image pair).1)) fault)) (not_whole image pair) (one_tells _ fault)
@@ -185,7 +185,7 @@ absent (b ∷ bs) block = by_test (eqb block b) (absent bs block)
     by_test true e = let some : 0 < length (b ∷ filter (eqb block) bs) = omega arith in sym (lt-ltb 0 (length (b ∷ filter (eqb block) bs)) some)
     by_test false e = e
 
--- where no block comes twice, each comes at most once
+-- if no block comes twice, each comes at most once
 no_twice : (bs : List ℕ) (block : ℕ) → has_repeats bs ≡ false → ltb 1 (times bs block) ≡ false
 no_twice [] block e = refl
 no_twice (b ∷ bs) block e =
@@ -213,7 +213,7 @@ found_in test (b ∷ bs) e = elim (or_cases (test b) (list_any test bs) e) [
   | inr t ↦ let f = found_in test bs t in record { block = f.block; among = or_right (eqb f.block b) (list_any (eqb f.block) bs) f.among; passes = f.passes }
 ]
 
--- where a block comes twice, one does
+-- if a block comes twice, some block does
 some_twice : (bs : List ℕ) → has_repeats bs ≡ true → Found (λ block. ltb 1 (times bs block)) bs
 some_twice [] e = absurd (let f : false ≡ true = e in cc)
 some_twice (b ∷ bs) e = elim (or_cases (list_any (eqb b) bs) (has_repeats bs) e) [
@@ -241,7 +241,7 @@ some_twice (b ∷ bs) e = elim (or_cases (list_any (eqb b) bs) (has_repeats bs) 
     by_test block b bs true many = let more : 1 < length (b ∷ filter (eqb block) bs) = omega arith in lt-ltb 1 _ more
     by_test block b bs false many = lt-ltb 1 _ many
 
--- none of the blocks passes a test that is false of each
+-- no block passes a test that is false of each
 none_passes : (test : ℕ → Bool) → ((block : ℕ) → test block ≡ false) → (bs : List ℕ) → list_any test bs ≡ false
 none_passes test each [] = refl
 none_passes test each (b ∷ bs) = or_from (test b) (list_any test bs) (each b) (none_passes test each bs)
@@ -293,7 +293,7 @@ owned_below image size q found =
       ]
     ]
 
--- blocks with more than one owner are there where a block is owned twice
+-- there are blocks with more than one owner if a block is owned twice
 shared_is : (image : List (List ℕ)) → IsSize (length image) → list_any (is_shared image) blocks ≡ has_repeats (blocks_owned image)
 shared_is image size =
     let bs = blocks_owned image in
@@ -310,7 +310,7 @@ shared_tell image size same =
     subst (λ (t : Bool). Tells t 5 (shared_faults image)) (shared_is image size ∙ ap has_repeats same)
     (all_tell (is_shared image) 5 (λ block. where_so (is_shared image block) (Shared block)) (λ block. one_tells (is_shared image block) (Shared block)) blocks)
 
--- where none of blocks passes a test, each fails it
+-- if no block passes a test, each fails it
 each_fails : (test : ℕ → Bool) (bs : List ℕ) (block : ℕ) → list_any test bs ≡ false → list_any (eqb block) bs ≡ true → test block ≡ false
 each_fails test [] block none among = absurd (let f : false ≡ true = among in cc)
 each_fails test (b ∷ bs) block none among =

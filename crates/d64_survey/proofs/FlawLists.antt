@@ -18,7 +18,7 @@ flaws_of image codes cell =
     listed (not (is_closed cell)) (not (has_kind cell)) (is_broken image cell) (any_shared image (slot_blocks image cell)) (any_unreadable codes (slot_blocks image cell))
     (not (is_geos image cell) && is_missized image cell) (is_geos image cell)
 
--- an entry that marks a deleted file has none
+-- an entry that marks a deleted file has no flaw
 pub none_of_deleted : (image : List (List ℕ)) (codes : Option (List ℕ)) (cell : List ℕ) (list : List Flaw) → list ≡ [] → is_del_entry cell ≡ true → list ≡ why image codes cell
 unfolding why
 none_of_deleted image codes cell list none deleted = none ∙ sym (ap (λ (t : Bool). cond t [] (flaws_of image codes cell)) deleted)
@@ -47,7 +47,7 @@ one_by_one none l1 l2 l3 l4 l5 l6 l7 a b c d e f g h h1 h2 h3 h4 h5 h6 h7 =
     ∙ then_rest l2 l3 (where_flawed c Broken) r4 h3 ∙ then_rest l1 l2 (where_flawed b Kindless) r3 h2 ∙ then_rest none l1 (where_flawed a Unclosed) r2 h1
     ∙ ap (λ (l : List Flaw). l ++ (where_flawed a Unclosed ++ r2)) h
 
--- what is told of a file
+-- what is reported about a file
 pub record Told (image : List (List ℕ)) (codes : Option (List ℕ)) (cell : List ℕ) (a b c d e f g : Bool) : Type 0 where
   pub closed : a ≡ not (is_closed cell)
   pub kind : b ≡ not (has_kind cell)

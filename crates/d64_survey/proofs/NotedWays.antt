@@ -10,7 +10,7 @@ use Rattle.d64_survey.specs.WayFacts.{facts_of, way_facts, noted_way, TellsWays}
 use Rattle.d64_survey.specs.declared.way_table.WayFacts.{WayFacts}
 use Rattle.d64_survey.proofs.Told.{same_way}
 
--- what holds of what is there, where it is another value
+-- what holds of a value in a list after another one is replaced
 held : (P : WayFacts → Type 0) (found other : Option WayFacts) → found ≡ other → IfSome other P → IfSome found P
 held P found other same is = subst (λ (f : Option WayFacts). IfSome f P) (sym same) is
 
@@ -22,7 +22,7 @@ noted_none n (Some block) = elim (cases_lt block n) [
   | inr past ↦ get_or_past (replicate n None) block None (let long : length (replicate n None) ≤ block = omega (arith, length-replicate {A = Option WayFacts} n None) in long)
 ]
 
--- where nothing is noted, what is noted is so
+-- if nothing is noted, all that is noted is true
 pub none_noted : (image : List (List ℕ)) (codes : Option (List ℕ)) (ways : List (Option WayFacts)) → ((block : Option ℕ) → noted_way ways block ≡ None) → TellsWays image codes ways
 none_noted image codes ways none = λ pair. held (λ facts. facts ≡ way_facts image codes pair) (noted_way ways (block_at image pair)) None (none (block_at image pair)) tt
 
@@ -56,7 +56,7 @@ one_noted image codes ways pair block facts found is tells = λ other. by_block 
           held (so other) (noted_way (slice_set ways block (Some facts)) (block_at image other)) (noted_way ways (block_at image other)) here (tells other)
     ]
 
--- what is noted is so
+-- what is noted is true
 pub noted_is : (image : List (List ℕ)) (codes : Option (List ℕ)) (ways : List (Option WayFacts)) (pair : ℕ × ℕ) (facts : WayFacts) → TellsWays image codes ways
     → Some facts ≡ noted_way ways (block_at image pair) → facts ≡ way_facts image codes pair
 noted_is image codes ways pair facts tells same = held (λ facts. facts ≡ way_facts image codes pair) (Some facts) (noted_way ways (block_at image pair)) same (tells pair)

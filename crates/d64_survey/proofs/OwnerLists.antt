@@ -45,7 +45,7 @@ all_claimed image block directory walk is_map is_directory is_walk =
     ∙ ap (λ (bs : List ℕ). (((map_block, Map) ∷ []) ++ owned_as Directory bs) ++ files walk) is_directory
     ∙ ap (λ (l : List (ℕ × Owner)). (map_block, Map) ∷ (owned_as Directory (directory_way image).0 ++ l)) (ap files is_walk ∙ entries_list (slot_owners image) image (way_slots image))
 
--- a table to which these are added tells the owners of the image
+-- a table to which these are added has the owners of the image
 pub all_told : (image : List (List ℕ)) (none table : OwnerTable) (owned : List (ℕ × Owner)) → ((block : ℕ) → block < BLOCKS → AreTold [] (told_by (row_of none block)))
     → Adds none owned table → owned ≡ owners image → TellsOwners image table
 all_told image none table owned empty adds same = λ block within.

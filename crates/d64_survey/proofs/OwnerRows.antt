@@ -14,12 +14,12 @@ use Rattle.d64_survey.specs.declared.owner_table.Row.{Row}
 abbrev blank : List Claimant → Row
 blank claimants = record { first = claimants; count = 0 }
 
--- among such rows each tells of none
+-- each of these rows has no owner
 pub none_told : (n : ℕ) (claimants : List Claimant) (d : Row) (block : ℕ) → block < n → AreTold [] (told_by (get_or (replicate n (blank claimants)) block d))
 none_told n claimants d block within =
     subst (λ (row : Row). AreTold [] (told_by row)) (sym (get_or-replicate n block (blank claimants) d within)) (record { shown = refl; count = refl })
 
--- and counts none
+-- and counts no owner
 pub none_counted : (n : ℕ) (claimants others : List Claimant) (block : ℕ) → (get_or (replicate n (blank claimants)) block (blank others)).count ≤ 0
 none_counted n claimants others block = elim (cases_lt block n) [
   | inl within ↦ let e = ap (λ (row : Row). row.count) (get_or-replicate n block (blank claimants) (blank others) within) in omega arith

@@ -53,7 +53,7 @@ blocks_owned-are image =
     (blocks_joined (owned_as Directory directory) (flat_map (slot_owners image) (enumerate_from 0 (way_slots image))) directory (flat_map (slot_blocks image) (way_slots image))
     (blocks_as Directory directory) (blocks_of_slots image 0 (way_slots image)))
 
--- where there is a chain it is the way
+-- if there is a chain it is the way
 pub chain_is_way : (image : List (List ℕ)) (pair : ℕ × ℕ) → chain_at image pair ≢ [] → chain_at image pair ≡ (way image pair).0
 chain_is_way image pair some = let b = bounded image pair in (b.chain (b.end some)).0
 
@@ -74,7 +74,7 @@ few_of true Rel cell = let few = at_most_one (side_pair cell) in omega arith
 pub few_roots : (cell : List ℕ) → length (roots cell) ≤ 2
 few_roots cell = few_of (is_closed cell) (kind_of cell) cell
 
--- where the chains from pairs are there, they are the ways
+-- if there are chains from pairs, they are the ways
 ways_of_roots : (image : List (List ℕ)) (pairs : List (ℕ × ℕ)) → length pairs ≤ 2 → All (λ pair. chain_at image pair ≢ []) pairs
     → blocks_from image (slice_get pairs 0) ++ blocks_from image (slice_get pairs 1) ≡ flat_map (chain_at image) pairs
 ways_of_roots image [] few there = refl
@@ -86,18 +86,18 @@ ways_of_roots image (main ∷ side ∷ []) few there =
     (sym (chain_is_way image side (All-head (λ pair. chain_at image pair ≢ []) side [] rest)) ∙ sym (append-nil (chain_at image side)))
 ways_of_roots image (main ∷ side ∷ other ∷ pairs) few there = absurd (omega arith)
 
--- where slots have their chains, their files own those
+-- if slots have their chains, their files own those
 owned_by_slots : (image cells : List (List ℕ)) → All (HasItsChains image) cells → flat_map (slot_blocks image) cells ≡ flat_map (owned_by image) cells
 owned_by_slots image [] chains = refl
 owned_by_slots image (cell ∷ cells) chains =
     ap₂ (λ (a b : List ℕ). a ++ b) (ways_of_roots image (roots cell) (few_roots cell) (All-head (HasItsChains image) cell cells chains))
     (owned_by_slots image cells (All-tail (HasItsChains image) cell cells chains))
 
--- where the directory has its chain, its way's slots are its slots
+-- if the directory has its chain, its way's slots are its slots
 pub slots_are : (image : List (List ℕ)) → directory image ≢ [] → slots image ≡ way_slots image
 slots_are image some = ap (slots_in image) (chain_is_way image (18, 1) some)
 
--- and where the files have theirs, what has an owner is owned
+-- and if the files have theirs, what has an owner is owned
 pub owned_are : (image : List (List ℕ)) → directory image ≢ [] → All (HasItsChains image) (slots image) → blocks_owned image ≡ owned_blocks image
 unfolding owned_blocks
 owned_are image some chains =

@@ -12,7 +12,7 @@ use Rattle.d64_files.proofs.SlotLists.{length-slots_in, slot_at_place}
 use Rattle.d64_survey.specs.Owners.{directory_way}
 use Rattle.d64_survey.specs.Inspection.{slot_cell}
 
--- it stands in the block of its eighth
+-- it is in the block of its eighth
 cell_there : (image : List (List ℕ)) (blocks : List ℕ) (slot block d : ℕ) → slot / 8 < length blocks → block ≡ get_or blocks (slot / 8) d
     → slice_get (slots_in image blocks) slot ≡ Some (cell (sector_at image block) (slot % 8))
 cell_there image blocks slot block d within found =
@@ -22,7 +22,7 @@ cell_there image blocks slot block d within found =
     slice_get-get_or (slots_in image blocks) slot [] inside
     ∙ ap (λ (bytes : List ℕ). Some bytes) (slot_at_place image blocks slot within ∙ ap (λ (b : ℕ). cell (sector_at image b) (slot % 8)) same)
 
--- and there is none where there is no such block
+-- and there is None if there is no such block
 no_cell : (image : List (List ℕ)) (blocks : List ℕ) (slot : ℕ) → length blocks ≤ slot / 8 → slice_get (slots_in image blocks) slot ≡ None
 no_cell image blocks slot past =
     let long = length-slots_in image blocks in
@@ -46,7 +46,7 @@ entry_there image other items n slot block d entry same_image same same_slot wit
 is_past : (a b : ℕ) → false ≡ ltb a b → b ≤ a
 is_past a b e = let t : ltb a b ≡ false = sym e in grind (arith, nat_tests)
 
--- where the way has no such slot, there is none
+-- if the way has no such slot, there is no such slot
 pub no_entry_there : (image other : List (List ℕ)) (items : List ℕ) (n slot : ℕ) → image ≡ other → items ≡ (directory_way image).0 → n ≡ slot
     → false ≡ ltb (n / 8) (length items) → None ≡ option_map (λ bytes. entry_of other (slot, bytes)) (slot_cell other slot)
 no_entry_there image other items n slot same_image same same_slot past =

@@ -1,4 +1,4 @@
--- Where an image has no fault, its ways are its chains.
+-- If an image has no fault, its ways are its chains.
 use Rattle.std.proofs.Common.{◌≡◌, ◌≢◌, ℕ, zero, suc, List, [], ◌∷◌, refl, sym, subst, arith}
 use Rattle.std.specs.Prelude.{All}
 use Rattle.std.specs.List.{slice_get}

@@ -6,7 +6,7 @@ use Rattle.d64_survey.specs.Way.{way_on, block_at}
 use Rattle.d64_survey.specs.declared.way_end.WayEnd.{WayEnd}
 use Rattle.d64_survey.specs.declared.way_end.WayEnd.TheVariants.{End, Off, Loop}
 
--- where the image has no block of the pair, the way ends there
+-- if the image has no block of the pair, the way ends there
 pub off : (left : ℕ) (image : List (List ℕ)) (walked : List ℕ) (pair : ℕ × ℕ) → way_on left image walked pair None ≡ (walked, Off pair.0 pair.1)
 unfolding way_on
 off zero image walked pair = refl
@@ -18,14 +18,14 @@ from_block left image walked block =
     cond (eqb (link_at image block).0 0) (walked ++ block ∷ [], End)
     (way_on left image (walked ++ block ∷ []) (link_at image block) (block_at image (link_at image block)))
 
--- where the pair's block is walked already, the way ends there
+-- if the pair's block is walked already, the way ends there
 pub loops : (left : ℕ) (image : List (List ℕ)) (walked : List ℕ) (pair : ℕ × ℕ) (block : ℕ) → list_any (eqb block) walked ≡ true
     → way_on left image walked pair (Some block) ≡ (walked, Loop pair.0 pair.1)
 unfolding way_on
 loops zero image walked pair block found = refl
 loops (suc left) image walked pair block found = ap (λ (t : Bool). cond t (walked, Loop pair.0 pair.1) (from_block left image walked block)) found
 
--- where it isn't, the way has it, and goes on from it
+-- if it isn't, the way has it, and goes on from it
 pub fresh_step : (left : ℕ) (image : List (List ℕ)) (walked : List ℕ) (pair : ℕ × ℕ) (block : ℕ) → list_any (eqb block) walked ≡ false
     → way_on (suc left) image walked pair (Some block) ≡ from_block left image walked block
 unfolding way_on

@@ -1,4 +1,4 @@
--- What a way tells of the chain from its first block.
+-- What a way says of the chain from its first block.
 use Rattle.std.proofs.Common.{◌≡◌, ◌≢◌, ℕ, zero, suc, ◌+◌, ◌<◌, true, false, eqb, List, [], ◌∷◌, ◌++◌, length, Option, Some, None, refl, sym, ap, ◌∙◌, subst, inl, inr}
 use Rattle.std.specs.List.{list_any}
 use Rattle.std.specs.Option.{option_map_or}
@@ -16,8 +16,8 @@ use Rattle.d64_survey.specs.declared.way_end.WayEnd.TheVariants.{End, Off, Loop}
 use Rattle.d64_survey.proofs.Steps.{from_block, off, loops, fresh_step, ends, goes_on}
 use Rattle.d64_survey.proofs.Trails.{Trail, begun, added, some_left}
 
--- the way's blocks are distinct ones of the image; where it ends after a last block they are the
--- chain, and else there is none
+-- the way's blocks are distinct ones of the image; if it ends after a last block they are the
+-- chain, and otherwise there is no chain
 pub record Told (image : List (List ℕ)) (start : ℕ) (told : List ℕ × WayEnd) : Type 0 where
   pub left : ℕ
   pub trail : Trail image left told.0
@@ -51,7 +51,7 @@ has_added : (seen : set.FinSet nat_cmp) (walked : List ℕ) (block q limit : ℕ
     → ((q : ℕ) → list_any (eqb q) (walked ++ block ∷ []) ≡ true → q < limit) → set.contains (set.insert seen block) q ≡ true → q < limit
 has_added seen walked block q limit members below found = below q (sym (longer_members walked block seen q (members q)) ∙ found)
 
--- what the way on from a block tells that a walk has come to, and whose link has another track than
+-- what the way on from a block says that a walk has come to, and whose link has another track than
 -- 0
 tells : (left : ℕ) (image : List (List ℕ)) (start last count : ℕ) (walked : List ℕ) (seen : set.FinSet nat_cmp) (block : Option ℕ)
     → Walked image start last count (length image) walked seen → Trail image left walked → last < length image → eqb (link_at image last).0 0 ≡ false
@@ -88,7 +88,7 @@ tells (suc left) image start last count walked seen (Some block) w trail within 
           ])
     ]
 
--- what a way tells from a block of the image
+-- what a way from a block of the image says
 pub from_start : (image : List (List ℕ)) (pair : ℕ × ℕ) (start : ℕ) → block_at image pair ≡ Some start → Told image start (way image pair)
 unfolding way
 from_start image pair start found =

@@ -11,7 +11,7 @@ use Rattle.d64_files.specs.Chain.{LieIn}
 use Rattle.d64_files.proofs.Walks.{room}
 use Rattle.d64_survey.specs.Way.{way, way_on, block_at}
 
--- the blocks of a way so far are distinct ones of the image, which has so many others
+-- the blocks of a way so far are distinct ones of the image, which has n others
 pub record Trail (image : List (List ℕ)) (left : ℕ) (walked : List ℕ) : Type 0 where
   pub counted : length walked + left ≡ length image
   pub distinct : IsDistinct eqb walked
@@ -39,7 +39,7 @@ added image left walked block trail fresh inside =
       ];
     }
 
--- where a block of the image isn't walked yet, there is one left
+-- if a block of the image isn't walked yet, there is one left
 pub some_left : (image : List (List ℕ)) (left : ℕ) (walked : List ℕ) (block : ℕ) → Trail image left walked → list_any (eqb block) walked ≡ false → block < length image
     → (rest : ℕ) × (left ≡ suc rest)
 some_left image zero walked block trail fresh inside =

@@ -9,16 +9,17 @@ use Rattle.d64_survey.specs.Doubts.{doubts}
 use Rattle.d64_survey.specs.Inspection.{unwhole_count, is_sound, is_amiss}
 use Rattle.d64_survey.specs.declared.doubt.Doubt.{Doubt}
 
--- whatever its doubts are, an image is sound exactly where it meets all six conditions
+-- whatever its doubts are, an image is sound exactly if it meets all six conditions
 abbrev pub SoundWhateverItsDoubts : Type 0
 SoundWhateverItsDoubts =
     (image : Disk) → IsSize (length image) → (found : List Doubt) → doubts image ≡ found → (is_sound image ≡ true) ↔ AllHold image 1 6
 
--- where there is a doubt, something is amiss
+-- if there is a doubt, something is amiss
 abbrev pub AmissWhereDoubtful : Type 0
 AmissWhereDoubtful = (dump : DumpView) → doubts dump.image ≢ [] → is_amiss dump ≡ true
 
--- where there is none, a fault, a read error or a file that is not whole is what may be amiss
+-- if there is no doubt, something is amiss exactly if there is a fault, a read error or a file that
+-- is not whole
 abbrev pub AmissWithoutDoubts : Type 0
 AmissWithoutDoubts =
     (dump : DumpView)

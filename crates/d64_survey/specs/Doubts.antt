@@ -1,4 +1,4 @@
--- What makes an image doubtful: signs that a reader wrote something else for what it could not read.
+-- The doubts about an image: signs that a reader wrote something else for what it could not read.
 use Rattle.std.specs.Prelude.{ℕ, ◌==◌, ◌&&◌, ◌||◌, nat_eq, nat_lt, not, Bool, if◌then◌else◌, List, [], ◌∷◌, ◌++◌, length, drop, slice_index, codes}
 use Rattle.std.specs.List.{list_all, list_any, flat_map, range_with_len, starts_with}
 use Rattle.std.specs.Cmp.Lexicographic.{pointwise}
@@ -9,7 +9,7 @@ use Rattle.d64_survey.specs.Owners.{is_unowned}
 use Rattle.d64_survey.specs.declared.doubt.Doubt.{Doubt}
 use Rattle.d64_survey.specs.declared.doubt.Doubt.TheVariants.{Version, Blank, Unowned, Filler}
 
--- byte $02 of the map's block isn't $41, by which a 1541 knows its own disks
+-- whether byte $02 of the map's block isn't $41, by which a 1541 knows its own disks
 abbrev pub has_other_version : Disk → Bool
 has_other_version image = not (slice_index (sector_at image map_block) 0x02 == 0x41)
 
@@ -17,35 +17,35 @@ has_other_version image = not (slice_index (sector_at image map_block) 0x02 == 0
 abbrev pub directory_block : ℕ
 directory_block = 358
 
--- the bytes of a block are all equal
+-- whether the bytes of a block are all equal
 unfoldable pub is_blank : Disk → ℕ → Bool
 is_blank image block = list_all (nat_eq (slice_index (sector_at image block) 0)) (sector_at image block)
 
--- the map's block has the text by which GEOS knows its disks
+-- whether the map's block has the text by which GEOS knows its disks
 abbrev pub is_for_geos : Disk → Bool
 is_for_geos image = starts_with nat_eq (drop 0xAD (sector_at image map_block)) (codes "GEOS format")
 
--- a block of tracks 1 to 35 is neither free nor owned
+-- whether a block of tracks 1 to 35 is neither free nor owned
 abbrev pub is_stray : Disk → ℕ → Bool
 is_stray image block = nat_lt block 683 && is_unowned image block
 
--- there is such a block, on a disk that isn't one of GEOS
+-- whether there is such a block, on a disk that isn't one of GEOS
 unfoldable pub has_strays : Disk → Bool
 has_strays image = not (is_for_geos image) && list_any (is_stray image) (range_with_len 0 (length image))
 
--- what copiers write in the place of a block that they can't read: sixteen times this text
+-- what copiers write in place of a block that they can't read: sixteen times this text
 unfoldable pub filler : Bytes
 filler = flat_map (λ n. codes "-=[BAD SECTOR]=-") (range_with_len 0 16)
 
--- a block is that
+-- whether a block has what copiers write for one that they can't read
 abbrev pub is_filler : Disk → ℕ → Bool
 is_filler image block = pointwise nat_eq filler (sector_at image block)
 
--- there is such a block
+-- whether a block of the image has that
 unfoldable pub has_filler : Disk → Bool
 has_filler image = list_any (is_filler image) (range_with_len 0 (length image))
 
--- the doubt, where there is one
+-- a list of the doubt if there is one, and else the empty list
 abbrev pub where_doubted : Bool → Doubt → List Doubt
 where_doubted there doubt = if there then doubt ∷ [] else []
 

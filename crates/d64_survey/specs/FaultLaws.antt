@@ -11,7 +11,7 @@ use Rattle.d64_survey.specs.Faults.{faults, number}
 use Rattle.d64_survey.specs.Owners.{pair_of, blocks_from, directory_way, way_slots, blocks_owned}
 use Rattle.d64_survey.specs.declared.owner.Part.{Part}
 
--- an image has no fault exactly where it meets all six conditions
+-- an image has no fault exactly if it meets all six conditions
 abbrev pub NoFaultWhereSound : Type 0
 NoFaultWhereSound = (image : Disk) → IsSize (length image) → (faults image ≡ []) ↔ AllHold image 1 6
 
@@ -24,8 +24,8 @@ FirstFaultIsTheLeast =
 abbrev pub WaysAreItsChains : Disk → Bytes → Type 0
 WaysAreItsChains image cell = (part : Part) → blocks_from image (pair_of part cell) ≡ option_map_or (chain_at image) (pair_of part cell) []
 
--- where there is no fault, the directory's way is the directory, what has an owner are the owned
--- blocks, and each slot has its chains, which are its ways
+-- if there is no fault, the directory's way is the directory, the blocks with an owner are the
+-- owned blocks, and each slot has its chains, which are its ways
 abbrev pub WaysAreChainsWhereSound : Type 0
 WaysAreChainsWhereSound =
     (image : Disk)

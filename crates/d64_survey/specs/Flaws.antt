@@ -13,38 +13,38 @@ use Rattle.d64_survey.specs.declared.owner.Part.TheVariants.{Data, Side}
 use Rattle.d64_survey.specs.declared.flaw.Flaw.{Flaw}
 use Rattle.d64_survey.specs.declared.flaw.Flaw.TheVariants.{Unclosed, Kindless, Broken, Shared, Unreadable, Missized, Geos}
 
--- an entry that marks a deleted file
+-- whether an entry marks a deleted file
 abbrev pub is_del_entry : Bytes → Bool
 is_del_entry cell = kind_number cell == 0
 
--- a GEOS file: of the kind USR, with a type, and with a pair of the image where a REL file has its
--- side blocks
+-- whether a file is one of GEOS: of the kind USR, with a type, and with a pair of the image in the
+-- bytes in which a REL file has that of its side blocks
 abbrev pub is_geos : Disk → Bytes → Bool
 is_geos image cell = (kind_number cell == 3) && (not (geos_type cell == 0) && option_map_or (λ pair. is_some (block_at image pair)) (side_pair cell) false)
 
--- there is a way from the pair, and it isn't a whole chain
+-- whether there is a way from a pair that isn't a whole chain
 abbrev pub is_broken_from : Disk → Option (ℕ × ℕ) → Bool
 is_broken_from image pair = option_map_or (λ pair. not (is_whole (way image pair).1)) pair false
 
--- a way of the file isn't a whole chain
+-- whether a way of the file isn't a whole chain
 abbrev pub is_broken : Disk → Bytes → Bool
 is_broken image cell = is_broken_from image (pair_of Data cell) || is_broken_from image (pair_of Side cell)
 
--- one of blocks has more than one owner
+-- whether one of some blocks has more than one owner
 abbrev pub any_shared : Disk → Blocks → Bool
 any_shared image blocks = list_any (is_shared image) blocks
 
--- one of blocks has a read error
+-- whether one of some blocks has a read error
 abbrev pub any_unreadable : Option Bytes → Blocks → Bool
 any_unreadable codes blocks = list_any (λ block. is_read_error (code_of codes block)) blocks
 
--- the file has a data way, its ways are whole chains, and the shown size isn't the sum of their
--- lengths
+-- whether the file has a data way, its ways are whole chains, and the shown size isn't the sum of
+-- their lengths
 abbrev pub is_missized : Disk → Bytes → Bool
 is_missized image cell =
     is_some (pair_of Data cell) && (not (is_broken image cell) && not (length (slot_blocks image cell) == size_of cell))
 
--- the flaw, where there is one
+-- a list of the flaw if there is one, and else the empty list
 abbrev pub where_flawed : Bool → Flaw → List Flaw
 where_flawed there flaw = if there then flaw ∷ [] else []
 
@@ -60,17 +60,17 @@ why image codes cell =
     ++ (where_flawed (not (is_geos image cell) && is_missized image cell) Missized
     ++ where_flawed (is_geos image cell) Geos))))))
 
--- whether a file with these flaws is whole; not known of a GEOS file without others
+-- whether a file with these flaws is whole; not known for a GEOS file without other flaws
 abbrev pub is_whole_with : List Flaw → Option Bool
 is_whole_with [] = Some true
 is_whole_with (Geos ∷ flaws) = None
 is_whole_with (flaw ∷ flaws) = Some false
 
--- whether the file of a slot with these flaws is whole; not known of an entry that marks a deleted
+-- whether the file of a slot with these flaws is whole; not known for an entry that marks a deleted
 -- file
 abbrev pub wholeness_by : Bytes → List Flaw → Option Bool
 wholeness_by cell flaws = if is_del_entry cell then None else is_whole_with flaws
 
--- whether the file of a slot is whole, where that is known
+-- whether the file of a slot is whole, if that is known
 abbrev pub wholeness : Disk → Option Bytes → Bytes → Option Bool
 wholeness image codes cell = wholeness_by cell (why image codes cell)

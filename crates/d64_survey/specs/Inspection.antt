@@ -1,4 +1,4 @@
--- What is told of a dump in all.
+-- The inspection of a dump: all that is reported about it.
 use Rattle.std.specs.Prelude.{◌≡◌, ℕ, ◌&&◌, ◌||◌, ◌==◌, nat_lt, Bool, false, not, length, count_by, Option, Some, None}
 use Rattle.std.specs.List.{slice_get}
 use Rattle.d64_image.specs.Disk.{Disk, Bytes}
@@ -11,25 +11,25 @@ use Rattle.d64_survey.specs.Flaws.{wholeness}
 use Rattle.d64_survey.specs.Doubts.{doubts}
 use Rattle.d64_survey.specs.declared.file_count.FileCounts.{FileCounts}
 
--- the bytes of a slot of the directory's way; none where it has no such slot
+-- the bytes of a slot of the directory's way; None if it has no such slot
 abbrev pub slot_cell : Disk → ℕ → Option Bytes
 slot_cell image slot = slice_get (way_slots image) slot
 
--- it is known, and so
+-- whether a value is known, and true
 abbrev pub is_so : Option Bool → Bool
 is_so None = false
 is_so (Some answer) = answer
 
--- it is known, and not so
+-- whether a value is known, and false
 abbrev pub is_not_so : Option Bool → Bool
 is_not_so None = false
 is_not_so (Some answer) = not answer
 
--- a slot is used, and its file is known to be whole
+-- whether a slot is used and its file is known to be whole
 abbrev pub is_whole_file : DumpView → Bytes → Bool
 is_whole_file dump cell = is_used cell && is_so (wholeness dump.image dump.codes cell)
 
--- a slot is used, and its file is known not to be whole
+-- whether a slot is used and its file is known not to be whole
 abbrev pub is_unwhole_file : DumpView → Bytes → Bool
 is_unwhole_file dump cell = is_used cell && is_not_so (wholeness dump.image dump.codes cell)
 
@@ -37,19 +37,19 @@ is_unwhole_file dump cell = is_used cell && is_not_so (wholeness dump.image dump
 unfoldable pub entry_count : Disk → ℕ
 entry_count image = count_by is_used (way_slots image)
 
--- how many of these have a file that is whole
+-- how many used slots have a file that is whole
 unfoldable pub whole_count : DumpView → ℕ
 whole_count dump = count_by (is_whole_file dump) (way_slots dump.image)
 
--- how many of these have a file that is not whole
+-- how many used slots have a file that is not whole
 unfoldable pub unwhole_count : DumpView → ℕ
 unwhole_count dump = count_by (is_unwhole_file dump) (way_slots dump.image)
 
--- there is no fault
+-- whether an image has no fault
 abbrev pub is_sound : Disk → Bool
 is_sound image = length (faults image) == 0
 
--- there is a fault, a read error, a file that is not whole or a doubt
+-- whether there is a fault, a read error, a file that is not whole or a doubt
 unfoldable pub is_amiss : DumpView → Bool
 is_amiss dump =
     not (is_sound dump.image)

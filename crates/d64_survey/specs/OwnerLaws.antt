@@ -5,8 +5,8 @@ use Rattle.d64_files.specs.Directory.{directory, slots, owned_blocks}
 use Rattle.d64_files.specs.Ownership.{HasItsChains}
 use Rattle.d64_survey.specs.Owners.{directory_way, way_slots, blocks_owned}
 
--- where the directory and the files have their chains, the directory's way and its slots are the
--- directory and its slots, and the blocks that have an owner are the owned blocks
+-- if the directory and the files have their chains, the directory's way is the directory, the slots
+-- of an image are those of the directory, and the blocks with an owner are the owned blocks
 abbrev pub OwnersAreThoseOfFiles : Type 0
 OwnersAreThoseOfFiles =
     (image : Disk)

@@ -19,7 +19,7 @@ owner_kept Directory = owners.Directory
 owner_kept (Data slot) = owners.File slot parts.Data
 owner_kept (Side slot) = owners.File slot parts.Side
 
--- what a row tells of the owners of its block
+-- the owners that a row has of its block
 abbrev pub told_by : Row → OwnersView
 told_by row = record { shown = map owner_kept (take row.count row.first); count = row.count }
 
@@ -27,8 +27,7 @@ told_by row = record { shown = map owner_kept (take row.count row.first); count 
 abbrev pub row_of : OwnerTable → ℕ → Row
 row_of table block = slice_index_or table.rows block (record { first = []; count = 0 })
 
--- the second table tells of each block what the first does and, after that, that it has these
--- owners
+-- the second table has for each block the owners of the first one, and after them these owners
 abbrev pub Adds : OwnerTable → List (ℕ × Owner) → OwnerTable → Type 0
 Adds old owned new =
     (block : ℕ)
@@ -37,14 +36,14 @@ Adds old owned new =
     → AreTold all (told_by (row_of old block))
     → AreTold (all ++ owners_among block owned) (told_by (row_of new block))
 
--- the second table counts at most so many owners more of each block than the first
+-- the second table counts at most n more owners of each block than the first
 abbrev pub AddsFew : OwnerTable → ℕ → OwnerTable → Type 0
 AddsFew old count new = (block : ℕ) → (row_of new block).count ≤ (row_of old block).count + count
 
--- the table counts at most so many owners of each block
+-- the table counts at most n owners of each block
 abbrev pub CountsUpTo : ℕ → OwnerTable → Type 0
 CountsUpTo limit table = (block : ℕ) → (row_of table block).count ≤ limit
 
--- the table tells the owners of each block of an image
+-- the table has the owners of each block of an image
 abbrev pub TellsOwners : Disk → OwnerTable → Type 0
 TellsOwners image table = (block : ℕ) → block < BLOCKS → AreTold (owners_of image block) (told_by (row_of table block))

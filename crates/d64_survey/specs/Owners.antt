@@ -22,16 +22,16 @@ directory_way image = way image (18, 1)
 abbrev pub way_slots : Disk → List Bytes
 way_slots image = slots_in image (directory_way image).0
 
--- the pair from which a part of a slot's file leads; none where the slot has no such part
+-- the pair from which a part of a slot's file leads; None if the slot has no such part
 abbrev pub pair_of : Part → Bytes → Option (ℕ × ℕ)
 pair_of Data cell = slice_get (roots cell) 0
 pair_of Side cell = slice_get (roots cell) 1
 
--- the blocks of the way from a pair, where there is one
+-- the blocks of the way from a pair, if there is one
 abbrev pub blocks_from : Disk → Option (ℕ × ℕ) → Blocks
 blocks_from image pair = option_map_or (λ pair. (way image pair).0) pair []
 
--- the blocks, each with this owner
+-- blocks, each with this owner
 abbrev pub owned_as : Owner → Blocks → List (ℕ × Owner)
 owned_as owner blocks = map (λ block. (block, owner)) blocks
 
@@ -43,12 +43,12 @@ part_owners image slot part = owned_as (File slot.0 part) (blocks_from image (pa
 abbrev pub slot_owners : Disk → ℕ × Bytes → List (ℕ × Owner)
 slot_owners image slot = part_owners image slot Data ++ part_owners image slot Side
 
--- each block that has an owner, with its owner: the map's block, the directory's way, and then the
--- files by their slots
+-- each block with an owner, and the owner: first the map's block, then the directory's way, and
+-- then the files by their slots
 unfoldable pub owners : Disk → List (ℕ × Owner)
 owners image = (map_block, Map) ∷ (owned_as Directory (directory_way image).0 ++ flat_map (slot_owners image) (numbered_slots (way_slots image)))
 
--- the blocks that have an owner, as often as they have one
+-- the blocks with an owner, each once for each of its owners
 abbrev pub blocks_owned : Disk → Blocks
 blocks_owned image = map (λ (owned : ℕ × Owner). owned.0) (owners image)
 
@@ -64,10 +64,10 @@ is_owned image block = nat_lt 0 (length (owners_of image block))
 abbrev pub is_shared : Disk → ℕ → Bool
 is_shared image block = nat_lt 1 (length (owners_of image block))
 
--- a block has no owner, and the map doesn't mark it free
+-- whether a block has no owner and the map doesn't mark it free
 abbrev pub is_unowned : Disk → ℕ → Bool
 is_unowned image block = not (is_owned image block) && not (set.contains (free_blocks image) block)
 
--- how many such blocks the image has
+-- how many blocks of the image are such
 unfoldable pub unowned_count : Disk → ℕ
 unowned_count image = count_by (is_unowned image) (range_with_len 0 (length image))

@@ -6,19 +6,19 @@ use Rattle.d64_files.specs.Chain.{block_in, link_at}
 use Rattle.d64_survey.specs.declared.way_end.WayEnd.{WayEnd}
 use Rattle.d64_survey.specs.declared.way_end.WayEnd.TheVariants.{End, Off, Loop}
 
--- a way ends after a last block
+-- whether a way ends after a last block
 abbrev pub is_whole : WayEnd → Bool
 is_whole End = true
 is_whole (Off track sector) = false
 is_whole (Loop track sector) = false
 
--- the block of a pair of track and sector, where the image has that block
+-- the block of a pair of track and sector; None if the image has no such block
 abbrev pub block_at : Disk → ℕ × ℕ → Option ℕ
 block_at image pair = block_in image pair.0 pair.1
 
--- the way of which these blocks are walked, with so many blocks of the image left, and on from a
--- pair and its block: it ends where the image has no such block, where that block is walked
--- already, as each one is where none is left, and after a block whose link has track 0
+-- the way that has these blocks already, and goes on from a pair and its block, with n blocks of
+-- the image left: it ends if the image has no such block, if that block is in the way already, as
+-- each one is if no block is left, and after a block whose link has track 0
 unfoldable pub way_on : ℕ → Disk → Blocks → ℕ × ℕ → Option ℕ → Blocks × WayEnd
 way_on left image walked pair None = (walked, Off pair.0 pair.1)
 way_on zero image walked pair (Some block) = (walked, Loop pair.0 pair.1)

@@ -20,7 +20,7 @@ const VERSION: u8 = 0x41;
 /// How many blocks tracks 1 to 35 have.
 const BLOCKS_OF_35: usize = 683;
 
-/// What copiers write in the place of a block that they can't read.
+/// What copiers write in place of a block that they can't read.
 const FILLER: [u8; BLOCK_BYTES] =
     *b"-=[BAD SECTOR]=--=[BAD SECTOR]=--=[BAD SECTOR]=--=[BAD SECTOR]=-\
     -=[BAD SECTOR]=--=[BAD SECTOR]=--=[BAD SECTOR]=--=[BAD SECTOR]=-\
@@ -34,7 +34,7 @@ pub fn directory_block() -> BlockNo
     BlockNo::of(DIRECTORY_TRACK, DIRECTORY_SECTOR).unwrap()
 }
 
-/// Whether the map's block has another version byte than that of a 1541's disk.
+/// Whether the map's block doesn't have the version byte of a 1541's disk.
 fn has_other_version(image: &Image) -> bool
     ensures { result ≡ has_other_version image.now }
 {
@@ -68,7 +68,7 @@ fn is_for_geos(image: &Image) -> bool
     image.sector(map_block())[0xAD..].starts_with(b"GEOS format")
 }
 
-/// Whether there is a block that is marked used and has no owner.
+/// Whether there is a block that is marked used and has no owner, on a disk that isn't one of GEOS.
 fn has_strays(survey: &Survey) -> bool
     ensures { result ≡ has_strays survey.now }
 {
@@ -85,7 +85,7 @@ fn has_strays(survey: &Survey) -> bool
     is_any
 }
 
-/// Whether there is a block of what copiers write for one that they can't read.
+/// Whether there is a block that a copier wrote for one that it couldn't read.
 #[tactic(auto, unfolding(crate::specs::Doubts::has_filler, crate::specs::Doubts::filler))]
 fn has_filler(image: &Image) -> bool
     ensures { result ≡ has_filler image.now }
@@ -97,7 +97,7 @@ fn has_filler(image: &Image) -> bool
     is_any
 }
 
-/// Appends a doubt where that is asked for.
+/// Appends a doubt if there is one.
 fn doubt_if(list: &mut ArrayVec<Doubt, DOUBTS>, doubt: Doubt, is_asked: bool)
     requires { length list.old.items < 4 }
     ensures list { list.new.items ≡ list.old.items ++ where_doubted is_asked doubt }
@@ -109,7 +109,7 @@ fn doubt_if(list: &mut ArrayVec<Doubt, DOUBTS>, doubt: Doubt, is_asked: bool)
 }
 
 impl Survey<'_> {
-    /// What makes the image doubtful, in order.
+    /// The reasons to doubt the image, in order.
     pub fn doubts(&self) -> ArrayVec<Doubt, DOUBTS>
         ensures { result.items ≡ doubts self.now }
     {

@@ -21,19 +21,19 @@ const CODED_BYTES_OF_40: usize = 197_376;
 /// Why bytes make no dump.
 #[derive(Clone, Debug, PartialEq, Eq, Drop, Error)]
 pub enum DumpFault {
-    /// There are this many bytes, and a dump has 174,848, 175,531, 196,608 or 197,376.
+    /// There are this many bytes. A dump has 174,848, 175,531, 196,608 or 197,376.
     #[error("a dump has 174848, 175531, 196608 or 197376 bytes, and these are {0}")]
     WrongLength(usize),
     #[error("out of memory")]
     Memory(AllocError),
 }
 
-/// What a disk was read into: an image and, where the reader noted them, one read code a block (the
-/// VICE manual, "The D64 disk image format").
+/// What a reader made of a disk: an image and, if the reader noted them, one read code for each
+/// block (the VICE manual, "The D64 disk image format").
 #[derive(Debug, Drop)]
 pub struct Dump {
     image: Image,
-    /// One for each block, or none at all.
+    /// One for each block, or no code at all.
     codes: Vec<u8>,
 }
 
@@ -61,7 +61,7 @@ impl From<ImageFault> for DumpFault {
     }
 }
 
-/// How many bytes the image has in a dump of so many, or None where no dump has so many.
+/// How many bytes the image has in a dump of `len` bytes, or None if no dump has as many.
 fn image_bytes(len: usize) -> Option<usize>
     ensures image { result ≡ image_bytes_in len }
     ensures size { IfSome result (λ count. is_image_length count ≡ true) }
@@ -93,8 +93,8 @@ pub fn drive_status(code: u8) -> Option<u8>
     }
 }
 
-/// Makes a list at least as long as another one, by bytes of that. Memory is asked for only where
-/// the list was never so long.
+/// Makes a list at least as long as another one, with bytes of that. It allocates only if the list
+/// was never as long.
 fn lengthen(list: &mut Vec<u8>, other: &[u8]) -> Result<(), AllocError>
     ensures kept { take (length list.old.items) list.new.items ≡ list.old.items }
     ensures long { OnOk result (length other.now ≤ length list.new.items) }
@@ -107,7 +107,7 @@ fn lengthen(list: &mut Vec<u8>, other: &[u8]) -> Result<(), AllocError>
     Ok(())
 }
 
-/// Puts bytes in the place of those of a list that has as many, or more.
+/// Overwrites the first bytes of a list that is at least as long.
 fn overwrite(list: &mut Vec<u8>, bytes: &[u8])
     requires { length bytes.now ≤ length list.old.items }
     ensures { list.new.items ≡ bytes.now }
@@ -117,9 +117,8 @@ fn overwrite(list: &mut Vec<u8>, bytes: &[u8])
 }
 
 impl Dump {
-    /// The dump with these bytes. Refused where there are as many as no dump has: it has 174,848
-    /// bytes or 196,608, those of an image, or 175,531 or 197,376, where 683 or 768 codes follow
-    /// them.
+    /// Makes a dump of these bytes. `WrongLength` comes unless there are 174,848 or 196,608 bytes,
+    /// those of an image, or 175,531 or 197,376, those of an image and its 683 or 768 codes.
     pub fn from_bytes(alloc: Global, bytes: &[u8]) -> Result<Dump, DumpFault>
         ensures refused { wrong_length result ≡ (if is_some (image_bytes_in (length bytes.now)) then None else Some (length bytes.now)) }
         ensures kept { IfOk result (λ dump. dump_bytes dump ≡ bytes.now) }
@@ -147,9 +146,9 @@ impl Dump {
         }
     }
 
-    /// Puts the dump with these bytes, as `from_bytes` takes them, in the place of this one. Where
-    /// that is refused the dump is as before. Memory is asked for only where the new dump has more
-    /// blocks or codes than each one before it.
+    /// Replaces the dump by the one of these bytes, as `from_bytes` makes it. After an error the
+    /// dump is unchanged. It allocates only if the new dump has more blocks or codes than any
+    /// before it.
     pub fn refill(&mut self, bytes: &[u8]) -> Result<(), DumpFault>
         ensures refused { wrong_length result ≡ (if is_some (image_bytes_in (length bytes.now)) then None else Some (length bytes.now)) }
         ensures filled { OnOk result (dump_bytes self.new ≡ bytes.now) }
@@ -184,7 +183,7 @@ impl Dump {
         &self.image
     }
 
-    /// The read codes, one for each block of the image, or None where there are none.
+    /// The read codes, one for each block of the image, or None if there are no codes.
     pub fn codes(&self) -> Option<&[u8]>
         ensures codes { option_map (λ codes. codes.now) result ≡ self.now.codes }
         ensures dump { IsDump self.now }

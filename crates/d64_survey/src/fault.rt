@@ -1,4 +1,4 @@
-//! What can be wrong with an image, and where.
+//! The faults of an image, each with its place.
 ghost use Rattle.std.specs.Prelude.{◌≡◌};
 ghost use Rattle.d64_survey.specs.Faults.{number};
 
@@ -16,17 +16,17 @@ pub enum LastBlock {
     Block(BlockNo),
 }
 
-/// A fault of an image: a place where one of the six conditions of a sound image fails.
+/// A fault of an image: a place at which one of the six conditions of a sound image fails.
 #[derive(Clone, Copy, Debug, PartialEq, Eq)]
 pub enum Fault {
     /// The count byte of this track is this one, and the map marks that many of its sectors free.
     WrongCount(u8, u8, u8),
-    /// The directory's way has this last block, or none, and doesn't end as a chain.
+    /// The directory's way has this last block, or no block, and doesn't end as a chain.
     BrokenDirectory(LastBlock, WayEnd),
-    /// The low four bits of this slot's type byte are no kind's number.
+    /// The low four bits of this slot's type byte are not the number of a kind.
     UnknownKind(SlotNo, u8),
-    /// The way of this part of this slot's file has this last block, or none, and doesn't end as a
-    /// chain.
+    /// The way of this part of this slot's file has this last block, or no block, and doesn't end
+    /// as a chain.
     BrokenFile(SlotNo, Part, LastBlock, WayEnd),
     /// This block has more than one owner.
     Shared(BlockNo),

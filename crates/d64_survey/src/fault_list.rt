@@ -27,7 +27,7 @@ fn list_counts(image: &Image, faults: &mut Vec<Fault>) -> Result<(), AllocError>
     Ok(())
 }
 
-/// Lists the directory, where its way isn't a whole chain.
+/// Lists the directory, if its way isn't a whole chain.
 fn list_directory(survey: &Survey, faults: &mut Vec<Fault>) -> Result<(), AllocError>
     ensures { OnOk result (faults.new.items ≡ faults.old.items ++ directory_faults survey.now) }
 {
@@ -47,7 +47,7 @@ fn list_kinds(survey: &Survey, faults: &mut Vec<Fault>) -> Result<(), AllocError
     Ok(())
 }
 
-/// Lists the way of a part of a slot's file, where there is one and it isn't a whole chain.
+/// Lists the way of a part of a slot's file, if there is one and it isn't a whole chain.
 fn list_way(
     survey: &Survey,
     codes: Option<&[u8]>,
@@ -123,9 +123,9 @@ fn list_free(survey: &Survey, faults: &mut Vec<Fault>) -> Result<(), AllocError>
 }
 
 impl Survey<'_> {
-    /// Lists the faults of the image, by the numbers of their conditions, in the place of what the
-    /// list had; within a number tracks, slots and blocks rise, and a slot's data comes before its
-    /// side blocks. The list alone takes memory.
+    /// Replaces the list by the faults of the image, by the numbers of their conditions. Within a
+    /// number tracks, slots and blocks rise, and a slot's data comes before its side blocks. Only
+    /// the list allocates.
     pub fn list_faults(&self, faults: &mut Vec<Fault>) -> Result<(), AllocError>
         ensures { OnOk result (faults.new.items ≡ faults_of self.now) }
     {

@@ -8,7 +8,7 @@ use crate::flaw_list::wholeness;
 use crate::survey::Survey;
 use crate::way_table::WayTable;
 
-/// How many slots are used, of how many of these the file is whole, and of how many it isn't.
+/// How many slots are used, how many of their files are whole, and how many are not.
 #[derive(Clone, Copy)]
 pub(crate) struct FileCounts {
     pub(crate) entries: usize,
@@ -38,7 +38,7 @@ impl FileCounts {
     }
 }
 
-/// The counts of the files of a dump, by its survey, its read codes and what is noted of its ways.
+/// Counts the files of a dump, by its survey, its read codes and what is noted of its ways.
 pub(crate) fn count_files(survey: &Survey, codes: Option<&[u8]>, ways: &WayTable) -> FileCounts
     requires { TellsWays survey.now (option_map (λ codes. codes.now) codes) ways.now.ways }
     ensures { AreCounts (record { image = survey.now; codes = option_map (λ codes. codes.now) codes.entry }) result }

@@ -19,7 +19,7 @@ pub const FLAWS: usize = 7;
 /// The low four bits of the type byte of a file of the kind USR.
 const USR_NUMBER: u8 = 3;
 
-/// What the ways of a file show of it.
+/// What the ways of a file show.
 #[derive(Drop)]
 struct Sight {
     blocks: usize,
@@ -51,7 +51,7 @@ fn is_geos(image: &Image, entry: &Entry) -> bool
     }
 }
 
-/// What the way from a pair shows, where there is one.
+/// What the way from a pair shows, if there is one.
 fn look_along(
     survey: &Survey,
     codes: Option<&[u8]>,
@@ -102,8 +102,8 @@ fn look_at(survey: &Survey, codes: Option<&[u8]>, ways: &WayTable, entry: &Entry
     }
 }
 
-/// Whether the ways of a slot's file are whole chains, and aren't as long as the directory shows. A
-/// GEOS file isn't asked.
+/// Whether the ways of a slot's file are whole chains, but not as long as the size in the
+/// directory. It is false for a GEOS file.
 fn is_missized(survey: &Survey, entry: &Entry, sight: &Sight, is_geos: bool) -> bool
     requires blocks { sight.now.blocks ≡ length (slot_blocks survey.now entry.now.bytes) }
     requires broken { sight.now.is_broken ≡ is_broken survey.now entry.now.bytes }
@@ -118,7 +118,7 @@ fn is_missized(survey: &Survey, entry: &Entry, sight: &Sight, is_geos: bool) -> 
     }
 }
 
-/// Appends a flaw where that is asked for.
+/// Appends a flaw if there is one.
 fn flaw_if(list: &mut ArrayVec<Flaw, FLAWS>, flaw: Flaw, is_asked: bool)
     requires { length list.old.items < 7 }
     ensures list { list.new.items ≡ list.old.items ++ where_flawed is_asked flaw }
@@ -130,8 +130,8 @@ fn flaw_if(list: &mut ArrayVec<Flaw, FLAWS>, flaw: Flaw, is_asked: bool)
 }
 
 impl Survey<'_> {
-    /// Why the file of a slot is not whole, by the read codes of the dump, where there are some. A
-    /// DEL entry has no such reasons.
+    /// Why the file of a slot is not whole, by the dump's read codes, if it has some. The list is
+    /// empty for a DEL entry.
     pub fn why(&self, codes: Option<&[u8]>, entry: &Entry) -> ArrayVec<Flaw, FLAWS>
         ensures { result.items ≡ why self.now (option_map (λ codes. codes.now) codes.entry) entry.now.bytes }
     {
@@ -166,8 +166,8 @@ impl Survey<'_> {
     }
 }
 
-/// Whether a file with these flaws is whole, or None where that isn't known: of a DEL entry, and of
-/// a GEOS file without others.
+/// Whether a file with these flaws is whole, or None if that isn't known: for a DEL entry, and for
+/// a GEOS file without other flaws.
 pub fn wholeness(entry: &Entry, flaws: &[Flaw]) -> Option<bool>
     ensures { result ≡ wholeness_by entry.now.bytes flaws.now }
 {

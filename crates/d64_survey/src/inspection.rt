@@ -26,8 +26,8 @@ use d64_image::Image;
 use std::alloc::AllocError;
 use std::marker::Model;
 
-/// All that is told of a dump: its survey, its read codes, and in lists and numbers what is wrong
-/// with it. What it lists stands in lists of the caller, which another inspection fills again.
+/// All that is reported about a dump: its survey, its read codes, and in lists and numbers what is
+/// wrong with it. The lists are the caller's, which another inspection fills again.
 ///
 /// In clauses it is the dump itself.
 #[derive(Drop)]
@@ -63,8 +63,7 @@ impl<'a> Model for Inspection<'a> {
 }
 
 impl<'a> Inspection<'a> {
-    /// The inspection of a dump. It fills the two lists, in the place of what they had; they alone
-    /// take memory.
+    /// Inspects a dump. It replaces what the two lists had, and only they allocate.
     pub fn of(
         dump: &'a Dump,
         faults: &'a mut Vec<Fault>,
@@ -106,7 +105,7 @@ impl<'a> Inspection<'a> {
         self.survey.image()
     }
 
-    /// The read codes, one for each block of the image, or None where there are none.
+    /// The read codes, one for each block of the image, or None if there are none.
     pub fn codes(&self) -> Option<&'a [u8]>
         ensures { option_map (λ codes. codes.now) result ≡ self.now.codes }
     {
@@ -120,7 +119,7 @@ impl<'a> Inspection<'a> {
         self.listed_faults
     }
 
-    /// The blocks that couldn't be read well, ascending.
+    /// The blocks with a read error, ascending.
     pub fn read_errors(&self) -> &'a [ReadError]
         ensures { result.now ≡ read_errors self.now }
     {
@@ -141,7 +140,7 @@ impl<'a> Inspection<'a> {
         self.files.whole
     }
 
-    /// How many files aren't whole. Of those of which that isn't known none is counted here, nor as
+    /// How many files aren't whole. A file of which that isn't known is counted neither here nor as
     /// whole.
     pub fn unwhole(&self) -> usize
         ensures { result ≡ unwhole_count self.now }
@@ -149,14 +148,14 @@ impl<'a> Inspection<'a> {
         self.files.unwhole
     }
 
-    /// Why the file of a slot is not whole. A DEL entry has no such reasons.
+    /// Why the file of a slot is not whole. The list is empty for a DEL entry.
     pub fn why(&self, entry: &Entry) -> ArrayVec<Flaw, FLAWS>
         ensures { result.items ≡ why self.now.image self.now.codes entry.now.bytes }
     {
         self.survey.why_along(self.codes, &self.ways, entry)
     }
 
-    /// How many blocks the way of a part of a slot's file has, or None where the slot has no such
+    /// How many blocks the way of a part of a slot's file has, or None if the slot has no such
     /// part.
     pub fn way_length(&self, entry: &Entry, part: Part) -> Option<usize>
         ensures { result ≡ option_map (λ pair. length (way self.now.image pair).0) (pair_of part entry.now.bytes) }
@@ -177,7 +176,7 @@ impl<'a> Inspection<'a> {
         self.unowned
     }
 
-    /// What makes the image doubtful, in order.
+    /// The reasons to doubt the image, in order.
     pub fn doubts(&self) -> &[Doubt]
         ensures { result.now ≡ doubts_of self.now.image }
     {

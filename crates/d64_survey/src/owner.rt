@@ -6,7 +6,7 @@ ghost use Rattle.d64_survey.specs.Owners.{pair_of};
 
 use d64_files::{Entry, Kind, SlotNo};
 
-/// The two parts that a file may have.
+/// The two parts that a file can have.
 #[derive(Clone, Copy, Debug, PartialEq, Eq)]
 pub enum Part {
     /// The blocks from the file's first one.
@@ -27,8 +27,8 @@ pub enum Owner {
     File(SlotNo, Part),
 }
 
-/// The track and the sector from which the data of a slot's file leads, or None where the slot has
-/// none: closed SEQ, PRG, USR and REL files have data.
+/// The track and the sector from which the data of a slot's file leads, or None if it has no data:
+/// only closed SEQ, PRG, USR and REL files have data.
 pub fn data_pair(entry: &Entry) -> Option<(u8, u8)>
     ensures { result ≡ slice_get (roots entry.now.bytes) 0 }
 {
@@ -41,8 +41,8 @@ pub fn data_pair(entry: &Entry) -> Option<(u8, u8)>
     }
 }
 
-/// The track and the sector from which the side blocks of a slot's file lead, or None where the
-/// slot has none: a closed REL file has some, unless their track is 0.
+/// The track and the sector from which the side blocks of a slot's file lead, or None if it has no
+/// side blocks: only a closed REL file has some, unless their track is 0.
 pub fn side_pair(entry: &Entry) -> Option<(u8, u8)>
     ensures { result ≡ slice_get (roots entry.now.bytes) 1 }
 {
@@ -55,7 +55,7 @@ pub fn side_pair(entry: &Entry) -> Option<(u8, u8)>
     }
 }
 
-/// The track and the sector from which a part of a slot's file leads, or None where the slot has no
+/// The track and the sector from which a part of a slot's file leads, or None if the slot has no
 /// such part.
 pub fn pair_of(part: Part, entry: &Entry) -> Option<(u8, u8)>
     ensures { result ≡ pair_of part entry.now.bytes }

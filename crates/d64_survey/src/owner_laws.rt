@@ -3,8 +3,7 @@
 //! A caller whose proof needs a law calls the function.
 ghost use Rattle.d64_survey.specs.OwnerLaws.{OwnersAreThoseOfFiles};
 
-/// Where the directory and the files have their chains, the blocks that have an owner are the owned
-/// ones.
+/// If the directory and the files have their chains, the blocks with an owner are the owned blocks.
 pub fn owners_are_those_of_files()
     ensures { OwnersAreThoseOfFiles }
 {}

@@ -27,7 +27,7 @@ impl Model for Owners {
 }
 
 impl Owners {
-    /// These owners, of so many.
+    /// Owners of which these are shown, and this many are counted.
     pub(crate) fn of(shown: ArrayVec<Owner, SHOWN_OWNERS>, count: usize) -> Owners
         ensures { result ≡ record { shown = shown.items; count = count } }
     {
@@ -50,8 +50,8 @@ impl Owners {
 }
 
 impl Survey<'_> {
-    /// The owners of a block: the first eight in their order, the map, the directory, and then the
-    /// parts of files by their slots, data before side blocks; and how many there are.
+    /// The owners of a block: how many there are, and the first eight in order: the map, the
+    /// directory, and then the parts of files by their slots, data before side blocks.
     pub fn owners(&self, block: BlockNo) -> Owners
         ensures shown { result.shown ≡ take 8 (owners_of self.now block) }
         ensures count { result.count ≡ length (owners_of self.now block) }

@@ -27,7 +27,7 @@ pub(crate) enum Claimant {
     Side(u16),
 }
 
-/// The owners of one block: the first of them, and how many there are.
+/// The owners of one block: the first eight of them, and how many there are.
 #[derive(Clone, Copy)]
 struct Row {
     first: [Claimant; SHOWN_OWNERS],
@@ -130,7 +130,7 @@ impl OwnerTable {
         }
     }
 
-    /// Adds an owner of the blocks of the way from a pair, where there is one.
+    /// Adds an owner of the blocks of the way from a pair, if there is one.
     fn claim_way(&mut self, image: &Image, pair: Option<(u8, u8)>, claimant: Claimant)
         requires { CountsUpTo 50000000 self.old }
         ensures told { Adds self.old (owned_as (owner_kept claimant) (blocks_from image.now pair)) self.new }

@@ -7,16 +7,16 @@ use crate::pushing::push_if;
 use d64_image::BlockNo;
 use std::alloc::AllocError;
 
-/// A block that couldn't be read well.
+/// A block that could not be read without an error.
 #[derive(Clone, Copy, Debug, PartialEq, Eq)]
 pub struct ReadError {
     /// The block.
     pub block: BlockNo,
-    /// Its read code, which isn't a good one.
+    /// Its read code, which is that of an error.
     pub code: u8,
 }
 
-/// The read code of a block; 0, a good one, where none was noted.
+/// The read code of a block; 0, which is no error, if there are no codes.
 pub fn code_of(codes: Option<&[u8]>, block: BlockNo) -> u8
     ensures { result ≡ code_of (option_map (λ codes. codes.now) codes.entry) block }
 {
@@ -30,8 +30,8 @@ pub fn code_of(codes: Option<&[u8]>, block: BlockNo) -> u8
 }
 
 impl Dump {
-    /// Lists the blocks that couldn't be read well, ascending, with their codes, in the place of
-    /// what the list had. The list alone takes memory.
+    /// Replaces the list by the blocks with a read error, ascending, with their codes. Only the
+    /// list allocates.
     pub fn list_read_errors(&self, errors: &mut Vec<ReadError>) -> Result<(), AllocError>
         ensures { OnOk result (errors.new.items ≡ read_errors self.now) }
     {

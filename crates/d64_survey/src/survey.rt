@@ -14,8 +14,8 @@ use d64_image::{BlockNo, Image};
 use d64_map::{DIRECTORY_TRACK, map_block};
 use std::marker::Model;
 
-/// The survey of an image: the directory's way, walked once, and the owners of all blocks. It takes
-/// no memory of its own.
+/// The survey of an image: the directory's way, walked once, and the owners of all blocks. It
+/// allocates nothing.
 ///
 /// In clauses it is the image itself.
 #[derive(Drop)]
@@ -41,7 +41,7 @@ impl<'a> Model for Survey<'a> {
 }
 
 impl<'a> Survey<'a> {
-    /// The survey of an image.
+    /// Surveys an image.
     pub fn of(image: &'a Image) -> Survey<'a>
         ensures { result ≡ image.now }
     {
@@ -81,8 +81,7 @@ impl<'a> Survey<'a> {
         self.end
     }
 
-    /// The slots of the directory's way, also where it doesn't end as a chain, and of whatever
-    /// kinds.
+    /// The slots of the directory's way, also if it doesn't end as a chain, and of whatever kinds.
     pub fn slots(&self) -> Slots<'a>
         ensures slots { result ≡ entries self.now (way_slots self.now) }
         ensures len { length result ≤ 8 * BLOCKS }
@@ -90,7 +89,7 @@ impl<'a> Survey<'a> {
         Slots::along(self.image, self.directory.copy())
     }
 
-    /// The entry of a slot of the directory's way, or None where that has no such slot.
+    /// The entry of a slot of the directory's way, or None if it has no such slot.
     pub fn entry(&self, slot: SlotNo) -> Option<Entry<'a>>
         ensures { result ≡ option_map (λ cell. entry_of self.now (slot, cell)) (slot_cell self.now slot) }
     {

@@ -1,4 +1,4 @@
-//! Blocks that are marked used, and that nothing owns.
+//! Blocks that are marked used but have no owner.
 ghost use Rattle.std.specs.Prelude.{◌≡◌};
 ghost use Rattle.d64_survey.specs.Owners.{unowned_count};
 
@@ -6,7 +6,7 @@ use crate::survey::Survey;
 use d64_map::free_set;
 
 impl Survey<'_> {
-    /// How many blocks of the image have no owner though the map doesn't mark them free.
+    /// How many blocks of the image have no owner, though the map doesn't mark them free.
     pub fn unowned(&self) -> usize
         ensures { result ≡ unowned_count self.now }
     {

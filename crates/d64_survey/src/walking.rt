@@ -7,8 +7,8 @@ use crate::way_end::WayEnd;
 use d64_files::{BlockList, block_in};
 use d64_image::{BLOCKS, BlockSet, Image};
 
-/// The way from a track and a sector: its blocks go into the list, in the place of what that had,
-/// and how it ends is returned. It takes no memory, and visits no block twice.
+/// Walks the way from a track and a sector: replaces the list by its blocks, and returns how it
+/// ends. It allocates nothing, and visits no block twice.
 pub fn walk(image: &Image, track: u8, sector: u8, blocks: &mut BlockList) -> WayEnd
     ensures way { (blocks.new, result) ≡ way image.now (track, sector) }
     ensures held { LieIn image.now blocks.new }

@@ -1,4 +1,4 @@
-//! What reports need to know of ways, found once for each block at which ways begin.
+//! What reports need of ways, found once for each block at which ways begin.
 ghost use Rattle.std.specs.Prelude.{◌≡◌, ℕ, Option, None, option_map};
 ghost use Rattle.d64_survey.specs.Way.{block_at};
 ghost use Rattle.d64_survey.specs.Faults.{last_of};
@@ -15,7 +15,7 @@ use crate::way_end::WayEnd;
 use d64_files::{BlockList, block_in};
 use d64_image::{BLOCKS, BlockNo, Image};
 
-/// What reports need to know of a way.
+/// What reports need of a way.
 #[derive(Clone, Copy)]
 pub(crate) struct WayFacts {
     pub(crate) end: WayEnd,
@@ -24,12 +24,12 @@ pub(crate) struct WayFacts {
     pub(crate) blocks: u16,
     /// Whether one of them has more than one owner.
     pub(crate) is_shared: bool,
-    /// Whether one of them couldn't be read well.
+    /// Whether one of them has a read error.
     pub(crate) is_unreadable: bool,
 }
 
-/// What was found of the ways of an image, by the first block of each. Ways from one block are one
-/// way.
+/// What was found of the ways of an image, by the first block of each. Ways from the same block are
+/// the same way.
 #[derive(Drop)]
 pub(crate) struct WayTable {
     ways: [Option<WayFacts>; BLOCKS],
@@ -56,7 +56,7 @@ fn any_shared(survey: &Survey, blocks: &[BlockNo]) -> bool
     is_shared
 }
 
-/// Whether one of the blocks couldn't be read well.
+/// Whether one of the blocks has a read error.
 fn any_unreadable(codes: Option<&[u8]>, blocks: &[BlockNo]) -> bool
     ensures { result ≡ any_unreadable (option_map (λ codes. codes.now) codes.entry) blocks.now }
 {
@@ -67,7 +67,7 @@ fn any_unreadable(codes: Option<&[u8]>, blocks: &[BlockNo]) -> bool
     is_unreadable
 }
 
-/// What the way from a track and a sector shows, which is walked for that.
+/// Walks the way from a track and a sector, and returns what it shows.
 fn look_along(survey: &Survey, codes: Option<&[u8]>, track: u8, sector: u8) -> WayFacts
     ensures { result ≡ way_facts survey.now (option_map (λ codes. codes.now) codes.entry) (track, sector) }
 {
@@ -93,8 +93,8 @@ impl WayTable {
         }
     }
 
-    /// What the ways of all slots of a survey show, by the read codes of the dump, where there are
-    /// some. It walks the way from a block once.
+    /// What the ways of all slots of a survey show, by the dump's read codes, if it has some. It
+    /// walks the way from a block once.
     pub(crate) fn of(survey: &Survey, codes: Option<&[u8]>) -> WayTable
         ensures { TellsWays survey.now (option_map (λ codes. codes.now) codes.entry) result.ways }
     {
@@ -116,7 +116,7 @@ impl WayTable {
         }
     }
 
-    /// Notes what the way from a pair shows, where there is a pair and that isn't noted yet.
+    /// Notes what the way from a pair shows, if there is a pair whose way isn't noted yet.
     fn note(&mut self, survey: &Survey, codes: Option<&[u8]>, pair: Option<(u8, u8)>)
         requires { TellsWays survey.now (option_map (λ codes. codes.now) codes) self.old.ways }
         ensures { TellsWays survey.now (option_map (λ codes. codes.now) codes.entry) self.new.ways }
@@ -127,7 +127,7 @@ impl WayTable {
         }
     }
 
-    /// Notes what the way from a track and a sector shows, where the image has its block and that
+    /// Notes what the way from a track and a sector shows, if the image has such a block whose way
     /// isn't noted yet.
     fn note_from(&mut self, survey: &Survey, codes: Option<&[u8]>, track: u8, sector: u8)
         requires { TellsWays survey.now (option_map (λ codes. codes.now) codes) self.old.ways }
@@ -144,7 +144,7 @@ impl WayTable {
         }
     }
 
-    /// What the way from a track and a sector shows. It is walked only where that isn't noted.
+    /// What the way from a track and a sector shows. It is walked only if that isn't noted.
     pub(crate) fn facts(
         &self,
         survey: &Survey,

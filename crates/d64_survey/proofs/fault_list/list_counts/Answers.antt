@@ -7,7 +7,7 @@ use Rattle.d64_survey.specs.declared.fault.Fault.TheVariants.{WrongCount}
 use Rattle.d64_survey.proofs.FaultLists.{listed_more}
 use Rattle.d64_survey.proofs.fault_list.list_counts.Goals as goal
 
--- the fault of a track with this count byte, of which so many sectors are marked
+-- the fault of a track with this count byte, of which this many sectors are marked
 abbrev wrong : ℕ → ℕ → ℕ → List Fault
 wrong track count marked = where_so (not (count == marked)) (WrongCount track count marked)
 
