@@ -24,7 +24,7 @@ use Rattle.d64_undo.proofs.Leads.{IsRecord, Held, held, most}
 use Rattle.d64_undo.proofs.Sessions.{history_of}
 use Rattle.d64_undo.proofs.SessionFiles.{file-held}
 
--- so many bytes are read again
+-- n bytes are read again
 bytes_again : (xs rest : List ℕ) (n : ℕ) → length xs ≡ n → bytes_at n (xs ++ rest) ≡ Ok (xs, rest)
 bytes_again xs rest n long =
     let enough : nat_lt (length (xs ++ rest)) n ≡ false = le-ltb _ _ (omega (arith, length-append xs rest)) in
@@ -105,7 +105,7 @@ joined (piece ∷ pieces) n each =
 pub image_again : (image : List (List ℕ)) → IsImage image → first_chunks BLOCK_BYTES (length image) (bytes_of image) ≡ image
 image_again image is = joined image BLOCK_BYTES (λ k d h. (is.1 k d h).0)
 
--- so many bytes has an image
+-- an image has this many bytes
 pub length-joined : (pieces : List (List ℕ)) (n : ℕ) → All (λ (piece : List ℕ). length piece ≡ n) pieces → length (flat_map (λ (piece : List ℕ). piece) pieces) ≡ length pieces * n
 length-joined [] n each = omega arith
 length-joined (piece ∷ pieces) n each =
@@ -200,7 +200,7 @@ abbrev told : Result Parts ResumeFault → History
 told (Ok parts) = history_of parts.records parts.image parts.done
 told (Err fault) = history_of [] [] 0
 
--- and so it is told by its file
+-- and so the history is read again from its file
 again : (history : History) → IsSession history → told (session_at (file_of history)) ≡ history
 again history is = let h = held history is in ap told (session_again history h.0 is h.1) ∙ h.1.holds.is
 

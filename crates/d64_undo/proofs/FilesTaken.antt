@@ -94,7 +94,7 @@ either_false true u e = absurd cc
 either_false false true e = (refl, refl)
 either_false false false e = absurd cc
 
--- a block that a record of an image of so many blocks can have
+-- a block that a record of an image of n blocks can have
 abbrev IsEntry : ℕ → ℕ → ℕ × List ℕ → Type 0
 IsEntry blocks low entry = (low ≤ entry.0) × (entry.0 < blocks) × IsBlock entry.1
 
@@ -120,7 +120,7 @@ block_takes blocks low bytes x are e =
     subst (λ (y : (ℕ × List ℕ) × List ℕ). Takes bytes (block_file y.0) y.1 × IsEntry blocks low y.0) (ok_is made x b.2)
     (Takes-then bytes (to_le_bytes w16 a.0.0) a.0.1 b.0.0 b.0.1 first.0 second.0, (first.1, first.2, (second.1, second.2)))
 
--- a record of an image of so many blocks
+-- a record of an image of n blocks
 abbrev pub IsRecordOf : ℕ → ℕ → Kept → Type 0
 IsRecordOf blocks low patch = RisesBetween low blocks patch × HaveBlocks patch
 
@@ -191,7 +191,7 @@ magic_takes (byte ∷ start) (other ∷ bytes) rest are e =
     let next = magic_takes start bytes rest (All-tail (λ (b : ℕ). b < 256) other bytes are) g.1 in
     record { parts = ap₂ (λ (b : ℕ) (bs : List ℕ). b ∷ bs) (eqb-true other byte g.0) next.parts; left = next.left }
 
--- a disk of so many tracks
+-- a disk of n tracks
 sized-by : (t u : Bool) (tracks blocks : ℕ) → (tracks == 35) ≡ t → (tracks == 40) ≡ u → or_not_session (cond t (Some 683) (cond u (Some 768) None)) ≡ Ok blocks
     → IsSize blocks × (tracks_of blocks ≡ tracks)
 sized-by true u tracks blocks e f read =

@@ -49,7 +49,7 @@ start_takes bytes x are e =
     subst (λ (y : (Disk × (ℕ × ℕ)) × List ℕ). (bytes ≡ start_file y.0.0 y.0.1.0 y.0.1.1 ++ y.1) × IsImage y.0.0 × (y.0.1.0 ≤ y.0.1.1) × (y.0.1.1 < 2 ^ 64)) same
     (parts, shown.1, counted.1, counted.2)
 
--- so many bytes are enough to know it
+-- this many bytes are enough to know it
 abbrev after_image : Disk → (ℕ × ℕ) × List ℕ → Reading (Disk × (ℕ × ℕ))
 after_image image counts = Ok ((image, counts.0), counts.1)
 
@@ -197,7 +197,7 @@ trailing image done records rest is within h each more =
     all_read image done records rest is within h each
     ∙ ap (λ (t : Bool). let r : Result Parts ResumeFault = cond t (Ok (record { image = image; done = done; records = records ++ [] })) (Err Trailing) in r) more
 
--- none
+-- no byte is missing
 pub whole : (image : Disk) (done : ℕ) (records : List Kept) (rest : List ℕ) → IsImage image → done ≤ length records → length records < 2 ^ 64
     → All (IsRecord (length image)) records → (length rest == 0) ≡ true
     → parts_at (start_file image done (length records) ++ (flat_map record_file records ++ rest)) ≡ Ok (record { image = image; done = done; records = records })

@@ -44,7 +44,7 @@ get_or-added_all [] history i h below = refl
 get_or-added_all (x ∷ images) history i h below =
     get_or-added_all images (extended_history history x) i (IsHistory-extended_history history x h) (omega arith) ∙ get_or-extended_history history x i h below
 
--- the images of the commands stand one after another from the present one on
+-- the images of the commands come one after another from the present one on
 traced : (images : List (List (List ℕ))) (history : History) (i at : ℕ) → IsHistory history → i ≤ length images → history.cursor + i ≡ at
     → get_or (added_all history images).images at [] ≡ get_or (present_image history ∷ images) i []
 traced images history zero at h below e =

@@ -15,7 +15,7 @@ use Rattle.d64_undo.specs.Records.{images_along, LeadAlong, images_of, AreRecord
 use Rattle.d64_undo.specs.SessionFile.{IsSession}
 use Rattle.d64_undo.proofs.Sessions.{Holds}
 
--- an image of so many blocks
+-- an image of n blocks
 abbrev IsImageOf : ℕ → List (List ℕ) → Type 0
 IsImageOf count image = (length image ≡ count) × All IsBlock image
 
@@ -82,7 +82,7 @@ changed_blocks-blocks count before after is =
     (All-filter (λ (b : ℕ). not (pointwise nat_eq (sector_at before b) (sector_at after b))) (λ (b : ℕ). IsBlock (sector_at before b)) (range_with_len 0 (length before))
     (range-blocks count before is))
 
--- a record that the file of an image of so many blocks can have
+-- a record that the file of an image of n blocks can have
 abbrev pub IsRecord : ℕ → Kept → Type 0
 IsRecord count patch = RisesBetween 0 count patch × HaveBlocks patch
 

@@ -1,4 +1,4 @@
--- what is read from the first bytes of a file is read from all of them, where there are enough
+-- what is read from the first bytes of a file is read from all of them, if there are enough
 use Rattle.std.proofs.Common.{◌≡◌, ℕ, zero, suc, ◌+◌, ◌-◌, ◌*◌, ◌<◌, ◌≤◌, ◌||◌, ◌==◌, Bool, true, false, cond, not, nat_lt, Option, Some, None, List, [], ◌∷◌, ◌++◌, length, take, drop, Result, Ok, Err, refl, sym, ap, ap₂, ◌∙◌, subst, inl, inr, arith}
 use Rattle.std.specs.Int.{Width, w16, w64, byte_len, from_le_bytes}
 use Rattle.std.proofs.lemmas.Bool.{cases_lt}
@@ -19,11 +19,11 @@ use Rattle.d64_undo.proofs.FilesTaken.{bind_ok, guard_ok, end_ok, ok_is}
 abbrev pub before_rest : {A : Type 0} → List ℕ → Reading A → Reading A
 before_rest more reading = reading >>= λ read. Ok (read.0, read.1 ++ more)
 
--- so many bytes are enough to know what is read
+-- this many bytes are enough to know what is read
 abbrev pub KnownBy : {A : Type 0} → ℕ → (List ℕ → Reading A) → Type 0
 KnownBy enough read = (bytes more : List ℕ) → enough ≤ length bytes → read (bytes ++ more) ≡ before_rest more (read bytes)
 
--- so many bytes are taken at most
+-- at most this many bytes are taken
 abbrev pub Takes : {A : Type 0} → ℕ → (List ℕ → Reading A) → Type 0
 Takes most read = (bytes : List ℕ) (x : _ × List ℕ) → read bytes ≡ Ok x → length bytes ≤ most + length x.1
 

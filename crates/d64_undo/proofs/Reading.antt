@@ -21,7 +21,7 @@ fails_then BadCursor reading next e = ap (λ (r : Result _ ResumeFault). r >>= n
 fails_then BadRecord reading next e = ap (λ (r : Result _ ResumeFault). r >>= next) e
 fails_then (Memory error) reading next e = tt
 
--- and is what is answered
+-- and is the result
 pub fails_out : {A : Type 0} (fault answered : ResumeFault) (reading : Result A ResumeFault) → answered ≡ fault → Fails fault reading → Fails answered reading
 fails_out fault answered reading e f = subst (λ (x : ResumeFault). Fails x reading) (sym e) f
 

@@ -40,7 +40,7 @@ length-before records image done within =
     ∙ length-reverse (take done records)
     ∙ length-take-le done records within
 
--- each record stands between two images
+-- each record is between two images
 pub length-images : (records : List Kept) (image : List (List ℕ)) (done : ℕ) → done ≤ length records
     → length (images_of records image done) ≡ length records + 1
 unfolding images_of before past
@@ -51,7 +51,7 @@ length-images records image done within =
     let back = length-drop done records in
     omega arith
 
--- the present image stands at the cursor
+-- the present image is at the cursor
 pub image-at_cursor : (records : List Kept) (image : List (List ℕ)) (done : ℕ) → done ≤ length records
     → get_or (images_of records image done) done [] ≡ image
 unfolding images_of before past
@@ -194,7 +194,7 @@ passed : (image other : List (List ℕ)) (patch exchanged : Kept) (from towards 
 passed image other patch exchanged from towards b leads on =
     (subst (λ (x : List (List ℕ)). LeadAlong x from) b.there (lead-tail from image patch leads), lead-more towards image other exchanged b.here b.is_exchanged on)
 
--- the same images stand before it and after it
+-- the same images come before it and after it
 same-images : (image other : List (List ℕ)) (patch exchanged : Kept) (earlier later : List Kept) → AreBetween image other patch exchanged
     → reverse (images_along other earlier) ++ other ∷ images_along other (exchanged ∷ later) ≡ reverse (images_along image (patch ∷ earlier)) ++ image ∷ images_along image later
 same-images image other patch exchanged earlier later b =
@@ -202,7 +202,7 @@ same-images image other patch exchanged earlier later b =
     ∙ sym (append_assoc (reverse (images_along other earlier)) (other ∷ []) (image ∷ images_along image later))
     ∙ ap (λ (list : List (List (List ℕ))). list ++ image ∷ images_along image later) (sym (before-more earlier other image patch b.there))
 
--- records with one in its place, which stands on one side of the image or on the other
+-- records with one replaced, which is on one side of the image or on the other
 images-after : {records : List Kept} {n : ℕ} {patch : Kept} {earlier later : List Kept} (image : List (List ℕ)) → StandsBetween records n patch earlier later
     → images_of records image n ≡ reverse (images_along image earlier) ++ image ∷ images_along image (patch ∷ later)
 unfolding images_of past
@@ -213,7 +213,7 @@ images-before : {records : List Kept} {n : ℕ} {patch : Kept} {earlier later : 
 unfolding images_of past
 images-before image s = ap₂ (λ (ps qs : List Kept). reverse (images_along image ps) ++ image ∷ images_along image qs) s.with_it s.after
 
--- and where they lead away from the image
+-- and whether they lead away from the image
 lead-after : {records : List Kept} {n : ℕ} {patch : Kept} {earlier later : List Kept} (image : List (List ℕ)) → StandsBetween records n patch earlier later
     → AreRecords records image n ↔ (LeadAlong image earlier × LeadAlong image (patch ∷ later))
 unfolding AreRecords past
@@ -244,7 +244,7 @@ beside-differs records image n done cursor patch h is beside leads =
       | inr on ↦ lead-head (drop (n + 1) records) image patch ((lead-after image s).0 (subst (AreRecords records image) on.0 leads)).1
     ]
 
--- the images are the same where the record beside the cursor is exchanged with the present image,
+-- the images are the same if the record beside the cursor is exchanged with the present image,
 -- and the cursor steps over it
 pub images-stepped : (records : List Kept) (image other : List (List ℕ)) (n done cursor : ℕ) (patch exchanged : Kept) → n < length records
     → patch ≡ get_or records n patch → AreBetween image other patch exchanged → IsBeside n done cursor

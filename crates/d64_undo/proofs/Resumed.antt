@@ -107,7 +107,7 @@ kept-resumed history (Ok session) is answer = one_history session history answer
 kept-resumed history (Err fault) is answer =
     only-memory fault (subst (λ (first : Option ResumeFault). told_by fault first ≡ first) (faultless history is) answer.refused)
 
--- the fault that was answered is the one that was read
+-- the fault that was returned is the one that was found
 pub refused-by : {Answer Part : Type 0} (seen : Answer → Part) (result : Result Answer ResumeFault) (reading : Result Part ResumeFault)
     → Gives seen result reading → refused_by result (fault_in reading) ≡ fault_in reading
 refused-by seen (Ok answer) reading e = sym (ap fault_in e)

@@ -37,7 +37,7 @@ refusal_by-cause_of (Directory fault) = refl
 refusal_by-cause_of DiskFull = refl
 refusal_by-cause_of Memory = refl
 
--- want of memory alone has no cause in the image
+-- only a refusal for memory has no cause in the image
 without_cause : (refusal : Refusal) → cause_of refusal ≡ None → refusal ≡ Memory
 without_cause refusal e = sym (refusal_by-cause_of refusal) ∙ ap refusal_by e
 
@@ -67,11 +67,11 @@ same_step history Redo Redone NothingToRedo next after p q f g = absurd (omega a
 same_step history Redo NothingToRedo Redone next after p q f g = absurd (omega arith)
 same_step history request answer other next after p q f g = absurd (assumption)
 
--- no answer is want of memory, so the first is not
+-- no reply is that memory is out, so the first is not
 first_with_memory : (answer : Answer) (answers : List Answer) → HasMemory (answer ∷ answers) → answer ≢ Refused Memory
 first_with_memory answer answers f = All-head (λ x. x ≢ Refused Memory) answer answers f
 
--- no answer is want of memory, so none of the rest is
+-- no reply is that memory is out, so no later one is
 rest_with_memory : (answer : Answer) (answers : List Answer) → HasMemory (answer ∷ answers) → HasMemory answers
 rest_with_memory answer answers f = All-tail (λ x. x ≢ Refused Memory) answer answers f
 

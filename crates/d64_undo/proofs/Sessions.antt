@@ -28,7 +28,7 @@ history-new_history records image none =
 pub none-are_records : (records : List Kept) (image : List (List ℕ)) → records ≡ [] → AreRecords records image 0
 none-are_records records image none = subst (λ (ps : List Kept). AreRecords ps image 0) (sym none) (begun-records image)
 
--- a history is that of these records, of which so many are done, and of this present image
+-- a history is that of these records, of which n are done, and of this present image
 pub record Holds (records : List Kept) (image : List (List ℕ)) (done : ℕ) (history : History) : Type 0 where
   pub within : done ≤ length records
   pub lead : AreRecords records image done
@@ -43,7 +43,7 @@ holds invariant is = record { within = invariant.0; lead = invariant.1; is = is 
 pub cursor-is : {records : List Kept} {image : List (List ℕ)} {done : ℕ} {history : History} → Holds records image done history → history.cursor ≡ done
 cursor-is h = ap (λ (other : History). other.cursor) (sym h.is)
 
--- each record stands between two images of the history
+-- each record is between two images of the history
 pub image_count : {records : List Kept} {image : List (List ℕ)} {done : ℕ} {history : History} → Holds records image done history
     → length history.images ≡ length records + 1
 image_count {records} {image} {done} {history} h =
@@ -142,7 +142,7 @@ pub places-swapped : (records kept : List Kept) (image : List (List ℕ)) (n m :
     → kept ≡ set records n (taken_blocks image (get_or records n [])) → blocks_before kept m ≡ blocks_before records m
 places-swapped records kept image n m h e = ap (λ (rs : List Kept). blocks_before rs m) e ∙ before-swapped records image n m h
 
--- a record is left where one can be redone
+-- a record is left if one can be redone
 pub some_left : {records : List Kept} {image : List (List ℕ)} {done : ℕ} {history : History} (left : ℕ) → Holds records image done history
     → history.cursor + left + 1 ≡ length history.images → (left ≡ 0 → ⊥) → done < length records
 some_left left h count some =
@@ -150,7 +150,7 @@ some_left left h count some =
     let images = image_count h in
     grind arith
 
--- there is a record where two images stand
+-- there is a record if there are two images
 found : (records : List Kept) (image : List (List ℕ)) (done number : ℕ) → done ≤ length records → number < length records
     → nat_lt (number + 1) (length (images_of records image done)) ≡ true
 found records image done number within h =

@@ -52,7 +52,7 @@ holds-moved history other same stands holds = record {
   sound = moved-sound history other same holds.sound;
 }
 
--- whatever is answered to a request that keeps disks sound, sound disks are left
+-- whatever the reply to a request that keeps disks sound, sound disks are left
 pub step-sound : (history : History) (request : Asked) (answer : Answer) (next : History)
     → Step history request answer next → KeepsDisksSound request → HoldsSoundDisks history → HoldsSoundDisks next
 step-sound history (Apply change) (Accepted reply) next (none, same, is) (file, made) holds =

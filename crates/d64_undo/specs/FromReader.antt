@@ -1,4 +1,4 @@
--- What is read from a reader: a session, or why there is none.
+-- What a reader gives: a session, or why there is no session.
 use Rattle.std.specs.Prelude.{◌≡◌, ℕ, ◌<◌, ◌≤◌, Option, length, IfSome}
 use Rattle.d64_image.specs.Disk.{Bytes}
 use Rattle.d64_effects.specs.Laws.{AreBytes}
@@ -8,19 +8,18 @@ use Rattle.d64_undo.specs.ResumeFault.{first_fault, told_by}
 use Rattle.d64_undo.specs.declared.from_reader.ReadFault.{ReadFault}
 use Rattle.d64_undo.specs.declared.from_reader.ReadFault.TheVariants.{Device, TooLong, Resume}
 
--- the session of the bytes that the reader has, where these are known, and of no more than so many
+-- the session of the bytes that the reader has, if they are known, which are at most n
 abbrev pub IsReadOf : Option Bytes → ℕ → History → Type 0
 IsReadOf told limit history = IsSession history × AreBytes (file_of history) × (length (file_of history) ≤ limit) × IfSome told (λ bytes. bytes ≡ file_of history)
 
--- a fault: of a read, of one byte too many, or the first one of the bytes, where no memory was
--- wanting
+-- a fault: of a read, of one byte too many, or the first one of the bytes, unless memory was out
 abbrev pub IsReadFault : Option Bytes → ℕ → ReadFault → Type 0
 IsReadFault told limit Device = Unit {0}
 IsReadFault told limit TooLong = IfSome told (λ bytes. limit < length bytes)
 IsReadFault told limit (Resume fault) =
     (bytes : Bytes) × AreBytes bytes × IfSome told (λ all. all ≡ bytes) × (length bytes ≤ limit) × (told_by fault (first_fault bytes) ≡ first_fault bytes)
 
--- a fault of what is left, of which nothing is told
+-- a fault of reading what is left: of a read, or of one byte too many, but not of the bytes
 abbrev pub IsRestFault : Option Bytes → ℕ → ReadFault → Type 0
 IsRestFault told limit Device = Unit {0}
 IsRestFault told limit TooLong = IfSome told (λ bytes. limit < length bytes)

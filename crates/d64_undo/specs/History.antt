@@ -1,4 +1,4 @@
--- Histories: whole images in a list with a cursor, and what commands, undo and redo make of them.
+-- Histories: lists of whole images with a cursor, and how commands, undo and redo change them.
 use Rattle.std.specs.Prelude.{ℕ, ◌+◌, ◌-◌, ◌<◌, nat_lt, if◌then◌else◌, Option, Some, None, List, [], ◌∷◌, ◌++◌, length, take, slice_index_or}
 use Rattle.d64_image.specs.Disk.{Disk}
 use Rattle.d64_image.specs.Image.{differences}
@@ -9,7 +9,7 @@ pub record History : Type 0 where
   pub images : List Disk
   pub cursor : ℕ
 
--- the cursor stands on an image
+-- the cursor is at an image
 abbrev pub IsHistory : History → Type 0
 IsHistory history = history.cursor < length history.images
 
@@ -25,24 +25,24 @@ present_image history = image_at history history.cursor
 abbrev pub new_history : Disk → History
 new_history image = record { images = image ∷ []; cursor = 0 }
 
--- an image is added after the present one, and what lay after the cursor is dropped, also where
--- nothing changed
+-- the history with an image added after the present one, and without what came after the cursor,
+-- also if nothing changed
 abbrev pub extended_history : History → Disk → History
 extended_history history image = record {
   images = take (history.cursor + 1) history.images ++ image ∷ [];
   cursor = history.cursor + 1;
 }
 
--- the cursor one image back
+-- the history with the cursor one image back
 abbrev pub undone_history : History → History
 undone_history history = record history { cursor = history.cursor - 1 }
 
--- the cursor one image on
+-- the history with the cursor one image on
 abbrev pub redone_history : History → History
 redone_history history = record history { cursor = history.cursor + 1 }
 
--- in how many blocks the images before and after a record differ, where the history has that
--- record: each is numbered from 0, as the image before it
+-- in how many blocks the images before and after a record differ; None if the history has no such
+-- record; each record has the number of the image before it, from 0
 abbrev pub record_len : History → ℕ → Option ℕ
 record_len history number =
     if nat_lt (number + 1) (length history.images)
@@ -50,13 +50,13 @@ record_len history number =
     else None
 
 -- the blocks in which the images before and after a record differ, ascending: with their bytes from
--- before it where it is done, and from after it where it is undone
+-- before it if it is done, and from after it if it is undone
 abbrev pub record_blocks : History → ℕ → Kept
 record_blocks history number =
     if nat_lt number history.cursor
     then changed_blocks (image_at history number) (image_at history (number + 1))
     else changed_blocks (image_at history (number + 1)) (image_at history number)
 
--- these blocks of a record, where the history has that record
+-- these blocks of a record; None if the history has no such record
 abbrev pub record_at : History → ℕ → Option Kept
 record_at history number = if nat_lt (number + 1) (length history.images) then Some (record_blocks history number) else None

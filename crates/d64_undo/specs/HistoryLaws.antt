@@ -1,4 +1,4 @@
--- What follows from the definitions of histories: undo and redo pass through each image again.
+-- What follows from the definitions of histories: undo and redo go through each image again.
 use Rattle.std.specs.Prelude.{◌≡◌, ℕ, ◌+◌, ◌-◌, ◌<◌, ◌≤◌, List, ◌∷◌, [], length, fold, slice_index_or}
 use Rattle.std.specs.Fn.{iterate}
 use Rattle.d64_image.specs.Disk.{Disk}
@@ -9,16 +9,16 @@ abbrev pub UndoAfterCommand : Type 0
 UndoAfterCommand =
     (history : History) (image : Disk) → IsHistory history → present_image (undone_history (extended_history history image)) ≡ present_image history
 
--- redo takes back an undo that was possible, and undo takes back a redo
+-- redo reverses an undo that was possible, and undo reverses a redo
 pub record Inverse (history : History) : Type 0 where
   pub redo : 0 < history.cursor → redone_history (undone_history history) ≡ history
   pub undo : undone_history (redone_history history) ≡ history
 
--- redo after undo gives the history back, and so the image
+-- redo after undo gives back the history, and so the image
 abbrev pub RedoAfterUndo : Type 0
 RedoAfterUndo = (history : History) → Inverse history
 
--- the history after commands were accepted, each with its image
+-- the history after accepted commands, each with its image
 abbrev pub added_all : History → List Disk → History
 added_all history images = fold extended_history history images
 
@@ -30,9 +30,9 @@ undone_by count history = iterate undone_history count history
 abbrev pub redone_by : ℕ → History → History
 redone_by count history = iterate redone_history count history
 
--- after accepted commands, as many undos as there were commands are possible, then as many redos as
--- there were undos; the undos, and each redo after them, stand on the image that stood there while
--- the commands ran
+-- after accepted commands, as many undos as commands are possible, and then as many redos as undos;
+-- each undo, and each redo after it, gives the image that was present at that point while the
+-- commands ran
 pub record Retraces (history : History) (images : List Disk) (undos : ℕ) : Type 0 where
   pub can_undo : undos < length images → 0 < (undone_by undos (added_all history images)).cursor
   pub can_redo : (redos : ℕ) → redos < undos
@@ -42,7 +42,7 @@ pub record Retraces (history : History) (images : List Disk) (undos : ℕ) : Typ
       → present_image (redone_by redos (undone_by undos (added_all history images)))
       ≡ slice_index_or (present_image history ∷ images) (length images - undos + redos) []
 
--- undos after accepted commands, and then redos, pass through each image again
+-- undos after accepted commands, and then redos, go through each image again
 abbrev pub Retraced : Type 0
 Retraced =
     (history : History) (images : List Disk) (undos : ℕ)

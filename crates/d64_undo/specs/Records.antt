@@ -4,7 +4,7 @@ use Rattle.std.specs.Prelude.{◌≡◌, ℕ, List, [], ◌∷◌, ◌++◌, rev
 use Rattle.d64_image.specs.Disk.{Disk}
 use Rattle.d64_image.specs.Patch.{Kept, restored_image, changed_blocks}
 
--- the images that come one after another as the patches are put back in turn
+-- the images one after another as the patches are put back in turn
 unfoldable pub images_along : Disk → List Kept → List Disk
 images_along image [] = []
 images_along image (patch ∷ patches) = restored_image image patch ∷ images_along (restored_image image patch) patches
@@ -19,6 +19,6 @@ LeadAlong image (patch ∷ patches) = (patch ≡ changed_blocks (restored_image 
 unfoldable pub images_of : List Kept → Disk → ℕ → List Disk
 images_of records image done = reverse (images_along image (reverse (take done records))) ++ image ∷ images_along image (drop done records)
 
--- both ways each record is exactly the difference to the next image
+-- each record is exactly the difference to the next image, both ways
 unfoldable pub AreRecords : List Kept → Disk → ℕ → Type 0
 AreRecords records image done = LeadAlong image (reverse (take done records)) × LeadAlong image (drop done records)

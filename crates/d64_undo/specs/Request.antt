@@ -1,4 +1,4 @@
--- Requests to a session, their answers, and runs of them.
+-- Requests to a session, its replies, and runs of requests.
 use Rattle.std.specs.Prelude.{◌≡◌, ◌≢◌, ◌+◌, ◌<◌, ◌≤◌, List, [], ◌∷◌, length, None, All}
 use Rattle.d64_image.specs.Disk.{Disk}
 use Rattle.d64_dos.specs.Command.{image_after, reply_to, refusal_of, IsWithin}
@@ -11,14 +11,14 @@ use Rattle.d64_undo.specs.declared.request.Request.TheVariants as requests
 use Rattle.d64_undo.specs.declared.request.Answer.{Answer}
 use Rattle.d64_undo.specs.declared.request.Answer.TheVariants.{Accepted, Refused, Undone, Redone, NothingToUndo, NothingToRedo}
 
--- what is asked of a session
+-- a request to a session
 pub data Asked : Type 0 where
   -- a change of the present disk
   Apply : Change → Asked
   Undo : Asked
   Redo : Asked
 
--- what a request asks
+-- the request of the code as one of the definitions
 abbrev pub asked_by : Request → Asked
 asked_by (requests.Apply command) = Apply (change_of command)
 asked_by requests.Undo = Undo
@@ -30,8 +30,8 @@ IsAskedOf image (Apply change) = IsWithin image change
 IsAskedOf image Undo = Unit {0}
 IsAskedOf image Redo = Unit {0}
 
--- a request, its answer, and the history before and after it: the one free choice is want of memory
--- in the place of an acceptance
+-- a request, its reply, and the history before and after it: the only free choice is that memory is
+-- out in place of an acceptance
 abbrev pub Step : History → Asked → Answer → History → Type 0
 Step history (Apply change) (Accepted reply) next =
     (refusal_of (present_image history) change ≡ None)
@@ -45,19 +45,18 @@ Step history Redo Redone next = (history.cursor + 1 < length history.images) × 
 Step history Redo NothingToRedo next = (length history.images ≤ history.cursor + 1) × (next ≡ history)
 Step history request answer next = ⊥
 
--- requests, their answers in turn, and the history before the first and after the last
+-- requests, their replies in turn, and the history before the first and after the last one
 abbrev pub Run : History → List Asked → List Answer → History → Type 0
 Run history [] [] next = next ≡ history
 Run history (request ∷ requests) (answer ∷ answers) next =
     (between : History) × (Step history request answer between × Run between requests answers next)
 Run history requests answers next = ⊥
 
--- memory never was wanting
+-- memory was never out
 abbrev pub HasMemory : List Answer → Type 0
 HasMemory answers = All (λ answer. answer ≢ Refused Memory) answers
 
--- two runs of the same requests from the same history, in which memory never was wanting, are the
--- same
+-- two runs of the same requests from the same history are the same if memory was never out
 abbrev pub MemoryAloneIsFree : Type 0
 MemoryAloneIsFree =
     (history : History) (requests : List Asked) (answers others : List Answer) (next other : History)
@@ -65,8 +64,8 @@ MemoryAloneIsFree =
     → HasMemory answers → HasMemory others
     → (answers ≡ others) × (next ≡ other)
 
--- where memory was wanting, the request is a command that could have been accepted there, and the
--- history is as before
+-- if memory was out, the request is a command that could have been accepted, and the history is
+-- unchanged
 abbrev pub MemoryForAcceptance : Type 0
 MemoryForAcceptance =
     (history : History) (request : Asked) (next : History)

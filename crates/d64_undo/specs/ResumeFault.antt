@@ -1,5 +1,4 @@
--- What is wrong with bytes that are no session file: they are read part after part, up to the first
--- fault.
+-- The faults of bytes that are no session file: they are read part by part, up to the first fault.
 use Rattle.std.specs.Prelude.{ℕ, zero, suc, ◌+◌, ◌*◌, ◌==◌, ◌||◌, ◌&&◌, not, nat_lt, nat_eq, if◌then◌else◌, Bool, true, Option, Some, None, Result, Ok, Err, List, [], ◌∷◌, length, reverse, take, drop}
 use Rattle.std.specs.Int.{Width, byte_len, w16, w64, from_le_bytes}
 use Rattle.std.specs.List.{list_all}
@@ -22,45 +21,45 @@ fault_number BadCursor = 4
 fault_number BadRecord = 5
 fault_number (Memory error) = 6
 
--- a part of the bytes that was read, and the bytes after it; or the first fault
+-- what reading bytes gives: a part and the bytes after it, or the first fault
 abbrev pub Reading : Type 0 → Type 0
 Reading Part = Result (Part × Bytes) ResumeFault
 
--- reading goes on after a part without fault
+-- reading goes on after a part without a fault
 infixl 10 ◌>>=◌
 abbrev pub ◌>>=◌ : {A B : Type 0} → Result A ResumeFault → (A → Result B ResumeFault) → Result B ResumeFault
 (Ok part) >>= next = next part
 (Err fault) >>= next = Err fault
 
--- so many bytes
+-- reads n bytes
 abbrev pub bytes_at : ℕ → Bytes → Reading Bytes
 bytes_at count bytes = if nat_lt (length bytes) count then Err Truncated else Ok (take count bytes, drop count bytes)
 
--- a number, low byte first
+-- reads a number, low byte first
 abbrev pub number_at : Width → Bytes → Reading ℕ
 number_at width bytes = do
   digits ← bytes_at (byte_len width) bytes
   Ok (from_le_bytes width digits.0, digits.1)
 
--- the bytes after those with which each session file begins
+-- the bytes after those at the beginning of each session file
 unfoldable pub after_magic : Bytes → Bytes → Result Bytes ResumeFault
 after_magic [] bytes = Ok bytes
 after_magic (byte ∷ others) [] = Err Truncated
 after_magic (byte ∷ others) (first ∷ bytes) = if first == byte then after_magic others bytes else Err NotSession
 
--- what only a session file has
+-- a value, or the fault of bytes that are no session file
 abbrev pub or_not_session : {A : Type 0} → Option A → Result A ResumeFault
 or_not_session None = Err NotSession
 or_not_session (Some part) = Ok part
 
--- how many blocks the image has: the byte that is read is the number of the disk's tracks
+-- reads how many blocks the image has, by the number of the disk's tracks
 unfoldable pub block_count_at : Bytes → Reading ℕ
 block_count_at [] = Err Truncated
 block_count_at (tracks ∷ bytes) = do
   blocks ← or_not_session (blocks_of tracks)
   Ok (blocks, bytes)
 
--- the beginning, and the image
+-- reads the beginning and the image
 unfoldable pub image_at : Bytes → Reading Disk
 image_at bytes = do
   rest ← after_magic magic bytes
@@ -68,27 +67,27 @@ image_at bytes = do
   content ← bytes_at (blocks.0 * BLOCK_BYTES) blocks.1
   Ok (first_chunks BLOCK_BYTES blocks.0 content.0, content.1)
 
--- how many records are done, and how many there are
+-- reads how many records are done, and how many there are
 unfoldable pub counts_at : Bytes → Reading (ℕ × ℕ)
 counts_at bytes = do
   done ← number_at w64 bytes
   count ← number_at w64 done.1
   if nat_lt count.0 done.0 then Err BadCursor else Ok ((done.0, count.0), count.1)
 
--- the index of a block that lies from one on in an image of so many blocks
+-- reads the index of a block, from a number on, of an image of n blocks
 unfoldable pub index_at : ℕ → ℕ → Bytes → Reading ℕ
 index_at blocks low bytes = do
   index ← number_at w16 bytes
   if nat_lt index.0 low || not (nat_lt index.0 blocks) then Err BadRecord else Ok index
 
--- such a block, with its bytes
+-- reads the index of such a block, and its bytes
 unfoldable pub block_at : ℕ → ℕ → Bytes → Reading (ℕ × Bytes)
 block_at blocks low bytes = do
   index ← index_at blocks low bytes
   content ← bytes_at BLOCK_BYTES index.1
   Ok ((index.0, content.0), content.1)
 
--- so many ascending blocks that lie from one on
+-- reads a number of blocks, ascending from a number on
 unfoldable pub blocks_at : ℕ → ℕ → ℕ → Bytes → Reading Kept
 blocks_at blocks zero low bytes = Ok ([], bytes)
 blocks_at blocks (suc count) low bytes = do
@@ -96,13 +95,13 @@ blocks_at blocks (suc count) low bytes = do
   others ← blocks_at blocks count (first.0.0 + 1) first.1
   Ok (first.0 ∷ others.0, others.1)
 
--- a record: how many blocks it has, and these
+-- reads a record: how many blocks it has, and these
 unfoldable pub record_file_at : ℕ → Bytes → Reading Kept
 record_file_at blocks bytes = do
   count ← number_at w16 bytes
   blocks_at blocks count.0 0 count.1
 
--- so many records of an image of so many blocks
+-- reads a number of records of an image of n blocks
 unfoldable pub records_at : ℕ → ℕ → Bytes → Reading (List Kept)
 records_at blocks zero bytes = Ok ([], bytes)
 records_at blocks (suc count) bytes = do
@@ -116,7 +115,7 @@ pub record Parts : Type 0 where
   pub done : ℕ
   pub records : List Kept
 
--- all parts in their order, with no bytes after them
+-- reads all parts in order, with no bytes after them
 unfoldable pub parts_at : Bytes → Result Parts ResumeFault
 parts_at bytes = do
   image ← image_at bytes
@@ -124,38 +123,37 @@ parts_at bytes = do
   records ← records_at (length image.0) counts.0.1 counts.1
   if length records.1 == 0 then Ok (record { image = image.0; done = counts.0.0; records = records.0 }) else Err Trailing
 
--- each block of a record differs from that of an image
+-- whether each block of a record differs from that of an image
 unfoldable pub all_differ : Disk → Kept → Bool
 all_differ image patch = list_all (λ entry. not (pointwise nat_eq entry.1 (sector_at image entry.0))) patch
 
--- each block of records that lead away from an image differs from that of the image at its moment:
--- right before the record is put back
+-- whether each block of records that lead away from an image differs from the image's right before
+-- its record is put back
 unfoldable pub differ_along : Disk → List Kept → Bool
 differ_along image [] = true
 differ_along image (patch ∷ patches) = all_differ image patch && differ_along (restored_image image patch) patches
 
--- each block of the records differs from that of the image at its moment, both ways from the
--- present image: back along those that are done, and on along the others
+-- whether each block of the records differs from the image's right before its record is put back,
+-- both ways from the present image: back along those that are done, and on along the others
 abbrev pub lead_both_ways : Disk → ℕ → List Kept → Bool
 lead_both_ways image done records = differ_along image (reverse (take done records)) && differ_along image (drop done records)
 
--- the parts of a file in which each block differs from that of the image at its moment
+-- the parts of a file whose records pass that test
 unfoldable pub session_at : Bytes → Result Parts ResumeFault
 session_at bytes = do
   parts ← parts_at bytes
   if lead_both_ways parts.image parts.done parts.records then Ok parts else Err BadRecord
 
--- the fault that was read; none where there was none
+-- the fault that was found; None if there was no fault
 abbrev pub fault_in : {A : Type 0} → Result A ResumeFault → Option ResumeFault
 fault_in (Ok parts) = None
 fault_in (Err fault) = Some fault
 
--- the first fault of bytes that are no session file
+-- the first fault of bytes that are no session file; None if they are one
 abbrev pub first_fault : Bytes → Option ResumeFault
 first_fault bytes = fault_in (session_at bytes)
 
--- the fault that a refusal tells; want of memory tells none of the bytes', and leaves what would
--- have been told
+-- the fault that a refusal reports; if memory was out, the one that would have been reported
 abbrev pub told_by : ResumeFault → Option ResumeFault → Option ResumeFault
 told_by NotSession other = Some NotSession
 told_by Truncated other = Some Truncated
@@ -164,8 +162,8 @@ told_by BadCursor other = Some BadCursor
 told_by BadRecord other = Some BadRecord
 told_by (Memory error) other = other
 
--- the fault for which bytes were refused, none where they were accepted; where memory was wanting,
--- the one that would have been told
+-- the fault for which bytes were refused; None if they were accepted; if memory was out, the one
+-- that would have been reported
 abbrev pub refused_by : {A : Type 0} → Result A ResumeFault → Option ResumeFault → Option ResumeFault
 refused_by (Ok session) other = None
 refused_by (Err fault) other = told_by fault other

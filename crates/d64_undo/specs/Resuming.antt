@@ -1,4 +1,4 @@
--- What is answered by the calls that read a session file.
+-- The results of the calls that read a session file.
 use Rattle.std.specs.Prelude.{◌≡◌, ℕ, ◌<◌, ◌≤◌, ◌^◌, if◌then◌else◌, All, Bool, Option, Some, None, List, ◌∷◌, ◌++◌, length, reverse, take, drop, Result, Ok, Err}
 use Rattle.std.specs.Int.{w64, to_le_bytes}
 use Rattle.std.specs.List.{flat_map}
@@ -11,7 +11,7 @@ use Rattle.d64_undo.specs.declared.resume_fault.ResumeFault.{ResumeFault}
 use Rattle.d64_undo.specs.declared.resume_fault.ResumeFault.TheVariants.{NotSession, Truncated, Trailing, BadCursor, BadRecord, Memory}
 use Rattle.d64_undo.specs.declared.file_parts.FileParts.{FileParts}
 
--- a fault is the one that is read, unless memory was wanting
+-- a fault is the one that is found, unless memory was out
 abbrev pub Fails : {Part : Type 0} → ResumeFault → Result Part ResumeFault → Type 0
 Fails NotSession reading = reading ≡ Err NotSession
 Fails Truncated reading = reading ≡ Err Truncated
@@ -20,7 +20,7 @@ Fails BadCursor reading = reading ≡ Err BadCursor
 Fails BadRecord reading = reading ≡ Err BadRecord
 Fails (Memory error) reading = Unit {0}
 
--- an answer, as it is seen, is what is read, unless memory was wanting
+-- a result, as definitions see it, is what is read, unless memory was out
 abbrev pub Gives : {Answer Part : Type 0} → (Answer → Part) → Result Answer ResumeFault → Result Part ResumeFault → Type 0
 Gives seen (Ok answer) reading = reading ≡ Ok (seen answer)
 Gives seen (Err fault) reading = Fails fault reading
@@ -29,18 +29,18 @@ Gives seen (Err fault) reading = Fails fault reading
 abbrev pub start_file : Disk → ℕ → ℕ → Bytes
 start_file image done count = magic ++ tracks_of (length image) ∷ bytes_of image ++ to_le_bytes w64 done ++ to_le_bytes w64 count
 
--- what is read before the records: the image, how many records are done, and how many there are
+-- reads what comes before the records: the image, how many records are done, and how many there are
 abbrev pub start_at : Bytes → Reading (Disk × (ℕ × ℕ))
 start_at bytes = do
   image ← image_at bytes
   counts ← counts_at image.1
   Ok ((image.0, counts.0), counts.1)
 
--- what was read of it
+-- what was read before the records
 abbrev pub start_seen : FileParts → Disk × (ℕ × ℕ)
 start_seen parts = (parts.image, (parts.done, parts.count))
 
--- what parts are that were read so far
+-- the state of the parts that were read so far
 pub record IsStarted (parts : FileParts) : Type 0 where
   pub image : IsImage parts.image
   pub done : parts.done ≤ parts.count
@@ -53,16 +53,16 @@ abbrev pub AreStarted : Option FileParts → Type 0
 AreStarted None = Unit {0}
 AreStarted (Some parts) = IsStarted parts
 
--- what is left of bytes
+-- bytes are the last ones of others
 abbrev pub IsEndOf : Bytes → Bytes → Type 0
 IsEndOf rest bytes = (front : Bytes) × (bytes ≡ front ++ rest)
 
--- the bytes that were given: those of which parts were read, and the rest
+-- the bytes that were given: those of the parts that were read, and the rest
 abbrev pub given_bytes : Option FileParts → Bytes → Bytes
 given_bytes None rest = rest
 given_bytes (Some parts) rest = start_file parts.image parts.done parts.count ++ (flat_map record_file parts.records ++ rest)
 
--- the records on one side of a place, as they are gone along: those after it in their order, or those
--- before it, the last one first
+-- the records on one side of a place, outward: those after it in order, or those before it, the
+-- last one first
 abbrev pub on_side : Bool → List Kept → ℕ → List Kept
 on_side is_back records number = if is_back then reverse (take number records) else drop number records

@@ -7,19 +7,19 @@ use Rattle.d64_image.specs.Image.{IsImage, tracks_of, bytes_of}
 use Rattle.d64_image.specs.Patch.{Kept}
 use Rattle.d64_undo.specs.History.{History, IsHistory, present_image, record_blocks}
 
--- the bytes with which each session file begins: D64S
+-- the bytes at the beginning of each session file: D64S
 abbrev pub magic : Bytes
 magic = 0x44 ∷ 0x36 ∷ 0x34 ∷ 0x53 ∷ []
 
--- a block of a record: its index, and its bytes
+-- a block of a record: its index and its bytes
 abbrev pub block_file : ℕ × Bytes → Bytes
 block_file entry = to_le_bytes w16 entry.0 ++ entry.1
 
--- a record: its number of blocks, and each block
+-- a record: its number of blocks, and each of its blocks
 abbrev pub record_file : Kept → Bytes
 record_file patch = to_le_bytes w16 (length patch) ++ flat_map block_file patch
 
--- the file of a present image, of how many records are done, and of all records, oldest first
+-- the file of a present image and of all records, oldest first, of which n are done
 unfoldable pub file_with : Disk → ℕ → List Kept → Bytes
 file_with image done records =
     magic ++ tracks_of (length image) ∷ bytes_of image ++ to_le_bytes w64 done ++ to_le_bytes w64 (length records) ++ flat_map record_file records
@@ -32,8 +32,8 @@ records_of history = map (record_blocks history) (range_with_len 0 (length histo
 abbrev pub file_of : History → Bytes
 file_of history = file_with (present_image history) history.cursor (records_of history)
 
--- the histories that a session can hold: the cursor stands on one of the images, these are images
--- of disks of as many tracks, and a number of 64 bits counts the records
+-- a history that a session can hold: the cursor is at one of the images, which all have the same
+-- number of tracks, and a number of 64 bits counts the records
 pub record IsSession (history : History) : Type 0 where
   pub cursor : IsHistory history
   pub images : All IsImage history.images

@@ -19,13 +19,13 @@ abbrev pub FaultlessAreFiles : Type 0
 FaultlessAreFiles =
     (bytes : Bytes) → All (λ byte. byte < 256) bytes → first_fault bytes ≡ None → (history : History) × IsSession history × (file_of history ≡ bytes)
 
--- what may be answered to bytes that are to be resumed
+-- what `resume` can return for some bytes
 pub record IsAnswer (bytes : Bytes) (answer : Result History ResumeFault) : Type 0 where
   pub refused : refused_by answer (first_fault bytes) ≡ first_fault bytes
   pub file : IfOk answer (λ session. file_of session ≡ bytes)
   pub session : IfOk answer IsSession
 
--- that history was answered, or want of memory
+-- the result is that history, or that memory is out
 abbrev pub IsOrMemory : History → Result History ResumeFault → Type 0
 IsOrMemory history (Ok session) = session ≡ history
 IsOrMemory history (Err fault) = fault_number fault ≡ 6

@@ -14,19 +14,19 @@ use Rattle.d64_undo.specs.Request.{Asked, Apply, Undo, Redo}
 unfoldable pub IsSoundHistory : History → Type 0
 IsSoundHistory history = All IsSound history.images
 
--- a command that was run keeps sound disks sound: it is a file command, or it was refused
+-- a command keeps sound disks sound: it is a file command, or it was refused
 abbrev pub KeepsSound : Change → Result Reply Refusal → Type 0
 KeepsSound change (Ok reply) = IsFileCommand change
 KeepsSound change (Err refusal) = Unit {0}
 
--- a history of sound disks: its images are those of disks, and sound, and the cursor stands on one
+-- a history of sound disks: its images are those of disks, and sound, and the cursor is at one
 pub record HoldsSoundDisks (history : History) : Type 0 where
   pub stands : IsHistory history
   pub are_images : All IsImage history.images
   pub sound : IsSoundHistory history
 
--- a request that keeps sound disks sound: a file command as any caller can make it, or a step along
--- the history
+-- a request keeps sound disks sound: it is a file command as any caller can make it, or a step
+-- along the history
 abbrev pub KeepsDisksSound : Asked → Type 0
 KeepsDisksSound (Apply change) = IsFileCommand change × IsMade change
 KeepsDisksSound Undo = Unit {0}

@@ -1,4 +1,4 @@
-//! The parts of session files are read, up to the first fault.
+//! Reading the parts of session files, up to the first fault.
 ghost use Rattle.std.specs.Prelude.{◌≡◌, ℕ, true, ◌*◌, ◌+◌, ◌-◌, ◌<◌, ◌≤◌, ◌++◌, ◌⊎◌, [], length, All, Ok, IfOk, IfErr};
 ghost use Rattle.std.specs.Int.{w16, w64};
 ghost use Rattle.std.specs.List.{flat_map};
@@ -24,11 +24,11 @@ pub(crate) struct FileParts {
     pub(crate) done: u64,
     /// How many records the file has.
     pub(crate) count: u64,
-    /// Those that were read.
+    /// The records that were read.
     pub(crate) records: PatchList,
 }
 
-/// So many bytes, and those after them.
+/// Takes `count` bytes. Returns them and the bytes after them.
 fn take_bytes(bytes: &[u8], count: usize) -> Result<(&[u8], &[u8]), ResumeFault>
     ensures { Gives (λ x. (x.0.now, x.1.now)) result (bytes_at count bytes.now) }
 {
@@ -38,7 +38,7 @@ fn take_bytes(bytes: &[u8], count: usize) -> Result<(&[u8], &[u8]), ResumeFault>
     Ok(bytes.split_at(count))
 }
 
-/// A number of two bytes.
+/// Reads a number of two bytes.
 fn read_u16(bytes: &[u8]) -> Result<(u16, &[u8]), ResumeFault>
     ensures { Gives (λ x. (x.0, x.1.now)) result (number_at w16 bytes.now) }
 {
@@ -48,7 +48,7 @@ fn read_u16(bytes: &[u8]) -> Result<(u16, &[u8]), ResumeFault>
     }
 }
 
-/// A number of eight bytes.
+/// Reads a number of eight bytes.
 fn read_u64(bytes: &[u8]) -> Result<(u64, &[u8]), ResumeFault>
     ensures { Gives (λ x. (x.0, x.1.now)) result (number_at w64 bytes.now) }
 {
@@ -58,7 +58,7 @@ fn read_u64(bytes: &[u8]) -> Result<(u64, &[u8]), ResumeFault>
     }
 }
 
-/// The bytes after those with which each session file begins.
+/// The bytes after those at the beginning of each session file.
 #[tactic(auto, unfolding(crate::specs::ResumeFault::after_magic))]
 fn skip_magic(bytes: &[u8]) -> Result<&[u8], ResumeFault>
     ensures { Gives (λ x. x.now) result (after_magic magic bytes.now) }
@@ -78,7 +78,7 @@ fn skip_magic(bytes: &[u8]) -> Result<&[u8], ResumeFault>
     Ok(rest)
 }
 
-/// How many blocks the image has, by how many tracks its disk has.
+/// Reads how many blocks the image has, by the number of the disk's tracks.
 #[tactic(auto, unfolding(crate::specs::ResumeFault::block_count_at))]
 fn read_block_count(bytes: &[u8]) -> Result<(usize, &[u8]), ResumeFault>
     ensures count { Gives (λ x. (x.0, x.1.now)) result (block_count_at bytes.now) }
@@ -93,7 +93,7 @@ fn read_block_count(bytes: &[u8]) -> Result<(usize, &[u8]), ResumeFault>
     }
 }
 
-/// The image that has these bytes.
+/// The image of these bytes.
 fn image_of(alloc: Global, bytes: &[u8]) -> Result<Image, ResumeFault>
     requires { is_image_length (length bytes.now) ≡ true }
     ensures { (blocks : ℕ) → length bytes.now ≡ blocks * BLOCK_BYTES → Gives (λ image. image) result (Ok (first_chunks BLOCK_BYTES blocks bytes.now)) }
@@ -105,7 +105,7 @@ fn image_of(alloc: Global, bytes: &[u8]) -> Result<Image, ResumeFault>
     }
 }
 
-/// The beginning, and the image.
+/// Reads the beginning and the image.
 #[tactic(auto, unfolding(crate::specs::ResumeFault::image_at))]
 fn read_image(alloc: Global, bytes: &[u8]) -> Result<(Image, &[u8]), ResumeFault>
     ensures { Gives (λ x. (x.0, x.1.now)) result (image_at bytes.now) }
@@ -116,7 +116,7 @@ fn read_image(alloc: Global, bytes: &[u8]) -> Result<(Image, &[u8]), ResumeFault
     Ok((image_of(alloc, content)?, rest))
 }
 
-/// How many records are done, and how many there are.
+/// Reads how many records are done, and how many there are.
 #[tactic(auto, unfolding(crate::specs::ResumeFault::counts_at))]
 fn read_counts(bytes: &[u8]) -> Result<((u64, u64), &[u8]), ResumeFault>
     ensures { Gives (λ x. ((x.0.0, x.0.1), x.1.now)) result (counts_at bytes.now) }
@@ -129,7 +129,7 @@ fn read_counts(bytes: &[u8]) -> Result<((u64, u64), &[u8]), ResumeFault>
     Ok(((done, count), rest))
 }
 
-/// The index of a block that lies from one on in an image of so many blocks.
+/// Reads the index of a block of an image of `blocks` blocks, from `low` on.
 #[tactic(auto, unfolding(crate::specs::ResumeFault::index_at))]
 fn read_index(bytes: &[u8], low: usize, blocks: usize) -> Result<(BlockNo, &[u8]), ResumeFault>
     requires { blocks ≤ BLOCKS }
@@ -146,7 +146,7 @@ fn read_index(bytes: &[u8], low: usize, blocks: usize) -> Result<(BlockNo, &[u8]
     }
 }
 
-/// Such a block, with its bytes.
+/// Reads the index of such a block, and its bytes.
 #[tactic(auto, unfolding(crate::specs::ResumeFault::block_at))]
 fn read_block<'a>(
     bytes: &'a [u8],
@@ -165,7 +165,7 @@ fn read_block<'a>(
     }
 }
 
-/// So many ascending blocks.
+/// Reads blocks that ascend, as many as asked for.
 fn read_blocks(
     alloc: Global,
     count: u16,
@@ -191,7 +191,7 @@ fn read_blocks(
     Ok((patch, rest))
 }
 
-/// A record: how many blocks it has, and these.
+/// Reads a record: how many blocks it has, and these.
 #[tactic(auto, unfolding(crate::specs::ResumeFault::record_file_at))]
 fn read_record(alloc: Global, blocks: usize, bytes: &[u8]) -> Result<(Patch, &[u8]), ResumeFault>
     requires { blocks ≤ BLOCKS }
@@ -201,7 +201,7 @@ fn read_record(alloc: Global, blocks: usize, bytes: &[u8]) -> Result<(Patch, &[u
     read_blocks(alloc, count, blocks, rest)
 }
 
-/// The parts before the records.
+/// Reads the parts before the records.
 pub(crate) fn read_start(alloc: Global, bytes: &[u8]) -> Result<(FileParts, &[u8]), ResumeFault>
     ensures start { Gives (λ x. (start_seen x.0, x.1.now)) result (start_at bytes.now) }
     ensures none { IfOk result (λ x. x.0.records ≡ []) }
@@ -217,8 +217,8 @@ pub(crate) fn read_start(alloc: Global, bytes: &[u8]) -> Result<(FileParts, &[u8
     Ok((parts, rest))
 }
 
-/// The records that are still to be read, as long as so many bytes are left. Room is made for each
-/// as it is read: each has bytes of its own in the file, and there may be fewer than the file
+/// Reads the records that are still to come, as long as enough bytes are left. Room is made for
+/// each as it is read: each has bytes of its own in the file, and there may be fewer than the file
 /// counts.
 pub(crate) fn read_records<'a>(
     alloc: Global,

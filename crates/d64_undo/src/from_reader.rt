@@ -1,4 +1,4 @@
-//! Sessions are resumed from readers.
+//! Resuming sessions from readers.
 ghost use Rattle.std.specs.Prelude.{◌≡◌, ◌+◌, ◌<◌, ◌≤◌, [], length, take, OnOk, IfOk, IfErr};
 ghost use Rattle.std.specs.Io.KnownBytes.{Consumes, IsAtEnd};
 ghost use Rattle.d64_effects.specs.Laws.{AreBytes};
@@ -16,22 +16,22 @@ use thiserror::Error;
 /// How many bytes are read at once, at most.
 const PIECE_BYTES: usize = 16_384;
 
-/// Why a reader gives no session file.
+/// Why a reader gives no session.
 #[derive(Clone, Copy, Debug, PartialEq, Eq, Error)]
 pub enum ReadFault {
     /// A read failed.
     #[error("a read failed")]
     Device,
-    /// There are more bytes than may be read.
+    /// There are more bytes than allowed.
     #[error("the session file is too long")]
     TooLong,
-    /// What was read is no session file, or there is no memory for the session.
+    /// The bytes are no session file, or there is no memory for the session.
     #[error(transparent)]
     Resume(ResumeFault),
 }
 
-/// Reads a piece into the front of the buffer, takes its length off the bytes that may still be
-/// read, and returns it. It is 0 at the end.
+/// Reads a piece into the front of the buffer, and takes its length off the bytes that may still be
+/// read. Returns that length, which is 0 at the end.
 fn read_piece<R: Read>(
     reader: &mut R,
     buffer: &mut [u8; PIECE_BYTES],
@@ -56,7 +56,7 @@ fn read_piece<R: Read>(
     }
 }
 
-/// Reads all that is left, at most so many bytes, for nothing but the fault that comes then.
+/// Reads all that is left, up to a number of bytes, only for the fault that this may give.
 fn read_past<R: Read>(
     reader: &mut R,
     buffer: &mut [u8; PIECE_BYTES],
@@ -78,8 +78,8 @@ fn read_past<R: Read>(
     unreachable!()
 }
 
-/// Reads all that is left, at most so many bytes, and gives them to a session file of which none
-/// were given. A read that fails, or a byte too many, comes before what is wrong with the bytes.
+/// Reads all that is left, up to a number of bytes, into a session file that has none yet. The
+/// fault of a read that fails, or of a byte too many, comes before any fault of the bytes.
 fn read_all<R: Read>(file: &mut Resuming, reader: &mut R, limit: u32) -> Result<(), ReadFault>
     requires { file.old ≡ [] }
     ensures read { OnOk result (Consumes (R.remaining reader.old) (R.remaining reader.new) file.new
@@ -103,9 +103,9 @@ fn read_all<R: Read>(file: &mut Resuming, reader: &mut R, limit: u32) -> Result<
     unreachable!()
 }
 
-/// The session of the file that a reader gives, of at most `limit` bytes. It is read to its end, so
-/// that a read that fails, or a byte too many, comes before what is wrong with the bytes. Takes
-/// memory for what the session holds.
+/// Resumes the session of the file that a reader gives, of at most `limit` bytes. The file is read
+/// to its end, so that the fault of a read that fails, or of a byte too many, comes before any
+/// fault of the bytes. It allocates what the session holds.
 pub fn resume_from<R: Read>(alloc: Global, reader: &mut R, limit: u32) -> Result<Session, ReadFault>
     ensures session { IfOk result (λ session. IsReadOf (R.remaining reader.old) limit session) }
     ensures fault { IfErr result (λ fault. IsReadFault (R.remaining reader.old) limit fault) }

@@ -1,5 +1,5 @@
-//! Session files are written: the present image, and each record with the blocks that lead away
-//! from it.
+//! Writing session files: the present image, and each record with the blocks that lead away from
+//! it.
 ghost use Rattle.std.specs.Prelude.{◌≡◌, ◌++◌, ◌<◌, ◌^◌, ℕ, length, All, OnOk, IfOk};
 ghost use Rattle.std.specs.List.{flat_map};
 ghost use Rattle.std.specs.Io.Iter.{u64_saturate};
@@ -11,14 +11,14 @@ ghost use Rattle.d64_undo.specs.SessionFile.{block_file, record_file, file_with}
 use d64_image::{BLOCK_BYTES, BlockNo, Image, PatchList};
 use std::alloc::{AllocError, Global};
 
-/// The bytes with which each session file begins: D64S.
+/// The bytes at the beginning of each session file: D64S.
 pub(crate) const MAGIC: [u8; 4] = [0x44, 0x36, 0x34, 0x53];
 
 /// How many bytes a file has besides its image and its records: its beginning, the number of tracks
 /// and two counts.
 const COUNT_BYTES: usize = MAGIC.len() + 1 + 2 * size_of::<u64>();
 
-/// How many bytes the file has, or the most that can be counted.
+/// How many bytes the file has, or the greatest number that can be counted.
 fn file_len(image: &Image, records: &PatchList) -> usize
     ensures { (done : ℕ) → result ≡ u64_saturate (length (file_with image.now done records.now)) }
 {
@@ -30,7 +30,7 @@ fn file_len(image: &Image, records: &PatchList) -> usize
         .saturating_add(blocks)
 }
 
-/// Adds a record's blocks to the file.
+/// Appends a record's blocks to the file.
 fn put_blocks(file: &mut Vec<u8>, blocks: &[(BlockNo, [u8; BLOCK_BYTES])]) -> Result<(), AllocError>
     ensures { OnOk result (file.new.items ≡ file.old.items ++ flat_map block_file blocks.now) }
 {
@@ -41,7 +41,7 @@ fn put_blocks(file: &mut Vec<u8>, blocks: &[(BlockNo, [u8; BLOCK_BYTES])]) -> Re
     Ok(())
 }
 
-/// Adds the record of these blocks to the file.
+/// Appends the record of these blocks to the file.
 fn put_record(file: &mut Vec<u8>, blocks: &[(BlockNo, [u8; BLOCK_BYTES])]) -> Result<(), AllocError>
     requires { IsPatch blocks.now }
     ensures { OnOk result (file.new.items ≡ file.old.items ++ record_file blocks.now) }
@@ -50,7 +50,7 @@ fn put_record(file: &mut Vec<u8>, blocks: &[(BlockNo, [u8; BLOCK_BYTES])]) -> Re
     put_blocks(file, blocks)
 }
 
-/// Adds records to the file.
+/// Appends records to the file.
 fn put_records(file: &mut Vec<u8>, records: &PatchList) -> Result<(), AllocError>
     ensures { OnOk result (file.new.items ≡ file.old.items ++ flat_map record_file records.now) }
 {
@@ -62,8 +62,8 @@ fn put_records(file: &mut Vec<u8>, records: &PatchList) -> Result<(), AllocError
     Ok(())
 }
 
-/// Adds to the file what stands before its records: its beginning, the image, how many records are
-/// done, and how many there are.
+/// Appends to the file what comes before its records: its beginning, the image, how many records
+/// are done, and how many there are.
 fn put_start(file: &mut Vec<u8>, image: &Image, done: usize, count: usize) -> Result<(), AllocError>
     ensures { OnOk result (file.new.items ≡ file.old.items ++ start_file image.now done count) }
 {
@@ -74,8 +74,7 @@ fn put_start(file: &mut Vec<u8>, image: &Image, done: usize, count: usize) -> Re
     file.extend_from_slice(&(count as u64).to_le_bytes())
 }
 
-/// The session file of a present image, of how many records are done, and of all records, the
-/// oldest first.
+/// The session file of a present image and all records, the oldest first, of which `done` are done.
 #[tactic(auto, unfolding(crate::specs::SessionFile::file_with))]
 pub(crate) fn session_file(
     alloc: Global,

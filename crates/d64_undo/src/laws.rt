@@ -10,23 +10,23 @@ pub fn undo_after_command()
     ensures { UndoAfterCommand }
 {}
 
-/// Redo after undo gives the history back, and undo after redo does.
+/// Redo after undo gives back the history, and so does undo after redo.
 pub fn redo_after_undo()
     ensures { RedoAfterUndo }
 {}
 
-/// Undos after accepted commands, and then redos, pass through each image again.
+/// Undos after accepted commands, and then redos, go through each image again.
 pub fn retraced()
     ensures { Retraced }
 {}
 
-/// Without want of memory among the answers, a run of requests is a function of the history and the
+/// As long as memory suffices, the results of a run of requests depend only on the history and the
 /// requests.
 pub fn memory_alone_is_free()
     ensures { MemoryAloneIsFree }
 {}
 
-/// Want of memory is answered in the place of an accepted command alone, and leaves the history.
+/// Only a command that would be accepted can run out of memory, and then the history is unchanged.
 pub fn memory_for_acceptance()
     ensures { MemoryForAcceptance }
 {}
@@ -42,8 +42,8 @@ pub fn session_files_are_faultless()
     ensures files { FaultlessAreFiles }
 {}
 
-/// What was kept is resumed with the same history and cursor, or memory is wanting: to the file of
-/// a history, nothing else meets the contract of `resume`.
+/// What was kept is resumed with the same history and cursor, or memory is out: for the file of a
+/// history, nothing else meets the contract of `resume`.
 pub fn kept_is_resumed()
     ensures { KeptIsResumed }
 {}

@@ -30,7 +30,7 @@ fn side_len(records: &PatchList, place: Place, is_back: bool) -> usize
     }
 }
 
-/// The record that is next on one side of a place: where it begins, and the place on its other side.
+/// The next record on one side of a place: where it begins, and the place on its other side.
 fn next_on_side(records: &PatchList, place: Place, is_back: bool) -> (Place, Place)
     requires within { place.number ≤ length records.now }
     requires place { place.blocks ≡ blocks_before records.now place.number }
@@ -48,7 +48,7 @@ fn next_on_side(records: &PatchList, place: Place, is_back: bool) -> (Place, Pla
 }
 
 /// Whether each block of the records on one side of a place, which lead away from an image, differs
-/// from that of the image at its moment.
+/// from the image's right before its record is put back.
 fn all_lead(mut image: Image, records: &PatchList, mut place: Place, is_back: bool) -> bool
     requires within { place.number ≤ length records.now }
     requires place { place.blocks ≡ blocks_before records.now place.number }
@@ -66,8 +66,8 @@ fn all_lead(mut image: Image, records: &PatchList, mut place: Place, is_back: bo
     true
 }
 
-/// Whether each block of the records differs from that of the image at its moment, both ways from
-/// the present image.
+/// Whether each block of the records differs from the image's right before its record is put back,
+/// both ways from the present image.
 pub(crate) fn lead_away(
     alloc: Global,
     image: &Image,

@@ -1,9 +1,9 @@
 //! Sessions with undo and redo over disk images: the history of an image, the requests to a
 //! session, whole runs of them, and the session file that keeps one.
 //!
-//! A session promises that every request is answered, that every refusal leaves the image and its
-//! history as they were, and that undo and redo restore exactly the image from before: the contract
-//! of `run_all` says so for whole runs.
+//! A session promises that it has a reply to every request, that every refusal leaves the image and
+//! its history unchanged, and that undo and redo restore exactly the image from before: the
+//! contract of `run_all` says so for whole runs.
 #![tactic(auto)]
 
 mod file_parts;

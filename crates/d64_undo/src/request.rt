@@ -7,7 +7,7 @@ use crate::session::{NothingToRedo, NothingToUndo, Session};
 use d64_dos::{Command, Refusal, Reply};
 use std::alloc::{AllocError, Global};
 
-/// What is asked of a session.
+/// A request to a session.
 #[derive(Debug, Drop)]
 pub enum Request {
     /// To run a command on the present image.
@@ -16,7 +16,7 @@ pub enum Request {
     Redo,
 }
 
-/// What a session answers to a request.
+/// The reply of a session to a request.
 #[derive(Clone, Copy, Debug, PartialEq, Eq)]
 pub enum Answer {
     Accepted(Reply),
@@ -27,7 +27,7 @@ pub enum Answer {
     NothingToRedo,
 }
 
-/// The answer to one request.
+/// Runs one request. Returns the reply.
 fn run_one(session: &mut Session, request: &Request) -> Answer
     requires { IsAskedOf (present_image session.old) (asked_by request.now) }
     ensures step { Step session.old (asked_by request.now) result session.new }
@@ -49,8 +49,8 @@ fn run_one(session: &mut Session, request: &Request) -> Answer
     }
 }
 
-/// Runs the requests one after another, and gives their answers. Where there is no memory for the
-/// answers themselves, no request has run. The image has the block that each block write names.
+/// Runs the requests one after another, and returns their replies. If there is no memory for the
+/// replies themselves, no request has run. The image has the block that each block write names.
 pub fn run_all(
     alloc: Global,
     session: &mut Session,

@@ -5,10 +5,10 @@ ghost use Rattle.d64_undo.specs.ResumeFault.{fault_number};
 use std::alloc::AllocError;
 use thiserror::Error;
 
-/// Why a session can't be resumed from bytes: the first fault that is met in reading them.
+/// Why a session can't be resumed from bytes: the first fault found in reading them.
 #[derive(Clone, Copy, Debug, PartialEq, Eq, Error)]
 pub enum ResumeFault {
-    /// A byte of the beginning isn't that of a session file, or no disk has so many tracks.
+    /// A byte of the beginning isn't that of a session file, or no disk has as many tracks.
     #[error("this is no session file")]
     NotSession,
     /// The bytes end before a part of the file.

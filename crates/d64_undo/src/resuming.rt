@@ -1,4 +1,4 @@
-//! Session files are resumed, piece after piece.
+//! Resuming session files, piece by piece.
 ghost use Rattle.std.specs.Prelude.{◌≡◌, ◌++◌, ◌≤◌, Some, [], length, drop, IfOk, IfErr, OnOk};
 ghost use Rattle.d64_image.specs.Disk.{Bytes};
 ghost use Rattle.d64_undo.specs.ResumeFault.{first_fault, refused_by, told_by, parts_at};
@@ -14,16 +14,16 @@ use d64_image::{BLOCK_BYTES, BLOCKS};
 use std::alloc::Global;
 use std::marker::Model;
 
-/// How many bytes are enough to read a part of a session file: a record of all blocks of a disk, and
-/// the index of one block more.
+/// How many bytes are enough to read a part of a session file: a record of all blocks of a disk,
+/// and the index of one block more.
 const PART_BYTES: usize = 4 + BLOCKS * (2 + BLOCK_BYTES);
 
 /// How many bytes are held before parts are read of them: twice as many as a part may need, so that
 /// no more bytes are moved to the front than were read.
 const HELD_BYTES: usize = 2 * PART_BYTES;
 
-/// A session file of which some bytes were given: what was read of them, and those that were not
-/// enough yet to be read.
+/// A session file that is given in pieces: what was read of it, and the bytes that are not yet
+/// enough to be read.
 #[derive(Drop)]
 pub struct Resuming {
     alloc: Global,
@@ -42,7 +42,7 @@ impl Model for Resuming {
     ghost invariant = { λ file. AreStarted file.parts };
 }
 
-/// Takes bytes from the front.
+/// Removes bytes from the front.
 fn drop_front(bytes: &mut Vec<u8>, count: usize)
     requires { count ≤ length bytes.old.items }
     ensures { bytes.new.items ≡ drop count bytes.old.items }
@@ -53,7 +53,7 @@ fn drop_front(bytes: &mut Vec<u8>, count: usize)
 }
 
 impl Resuming {
-    /// A session file of which no byte was given yet. Takes no memory.
+    /// A session file of which no byte was given. It allocates nothing.
     pub fn new(alloc: Global) -> Resuming
         ensures { result ≡ [] }
     {
@@ -64,8 +64,8 @@ impl Resuming {
         }
     }
 
-    /// Is given the bytes that come next. Refused for the first fault that is met in reading them,
-    /// whatever comes after them, or for want of memory. Takes memory for what the session holds.
+    /// Takes the next bytes of the file. An error is the first fault found in reading them,
+    /// whatever comes after them, or that memory is out. It allocates what the session holds.
     pub fn push(&mut self, piece: &[u8]) -> Result<(), ResumeFault>
         ensures given { OnOk result (self.new ≡ self.old ++ piece.now) }
         ensures refused { IfErr result (λ fault. (more : Bytes) → told_by fault (first_fault (self.old ++ piece.now ++ more)) ≡ first_fault (self.old ++ piece.now ++ more)) }
@@ -74,7 +74,7 @@ impl Resuming {
         self.read_on()
     }
 
-    /// Reads all parts for which there are enough bytes, once as many are held.
+    /// Reads all parts for which there are enough bytes, once `HELD_BYTES` are held.
     fn read_on(&mut self) -> Result<(), ResumeFault>
         ensures given { OnOk result (self.new ≡ self.old) }
         ensures refused { IfErr result (λ fault. (more : Bytes) → Fails fault (parts_at (self.old ++ more))) }
@@ -90,9 +90,9 @@ impl Resuming {
         Ok(())
     }
 
-    /// The session of which the given bytes are the file. Refused for the first fault that is met in
-    /// reading them, or for want of memory, which may come in place of any answer. Takes memory for
-    /// one image more while it looks at the records.
+    /// The session whose file these bytes were. An error is the first fault found in reading them,
+    /// or that memory is out, which may come in place of any result. It allocates one more image
+    /// while it checks the records.
     pub fn finish(self) -> Result<Session, ResumeFault>
         ensures refused { refused_by result (first_fault self) ≡ first_fault self }
         ensures file { IfOk result (λ session. file_of session ≡ self) }
@@ -102,7 +102,7 @@ impl Resuming {
     }
 }
 
-/// The parts before the records, where they were not read yet, and the bytes after them.
+/// The parts before the records, read now unless they were read before, and the bytes after them.
 fn started(
     alloc: Global,
     parts: Option<FileParts>,
@@ -143,9 +143,9 @@ fn session_of(alloc: Global, parts: Option<FileParts>, rest: &[u8]) -> Result<Se
     Ok(Session::of_records(alloc, parts.image, parts.records, done))
 }
 
-/// The session of which these bytes are the file. Refused for the first fault that is met in
-/// reading them, or for want of memory, which may come in place of any answer. Takes memory for the
-/// session, and for one image more while it reads.
+/// Resumes the session whose file these bytes are. An error is the first fault found in reading
+/// them, or that memory is out, which may come in place of any result. It allocates the session,
+/// and one more image while it reads.
 pub fn resume(alloc: Global, bytes: &[u8]) -> Result<Session, ResumeFault>
     ensures refused { refused_by result (first_fault bytes.now) ≡ first_fault bytes.now }
     ensures file { IfOk result (λ session. file_of session ≡ bytes.now) }

@@ -16,33 +16,33 @@ use std::alloc::{AllocError, Global};
 use std::marker::Model;
 use thiserror::Error;
 
-/// Why an undo is refused: there is no record before the cursor.
+/// The error of an undo: there is no record before the cursor.
 #[derive(Clone, Copy, Debug, PartialEq, Eq, Error)]
 #[error("nothing to undo")]
 pub struct NothingToUndo;
 
-/// Why a redo is refused: there is no record after the cursor.
+/// The error of a redo: there is no record after the cursor.
 #[derive(Clone, Copy, Debug, PartialEq, Eq, Error)]
 #[error("nothing to redo")]
 pub struct NothingToRedo;
 
-/// An image with its history: all images that it was, and those that were undone and can be redone.
+/// An image with its history: all its earlier images, and those that were undone and can be redone.
 ///
-/// The history is a list of whole images with a cursor, which stands on the present image. Each
-/// accepted command is a record between two images. Of all images the present one alone is held,
-/// and of each record the blocks in which the images before and after it differ.
+/// The history is a list of whole images with a cursor, which is at the present image. Each
+/// accepted command is a record between two images. Only the present image is held whole, and of
+/// each record the blocks in which the images before and after it differ.
 #[derive(Drop)]
 pub struct Session {
     image: Image,
-    /// What changed by each command: the records that are done lead back from the present image,
-    /// the last one first, and those that are undone lead on from it.
+    /// What each command changed: the records that are done lead back from the present image, the
+    /// last one first, and those that are undone lead on from it.
     records: PatchList,
     /// The place between the records that are done and those that are undone.
     cursor: Place,
-    /// Whether the image is known to be sound: a command left it that leaves a sound disk.
+    /// Whether the image is known to be sound: it is after a command that leaves a sound disk.
     is_sound: bool,
-    /// The blocks that a command changes, while it runs; empty between commands. It is kept, so
-    /// that its memory is asked for once.
+    /// The blocks that a command changes while it runs; empty between commands. It is kept, so that
+    /// its memory is allocated once.
     change: Patch,
 }
 
@@ -65,7 +65,7 @@ impl Model for Session {
 }
 
 impl Session {
-    /// The session that begins with an image, with nothing to undo or redo. Takes no memory.
+    /// A session that begins with an image, with nothing to undo or redo. It allocates nothing.
     pub fn new(alloc: Global, image: Image) -> Session
         ensures begun { result ≡ new_history image }
         ensures sound { IsSound image → IsSoundHistory result }
@@ -81,8 +81,7 @@ impl Session {
         }
     }
 
-    /// The session that holds a present image, and records that lead away from it, so many of which
-    /// are done.
+    /// A session of a present image, and records that lead away from it, of which `done` are done.
     pub(crate) fn of_records(
         alloc: Global,
         present: Image,
@@ -127,18 +126,18 @@ impl Session {
         self.records.len() - self.cursor.number
     }
 
-    /// In how many blocks the images before and after a record differ. Records are numbered from 0,
-    /// first those that are done and then those that are undone, and from `done + undone` on there
-    /// is none. Takes no memory.
+    /// In how many blocks the images before and after a record differ, or None from `done + undone`
+    /// on. Records are numbered from 0, first those that are done and then those that are undone.
+    /// It allocates nothing.
     pub fn record_len(&self, number: usize) -> Option<usize>
         ensures { result ≡ record_len self.now number }
     {
         self.records.len_of(number)
     }
 
-    /// The blocks in which the images before and after a record differ, ascending, each with its
-    /// 256 bytes: those from before the record where it is done, and those from after it where it
-    /// is undone. The numbers are those of `record_len`. Takes no memory.
+    /// The blocks in which the images before and after a record differ, ascending, each with 256
+    /// bytes: those from before the record if it is done, and those from after it if it is undone.
+    /// Records are numbered as in `record_len`. It allocates nothing.
     pub fn record_at(&self, number: usize) -> Option<&[(BlockNo, [u8; BLOCK_BYTES])]>
         ensures { option_copied result ≡ record_at self.now number }
     {
@@ -151,7 +150,7 @@ impl Session {
 
     /// The session file: the present image, how many records are done, and all records, the oldest
     /// first, each with the blocks that lead away from the present image. No other history has the
-    /// same file. Takes memory for the file alone.
+    /// same file. It allocates only the file.
     pub fn keep(&self, alloc: Global) -> Result<Vec<u8>, AllocError>
         ensures file { IfOk result (λ file. file.items ≡ file_of self.now) }
         ensures session { IsSession self.now }
@@ -159,13 +158,13 @@ impl Session {
         session_file(alloc, &self.image, self.cursor.number, &self.records)
     }
 
-    /// Runs a command on the present image. Where it is accepted, the records after the cursor are
-    /// dropped and one is added, also where nothing changed. It is refused by the first refusal
-    /// that applies, and for want of memory only where none does; then image, records and cursor
-    /// are as before. The present image has the block that a block write names.
+    /// Runs a command on the present image. If it is accepted, the records after the cursor are
+    /// dropped and one is added, also if nothing changed. An error is the first refusal that
+    /// applies, and `Memory` only if no other applies; then image, records and cursor are
+    /// unchanged. The present image has the block that a block write names.
     ///
-    /// Where all images of the history are sound, so are all after an accepted file command, and
-    /// after every refusal.
+    /// If all images of the history are sound, they are all sound after an accepted file command,
+    /// and after every refusal.
     pub fn run(&mut self, command: &Command) -> Result<Reply, Refusal>
         requires { IsWithin (present_image self.old) (change_of command.now) }
         ensures refused { refused_by result ≡ refusal_of (present_image self.old) (change_of command.now) }
@@ -188,7 +187,7 @@ impl Session {
         Ok(reply)
     }
 
-    /// Goes one record back. Refused where none is done. Takes no memory.
+    /// Goes one record back. An error comes if no record is done. It allocates nothing.
     pub fn undo(&mut self) -> Result<(), NothingToUndo>
         ensures possible { IsOk result ↔ (0 < self.old.cursor) }
         ensures moved { OnOk result (self.new ≡ undone_history self.old) }
@@ -206,7 +205,7 @@ impl Session {
         Ok(())
     }
 
-    /// Goes one record forward. Refused where none is undone. Takes no memory.
+    /// Goes one record forward. An error comes if no record is undone. It allocates nothing.
     pub fn redo(&mut self) -> Result<(), NothingToRedo>
         ensures possible { IsOk result ↔ (self.old.cursor + 1 < length self.old.images) }
         ensures moved { OnOk result (self.new ≡ redone_history self.old) }

@@ -4,7 +4,7 @@ use Rattle.d64_undo.specs.History.{present_image}
 use Rattle.d64_undo.specs.Request.{asked_by, Run}
 use Rattle.d64_undo.proofs.request.run_all.Given as goal
 
--- the requests so far have run, and there is room for the answers to the others
+-- the requests so far have run, and there is room for the replies to the others
 abbrev pub invariant-loop-request : goal.invariant-loop-request
 invariant-loop-request l = record {
   ran : Run l.initial.session (map asked_by (take l.request-index l.requests)) l.answers.items l.session;
