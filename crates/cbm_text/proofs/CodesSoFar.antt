@@ -63,7 +63,7 @@ not_crunched mode left (code ∷ more) some first (rest, is, crunched) = let sam
 pub crunched_never : (text codes : List ℕ) (mode : Mode) (left : List ℕ) → CrunchedSoFar text codes mode left → left ≢ [] → first_code mode left ≡ None → (all : List ℕ) → ¬ (CrunchedFrom Free text all)
 crunched_never text codes mode left so_far some first all crunched = let before = so_far.only all crunched in not_crunched mode left before.0 some first before.1
 
--- where a place is not free the first byte is kept
+-- if a place is not free the first byte is kept
 pub kept_code : (mode : Mode) (byte : ℕ) (rest : List ℕ) → mode ≢ Free → first_code mode (byte ∷ rest) ≡ Some (byte, rest)
 kept_code Free byte rest kept = absurd (kept refl)
 kept_code Quoted byte rest kept = refl

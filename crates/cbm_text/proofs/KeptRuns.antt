@@ -85,13 +85,13 @@ kept_place DataWord before free = of_parity (quotes_in before % 2 == 0) free
 pub no_end_nothing : (opener : Opener) → HasNoEnd opener []
 no_end_nothing opener k within = absurd (omega arith)
 
--- the byte behind some bytes ends the run where they say so
+-- the byte behind some bytes ends the run if they say so
 end_at : (opener : Opener) (before : List ℕ) (byte : ℕ) (others : List ℕ) → ends opener (take (length before) (before ++ byte ∷ others)) (get_or (before ++ byte ∷ others) (length before) 0) ≡ ends opener before byte
 end_at opener before byte others =
     ap (λ (w : List ℕ). ends opener w (get_or (before ++ byte ∷ others) (length before) 0)) (take_at before (byte ∷ others) (length before) refl)
     ∙ ap (λ (n : ℕ). ends opener before n) (get_or_at before byte others 0 (length before) refl)
 
--- where some bytes have no end, neither do their first
+-- if some bytes have no end, neither do their first
 end_before : (opener : Opener) (before more : List ℕ) (k : ℕ) → k < length before → ends opener (take k (before ++ more)) (get_or (before ++ more) k 0) ≡ ends opener (take k before) (get_or before k 0)
 end_before opener before more k within =
     ap (λ (w : List ℕ). ends opener w (get_or (before ++ more) k 0)) (take-append-le k before more (omega arith))
@@ -234,7 +234,7 @@ pub record CutText (mode : Mode) (text codes : List ℕ) : Type 0 where
   pub runs : RunsOn mode run rest
   pub crunched : CrunchedFrom Free rest others
 
--- where a place is kept, the crunched byte is the first
+-- if a place is kept, the crunched byte is the first
 kept_first : (mode : Mode) (text : List ℕ) (code : ℕ) (rest : List ℕ) → mode ≢ Free → first_code mode text ≡ Some (code, rest) → text ≡ code ∷ rest
 kept_first mode [] code rest kept first = absurd (none mode kept first)
   where

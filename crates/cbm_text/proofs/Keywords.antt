@@ -133,7 +133,7 @@ first_of (token ∷ tokens) text =
 abbrev AreWordsFrom : ℕ → List (List ℕ) → Type 0
 AreWordsFrom token words = (k code : ℕ) (word : List ℕ) → code ≡ token + k → slice_get words k ≡ Some word → keyword code ≡ Some word
 
--- a text begins with none of the words that begin with another byte
+-- a text begins with no key word that begins with another byte
 first_among : (words : List (List ℕ)) (token first : ℕ) (rest : List ℕ) → AreWordsFrom token words → list_all (λ word. nat_lt 0 (length word)) words ≡ true
     → token_from token words (first ∷ rest) ≡ first_of (tokens_with first token words) (first ∷ rest)
 first_among [] token first rest are somes = refl

@@ -298,12 +298,12 @@ plain_piece code rest opens = of_word (keyword code) refl
         some : (word : List ℕ) → keyword code ≡ Some word → keyword code ≢ None
         some word at none = let never : Some word ≡ None = sym at ∙ none in absurd cc
 
--- what stands behind a crunched byte that opens nothing is read as at the start
+-- what follows a crunched byte that opens nothing is read as at the start
 plain_expanded : (code : ℕ) (rest : List ℕ) → IsNoOpener code → expanded_bytes (code ∷ rest) ≡ text_of_code Free code ++ expanded_bytes rest
 unfolding expanded_from
 plain_expanded code rest opens = ap (λ (m : Mode). text_of_code Free code ++ expanded_from m rest) (stays_free code opens)
 
--- an opener stands for its word, and what is kept behind it for itself
+-- an opener stands for its key word, and what is kept behind it for itself
 opener_expanded : (opener : Opener) (run rest : List ℕ) → RunsOn (mode_in opener []) run rest → expanded_bytes (code_of opener ∷ (run ++ rest)) ≡ opening opener ++ run ++ expanded_bytes rest
 unfolding expanded_from
 opener_expanded opener run rest runs =

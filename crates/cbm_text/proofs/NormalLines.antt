@@ -23,7 +23,7 @@ use Rattle.cbm_text.proofs.TextLines.{digits_model}
 
 -- ---- bytes that end no line
 
--- the byte ends a line, or may stand before the one that does
+-- the byte ends a line, or can come before the one that does
 abbrev pub breaks : ℕ → Bool
 breaks byte = byte == 10 || byte == 13
 
@@ -39,7 +39,7 @@ spelling_unbroken (byte ∷ bytes) text (rest, begins, read) =
     list_any-append breaks (spell byte) (spelling bytes)
     ∙ ap (λ (b : Bool). b || list_any breaks (spelling bytes)) (spell_unbroken byte begins.accepted.0) ∙ spelling_unbroken bytes rest read
 
--- the bytes that a text stands for, and what they are spelled as
+-- the bytes of a text, and their spelling
 pub small_bytes : (bytes text : List ℕ) → IsTextOf bytes text → All (λ b. b < 256) bytes
 unfolding IsTextOf IsAccepted
 small_bytes [] text read = All-nil (λ b. b < 256)
@@ -48,7 +48,7 @@ small_bytes (byte ∷ bytes) text (rest, begins, read) = All-cons (λ b. b < 256
 pub spelled_again : (bytes text : List ℕ) → IsTextOf bytes text → IsTextOf bytes (spelling bytes)
 spelled_again bytes text read = spelling_read bytes (small_bytes bytes text read)
 
--- a digit is none of the bytes that matter
+-- a digit is not one of the bytes that matter
 record IsPlainDigit (byte : ℕ) : Type 0 where
   pub no_break : breaks byte ≡ false
   pub no_space : (byte == 32) ≡ false
@@ -122,7 +122,7 @@ begins_kept : (digits rest : List ℕ) → list_all is_ascii_digit digits ≡ tr
 begins_kept [] rest all some = absurd (omega arith)
 begins_kept (digit ∷ digits) rest all some = let plain = plain_digit digit (and_parts _ _ all).0 in rw plain.no_space plain.no_mark
 
--- where the digits end
+-- the place at which the digits end
 digits_end : (digits rest : List ℕ) → list_all is_ascii_digit digits ≡ true → position_or_len is_no_digit (digits ++ space ∷ rest) ≡ length digits
 digits_end [] rest all = refl
 digits_end (digit ∷ digits) rest all =

@@ -72,7 +72,7 @@ four_first (a ∷ b ∷ []) long = absurd (omega arith)
 four_first (a ∷ b ∷ c ∷ []) long = absurd (omega arith)
 four_first (a ∷ b ∷ c ∷ d ∷ rest) long = ap (λ (w : List ℕ). a ∷ b ∷ c ∷ d ∷ w) (sym (take_all (length (a ∷ b ∷ c ∷ d ∷ rest) - 4) rest (omega arith)))
 
--- what stands before the first $00, and behind it
+-- the part before the first $00, and the part behind it
 pub record EndsAt (rest bytes behind : List ℕ) : Type 0 where
   pub joined : rest ≡ bytes ++ 0 ∷ behind
   pub no_zero : ¬ (Contains bytes 0)
@@ -156,7 +156,7 @@ no_zero_place rest none (k, within, is) =
 -- ---- line by line
 
 -- what has been listed of the lines of a file, and what is left of them: with what the rest reads
--- as, the whole reads, and where the whole reads, the rest does
+-- as, the whole reads, and if the whole reads, the rest does
 pub record ListedSoFar (lines text left : List ℕ) : Type 0 where
   pub before : Program
   pub listed : text ≡ listing before
@@ -173,7 +173,7 @@ unfolding listing
 listing_more [] line = append-nil (line_listing line)
 listing_more (first ∷ before) line = ap (λ (w : List ℕ). line_listing first ++ w) (listing_more before line) ∙ sym (append_assoc (line_listing first) (listing before) (line_listing line))
 
--- what follows a line, where the lines read
+-- what follows a line, if the lines read
 behind_line : (left : List ℕ) (line : ProgramLine) (rest : List ℕ) (all : Program) → BeginsLine left line rest → LinesRead left all → (more : Program) × LinesRead rest more
 unfolding LinesRead
 behind_line left line rest [] begins (behind, is) = absurd (no_line left line rest behind begins is)
@@ -195,7 +195,7 @@ listed_more lines text left line rest so_far begins = record {
 pub listed_whole : (lines text left : List ℕ) → ListedSoFar lines text left → LinesRead left [] → (program : Program) × LinesRead lines program × (text ≡ listing program)
 listed_whole lines text left so_far end = (so_far.before, subst (λ (w : Program). LinesRead lines w) (append-nil so_far.before) (so_far.completes [] end), so_far.listed)
 
--- no program, where what is left reads as none
+-- no program, if what is left reads as no program
 pub listed_never : (lines text left : List ℕ) → ListedSoFar lines text left → ((more : Program) → ¬ (LinesRead left more)) → (all : Program) → ¬ (LinesRead lines all)
 listed_never lines text left so_far never all read = let rest = so_far.only all read in never rest.0 rest.1
 

@@ -10,12 +10,12 @@ pub stops_one : (mode : Mode) (text : List ℕ) (code : ℕ) (rest codes left : 
 unfolding StopsAfter
 stops_one mode text code rest codes left first stops = (rest, first, stops)
 
--- none is left
+-- no byte is left
 stops_here : (mode : Mode) (text : List ℕ) → first_code mode text ≡ None → StopsAfter mode text [] text
 unfolding StopsAfter
 stops_here mode text none = (none, refl)
 
--- so the whole stops where what is left does
+-- so the whole stops if what is left does
 pub stops_now : (mode : Mode) (bytes done left : List ℕ) → ((codes rest : List ℕ) → StopsAfter mode left codes rest → StopsAfter Free bytes (done ++ codes) rest) → first_code mode left ≡ None
     → (codes : List ℕ) × StopsAfter Free bytes codes left
 stops_now mode bytes done left goes none =

@@ -73,7 +73,7 @@ number_too_large digits is = of_test (nat_lt (digits_value 10 digits) (2 ^ 16)) 
 
 -- ---- a line's number, and what follows
 
--- the digits and the rest of a line, by what stands behind its spaces
+-- the digits and the rest of a line, by what comes after its spaces
 pub digits_of_line : (text unspaced_text digits : List ℕ) → unspaced_text ≡ unspaced_line text → digits ≡ before_first is_no_digit unspaced_text → digits ≡ number_digits text
 unfolding number_digits
 digits_of_line text unspaced_text digits is digits_is = digits_is ∙ ap (λ (w : List ℕ). before_first is_no_digit w) is

@@ -100,7 +100,7 @@ pub so_far_fault : (start at place : ℕ) (text file raw : List ℕ) (old raws :
 so_far_fault start at place text file raw old raws fault so_far cut kept here =
     so_far.faults fault (subst (λ (w : List (List ℕ)). FaultsFirst at (place + 1) w fault) (sym cut) (here_faults at (place + 1) raw raws fault kept here))
 
--- a fault of the line at a place of the text tells this place
+-- a fault of the line at a place of the text has this place
 pub tells_line : (at place : ℕ) (text line : List ℕ) (fault : BasicFault) → 1 ≤ place → place ≤ length (lines_of text) → IsOfMemory fault ⊎ HasFault at place line fault → TellsLine text fault
 tells_line at place text line fault low high (inl memory) = none fault memory
   where
@@ -148,7 +148,7 @@ no_zero_in (byte ∷ bytes) test (suc k, within, is) = no_zero_in bytes (sym (or
 
 -- ---- lines of which the first crunched bytes are known
 
--- they are all where they are no more than a line has
+-- they are all of them if they are no more than a line has
 pub crunched_short : (most : ℕ) (bytes codes : List ℕ) → CrunchesUpTo most bytes codes → length codes ≤ most → Crunched bytes codes
 crunched_short most bytes codes up short = it up.whole
   where

@@ -207,7 +207,7 @@ never_not text bytes other codes read never crunched_is =
     let same : other ≡ bytes = one_reading (rest_of text) other bytes crunched_is.read.read read.read in
     never codes (subst (λ (w : List ℕ). Crunched w codes) same crunched_is.crunched)
 
--- a line with a $00 is none without
+-- a line with a $00 is not one without
 zero_not : (text bytes other : List ℕ) → IsRead text bytes → Contains bytes 0 → IsRead text other → ¬ (¬ (Contains other 0))
 zero_not text bytes other read zero_in read' no_zero =
     let same : bytes ≡ other = one_reading (rest_of text) bytes other read.read read'.read in

@@ -1,4 +1,4 @@
--- Which program a BASIC text stands for, and what is wrong with a text that stands for none.
+-- The program that a BASIC text stands for, and the faults of a text that stands for no program.
 use Rattle.std.specs.Prelude.{◌≡◌, ◌≢◌, ℕ, ◌+◌, ◌^◌, ◌<◌, ◌≤◌, ◌⊎◌, true, false, List, [], ◌∷◌, length, Contains, Option, Some, None, MatchOption}
 use Rattle.petscii.specs.TextForm.{IsTextOf}
 use Rattle.petscii.specs.TextFault as text_faults
@@ -21,22 +21,21 @@ pub record IsNumbered (text : List ℕ) : Type 0 where
   pub some : number_digits text ≢ []
   pub small : line_number text < 2 ^ 16
 
--- The text line has a number, and what follows stands for bytes.
+-- The text line has a number that fits, and the rest of it stands for bytes.
 pub record IsRead (text bytes : List ℕ) : Type 0 where
   pub numbered : IsNumbered text
   pub read : IsTextOf bytes (rest_of text)
 
--- They crunch, too.
+-- The text line has such bytes, and they crunch.
 pub record IsCrunched (text bytes codes : List ℕ) : Type 0 where
   pub read : IsRead text bytes
   pub crunched : Crunched bytes codes
 
--- A line of these crunched bytes is too long, or the link behind it is, where it stands at the
--- address.
+-- A line of these crunched bytes at an address is too long, or the link behind it is above 65535.
 abbrev pub IsTooLong : ℕ → List ℕ → Type 0
 IsTooLong at codes = (most_bytes < length codes) ⊎ (greatest_link < address_behind at codes)
 
--- The text line is this line of a program, at this address.
+-- A text line is this line of a program, at an address.
 pub record IsLine (at : ℕ) (text : List ℕ) (line : ProgramLine) : Type 0 where
   pub bytes : List ℕ
   pub crunched : IsCrunched text bytes line.bytes
@@ -45,7 +44,7 @@ pub record IsLine (at : ℕ) (text : List ℕ) (line : ProgramLine) : Type 0 whe
   pub short : length line.bytes ≤ most_bytes
   pub linked : address_behind at line.bytes ≤ greatest_link
 
--- The least fault of the text line with this number, at this address.
+-- The first fault of the text line with this number, at an address.
 abbrev pub HasFault : ℕ → ℕ → List ℕ → BasicFault → Type 0
 HasFault at number text (NoNumber line) = (line ≡ number) × (number_digits text ≡ [])
 HasFault at number text (NumberTooLarge line) = (line ≡ number) × (number_digits text ≢ []) × (2 ^ 16 ≤ line_number text)
@@ -55,22 +54,22 @@ HasFault at number text (ZeroByte line) = (line ≡ number) × (bytes codes : Li
 HasFault at number text (TooLong line) = (line ≡ number) × (bytes codes : List ℕ) × IsCrunched text bytes codes × ¬ (Contains bytes 0) × IsTooLong at codes
 HasFault at number text (Memory error) = ⊥
 
--- The raw lines of a text, where the first line that they give stands at the address, give this
--- program. Empty lines, lines of spaces and comments give nothing.
+-- The raw lines of a text give this program, if the first line of it is at an address. Empty lines,
+-- lines of spaces and comments give nothing.
 unfoldable pub AreLines : ℕ → List (List ℕ) → Program → Type 0
 AreLines at [] program = program ≡ []
 AreLines at (raw ∷ raws) program = ((is_skipped (text_of raw) ≡ true) × AreLines at raws program)
     ⊎ ((is_skipped (text_of raw) ≡ false) × (line : ProgramLine) × (lines : Program) × (program ≡ line ∷ lines) × IsLine at (text_of raw) line × AreLines (address_behind at line.bytes) raws lines)
 
--- The fault of the first faulty one of the raw lines, the first of which has this number, where the
--- first line that they give stands at the address.
+-- The fault of the first faulty one of some raw lines, the first of which has this number, if the
+-- first program line that they give is at an address.
 unfoldable pub FaultsFirst : ℕ → ℕ → List (List ℕ) → BasicFault → Type 0
 FaultsFirst at number [] fault = ⊥
 FaultsFirst at number (raw ∷ raws) fault = ((is_skipped (text_of raw) ≡ true) × FaultsFirst at (number + 1) raws fault)
     ⊎ ((is_skipped (text_of raw) ≡ false) × (HasFault at number (text_of raw) fault
     ⊎ ((line : ProgramLine) × IsLine at (text_of raw) line × FaultsFirst (address_behind at line.bytes) (number + 1) raws fault)))
 
--- The text stands for this program, where it is loaded at start.
+-- The text stands for this program, loaded at a start address.
 abbrev pub IsProgramOf : ℕ → List ℕ → Program → Type 0
 IsProgramOf start text program = AreLines start (lines_of text) program
 
@@ -78,16 +77,16 @@ IsProgramOf start text program = AreLines start (lines_of text) program
 unfoldable pub IsFileOf : ℕ → List ℕ → List ℕ → Type 0
 IsFileOf start text file = (program : Program) × IsProgramOf start text program × (file ≡ layout start program)
 
--- The first faulty line's least fault, lines counted from 1.
+-- The first fault of the first faulty line, lines counted from 1.
 abbrev pub IsFirstFault : ℕ → List ℕ → BasicFault → Type 0
 IsFirstFault start text fault = FaultsFirst start 1 (lines_of text) fault
 
--- There was no memory.
+-- The fault is that there was no memory.
 abbrev pub IsOfMemory : BasicFault → Type 0
 IsOfMemory (Memory error) = Unit {0}
 IsOfMemory fault = ⊥
 
--- The numbers of the faults, and the text line that each tells.
+-- The numbers of the faults, and the text line of each.
 abbrev pub fault_number : BasicFault → ℕ
 fault_number (NoNumber line) = 1
 fault_number (NumberTooLarge line) = 2
@@ -106,7 +105,7 @@ fault_line (ZeroByte line) = Some line
 fault_line (TooLong line) = Some line
 fault_line (Memory error) = None
 
--- A fault tells one of the text's lines, the first of which is 1, and a text has no more lines than
--- bytes. Want of memory tells none.
+-- The line of a fault is one of the text's lines, the first of which is 1, and a text has no more
+-- lines than bytes. The fault that memory is out has no line.
 abbrev pub TellsLine : List ℕ → BasicFault → Type 0
 TellsLine text fault = MatchOption (fault_line fault) (IsOfMemory fault) (λ line. (1 ≤ line) × (line ≤ length (lines_of text)) × (line ≤ length text))

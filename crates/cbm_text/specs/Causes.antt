@@ -1,4 +1,4 @@
--- What is wrong with a faulty line of a BASIC text, as people can mend it.
+-- What is wrong with a faulty line of a BASIC text, as people can correct it.
 use Rattle.std.specs.Prelude.{◌≡◌, ℕ, ◌+◌, ◌-◌, ◌==◌, ◌&&◌, nat_eq, nat_le, if◌then◌else◌, List, [], ◌∷◌, ◌++◌, length, drop, slice_index, codes, Bool, true, false, Option, Some, None, find, option_map}
 use Rattle.std.specs.Option.{option_map_or}
 use Rattle.std.specs.List.{before_first, starts_with}
@@ -17,9 +17,9 @@ use Rattle.cbm_text.specs.declared.mode.Mode.TheVariants.{Free}
 use Rattle.cbm_text.specs.Modes.{first_code, next_mode}
 use Rattle.cbm_text.specs.TextLine.{rest_of}
 
--- ---- what is no text form
+-- ---- texts that are no text form
 
--- the names in braces that other programs and listings have, in small letters, and the byte of each
+-- the names in braces that other programs and listings use, in small letters, and the byte of each
 unfoldable pub other_names : List (List ℕ × ℕ)
 other_names =
     (codes "white", 0x05) ∷ (codes "black", 0x90) ∷ (codes "green", 0x1e) ∷ (codes "blue", 0x1f)
@@ -34,11 +34,11 @@ other_names =
     ∷ (codes "f5", 0x87) ∷ (codes "f6", 0x8b) ∷ (codes "f7", 0x88) ∷ (codes "f8", 0x8c)
     ∷ []
 
--- the byte of the first row with this name
+-- the byte of the first row with a name
 abbrev pub byte_in : List (List ℕ × ℕ) → List ℕ → Option ℕ
 byte_in rows name = option_map (λ row. row.1) (find (λ row. bytes_eq name row.0) rows)
 
--- the name begins with a digit, as where it is to be taken more than once
+-- whether a name begins with a digit, as if it were to be repeated
 abbrev pub is_numbered : List ℕ → Bool
 is_numbered [] = false
 is_numbered (byte ∷ rest) = is_ascii_digit byte
@@ -47,7 +47,7 @@ is_numbered (byte ∷ rest) = is_ascii_digit byte
 abbrev pub text_name_cause : List ℕ → Cause
 text_name_cause name = option_map_or (λ byte. OtherName byte) (byte_in other_names name) UnknownName
 
--- the same of one that need not be UTF-8
+-- what is wrong with a name in small letters that need not be UTF-8
 abbrev pub small_name_cause : List ℕ → Cause
 small_name_cause name = if is_utf8 name then text_name_cause name else UnknownName
 
@@ -55,7 +55,7 @@ small_name_cause name = if is_utf8 name then text_name_cause name else UnknownNa
 abbrev pub name_cause : List ℕ → Cause
 name_cause name = if is_numbered name then Number else small_name_cause (str_to_ascii_lowercase name)
 
--- what is wrong with the character that a text begins with; some are known in UTF-8
+-- what is wrong with the character at the beginning of a text; some are recognised in UTF-8
 abbrev pub character_cause : List ℕ → Cause
 character_cause text =
     if starts_with nat_eq text (9 ∷ []) then Tab
@@ -65,30 +65,30 @@ character_cause text =
     else if starts_with nat_eq text (0xe2 ∷ 0x86 ∷ 0x90 ∷ []) then ArrowLeft
     else OtherCharacter
 
--- what is wrong with a text that is no text form, for a fault
+-- what is wrong with a text that is no text form, by its fault
 abbrev pub text_cause : List ℕ → TextFault → Cause
 text_cause text (text_faults.UnknownName place) = name_cause (before_first (nat_eq close_brace) (drop 1 (drop place text)))
 text_cause text (text_faults.OpenBrace place) = OpenBrace
 text_cause text (text_faults.BadByte place) = character_cause (drop place text)
 text_cause text (text_faults.Memory error) = OtherCharacter
 
--- ---- what would be read as a keyword
+-- ---- bytes that would be read as a keyword
 
--- a text that begins at such a place crunches to these bytes, up to where nothing crunches, and
--- this is left
+-- a text that begins at such a place crunches to these bytes, up to a place from which nothing
+-- crunches, and this is left
 unfoldable pub StopsAfter : Mode → List ℕ → List ℕ → List ℕ → Type 0
 StopsAfter mode text [] left = (first_code mode text ≡ None) × (text ≡ left)
 StopsAfter mode text (code ∷ codes) left =
     (rest : List ℕ) × (first_code mode text ≡ Some (code, rest)) × StopsAfter (next_mode mode code) rest codes left
 
--- the byte is a letter, small or capital
+-- whether a byte is a small letter or a capital one
 abbrev pub is_small : ℕ → Bool
 is_small byte = nat_le 0x41 byte && nat_le byte 0x5a
 
 abbrev pub is_capital : ℕ → Bool
 is_capital byte = nat_le 0xc1 byte && nat_le byte 0xda
 
--- what is wrong with a byte that nothing crunches from on, behind another byte
+-- what is wrong with a byte from which nothing crunches, and which comes behind another byte
 abbrev pub letter_cause : ℕ → ℕ → Cause
 letter_cause before byte = if is_capital byte then (if is_small before then Abbreviation else Capital) else TokenByte
 
@@ -114,7 +114,7 @@ IsCause text (faults.ZeroByte line) cause = cause ≡ ZeroByte
 IsCause text (faults.TooLong line) cause = cause ≡ TooLong
 IsCause text (faults.Memory error) cause = ⊥
 
--- the plain words of a cause, and the byte that they end with in text form, if they have one
+-- a cause in plain words up to the byte at its end, and that byte in text form, if it has one
 abbrev pub cause_words : Cause → List ℕ
 cause_words NoNumber = codes "a line has to begin with its number"
 cause_words NumberTooLarge = codes "a line's number is at most 65535"

@@ -1,4 +1,4 @@
--- What the bytes of a line crunch to.
+-- How the bytes of a line crunch.
 use Rattle.std.specs.Prelude.{◌≡◌, ◌≢◌, ℕ, ◌<◌, ◌⊎◌, false, List, ◌∷◌, ◌++◌, Some, None, nat_eq}
 use Rattle.std.specs.List.{starts_with, flat_map}
 use Rattle.cbm_text.specs.Keywords.{keywords, token_from}
@@ -17,9 +17,9 @@ pi = 0xff
 abbrev pub HasNoOpener : List ℕ → Type 0
 HasNoOpener text = (opener : Opener) → starts_with nat_eq text (opening opener) ≡ false
 
--- The first piece of a text, and what follows. Where an opener stands there, it and the run that is
--- kept behind it; else the first keyword in the table's order; else a `?`, with which no keyword
--- begins; else one byte that is $FF or below $80. No piece begins with another byte.
+-- The first piece of a text, and what follows it. If an opener is there, it is the opener and the
+-- run that is kept behind it; else the first keyword in the table's order; else a `?`, with which
+-- no keyword begins; else one byte that is $FF or below $80. No piece begins with another byte.
 abbrev pub TextBegins : List ℕ → LinePiece → List ℕ → Type 0
 TextBegins text (Kept opener run) rest = (text ≡ opening opener ++ run ++ rest) × IsKept opener run rest
 TextBegins text (Token token) rest = HasNoOpener text × (token_from 128 keywords text ≡ Some (token, rest))

@@ -7,21 +7,21 @@ use Rattle.cbm_text.specs.Program.{ProgramLine, address_behind}
 use Rattle.cbm_text.specs.BasicText.{IsLine, HasFault}
 use Rattle.cbm_text.specs.Causes.{IsCause}
 
--- the text line with this number is faulty at this address: its least fault, and what is wrong
+-- a text line with this number is faulty at an address, with its first fault and what is wrong
 pub record IsFaulty (at number : ℕ) (text : List ℕ) (line : FaultyLine) : Type 0 where
   pub fault : HasFault at number text line.fault
   pub cause : IsCause text line.fault line.cause
   pub shown : line.text.now ≡ text
 
--- what becomes of the address and of the faulty lines that are kept, the first `most` of them, by
--- what was made of a text line at the address
+-- the address behind a text line, and the faulty lines that are kept, the first `most` of them, by
+-- what was made of the line at its address
 abbrev pub IsNoted : ℕ → List ℕ → ℕ → Result ℕ BasicFault → List FaultyLine → ℕ → List FaultyLine → Type 0
 IsNoted at text most (Ok behind) old next new = (next ≡ behind) × (new ≡ old)
 IsNoted at text most (Err fault) old next new =
     (next ≡ at) × (line : FaultyLine) × (line.fault ≡ fault) × IsCause text fault line.cause × (line.text.now ≡ text) × (new ≡ take most (old ++ line ∷ []))
 
--- the faulty ones of the raw lines, the first of which has this number, where the first line that
--- they give is at the address; a faulty line gives nothing to the program
+-- the faulty ones of some raw lines, the first of which has this number, if the first program line
+-- that they give is at an address; a faulty line adds nothing to the program
 unfoldable pub AreFaulty : ℕ → ℕ → List (List ℕ) → List FaultyLine → Type 0
 AreFaulty at number [] lines = lines ≡ []
 AreFaulty at number (raw ∷ raws) lines = ((is_skipped (text_of raw) ≡ true) × AreFaulty at (number + 1) raws lines)

@@ -1,4 +1,4 @@
--- What a line keeps as it is, in a text and in a program alike.
+-- What a line keeps unchanged, in a text and in a program alike.
 use Rattle.std.specs.Prelude.{◌≡◌, ℕ, ◌%◌, ◌<◌, ◌&&◌, ◌⊎◌, Bool, true, false, List, [], ◌∷◌, ◌++◌, length, take, slice_index, ◌==◌, codes}
 use Rattle.std.specs.List.{count_by}
 
@@ -17,13 +17,13 @@ data_token = 0x83
 abbrev pub rem_token : ℕ
 rem_token = 0x8f
 
--- What opens a run of bytes that is kept: a quote mark, the word `rem`, the word `data`.
+-- What opens a run of bytes that is kept: a quote mark, the keyword `rem`, the keyword `data`.
 pub data Opener : Type 0 where
   QuoteMark : Opener
   RemWord : Opener
   DataWord : Opener
 
--- How it stands in a text, and the crunched byte that it has in a program.
+-- The bytes of an opener in a text, and its crunched byte in a program.
 abbrev pub opening : Opener → List ℕ
 opening QuoteMark = codes "\""
 opening RemWord = codes "REM"
@@ -34,13 +34,13 @@ code_of QuoteMark = quote
 code_of RemWord = rem_token
 code_of DataWord = data_token
 
--- How many quote marks stand in bytes.
+-- How many quote marks there are in some bytes.
 abbrev pub quotes_in : List ℕ → ℕ
 quotes_in bytes = count_by (λ byte. byte == quote) bytes
 
--- A byte ends the run behind an opener, where these bytes of the run stand before it: behind a
--- quote mark the next one, behind `rem` none, behind `data` a colon that has an even number of
--- quote marks before it in the run.
+-- Whether a byte ends the run behind an opener, after these bytes of the run: behind a quote mark
+-- the next one, behind `rem` no byte, behind `data` a colon with an even number of quote marks
+-- before it in the run.
 abbrev pub ends : Opener → List ℕ → ℕ → Bool
 ends QuoteMark before byte = byte == quote
 ends RemWord before byte = false
@@ -50,7 +50,7 @@ ends DataWord before byte = byte == colon && quotes_in before % 2 == 0
 abbrev pub HasNoEnd : Opener → List ℕ → Type 0
 HasNoEnd opener run = (k : ℕ) → k < length run → ends opener (take k run) (slice_index run k) ≡ false
 
--- The run goes through its first end.
+-- The run ends with the first byte that ends it.
 pub record EndsFirst (opener : Opener) (run : List ℕ) : Type 0 where
   pub before : List ℕ
   pub byte : ℕ
@@ -58,7 +58,7 @@ pub record EndsFirst (opener : Opener) (run : List ℕ) : Type 0 where
   pub no_end : HasNoEnd opener before
   pub end : ends opener before byte ≡ true
 
--- What is kept behind an opener is the run, and rest follows it: all up to and with the first byte
--- that ends it, or all.
+-- The run that is kept behind an opener, and the rest: the run goes up to and including the first
+-- byte that ends it, or to the end.
 abbrev pub IsKept : Opener → List ℕ → List ℕ → Type 0
 IsKept opener run rest = EndsFirst opener run ⊎ (HasNoEnd opener run × (rest ≡ []))

@@ -2,7 +2,7 @@
 use Rattle.std.specs.Prelude.{ℕ, ◌+◌, ◌-◌, Bool, false, List, [], ◌∷◌, length, drop, Option, Some, None, slice_get, nat_eq, nat_le, if◌then◌else◌, codes, ◌==◌}
 use Rattle.std.specs.List.{starts_with}
 
--- The keywords in the order of their tokens, the first of which is $80, as bytes of PETSCII.
+-- The keywords in the order of their tokens, from $80 on, as bytes of PETSCII.
 unfoldable pub keywords : List (List ℕ)
 keywords =
     codes "END" ∷ codes "FOR" ∷ codes "NEXT" ∷ codes "DATA" ∷ codes "INPUT#" ∷ codes "INPUT" ∷ codes "DIM" ∷ codes "READ"
@@ -20,19 +20,18 @@ keywords =
 unfoldable pub keyword : ℕ → Option (List ℕ)
 keyword token = if nat_le 128 token then slice_get keywords (token - 128) else None
 
--- The first of these words that a text begins with: its token, where that of the first word is
--- given, and what follows.
+-- The first of some key words with which a text begins: its token, counted from that of the first
+-- key word, and what follows it.
 abbrev pub token_from : ℕ → List (List ℕ) → List ℕ → Option (ℕ × List ℕ)
 token_from token [] text = None
 token_from token (word ∷ words) text = if starts_with nat_eq text word then Some (token, drop (length word) text) else token_from (token + 1) words text
 
--- A word begins with a byte.
+-- Whether a key word begins with a byte.
 abbrev pub begins_with : ℕ → List ℕ → Bool
 begins_with first [] = false
 begins_with first (byte ∷ rest) = first == byte
 
--- The tokens of those of these words that begin with a byte, where the token of the first word is
--- given.
+-- The tokens of those key words that begin with a byte, counted from that of the first one.
 abbrev pub tokens_with : ℕ → ℕ → List (List ℕ) → List ℕ
 tokens_with first token [] = []
 tokens_with first token (word ∷ words) = if begins_with first word then token ∷ tokens_with first (token + 1) words else tokens_with first (token + 1) words

@@ -13,11 +13,11 @@ use Rattle.cbm_text.specs.NormalText.{IsNormalOf}
 
 -- ---- lines
 
--- The bytes of a line crunch to one thing at most.
+-- The bytes of a line crunch in at most one way.
 abbrev pub CrunchesOnce : List ℕ → Type 0
 CrunchesOnce text = (codes other : List ℕ) → Crunched text codes → Crunched text other → codes ≡ other
 
--- The crunched bytes of a line stand for something, and for nothing else.
+-- The crunched bytes of a line stand for exactly one list of bytes.
 pub record ListsOnce (codes : List ℕ) : Type 0 where
   pub some : (bytes : List ℕ) × Listed codes bytes
   pub once : (bytes other : List ℕ) → Listed codes bytes → Listed codes other → bytes ≡ other
@@ -32,13 +32,13 @@ ComesBack text codes = HasNoFreeQuestion text → Crunched text codes → Listed
 
 -- ---- programs and texts
 
--- A file reads as one program at most, and has one listing at most.
+-- A file reads as at most one program, and has at most one listing.
 pub record ReadsOnce (file : List ℕ) : Type 0 where
   pub program : (program other : Program) → Reads file program → Reads file other → program ≡ other
   pub listing : (text other : List ℕ) → Lists file text → Lists file other → text ≡ other
 
--- A text stands for one program at most, has one file at most, and none where it has a fault; and
--- it has one first fault at most.
+-- A text stands for at most one program and has at most one file, no fault if it has a file, and at
+-- most one first fault.
 pub record StandsOnce (start : ℕ) (text : List ℕ) : Type 0 where
   pub program : (program other : Program) → IsProgramOf start text program → IsProgramOf start text other → program ≡ other
   pub file : (file other : List ℕ) → IsFileOf start text file → IsFileOf start text other → file ≡ other
@@ -50,13 +50,13 @@ abbrev pub LinesHaveNoFreeQuestion : List ℕ → Type 0
 LinesHaveNoFreeQuestion text =
     All (λ raw. is_skipped (text_of raw) ≡ false → (bytes : List ℕ) → IsTextOf bytes (rest_of (text_of raw)) → HasNoFreeQuestion bytes) (lines_of text)
 
--- The file of a text lists, and its listing is the normal spelling of the text and has this file
--- again.
+-- The file of a text can be listed, and its listing is the normal spelling of the text and crunches
+-- to this file again.
 pub record ComesBackWhole (start : ℕ) (text file : List ℕ) : Type 0 where
   pub listed : (listing : List ℕ) × Lists file listing
   pub normal : (listing : List ℕ) → Lists file listing → IsNormalOf text listing
   pub again : (listing : List ℕ) → Lists file listing → IsFileOf start listing file
 
--- Where no `?` stands for `print`.
+-- A text without a `?` for `print` comes back whole.
 abbrev pub TextComesBack : ℕ → List ℕ → Type 0
 TextComesBack start text = (file : List ℕ) → LinesHaveNoFreeQuestion text → IsFileOf start text file → ComesBackWhole start text file

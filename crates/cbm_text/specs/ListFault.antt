@@ -1,10 +1,10 @@
--- Why bytes list as no program.
+-- Why bytes can't be listed as a program.
 use Rattle.std.specs.Prelude.{ℕ, ◌<◌, ◌≤◌, List, length, codes}
 use Rattle.cbm_text.specs.declared.fault.ListFault.{ListFault}
 use Rattle.cbm_text.specs.declared.fault.ListFault.TheVariants.{NoAddress, Truncated, Memory}
 use Rattle.cbm_text.specs.Program.{Program, Reads}
 
--- The bytes have this fault: fewer than two have no load address, and others that read as no
+-- The bytes have this fault: fewer than two have no load address, and all others that read as no
 -- program are cut short.
 abbrev pub ListsNot : List ℕ → ListFault → Type 0
 ListsNot file NoAddress = length file < 2

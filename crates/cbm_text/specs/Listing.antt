@@ -11,8 +11,8 @@ use Rattle.cbm_text.specs.Program.{Program, Reads}
 abbrev pub IsNoOpener : ℕ → Type 0
 IsNoOpener code = (opener : Opener) → code ≢ code_of opener
 
--- The first piece of crunched bytes, and what follows. Where an opener stands there, it and the run
--- that is kept behind it; else the token of a keyword; else one byte.
+-- The first piece of crunched bytes, and what follows it. If an opener is there, it is the opener
+-- and the run that is kept behind it; else the token of a keyword; else one byte.
 abbrev pub CodesBegin : List ℕ → LinePiece → List ℕ → Type 0
 CodesBegin codes (Kept opener run) rest = (codes ≡ code_of opener ∷ run ++ rest) × IsKept opener run rest
 CodesBegin codes (Token token) rest = IsNoOpener token × (keyword token ≢ None) × (codes ≡ token ∷ rest)

@@ -1,6 +1,6 @@
--- How a line is crunched and listed byte after byte: a line is free at its start, and each crunched
--- byte says how the next place is read. Only private functions speak of this; `proofs` has that it
--- agrees with the pieces of a line.
+-- How a line is crunched and listed byte by byte: a line is free at its start, and each crunched
+-- byte decides how the next place is read. Only contracts of private functions use this; a proof
+-- shows that it agrees with the pieces of a line.
 use Rattle.std.specs.Prelude.{◌≡◌, ℕ, ◌<◌, ◌||◌, ◌⊎◌, Bool, List, [], ◌∷◌, ◌++◌, length, Option, Some, None, nat_lt, ◌==◌, if◌then◌else◌}
 use Rattle.std.specs.Option.{is_some, option_map_or}
 use Rattle.std.specs.List.{flat_map, list_all}
@@ -13,8 +13,9 @@ use Rattle.cbm_text.specs.Crunching.{question, pi, Crunched}
 use Rattle.cbm_text.specs.Listing.{line_text}
 use Rattle.cbm_text.specs.Program.{ProgramLine, Program}
 
--- How the place behind a crunched byte is read. A quote is kept up to and with the next one, what
--- follows `rem` to the line's end, and what follows `data` up to and with a colon outside quotes.
+-- How the place behind a crunched byte is read. A quote is kept up to and including the next one,
+-- what follows `rem` to the line's end, and what follows `data` up to and including a colon outside
+-- quotes.
 abbrev pub next_mode : Mode → ℕ → Mode
 next_mode Free code = if code == quote then Quoted else if code == rem_token then Remark else if code == data_token then Data else Free
 next_mode Quoted code = if code == quote then Free else Quoted
@@ -24,18 +25,18 @@ next_mode QuotedData code = if code == quote then Data else QuotedData
 
 -- ---- crunching
 
--- A byte that is no keyword's start crunches to itself at a free place, but for `?` and the bytes
--- that tokens are.
+-- The crunched byte of a byte at a free place at which no keyword begins: itself, except for `?`
+-- and the bytes of tokens.
 abbrev pub single_code : ℕ → Option ℕ
 single_code byte = if byte == question then Some print_token else if nat_lt byte 128 || byte == pi then Some byte else None
 
--- The first crunched byte of a text at a free place, and what follows: the token of the first
--- keyword in the table's order that the text begins with, else that of its first byte.
+-- The first crunched byte of a text at a free place, and what follows it: the token of the first
+-- keyword in the table's order with which the text begins, else that of its first byte.
 unfoldable pub free_code : List ℕ → Option (ℕ × List ℕ)
 free_code [] = None
 free_code (byte ∷ rest) = option_map_or (λ found. Some found) (token_from 128 keywords (byte ∷ rest)) (option_map_or (λ code. Some (code, rest)) (single_code byte) None)
 
--- The same at any place: where it is not free, the first byte is kept.
+-- The same at any place: if it is not free, the first byte is kept.
 abbrev pub first_code : Mode → List ℕ → Option (ℕ × List ℕ)
 first_code Free text = free_code text
 first_code kept [] = None
@@ -46,12 +47,12 @@ unfoldable pub CrunchedFrom : Mode → List ℕ → List ℕ → Type 0
 CrunchedFrom mode text [] = text ≡ []
 CrunchedFrom mode text (code ∷ codes) = (rest : List ℕ) × (first_code mode text ≡ Some (code, rest)) × CrunchedFrom (next_mode mode code) rest codes
 
--- No byte is one that crunches to nothing at a free place.
+-- Whether no byte of a text crunches to nothing at a free place.
 abbrev pub crunches_anyhow : List ℕ → Bool
 crunches_anyhow text = list_all (λ byte. is_some (single_code byte)) text
 
--- A text crunches to these bytes, or to more than so many bytes of which these are the first, more
--- than so many too.
+-- A text crunches to these bytes; or it crunches to more than n bytes, and these are the first of
+-- them and more than n too.
 pub record CrunchesUpTo (most : ℕ) (text codes : List ℕ) : Type 0 where
   pub more : List ℕ
   pub crunched : Crunched text (codes ++ more)

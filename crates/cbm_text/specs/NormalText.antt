@@ -5,9 +5,9 @@ use Rattle.script_text.specs.RawLines.{lines_of, text_of, is_skipped}
 use Rattle.cbm_text.specs.Listing.{line_text}
 use Rattle.cbm_text.specs.TextLine.{line_number, rest_of}
 
--- The raw lines of a text in normal spelling: nothing of a line that is skipped, and of another one
--- its number without leading zeros, a space, the spelling of the bytes that the rest stands for,
--- and LF.
+-- The raw lines of a text in normal spelling: nothing for a line that is skipped, and for each
+-- other one its number without leading zeros, a space, the spelling of the bytes of the rest, and
+-- LF.
 unfoldable pub AreNormal : List (List ℕ) → List ℕ → Type 0
 AreNormal [] normal = normal ≡ []
 AreNormal (raw ∷ raws) normal = ((is_skipped (text_of raw) ≡ true) × AreNormal raws normal)

@@ -1,11 +1,11 @@
--- The pieces that a line is made of.
+-- The pieces of a line.
 use Rattle.std.specs.Prelude.{◌≡◌, ℕ, List, [], ◌∷◌, ◌++◌, codes}
 use Rattle.std.specs.Option.{option_map_or}
 use Rattle.cbm_text.specs.Keywords.{keyword}
 use Rattle.cbm_text.specs.Kept.{Opener, opening, code_of}
 
--- A piece: an opener and the run that is kept behind it; another keyword, by its token; a `?`,
--- which is short for `print`; another byte.
+-- A piece of a line: an opener and the run that is kept behind it; another keyword, by its token; a
+-- `?`, which is short for `print`; or another byte.
 pub data LinePiece : Type 0 where
   Kept : Opener → List ℕ → LinePiece
   Token : ℕ → LinePiece
@@ -30,8 +30,8 @@ crunched_piece (Token token) = token ∷ []
 crunched_piece Question = print_token ∷ []
 crunched_piece (Single byte) = byte ∷ []
 
--- Bytes are these pieces, one after the other, where a relation says which piece bytes begin with
--- and what follows it.
+-- Bytes are these pieces, one after the other, by a relation of the bytes to their first piece and
+-- what follows it.
 unfoldable pub AreCut : (List ℕ → LinePiece → List ℕ → Type 0) → List ℕ → List LinePiece → Type 0
 AreCut Begins bytes [] = bytes ≡ []
 AreCut Begins bytes (piece ∷ pieces) = (rest : List ℕ) × Begins bytes piece rest × AreCut Begins rest pieces

@@ -1,4 +1,4 @@
--- Programs and the files that hold them.
+-- Programs and their files.
 use Rattle.std.specs.Prelude.{◌≡◌, ℕ, ◌+◌, ◌/◌, ◌%◌, ◌^◌, ◌<◌, List, [], ◌∷◌, ◌++◌, length, Contains}
 
 -- A line of a program: its number and its bytes.
@@ -14,13 +14,12 @@ Program = List ProgramLine
 abbrev pub word : ℕ → List ℕ
 word n = n % 256 ∷ n / 256 ∷ []
 
--- The address of what follows a line that stands at an address: its link, its number, its bytes and
--- a $00 lie between.
+-- The address behind a line at an address: between them are its link, its number, its bytes and a
+-- $00.
 abbrev pub address_behind : ℕ → List ℕ → ℕ
 address_behind at bytes = at + length bytes + 5
 
--- The bytes of a line that stands at an address: the link to what follows it, its number, its
--- bytes, $00.
+-- The bytes of a line at an address: the link to what follows it, its number, its bytes, $00.
 abbrev pub line_layout : ℕ → ProgramLine → List ℕ
 line_layout at line = word (address_behind at line.bytes) ++ word line.number ++ line.bytes ++ 0 ∷ []
 
@@ -34,7 +33,7 @@ abbrev pub layout : ℕ → Program → List ℕ
 layout start program = word start ++ lines_layout start program
 
 -- The bytes begin with any link but $00 $00, the line's number, its bytes, and a $00, and go on
--- with rest.
+-- with the rest.
 pub record BeginsLine (bytes : List ℕ) (line : ProgramLine) (rest : List ℕ) : Type 0 where
   pub low : ℕ
   pub high : ℕ
@@ -48,6 +47,6 @@ unfoldable pub LinesRead : List ℕ → Program → Type 0
 LinesRead bytes [] = (behind : List ℕ) × (bytes ≡ 0 ∷ 0 ∷ behind)
 LinesRead bytes (line ∷ lines) = (rest : List ℕ) × BeginsLine bytes line rest × LinesRead rest lines
 
--- The file reads as the program: behind any two bytes, its lines.
+-- The file reads as the program: its lines come after any two bytes.
 unfoldable pub Reads : List ℕ → Program → Type 0
 Reads file program = (low high : ℕ) × (lines : List ℕ) × (file ≡ low ∷ high ∷ lines) × LinesRead lines program

@@ -1,4 +1,4 @@
-//! What is wrong with a faulty line of a BASIC text, as people can mend it.
+//! What is wrong with a faulty line of a BASIC text, as people can correct it.
 
 ghost use Rattle.std.specs.Prelude.{◌≡◌, ◌≤◌, ◌++◌, ℕ, List, length, IfOk, IfErr, None, OnOk, nat_eq, drop, position};
 ghost use Rattle.std.specs.List.{before_first};
@@ -22,27 +22,28 @@ pub enum Cause {
     NumberTooLarge,
     /// It has a tab.
     Tab,
-    /// It has a pound sign of Unicode, for which text form has a character of its own.
+    /// It has a pound sign of Unicode, for which the text form has a character of its own.
     Pound,
-    /// The same of pi.
+    /// It has a pi of Unicode, for which the text form has a character of its own.
     Pi,
-    /// The same of the arrow up.
+    /// It has an up arrow of Unicode, for which the text form has a character of its own.
     ArrowUp,
-    /// The same of the arrow to the left.
+    /// It has a left arrow of Unicode, for which the text form has a character of its own.
     ArrowLeft,
-    /// It has another character that no byte has.
+    /// It has another character that is no byte's.
     OtherCharacter,
     /// A brace is not closed.
     OpenBrace,
-    /// A name in braces begins with a number, as where it is to be taken more than once.
+    /// A name in braces begins with a number, as if it were to be repeated.
     Number,
-    /// A name in braces is one of other programs and listings for this byte.
+    /// A name in braces is the one that other programs and listings use for this byte.
     OtherName(u8),
     /// A name in braces is not known.
     UnknownName,
     /// It has a capital letter outside quotes.
     Capital,
-    /// The same right behind a small letter, as in an abbreviation of a keyword.
+    /// It has a capital letter right behind a small one outside quotes, as in an abbreviation of a
+    /// keyword.
     Abbreviation,
     /// It has another byte of $80 or more outside quotes.
     TokenByte,
@@ -53,7 +54,7 @@ pub enum Cause {
 }
 
 impl Cause {
-    /// Adds the cause in plain words.
+    /// Appends the cause in plain words.
     pub fn push_to(self, out: &mut Vec<u8>) -> Result<(), AllocError>
         ensures { OnOk result (out.new.items ≡ out.old.items ++ cause_text self) }
     {
@@ -64,7 +65,7 @@ impl Cause {
         }
     }
 
-    /// The byte that the words end with, in text form.
+    /// The byte at the end of the cause in plain words, in text form.
     fn byte(self) -> Option<u8>
         ensures { result ≡ cause_byte self }
     {
@@ -74,7 +75,7 @@ impl Cause {
         }
     }
 
-    /// The plain words of the cause, up to the byte that they end with, if they have one.
+    /// The cause in plain words, up to the byte at its end, if it has one.
     pub fn words(self) -> &'static [u8]
         ensures { result.now ≡ cause_words self }
     {
@@ -108,8 +109,8 @@ impl Cause {
     }
 }
 
-/// What is wrong with a text line that has a fault; or there was no memory, for the line before or
-/// for this.
+/// What is wrong with a text line that has a fault. An error comes if there is no memory, for the
+/// line before or for this one.
 pub(crate) fn cause_of(alloc: Global, text: &[u8], fault: &BasicFault) -> Result<Cause, AllocError>
     ensures { IfOk result (IsCause text.now fault.now) }
 {
@@ -124,7 +125,7 @@ pub(crate) fn cause_of(alloc: Global, text: &[u8], fault: &BasicFault) -> Result
     }
 }
 
-/// What is wrong with a text that is no text form, for a fault.
+/// What is wrong with a text that is no text form, by its fault.
 fn text_cause(alloc: Global, text: &[u8], fault: &TextFault) -> Result<Cause, AllocError>
     ensures { IfOk result (λ cause. cause ≡ text_cause text.now fault.now) }
 {
@@ -139,7 +140,7 @@ fn text_cause(alloc: Global, text: &[u8], fault: &TextFault) -> Result<Cause, Al
     }
 }
 
-/// What follows a place of a text.
+/// The part of a text from a place on.
 fn text_from(text: &[u8], place: usize) -> &[u8]
     ensures { result.now ≡ drop place text.now }
 {
@@ -286,7 +287,7 @@ fn token_cause(alloc: Global, text: &[u8]) -> Result<Cause, AllocError>
     }
 }
 
-/// The fault of a text as want of memory, if it is that.
+/// The error of a fault that says that memory is out.
 fn want_of_memory(fault: TextFault) -> Option<AllocError>
     ensures { result ≡ None → IsOfMemory fault → ⊥ }
 {
@@ -311,7 +312,7 @@ fn left_cause(bytes: &[u8]) -> Cause
     }
 }
 
-/// What is wrong with a byte that nothing crunches from on, behind another byte.
+/// What is wrong with a byte from which nothing crunches, and which comes behind another byte.
 fn letter_cause(before: u8, byte: u8) -> Cause
     ensures { result ≡ letter_cause before byte }
 {

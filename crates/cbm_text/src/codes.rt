@@ -19,9 +19,8 @@ const PRINT: u8 = 0x99;
 /// The byte of pi, which is no token.
 const PI: u8 = 0xff;
 
-/// The crunched bytes of a line, or `None` where a byte of $80 or more stands at a free place.
-/// Where they are more than `MOST_BYTES`, only the first may be there, but more than `MOST_BYTES`
-/// too.
+/// The crunched bytes of a line, or None if a byte of $80 or more is at a free place. If there are
+/// more than `MOST_BYTES`, the list may be cut off, but still has more than `MOST_BYTES`.
 pub(crate) fn crunch_bytes(alloc: Global, bytes: &[u8]) -> Result<Option<Vec<u8>>, AllocError>
     ensures { IfOk result (λ crunched. MatchOption crunched
         ((codes : List ℕ) → ¬ (Crunched bytes.now codes))
@@ -31,7 +30,7 @@ pub(crate) fn crunch_bytes(alloc: Global, bytes: &[u8]) -> Result<Option<Vec<u8>
     let mut mode = Mode::Free;
     let mut left = bytes;
     while !left.is_empty() {
-        // the line is too long, and only whether it crunches is left to see
+        // The line is too long, and the only question left is whether it crunches.
         if codes.len() == MOST_BYTES + 1 && crunches_anyhow(left) {
             return Ok(Some(codes));
         }
@@ -45,7 +44,7 @@ pub(crate) fn crunch_bytes(alloc: Global, bytes: &[u8]) -> Result<Option<Vec<u8>
     Ok(Some(codes))
 }
 
-/// What is left of a line from the first byte on that crunches to nothing.
+/// The rest of a line from the first byte on that crunches to nothing.
 pub(crate) fn uncrunched(bytes: &[u8]) -> &[u8]
     ensures stops { (codes : List ℕ) × StopsAfter Mode.Free bytes.now codes result.now }
     ensures shorter { length result.now ≤ length bytes.now }
@@ -62,7 +61,7 @@ pub(crate) fn uncrunched(bytes: &[u8]) -> &[u8]
     left
 }
 
-/// The first crunched byte of a text that begins at such a place, and what follows.
+/// The first crunched byte of a text that begins at such a place, and what follows it.
 fn next_code(mode: Mode, text: &[u8]) -> Option<(u8, &[u8])>
     ensures { MatchOption result (first_code mode text.now ≡ None)
         (λ found. first_code mode text.now ≡ Some (found.0, found.1.now)) }
@@ -79,7 +78,7 @@ fn next_code(mode: Mode, text: &[u8]) -> Option<(u8, &[u8])>
     }
 }
 
-/// What a byte at a free place crunches to, where no keyword begins with it.
+/// The code of a byte at a free place at which no keyword begins.
 fn code_of_byte(byte: u8) -> Option<u8>
     ensures { result ≡ single_code byte }
 {
@@ -90,8 +89,8 @@ fn code_of_byte(byte: u8) -> Option<u8>
     }
 }
 
-/// Whether no byte of a text is one that crunches to nothing at a free place: then the text
-/// crunches, however it is read.
+/// Whether each byte of a text crunches at a free place, so that the text crunches, however it is
+/// read.
 fn crunches_anyhow(text: &[u8]) -> bool
     ensures { result ≡ crunches_anyhow text.now }
 {
@@ -111,7 +110,7 @@ pub(crate) fn expand(alloc: Global, codes: &[u8]) -> Result<Vec<u8>, AllocError>
     Ok(bytes)
 }
 
-/// Adds what a crunched byte stands for.
+/// Appends what a crunched byte stands for.
 fn push_shown(bytes: &mut Vec<u8>, mode: Mode, code: u8) -> Result<(), AllocError>
     ensures { OnOk result (bytes.new.items ≡ bytes.old.items ++ text_of_code mode code) }
 {

@@ -15,18 +15,18 @@ use std::alloc::Global;
 /// The greatest link.
 const GREATEST_LINK: usize = 65_535;
 
-/// The bytes of a line's link and number, and of the $00 behind it.
+/// How many bytes the link, the number and the closing $00 of a line take.
 const AROUND_BYTES: usize = 5;
 
 /// The program file of a BASIC text, loaded at `start`. Each line of the text begins with its
 /// number, in any order; empty lines, lines of spaces and lines that begin with `;` are skipped.
-/// What follows the number and one space is in text form (`from_text`), and keywords are found from
-/// left to right, in spaces or not, as the machine finds them: not between quotes, behind `rem`, or
-/// behind `data` up to a colon outside quotes.
+/// What follows the number and one space is in text form (`from_text`). Keywords are found from
+/// left to right, with or without spaces, as the machine finds them: not between quotes, behind
+/// `rem`, or behind `data` up to a colon outside quotes.
 ///
-/// An `Err` is the first fault of the first faulty line, in the order of `BasicFault`; or there is
-/// no memory. The line that it tells is one of the text's lines, so its number is at most the
-/// text's length.
+/// An `Err` is the first fault of the first faulty line, in the order of `BasicFault`, or that
+/// there is no memory. Its line is one of the text's, so that its number is at most the text's
+/// length.
 pub fn crunch(alloc: Global, start: u16, text: &[u8]) -> Result<Vec<u8>, BasicFault>
     ensures crunched { IfOk result (λ file. IsFileOf start text.now file.items) }
     ensures fault { IfErr result (λ fault. IsOfMemory fault ⊎ IsFirstFault start text.now fault) }
@@ -48,8 +48,8 @@ pub fn crunch(alloc: Global, start: u16, text: &[u8]) -> Result<Vec<u8>, BasicFa
     Ok(file)
 }
 
-/// Adds the line of a program that a text line stands for, at an address: the address of what
-/// follows. The line's place in the text goes into a fault.
+/// Appends the program line of a text line, at an address. Returns the address behind it. A fault
+/// has the line's place in the text.
 #[tactic(auto, using(crate::proofs::TextPrograms::zero_fault, crate::proofs::TextPrograms::long_fault))]
 pub(crate) fn push_text_line(
     alloc: Global,

@@ -1,4 +1,4 @@
-//! Why a text is no program, and why bytes are none.
+//! Why a text is no program, and why bytes are no program.
 
 ghost use Rattle.std.specs.Prelude.{◌≡◌, alloc_error};
 ghost use Rattle.cbm_text.specs.declared.fault.BasicFault.TheVariants.{Memory};
@@ -10,8 +10,8 @@ use petscii::TextFault;
 use std::alloc::{AllocError, AllocFailed};
 use thiserror::Error;
 
-/// The first fault of a BASIC text: of its first faulty line, the fault that comes first here.
-/// Lines are counted from 1, skipped ones too.
+/// The first fault of a BASIC text: the fault of its first faulty line that comes first here. Lines
+/// are counted from 1, including skipped ones.
 #[derive(Clone, Copy, Debug, PartialEq, Eq, Error)]
 pub enum BasicFault {
     /// The line begins with no number.
@@ -23,13 +23,13 @@ pub enum BasicFault {
     /// What follows the number stands for no bytes. The fault's place counts from there.
     #[error("line {line}: behind the number {fault}")]
     Text { line: usize, fault: TextFault },
-    /// A byte of $80 or more, other than $FF, stands where keywords are read.
+    /// A byte of $80 or more, other than $FF, is at a place at which keywords are read.
     #[error("line {line}: outside quotes a byte of $80 or more would be read as a keyword")]
     TokenByte { line: usize },
     /// The line has a byte $00, which ends a line in the file.
     #[error("line {line}: a line cannot hold a byte $00")]
     ZeroByte { line: usize },
-    /// The line has more than 250 crunched bytes, or what follows it would stand above 65535.
+    /// The line has more than 250 crunched bytes, or what follows it would be above 65535.
     #[error("line {line}: the line is too long, or the program ends above address 65535")]
     TooLong { line: usize },
     /// There is no memory for the program.
@@ -53,7 +53,7 @@ impl BasicFault {
         }
     }
 
-    /// The number of the faulty text line, from 1; there is none for want of memory.
+    /// The number of the faulty text line, from 1, or None if memory is out.
     pub fn line(&self) -> Option<usize>
         ensures { result ≡ fault_line self.now }
     {
@@ -69,7 +69,7 @@ impl BasicFault {
     }
 }
 
-/// Why bytes list as no program.
+/// Why bytes can't be listed as a program.
 #[derive(Clone, Copy, Debug, PartialEq, Eq, Error)]
 #[error("{}", self.text())]
 pub enum ListFault {

@@ -13,23 +13,23 @@ use std::alloc::{AllocError, Global};
 /// A faulty line of a BASIC text.
 #[derive(Clone, Copy, Debug)]
 pub struct FaultyLine<'t> {
-    /// Its least fault, in the order of `BasicFault`.
+    /// Its first fault, in the order of `BasicFault`.
     pub fault: BasicFault,
     pub cause: Cause,
-    /// The line without its end.
+    /// The line without its line end.
     pub text: &'t [u8],
 }
 
-/// The first faulty lines of a BASIC text, and how many it has.
+/// The first faulty lines of a BASIC text, and how many faulty lines it has.
 #[derive(Debug, Drop)]
 pub struct FaultyLines<'t> {
     pub lines: Vec<FaultyLine<'t>>,
     pub count: usize,
 }
 
-/// The faulty lines of a BASIC text whose program is loaded at `start`: the first `most` of them,
-/// and how many there are. A faulty line gives nothing to the program, so that those behind it
-/// begin where it would have begun.
+/// Finds the faulty lines of a BASIC text whose program is loaded at `start`. Returns the first
+/// `most` of them, and how many there are. A faulty line adds nothing to the program, so that those
+/// behind it begin where it would have begun.
 pub fn faulty_lines<'t>(
     alloc: Global,
     start: u16,
@@ -57,8 +57,8 @@ pub fn faulty_lines<'t>(
     Ok(FaultyLines { lines, count })
 }
 
-/// The address behind a line: that of the program's line, or the same one where the line is faulty,
-/// which is then added, if there are fewer than `most`.
+/// The address behind a text line, which is unchanged if the line is faulty. A faulty line is
+/// appended to the list, if that has fewer than `most`.
 fn noted<'t>(
     alloc: Global,
     lines: &mut Vec<FaultyLine<'t>>,

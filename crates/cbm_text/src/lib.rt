@@ -2,9 +2,9 @@
 //! wrong with a faulty text.
 //!
 //! `crunch` makes a program file of a text, as the tokeniser of a Commodore 64 does, and `list`
-//! writes the text of a program file, as the command `LIST` shows it. Keywords and their tokens are
-//! in the Commodore 64 Programmer's Reference Guide, the lines of a program in memory in its
-//! chapter on BASIC; how bytes are written as text is this project's own (`petscii`).
+//! writes the text of a program file, as the command `LIST` shows it. The Commodore 64 Programmer's
+//! Reference Guide has the keywords and their tokens, and in its chapter on BASIC the lines of a
+//! program in memory; how bytes are written as text is this project's own (`petscii`).
 #![tactic(auto)]
 
 mod cause;

@@ -14,10 +14,10 @@ use std::alloc::{AllocError, Global};
 
 /// The text of a program file: for each line its number, a space, and its bytes with the keyword of
 /// each token, in the text form of `to_text`. Between quotes, behind `rem` and behind `data` up to
-/// a colon outside quotes tokens are no keywords. Links are not believed, but that $00 $00 ends the
-/// program; what follows is ignored.
+/// a colon outside quotes tokens are no keywords. Links are ignored, except that $00 $00 ends the
+/// program, and so is what follows the program.
 ///
-/// `NoAddress` comes where there are fewer than two bytes, `Truncated` where others end before the
+/// `NoAddress` comes if there are fewer than two bytes, and `Truncated` if the bytes end before the
 /// program does.
 pub fn list(alloc: Global, file: &[u8]) -> Result<Vec<u8>, ListFault>
     ensures { MatchResult result (λ text. Lists file.now text.items) (ListsNot file.now) }
@@ -37,7 +37,7 @@ pub fn list(alloc: Global, file: &[u8]) -> Result<Vec<u8>, ListFault>
     Ok(text)
 }
 
-/// Adds the text of a line.
+/// Appends the text of a line.
 fn push_listing(alloc: Global, text: &mut Vec<u8>, line: ProgramLine) -> Result<(), AllocError>
     ensures { OnOk result (text.new.items
         ≡ text.old.items ++ line_listing (record { number = line.entry.number; bytes = line.entry.bytes.now })) }

@@ -9,7 +9,7 @@ const DATA: u8 = 0x83;
 /// The token of `rem`.
 const REM: u8 = 0x8f;
 
-/// How a place of a line is read, by what stands before it.
+/// How a place of a line is read, by what comes before it.
 #[derive(Clone, Copy, Debug, PartialEq, Eq)]
 pub(crate) enum Mode {
     /// Keywords are tokens here.

@@ -13,7 +13,7 @@ pub(crate) struct ProgramLine<'a> {
     pub(crate) bytes: &'a [u8],
 }
 
-/// Adds a line, with the link to what follows it.
+/// Appends a line, with the link to what follows it.
 pub(crate) fn push_line(file: &mut Vec<u8>, next: u16, line: &ProgramLine) -> Result<(), AllocError>
     ensures { OnOk result (file.new.items
         ≡ file.old.items ++ word next ++ word line.now.number ++ line.now.bytes.now ++ 0 ∷ []) }
@@ -25,7 +25,7 @@ pub(crate) fn push_line(file: &mut Vec<u8>, next: u16, line: &ProgramLine) -> Re
     Ok(())
 }
 
-/// Adds a number in two bytes, the low one first.
+/// Appends a number in two bytes, the low one first.
 pub(crate) fn push_word(file: &mut Vec<u8>, number: u16) -> Result<(), AllocError>
     ensures { OnOk result (file.new.items ≡ file.old.items ++ word number) }
 {
@@ -42,8 +42,8 @@ pub(crate) fn is_end(bytes: &[u8]) -> bool
     }
 }
 
-/// The first line of a program from its link on, and what follows the line; `None` where the bytes
-/// end before the line does. The link is not looked at.
+/// The first line of a program from its link on, and what follows the line; None if the bytes end
+/// before the line does. The link is ignored.
 pub(crate) fn first_line(bytes: &[u8]) -> Option<(ProgramLine<'_>, &[u8])>
     requires { ¬ (LinesRead bytes.now []) }
     ensures { MatchOption result ((program : Program) → ¬ (LinesRead bytes.now program))

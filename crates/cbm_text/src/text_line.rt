@@ -9,8 +9,8 @@ ghost use Rattle.cbm_text.specs.BasicText.{IsNumbered, HasFault};
 use crate::fault::BasicFault;
 use std::str;
 
-/// The number of a text line, and what follows it and one space. The line's place in the text goes
-/// into a fault.
+/// The number of a text line, and what follows it and one space. A fault has the line's place in
+/// the text.
 pub(crate) fn split_number(text: &[u8], place: usize) -> Result<(u16, &[u8]), BasicFault>
     ensures { MatchResult result
         (λ found. IsNumbered text.now × (found.0 ≡ line_number text.now) × (found.1.now ≡ rest_of text.now))
@@ -34,7 +34,7 @@ pub(crate) fn rest_of(text: &[u8]) -> &[u8]
     after_space(rest)
 }
 
-/// A text line without the spaces that it begins with.
+/// A text line without the spaces at its beginning.
 fn after_spaces(text: &[u8]) -> &[u8]
     ensures { result.now ≡ unspaced_line text.now }
 {
@@ -49,7 +49,7 @@ fn first_other_than_space(text: &[u8]) -> Option<usize>
     text.iter().position(|byte| *byte != b' ')
 }
 
-/// The digits that a text begins with, and what follows them.
+/// The digits at the beginning of a text, and what follows them.
 fn split_digits(text: &[u8]) -> (&[u8], &[u8])
     ensures digits { result.0.now ≡ before_first is_no_digit text.now }
     ensures rest { result.1.now ≡ drop (position_or_len is_no_digit text.now) text.now }
@@ -65,7 +65,7 @@ fn first_other_than_digit(text: &[u8]) -> Option<usize>
     text.iter().position(|byte| !byte.is_ascii_digit())
 }
 
-/// A text without the one space that it may begin with.
+/// A text without the one space that may be at its beginning.
 fn after_space(text: &[u8]) -> &[u8]
     ensures { result.now ≡ without_space text.now }
 {

@@ -3,7 +3,7 @@ use Rattle.cbm_text.specs.declared.mode.Mode.TheVariants.{Free}
 use Rattle.cbm_text.specs.Causes.{StopsAfter}
 use Rattle.cbm_text.proofs.codes.uncrunched.Given as goal
 
--- where what is left stops, the whole does
+-- if what is left stops, the whole does
 abbrev pub invariant-loop-mode : goal.invariant-loop-mode
 invariant-loop-mode l = record {
   done : List ℕ;
