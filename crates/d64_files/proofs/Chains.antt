@@ -40,7 +40,7 @@ pub chain_before : (image : List (List ℕ)) (start next : ℕ) (rest : List ℕ
 unfolding Chain
 chain_before image start next rest within link h fresh = (refl, within, link, h, fresh)
 
--- a chain at whose start the link leads nowhere
+-- there is no chain from a block with a broken link
 pub no_broken_chain : (image : List (List ℕ)) (start : ℕ) (blocks : List ℕ) → link_of image start ≡ Broken → Chain image start blocks → ⊥
 unfolding Chain
 no_broken_chain image start [] link h = absurd h
@@ -233,7 +233,7 @@ is_chain image start blocks e some =
           absurd (some (sym e ∙ is))
     ]
 
--- where there is no chain the function gives the empty list
+-- if there is no chain the function gives the empty list
 pub chain-none : (image : List (List ℕ)) (start : ℕ) → ((blocks : List ℕ) → Chain image start blocks → ⊥) → chain image start ≡ []
 chain-none image start none = by_list (chain image start) (λ some. none (chain image start) (is_chain image start (chain image start) refl some))
   where
@@ -279,7 +279,7 @@ pub all_within : (image : List (List ℕ)) (start : ℕ) (blocks : List ℕ) →
 all_within image start blocks h k d inside =
     within image start blocks h (get_or blocks k d) (list_any_at (eqb (get_or blocks k d)) blocks k d inside (eq-eqb (get_or blocks k d) (get_or blocks k d) refl))
 
--- what is among others stands at a place
+-- an element of a list is at some place of it
 stands : (q : ℕ) (others : List ℕ) → list_any (eqb q) others ≡ true → Contains others q
 stands q others found =
     let p = Any-from_list_any (eqb q) others found in
@@ -291,7 +291,7 @@ pub kept_by_blocks : (image other : List (List ℕ)) (start : ℕ) (blocks : Lis
     → LinkedAlike image other blocks → Chain other start blocks
 kept_by_blocks image other start blocks h long alike = kept image other start blocks h long (λ q found. alike q (stands q blocks found))
 
--- a walk that tells whether it found the chain tells whether there is one
+-- a walk that says whether it found the chain says whether there is one
 pub exists : (image : List (List ℕ)) (start : ℕ) (found : Bool) (blocks : List ℕ) → (found ≡ true → Chain image start blocks)
     → (found ≡ false → (others : List ℕ) → Chain image start others → ⊥) → (found ≡ true) ↔ (chain image start ≢ [])
 exists image start false blocks h none = (λ (s : false ≡ true). cc, λ some. absurd (some (chain-none image start (none refl))))

@@ -15,7 +15,7 @@ both_hold image exists kinds NoChain from to = absurd (omega arith)
 both_hold image exists kinds CrossLinked from to = absurd (omega arith)
 both_hold image exists kinds MarkedFree from to = absurd (omega arith)
 
--- no condition stands before the second
+-- no condition comes before the second
 none_before : (image : List (List ℕ)) (other : DirFault) → 2 ≤ number_of other → number_of other < 2 → Holds image other
 none_before image other from to = absurd (omega arith)
 
@@ -28,7 +28,7 @@ no_directory image missing = record {
   others_hold = none_before image;
 }
 
--- before the third stands the second alone
+-- only the second comes before the third
 one_before : (image : List (List ℕ)) → directory image ≢ [] → (other : DirFault) → 2 ≤ number_of other → number_of other < 3 → Holds image other
 one_before image exists WrongCounts from to = absurd (omega arith)
 one_before image exists NoDirectory from to = exists

@@ -49,7 +49,7 @@ bytes_of_found : (image : List (List ℕ)) (slot : ℕ) (bytes : Option (List �
 bytes_of_found image slot None entry e = cc
 bytes_of_found image slot (Some c) entry e = let f : entry ≡ entry_of image (slot, c) = cc in ap (λ (x : EntryView). Some x.bytes) (sym f)
 
--- and where none was found there is none
+-- and if no slot was found there is no such slot
 none_of_found : (image : List (List ℕ)) (slot : ℕ) (bytes : Option (List ℕ))
     → ◌≡◌ {A = Option EntryView} None (option_map (λ (c : List ℕ). entry_of image (slot, c)) bytes) → bytes ≡ None
 none_of_found image slot None e = refl
@@ -62,7 +62,7 @@ found_bytes image slot walk entry e found =
     bytes_of_found image slot (slice_get (slots image) slot) entry
     (found ∙ ap (find (λ (e : EntryView). eqb e.slot slot)) e ∙ entry_of_number image (slots image) slot)
 
--- none where none was found
+-- None if no slot was found
 pub no_bytes : (image : List (List ℕ)) (slot : ℕ) (walk : List EntryView) → walk ≡ entries image (slots image)
     → None ≡ find (λ (e : EntryView). eqb e.slot slot) walk → slice_get (slots image) slot ≡ None
 no_bytes image slot walk e found =
@@ -96,19 +96,19 @@ abbrev reason : Bool → Bool → Bool → Bool → Option ReadFault
 reason used closed del gone =
     cond (not used) (Some NotFound) (cond (not closed) (Some NotClosed) (cond del (Some WrongType) (cond gone (Some (Directory NoChain)) None)))
 
--- the answer of the first test alone
+-- the result of the first test alone
 by_used : (image : List (List ℕ)) (cell : List ℕ) (used : Bool) → is_used cell ≡ used
     → file_refusal image cell ≡ reason used (is_closed cell) (is_del (kind_of cell)) (is_nil (chain_at image (first_pair cell)))
 unfolding file_refusal
 by_used image cell used e = ap (λ (b : Bool). reason b (is_closed cell) (is_del (kind_of cell)) (is_nil (chain_at image (first_pair cell)))) e
 
--- the answers of the first two
+-- the results of the first two
 by_closed : (image : List (List ℕ)) (cell : List ℕ) (closed : Bool) → is_used cell ≡ true → is_closed cell ≡ closed
     → file_refusal image cell ≡ reason true closed (is_del (kind_of cell)) (is_nil (chain_at image (first_pair cell)))
 by_closed image cell closed used e =
     by_used image cell true used ∙ ap (λ (b : Bool). reason true b (is_del (kind_of cell)) (is_nil (chain_at image (first_pair cell)))) e
 
--- the answers of the first three
+-- the results of the first three
 by_kind : (image : List (List ℕ)) (cell : List ℕ) (del : Bool) → is_used cell ≡ true → is_closed cell ≡ true → is_del (kind_of cell) ≡ del
     → file_refusal image cell ≡ reason true true del (is_nil (chain_at image (first_pair cell)))
 by_kind image cell del used closed e =

@@ -8,7 +8,7 @@ use Rattle.std.proofs.lemmas.List.Sums.{take_while-cons}
 use Rattle.d64_files.specs.Name.{IsName, forbidden_in_names, name_in}
 use Rattle.d64_files.proofs.FilledNames.{no_filler}
 
--- whether a field ends at a place, or a filler stands there
+-- whether a field ends at a place, or a filler is there
 abbrev pub ends_at : List ℕ → ℕ → Bool
 ends_at field place = nat_eq place (length field) || nat_eq (get_or field place 0) 0xA0
 
@@ -21,13 +21,13 @@ both_in_turn true x y = refl
 both_in_turn false true y = refl
 both_in_turn false false y = refl
 
--- the bytes before the first filler, where the first one is none
+-- the bytes before the first filler, if the first byte is no filler
 first_kept : (byte : ℕ) (field : List ℕ) → nat_eq byte 0xA0 ≡ false → name_in (byte ∷ field) ≡ byte ∷ name_in field
 first_kept byte field other =
     take_while-cons (λ (b : ℕ). not (nat_eq b 0xA0)) byte field
     ∙ ap (λ (b : Bool). cond (not b) (byte ∷ name_in field) []) other
 
--- and where it is one
+-- and if it is one
 first_filler : (byte : ℕ) (field : List ℕ) → nat_eq byte 0xA0 ≡ true → name_in (byte ∷ field) ≡ []
 first_filler byte field filler =
     take_while-cons (λ (b : ℕ). not (nat_eq b 0xA0)) byte field
@@ -40,7 +40,7 @@ ends_next byte field place =
     let same : nat_eq (suc place) (length (byte ∷ field)) ≡ nat_eq place (length field) = grind (arith, nat_tests) in
     ap (λ (b : Bool). b || nat_eq (get_or field place 0) 0xA0) same
 
--- the name in a field is this one where the field begins with it and it ends there
+-- the name in a field is this one if the field begins with it and it ends there
 pub called : (field name : List ℕ) → length name ≤ length field → All IsAllowed name
     → (ends_at field (length name) && bytes_eq (take (length name) field) name) ≡ bytes_eq (name_in field) name
 called [] [] within allowed = refl
@@ -69,7 +69,7 @@ called (byte ∷ field) (letter ∷ name) within allowed =
           ∙ ap (λ (xs : List ℕ). bytes_eq xs (letter ∷ name)) (sym (first_kept byte field other))
     ]
 
--- so the test of the field of an entry tells whether its name is this one
+-- so the test of the field of an entry says whether its name is this one
 pub name_tells : (field name text bytes : List ℕ) (ends : Bool) → bytes ≡ field → length bytes ≡ 16 → text ≡ name → IsName name → ends ≡ ends_at bytes (length text)
     → (ends && bytes_eq (take (length text) bytes) text) ≡ bytes_eq (name_in field) name
 name_tells field name text bytes ends value long same named is =

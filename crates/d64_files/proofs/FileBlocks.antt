@@ -24,7 +24,7 @@ needs_one bytes = grind (arith, nat_tests)
 rest_is : (bytes : List ℕ) → take (length bytes - 254) (drop 254 bytes) ≡ drop 254 bytes
 rest_is bytes = ap (λ (n : ℕ). take n (drop 254 bytes)) (sym (length-drop 254 bytes)) ∙ take-length (drop 254 bytes)
 
--- so many blocks are left for them
+-- enough blocks are left for them
 pub count_after : (place count : ℕ) (bytes : List ℕ) → place + 1 < count → place + blocks_for (length bytes) ≡ count
     → place + 1 + blocks_for (length (take (length bytes - 254) (drop 254 bytes))) ≡ count
 count_after place count bytes within fits =

@@ -55,12 +55,12 @@ untrue : (b : Bool) → not b ≡ false → b ≡ true
 untrue true e = refl
 untrue false e = cc
 
--- where a test is false of each element, none passes it
+-- if a test is false of each element, no element passes it
 none_pass : {A : Type 0} (test : A → Bool) (P : A → Type 0) → ((x : A) → P x → test x ≡ false) → (xs : List A) → All P xs → list_any test xs ≡ false
 none_pass test P each [] h = refl
 none_pass test P each (x ∷ xs) h = or_from (test x) (list_any test xs) (each x (All-head P x xs h)) (none_pass test P each xs (All-tail P x xs h))
 
--- and where none passes it, it is false of each
+-- and if no element passes it, it is false of each
 all_fail : {A : Type 0} (test : A → Bool) (P : A → Type 0) → ((x : A) → test x ≡ false → P x) → (xs : List A) → list_any test xs ≡ false → All P xs
 all_fail test P each [] h = All-nil P
 all_fail test P each (x ∷ xs) h =
@@ -129,7 +129,7 @@ by_first P test x xs passes fails_it =
       | inr f ↦ subst P (sym (ap (λ (b : Bool). cond b (Some x) (find test xs)) f)) (fails_it f)
     ]
 
--- what the first fault among conditions of these numbers tells
+-- what the first fault among conditions with these numbers says
 abbrev pub Verdict : List (List ℕ) → ℕ → ℕ → Option DirFault → Type 0
 Verdict image first last fault = MatchOption fault (AllHold image first last) (IsFirstFault image first last)
 
@@ -184,7 +184,7 @@ numbered_fault NoChain = refl
 numbered_fault CrossLinked = refl
 numbered_fault MarkedFree = refl
 
--- of two first faults neither stands before the other
+-- of two first faults neither comes before the other
 not_later : (image : List (List ℕ)) (first last : ℕ) (fault other : DirFault) → IsFirstFault image first last fault → IsFirstFault image first last other
     → number_of other ≤ number_of fault
 not_later image first last fault other f g =
@@ -211,7 +211,7 @@ of_result : {A : Type 0} (image : List (List ℕ)) (first last : ℕ) (P : A →
 of_result image first last P (Ok value) h = h.0
 of_result image first last P (Err fault) h = h
 
--- a result that is told by the relations is told by the tests of the conditions 2 to 5
+-- a result by the relations is the result by the tests of the conditions 2 to 5
 pub owning_fault : {A : Type 0} (image : List (List ℕ)) (P : A → Type 0) (result : Result A DirFault)
     → MatchResult result (λ (value : A). AllHold image 2 5 × P value) (IsFirstFault image 2 5) → err_of result ≡ first_fault image owning_conditions
 owning_fault image P result h =
@@ -231,7 +231,7 @@ owning_first image fault f = one_verdict image 2 5 (Some fault) (first_fault ima
 pub sound_first : (image : List (List ℕ)) (fault : DirFault) → IsFirstFault image 1 6 fault → Some fault ≡ first_fault image sound_conditions
 sound_first image fault f = one_verdict image 1 6 (Some fault) (first_fault image sound_conditions) f (sound_verdict image)
 
--- what the tests find is what the relations tell
+-- what the tests find is what the relations say
 tells : (conditions : List DirFault) (first last : ℕ)
     → ((image : List (List ℕ)) → Verdict image first last (first_fault image conditions)) → TellsFirst conditions first last
 tells conditions first last verdict image =

@@ -1,4 +1,4 @@
--- When bytes are a label, and when they are none.
+-- When bytes are a label, and when they are not.
 use Rattle.std.proofs.Common.{ℕ, ◌<◌, ◌≤◌, List, length, get_or, subst}
 use Rattle.std.specs.List.{All, Any, Contains}
 use Rattle.std.proofs.lemmas.List.Elements.{All-from_get_or}

@@ -11,7 +11,7 @@ matches-star : (pattern name : List ℕ) → matches (star ∷ pattern) name ≡
 matches-star pattern [] = refl
 matches-star pattern (b ∷ name) = refl
 
--- a pattern that begins with the name's first byte matches where the rests do
+-- a pattern that begins with the name's first byte matches if the rests do
 matches-same : (b : ℕ) (pattern name : List ℕ) → matches pattern name ≡ true → matches (b ∷ pattern) (b ∷ name) ≡ true
 matches-same b pattern name h = grind (arith, nat_tests)
 
@@ -34,11 +34,11 @@ from_question_mark p b pattern name e m = subst (λ q. Matches (q ∷ pattern) (
 from_same_byte : (p b : ℕ) (pattern name : List ℕ) → p ≢ star → p ≢ question_mark → p ≡ b → Matches pattern name → Matches (p ∷ pattern) (b ∷ name)
 from_same_byte p b pattern name not_star not_question e m = subst (λ c. Matches (p ∷ pattern) (c ∷ name)) e (same_byte not_star not_question m)
 
--- where a pattern that begins with no star matches, the rests match
+-- if a pattern that begins with no star matches, the rests match
 rests : (p b : ℕ) (pattern name : List ℕ) → p ≢ star → matches (p ∷ pattern) (b ∷ name) ≡ true → matches pattern name ≡ true
 rests p b pattern name not_star h = grind (arith, nat_tests)
 
--- and where it begins with no question mark either, the first bytes are the same
+-- and if it begins with no question mark either, the first bytes are the same
 firsts : (p b : ℕ) (pattern name : List ℕ) → p ≢ star → p ≢ question_mark → matches (p ∷ pattern) (b ∷ name) ≡ true → p ≡ b
 firsts p b pattern name not_star not_question h = grind (arith, nat_tests)
 

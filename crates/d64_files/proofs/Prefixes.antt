@@ -6,12 +6,12 @@ use Rattle.std.proofs.Math.Seq.{take-length}
 use Rattle.std.proofs.lemmas.Bool.Decides.{nat_tests}
 use Rattle.std.proofs.lemmas.List.Sums.{prefix_len-le-length}
 
--- where an answer is a place, it is that place
+-- if a search gives a place, it is that place
 place_of : (passed : Bool) (p i : ℕ) → Some i ≡ cond passed (Some p) None → i ≡ p
 place_of true p i e = cc
 place_of false p i e = cc
 
--- where an answer is none, the test failed
+-- if a search gives None, the test failed
 none_of : (passed : Bool) (p : ℕ) → ◌≡◌ {A = Option ℕ} None (cond passed (Some p) None) → passed ≡ false
 none_of true p e = cc
 none_of false p e = cc
@@ -20,7 +20,7 @@ none_of false p e = cc
 pub before_place : (test : ℕ → Bool) (xs : List ℕ) (i : ℕ) → Some i ≡ position test xs → take i xs ≡ take_while (λ x. not (test x)) xs
 before_place test xs i e = ap (λ (n : ℕ). take n xs) (place_of (ltb (position_or_len test xs) (length xs)) (position_or_len test xs) i e)
 
--- where none passes, those are all
+-- if no byte passes, those are all
 pub before_none : (test : ℕ → Bool) (xs : List ℕ) → ◌≡◌ {A = Option ℕ} None (position test xs) → xs ≡ take_while (λ x. not (test x)) xs
 before_none test xs e =
     let past : ltb (position_or_len test xs) (length xs) ≡ false = none_of (ltb (position_or_len test xs) (length xs)) (position_or_len test xs) e in

@@ -52,13 +52,13 @@ pub not_among : (block : ℕ) (others : List ℕ) → AllByRecursion (λ other. 
 not_among block [] h = refl
 not_among block (other ∷ others) h = or_from (eqb block other) (list_any (eqb block) others) h.0 (not_among block others h.1)
 
--- where no block comes twice, none has a repeat
+-- if no block comes twice, the list has no repeat
 pub no_repeats : (blocks : List ℕ) → IsDistinct eqb blocks → has_repeats blocks ≡ false
 unfolding IsDistinct
 no_repeats [] h = refl
 no_repeats (block ∷ blocks) h = or_from (list_any (eqb block) blocks) (has_repeats blocks) (not_among block blocks h.0) (no_repeats blocks h.1)
 
--- and where none has a repeat, no block comes twice
+-- and if the list has no repeat, no block comes twice
 pub distinct_blocks : (blocks : List ℕ) → has_repeats blocks ≡ false → IsDistinct eqb blocks
 unfolding IsDistinct
 distinct_blocks [] h = tt
@@ -71,7 +71,7 @@ unfolding claims_of
 crossed_claims claims blocks crossed is distinct =
     let f : true ≡ false = sym crossed ∙ ap (λ (c : Claims). c.crossed) is ∙ no_repeats blocks distinct in cc
 
--- claims that aren't crossed have none, and their set is that of the blocks
+-- claims that aren't crossed have no repeat, and their set is that of the blocks
 pub clear_claims : (claims : Claims) (blocks : List ℕ) → claims.crossed ≡ false → claims ≡ claims_of blocks → (claims.blocks ≡ set.from_list blocks) × IsDistinct eqb blocks
 unfolding claims_of
 clear_claims claims blocks clear is =

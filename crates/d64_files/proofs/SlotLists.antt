@@ -97,18 +97,18 @@ bytes_at_place image blocks items place block sector bytes same within here cont
     here ∙ get_or_default_zero items (place / 8) block within ∙ ap (λ (bs : List ℕ). get_or bs (place / 8) 0) same in
     part ∙ ap (λ (s : List ℕ). cell s (place % 8)) (content ∙ ap (sector_at image) block_is)
 
--- where each slot of a block has a kind, all have
+-- if each slot of a block has a kind, all have
 pub block_kinds : (bytes : List ℕ) → ((k : ℕ) → k < 8 → HasKind (cell bytes k)) → All HasKind (cells bytes)
 block_kinds bytes each =
     All-from_get_or HasKind (cells bytes) [] (λ k within.
     let small : k < 8 = omega (arith, length-cells bytes) in subst HasKind (sym (get_or-cells bytes k [] small)) (each k small))
 
--- where all slots of a block have a kind, so has each
+-- if all slots of a block have a kind, so has each
 pub block_kind : (bytes : List ℕ) (k : ℕ) → k < 8 → All HasKind (cells bytes) → HasKind (cell bytes k)
 block_kind bytes k small all =
     subst HasKind (get_or-cells bytes k [] small) (All-get_or HasKind (cells bytes) k [] (omega (arith, length-cells bytes)) all)
 
--- where the slots of each block have kinds, all slots have
+-- if the slots of each block have kinds, all slots have
 pub all_kinds : (image : List (List ℕ)) (blocks : List ℕ)
     → ((k : ℕ) → k < length blocks → All HasKind (cells (sector_at image (get_or blocks k 0)))) → All HasKind (slots_in image blocks)
 all_kinds image blocks each =
@@ -117,7 +117,7 @@ all_kinds image blocks each =
     subst HasKind (sym (slot_at_place image blocks place within))
     (block_kind (sector_at image (get_or blocks (place / 8) 0)) (place % 8) (omega arith) (each (place / 8) within)))
 
--- where all slots have kinds, so have those of each block
+-- if all slots have kinds, so have those of each block
 pub kinds_of_block : (image : List (List ℕ)) (blocks : List ℕ) (q : ℕ) → q < length blocks → All HasKind (slots_in image blocks)
     → All HasKind (cells (sector_at image (get_or blocks q 0)))
 kinds_of_block image blocks q within all =
@@ -144,7 +144,7 @@ pub found-entry : (test : List ℕ → Bool) (image cells : List (List ℕ))
     → option_map (λ (e : EntryView). e.slot) (find (λ (e : EntryView). test e.bytes) (entries image cells)) ≡ position test cells
 found-entry test image cells = found_from test image 0 cells ∙ sym (position_from-zero test cells)
 
--- an entry passes where a slot does
+-- an entry passes if its slot does
 pub any-entry : (test : List ℕ → Bool) (image : List (List ℕ)) (n : ℕ) (cells : List (List ℕ))
     → list_any (λ (e : EntryView). test e.bytes) (entries_from image n cells) ≡ list_any test cells
 any-entry test image n [] = refl

@@ -19,23 +19,23 @@ cells_more bytes index small =
     drop_more (cells bytes) index [] (let long = length-cells bytes in omega arith)
     ∙ ap (λ (first : List ℕ). first ∷ drop (index + 1) (cells bytes)) (get_or-cells bytes index [] small)
 
--- where a slot doesn't pass, those after it decide
+-- if a slot doesn't pass, those after it decide
 pub any_more : (test : List ℕ → Bool) (bytes : List ℕ) (index : ℕ) → index < 8 → test (cell bytes index) ≡ false
     → list_any test (drop index (cells bytes)) ≡ list_any test (drop (index + 1) (cells bytes))
 any_more test bytes index small fails =
     ap (list_any test) (cells_more bytes index small) ∙ ap (λ (b : Bool). b || list_any test (drop (index + 1) (cells bytes))) fails
 
--- and where one does, it decides
+-- and if one does, it decides
 pub any_found : (test : List ℕ → Bool) (bytes : List ℕ) (index : ℕ) → index < 8 → test (cell bytes index) ≡ true
     → list_any test (drop index (cells bytes)) ≡ true
 any_found test bytes index small passes =
     ap (list_any test) (cells_more bytes index small) ∙ ap (λ (b : Bool). b || list_any test (drop (index + 1) (cells bytes))) passes
 
--- past the last slot none passes
+-- past the last slot no slot passes
 pub any_past : (test : List ℕ → Bool) (bytes : List ℕ) (index : ℕ) → 8 ≤ index → list_any test (drop index (cells bytes)) ≡ false
 any_past test bytes index past = ap (list_any test) (drop_of_length-le (cells bytes) {i = index} (let long = length-cells bytes in omega arith))
 
--- where a slot doesn't pass, the first that does is one after it
+-- if a slot doesn't pass, the first that does is one after it
 pub position_more : (test : List ℕ → Bool) (bytes : List ℕ) (first index : ℕ) → index < 8 → test (cell bytes index) ≡ false
     → position_from test (first + index) (drop index (cells bytes)) ≡ position_from test (first + (index + 1)) (drop (index + 1) (cells bytes))
 position_more test bytes first index small fails =
@@ -43,14 +43,14 @@ position_more test bytes first index small fails =
     ∙ ap (λ (b : Bool). cond b (Some (first + index)) (position_from test ((first + index) + 1) (drop (index + 1) (cells bytes)))) fails
     ∙ ap (λ (n : ℕ). position_from test n (drop (index + 1) (cells bytes))) (let e : (first + index) + 1 ≡ first + (index + 1) = omega arith in e)
 
--- and where one does, it is the first
+-- and if one does, it is the first
 pub position_found : (test : List ℕ → Bool) (bytes : List ℕ) (first index : ℕ) → index < 8 → test (cell bytes index) ≡ true
     → position_from test (first + index) (drop index (cells bytes)) ≡ Some (first + index)
 position_found test bytes first index small passes =
     ap (position_from test (first + index)) (cells_more bytes index small)
     ∙ ap (λ (b : Bool). cond b (Some (first + index)) (position_from test ((first + index) + 1) (drop (index + 1) (cells bytes)))) passes
 
--- past the last slot there is none
+-- past the last slot there is no slot
 pub position_past : (test : List ℕ → Bool) (bytes : List ℕ) (first index : ℕ) → 8 ≤ index → position_from test first (drop index (cells bytes)) ≡ None
 position_past test bytes first index past = ap (position_from test first) (drop_of_length-le (cells bytes) {i = index} (let long = length-cells bytes in omega arith))
 
@@ -68,7 +68,7 @@ block_lies image other items place block same all within here =
     subst (λ (i : List (List ℕ)). block < length i) (sym same)
     (subst (λ (b : ℕ). b < length image) (sym here) (subst (LieIn image) (sym all) (directory-lies image) place block within))
 
--- a slot of blocks from one on passes where one of that block does, or one of those after it
+-- a slot of blocks from one on passes if one of that block does, or one of those after it
 pub any_of_block : (test : List ℕ → Bool) (image other : List (List ℕ)) (items : List ℕ) (place block : ℕ) (result : Bool) → other ≡ image → place < length items
     → block ≡ slice_index_or items place block → result ≡ list_any test (cells (sector_at other block))
     → list_any test (slots_in image (drop place items)) ≡ (result || list_any test (slots_in image (drop (place + 1) items)))

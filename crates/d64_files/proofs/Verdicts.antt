@@ -25,7 +25,7 @@ all_claimed image walk e =
     ap (λ (bs : List ℕ). claims_of (map_block ∷ (directory image ++ bs)))
     (ap (flat_map (λ (entry : EntryView). owned_by image entry.bytes)) e ∙ entries_owned (owned_by image) image 0 (slots image))
 
--- the conditions 2 to 5 hold where 2 and 3 do, each chain is there, and no block is owned twice
+-- the conditions 2 to 5 hold if 2 and 3 do, each chain exists, and no block is owned twice
 pub files_hold : (image : List (List ℕ)) → AllHold image 2 3 → All (HasItsChains image) (slots image) → IsDistinct eqb (owned_blocks image) → AllHold image 2 5
 files_hold image dir chains distinct WrongCounts from to = absurd (omega arith)
 files_hold image dir chains distinct NoDirectory from to = dir NoDirectory (omega arith) (omega arith)
@@ -34,7 +34,7 @@ files_hold image dir chains distinct NoChain from to = chains
 files_hold image dir chains distinct CrossLinked from to = distinct
 files_hold image dir chains distinct MarkedFree from to = absurd (omega arith)
 
--- what stands before the condition 4
+-- what comes before the condition 4
 before_chains : (image : List (List ℕ)) → AllHold image 2 3 → (other : DirFault) → 2 ≤ number_of other → number_of other < 4 → Holds image other
 before_chains image dir WrongCounts from to = absurd (omega arith)
 before_chains image dir NoDirectory from to = dir NoDirectory (omega arith) (omega arith)
@@ -52,7 +52,7 @@ missing_chain image dir missing = record {
   others_hold = before_chains image dir;
 }
 
--- what stands before the condition 5
+-- what comes before the condition 5
 before_crossed : (image : List (List ℕ)) → AllHold image 2 3 → All (HasItsChains image) (slots image)
     → (other : DirFault) → 2 ≤ number_of other → number_of other < 5 → Holds image other
 before_crossed image dir chains WrongCounts from to = absurd (omega arith)
@@ -89,7 +89,7 @@ wrong_counts image wrong = record {
   others_hold = λ other from to. absurd (omega arith);
 }
 
--- what stands before a fault of files, where the counts fit
+-- what comes before a fault of files, if the counts fit
 before_files : (image : List (List ℕ)) (fault : DirFault) → CountsFit image → IsFirstFault image 2 5 fault
     → (other : DirFault) → 1 ≤ number_of other → number_of other < number_of fault → Holds image other
 before_files image fault counts f WrongCounts from to = counts
@@ -117,11 +117,11 @@ member_has P (b ∷ blocks) q all found =
       | inr t ↦ member_has P blocks q (All-tail P b blocks all) t
     ]
 
--- none of a set's members is marked free
+-- no member of a set is marked free
 abbrev pub NoMemberIsFree : List (List ℕ) → set.FinSet nat_cmp → Type 0
 NoMemberIsFree image owned = (block : ℕ) → set.contains owned block ≡ true → set.contains (free_blocks image) block ≡ false
 
--- where none of the blocks is marked free, none of their set is
+-- if no block is marked free, no member of their set is
 pub members_too : (image : List (List ℕ)) (blocks : List ℕ) (owned : set.FinSet nat_cmp) → owned ≡ set.from_list blocks → NoneIsFree image blocks → NoMemberIsFree image owned
 members_too image blocks owned e none block is =
     member_has (λ (b : ℕ). set.contains (free_blocks image) b ≡ false) blocks block none
@@ -146,7 +146,7 @@ all_hold image counts files none NoChain from to = files NoChain (omega arith) (
 all_hold image counts files none CrossLinked from to = files CrossLinked (omega arith) (omega arith)
 all_hold image counts files none MarkedFree from to = none
 
--- what stands before the condition 6
+-- what comes before the condition 6
 before_free : (image : List (List ℕ)) → CountsFit image → AllHold image 2 5 → (other : DirFault) → 1 ≤ number_of other → number_of other < 6 → Holds image other
 before_free image counts files WrongCounts from to = counts
 before_free image counts files NoDirectory from to = files NoDirectory (omega arith) (omega arith)

@@ -36,7 +36,7 @@ written_next bytes part next start inside =
     ∙ append_assoc front part (next ++ drop (start + length (part ++ next)) bytes)
     ∙ ap (λ (xs : List ℕ). front ++ xs) (sym (append_assoc part next (drop (start + length (part ++ next)) bytes)))
 
--- the same, where the place is given
+-- the same for a given place
 written_after : (bytes part next : List ℕ) (start place : ℕ) → start + length part ≡ place → place ≤ length bytes
     → written_at (written_at bytes start part) place next ≡ written_at bytes start (part ++ next)
 written_after bytes part next start place e inside =

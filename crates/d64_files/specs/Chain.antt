@@ -12,7 +12,7 @@ use Rattle.d64_files.specs.declared.chain.Link.TheVariants.{End, To, Broken}
 abbrev pub link_at : Disk → ℕ → ℕ × ℕ
 link_at image block = (slice_index (sector_at image block) 0, slice_index (sector_at image block) 1)
 
--- a block, where the image has it
+-- a block's number; None if the image has no such block
 abbrev pub held_block : Disk → ℕ → Option ℕ
 held_block image block = if nat_lt block (length image) then Some block else None
 
@@ -20,17 +20,17 @@ held_block image block = if nat_lt block (length image) then Some block else Non
 abbrev pub LieIn : Disk → Blocks → Type 0
 LieIn image blocks = All (λ block. block < length image) blocks
 
--- the block of a track and a sector, where the image has that block
+-- the block of a track and a sector; None if the image has no such block
 unfoldable pub block_in : Disk → ℕ → ℕ → Option ℕ
 block_in image track sector = option_and_then (held_block image) (block_of track sector)
 
--- a link to a block, or to none
+-- the link to a block, or a broken one if there is no block
 abbrev pub link_to : Option ℕ → Link
 link_to None = Broken
 link_to (Some block) = To block
 
--- where a link leads: a track of 0 ends the chain, every other link leads to the block that it
--- names
+-- where a track and a sector lead as a link: a track of 0 ends the chain, every other link leads to
+-- the block that it names
 unfoldable pub led_by : Disk → ℕ × ℕ → Link
 led_by image link = if link.0 == 0 then End else link_to (block_in image link.0 link.1)
 
@@ -38,31 +38,32 @@ led_by image link = if link.0 == 0 then End else link_to (block_in image link.0 
 abbrev pub link_of : Disk → ℕ → Link
 link_of image block = led_by image (link_at image block)
 
--- the list is the chain from a block that the image has: that block alone, where its link ends the
--- chain, or that block and then the chain from the block to which its link leads, if it isn't among
--- those
+-- the list is the chain from a block that the image has: that block alone, if its link ends the
+-- chain, or that block and then the chain from the block to which its link leads, if it isn't in
+-- that chain
 unfoldable pub Chain : Disk → ℕ → Blocks → Type 0
 Chain image start [] = ⊥
 Chain image start (block ∷ []) = (block ≡ start) × (start < length image) × (link_of image start ≡ End)
 Chain image start (block ∷ next ∷ rest) =
     (block ≡ start) × (start < length image) × (link_of image start ≡ To next) × Chain image next (next ∷ rest) × (list_any (nat_eq start) (next ∷ rest) ≡ false)
 
--- a block before a chain that doesn't hold it; none where there is no chain, or it holds the block
+-- a block and then a chain that doesn't have it; the empty list if there is no chain, or it has the
+-- block
 abbrev pub chain_behind : ℕ → Blocks → Blocks
 chain_behind block [] = []
 chain_behind block (next ∷ rest) = if list_any (nat_eq block) (next ∷ rest) then [] else block ∷ next ∷ rest
 
--- the chain from a block that is linked so, where it follows at most that many links; else none
+-- the chain from a block with this link, if it follows at most n links; else the empty list
 unfoldable pub chain_by : ℕ → Disk → ℕ → Link → Blocks
 chain_by links image block End = block ∷ []
 chain_by links image block Broken = []
 chain_by zero image block (To next) = []
 chain_by (suc links) image block (To next) = chain_behind block (chain_by links image next (link_of image next))
 
--- the chain from a block, or the empty list where there is none
+-- the chain from a block, or the empty list if there is no chain
 unfoldable pub chain : Disk → ℕ → Blocks
 chain image start = if nat_lt start (length image) then chain_by (length image) image start (link_of image start) else []
 
--- the chain from the block of a track and a sector, or the empty list where there is none
+-- the chain from the block of a track and a sector, or the empty list if there is no chain
 abbrev pub chain_from : Disk → ℕ → ℕ → Blocks
 chain_from image track sector = option_map_or (chain image) (block_in image track sector) []

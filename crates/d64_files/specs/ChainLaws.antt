@@ -8,11 +8,11 @@ use Rattle.d64_files.specs.Chain.{Chain, chain, link_at}
 abbrev pub AtMostOneChain : Type 0
 AtMostOneChain = (image : Disk) (start : ℕ) (blocks others : Blocks) → Chain image start blocks → Chain image start others → blocks ≡ others
 
--- the chain from a block is the one that the relation admits, and the empty list stands for none
+-- the function gives the chain of the relation, or the empty list if there is no chain
 abbrev pub ChainIsThatChain : Type 0
 ChainIsThatChain = (image : Disk) (start : ℕ) (blocks : Blocks) → Chain image start blocks ↔ ((chain image start ≡ blocks) × (blocks ≢ []))
 
--- a chain begins with the block from which it leads
+-- a chain begins with its start
 abbrev pub ChainBeginsWithItsStart : Type 0
 ChainBeginsWithItsStart = (image : Disk) (start : ℕ) (blocks : Blocks) → Chain image start blocks → (rest : Blocks) × (blocks ≡ start ∷ rest)
 
@@ -20,7 +20,7 @@ ChainBeginsWithItsStart = (image : Disk) (start : ℕ) (blocks : Blocks) → Cha
 abbrev pub ChainHasNoRepeats : Type 0
 ChainHasNoRepeats = (image : Disk) (start : ℕ) (blocks : Blocks) → Chain image start blocks → IsDistinct nat_eq blocks
 
--- a chain holds blocks of the image alone
+-- a chain has only blocks of the image
 abbrev pub ChainLiesInImage : Type 0
 ChainLiesInImage = (image : Disk) (start : ℕ) (blocks : Blocks) → Chain image start blocks → All (λ block. block < length image) blocks
 
@@ -28,11 +28,11 @@ ChainLiesInImage = (image : Disk) (start : ℕ) (blocks : Blocks) → Chain imag
 abbrev pub ChainFitsImage : Type 0
 ChainFitsImage = (image : Disk) (start : ℕ) (blocks : Blocks) → Chain image start blocks → length blocks ≤ length image
 
--- two images link these blocks alike
+-- two images have the same links in these blocks
 abbrev pub LinkedAlike : Disk → Disk → Blocks → Type 0
 LinkedAlike image other blocks = (block : ℕ) → Contains blocks block → link_at other block ≡ link_at image block
 
--- an image as long as another that links the blocks of a chain alike has that chain, too
+-- an image of the same length with the same links in the blocks of a chain has that chain too
 abbrev pub SameLinksSameChain : Type 0
 SameLinksSameChain =
     (image other : Disk) (start : ℕ) (blocks : Blocks)

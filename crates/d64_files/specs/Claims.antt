@@ -1,11 +1,11 @@
--- What was claimed so far.
+-- The claims of blocks.
 use Rattle.std.specs.Prelude.{◌||◌, nat_eq, Bool, false, [], ◌∷◌}
 use Rattle.std.specs.List.{list_any}
 use Rattle.std.specs.FinSet as set
 use Rattle.d64_image.specs.Disk.{Blocks}
 use Rattle.d64_files.specs.declared.claims.Claims.{Claims}
 
--- whether a block comes twice among blocks
+-- whether a block comes twice in a list
 abbrev pub has_repeats : Blocks → Bool
 has_repeats [] = false
 has_repeats (block ∷ blocks) = list_any (nat_eq block) blocks || has_repeats blocks

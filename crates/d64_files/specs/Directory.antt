@@ -12,11 +12,11 @@ use Rattle.d64_files.specs.Slot.{EntryView, cells, HasKind, is_used, name_of}
 use Rattle.d64_files.specs.declared.dir_fault.DirFault.{DirFault}
 use Rattle.d64_files.specs.declared.dir_fault.DirFault.TheVariants.{WrongCounts, NoDirectory, UnknownKind, NoChain, CrossLinked, MarkedFree}
 
--- the directory's blocks: the chain from track 18, sector 1; the empty list where there is none
+-- the directory's blocks: the chain from track 18, sector 1; the empty list if there is no chain
 abbrev pub directory : Disk → Blocks
 directory image = chain_from image 18 1
 
--- the slots of blocks, eight a block, block after block
+-- the slots of blocks, eight in each block, block by block
 abbrev pub slots_in : Disk → Blocks → List Bytes
 slots_in image blocks = flat_map (λ block. cells (sector_at image block)) blocks
 
@@ -28,7 +28,7 @@ slots image = slots_in image (directory image)
 unfoldable pub owned_blocks : Disk → Blocks
 owned_blocks image = map_block ∷ (directory image ++ flat_map (owned_by image) (slots image))
 
--- the blocks that the slot of a number owns; none where there is no such slot
+-- the blocks that the slot of a number owns; no block if there is no such slot
 abbrev pub slot_owns : Disk → ℕ → Blocks
 slot_owns image slot = option_map_or (owned_by image) (slice_get (slots image) slot) []
 
@@ -44,7 +44,7 @@ entry_of image slot = record { slot = slot.0; bytes = slot.1; image = image }
 abbrev pub entries : Disk → List Bytes → List EntryView
 entries image cells = map (entry_of image) (numbered_slots cells)
 
--- a used slot whose name the pattern matches
+-- whether a slot is used and a pattern matches its name
 abbrev pub is_named : Bytes → Bytes → Bool
 is_named pattern cell = is_used cell && matches pattern (name_of cell)
 
@@ -52,11 +52,11 @@ is_named pattern cell = is_used cell && matches pattern (name_of cell)
 abbrev pub first_named : Bytes → List Bytes → Option ℕ
 first_named pattern cells = position (is_named pattern) cells
 
--- a used slot of exactly this name
+-- whether a slot is used and has exactly this name
 abbrev pub has_name : Bytes → Bytes → Bool
 has_name name cell = is_used cell && bytes_eq (name_of cell) name
 
--- there is one among slots
+-- whether a used slot among these has exactly this name
 abbrev pub is_name_taken : Bytes → List Bytes → Bool
 is_name_taken name cells = list_any (has_name name) cells
 
@@ -69,7 +69,7 @@ number_of NoChain = 4
 number_of CrossLinked = 5
 number_of MarkedFree = 6
 
--- an image meets the condition that the fault names
+-- an image meets the condition of this fault
 abbrev pub Holds : Disk → DirFault → Type 0
 Holds image WrongCounts = CountsFit image
 Holds image NoDirectory = directory image ≢ []
@@ -78,11 +78,11 @@ Holds image NoChain = All (HasItsChains image) (slots image)
 Holds image CrossLinked = IsDistinct nat_eq (owned_blocks image)
 Holds image MarkedFree = NoneIsFree image (owned_blocks image)
 
--- an image meets the conditions of these numbers
+-- an image meets the conditions with these numbers
 abbrev pub AllHold : Disk → ℕ → ℕ → Type 0
 AllHold image first last = (fault : DirFault) → first ≤ number_of fault → number_of fault ≤ last → Holds image fault
 
--- of the conditions of these numbers, the first that an image doesn't meet
+-- of the conditions with these numbers, the fault is that of the first one that an image fails
 pub record IsFirstFault (image : Disk) (first last : ℕ) (fault : DirFault) : Type 0 where
   pub not_before : first ≤ number_of fault
   pub not_after : number_of fault ≤ last

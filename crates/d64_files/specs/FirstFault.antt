@@ -13,12 +13,12 @@ use Rattle.d64_files.specs.Slot.{has_kind}
 use Rattle.d64_files.specs.declared.dir_fault.DirFault.{DirFault}
 use Rattle.d64_files.specs.declared.dir_fault.DirFault.TheVariants.{WrongCounts, NoDirectory, UnknownKind, NoChain, CrossLinked, MarkedFree}
 
--- a list of blocks is empty
+-- whether a list of blocks is empty
 abbrev pub is_nil : Blocks → Bool
 is_nil [] = true
 is_nil (block ∷ blocks) = false
 
--- whether an image fails the condition that the fault names
+-- whether an image fails the condition of this fault
 unfoldable pub fails : Disk → DirFault → Bool
 fails image WrongCounts = not (list_all (λ track. nat_eq (count_of image track) (members_on (free_blocks image) track)) (range_with_len 1 (tracks_of (length image))))
 fails image NoDirectory = is_nil (directory image)
@@ -39,11 +39,11 @@ owning_conditions = NoDirectory ∷ UnknownKind ∷ NoChain ∷ CrossLinked ∷ 
 abbrev pub sound_conditions : List DirFault
 sound_conditions = WrongCounts ∷ NoDirectory ∷ UnknownKind ∷ NoChain ∷ CrossLinked ∷ MarkedFree ∷ []
 
--- the fault that a result holds
+-- the fault of a result, if it is one
 abbrev pub err_of : {A : Type 0} → Result A DirFault → Option DirFault
 err_of (Ok value) = None
 err_of (Err fault) = Some fault
 
--- the first of some conditions that an image fails; none where it meets all of them
+-- the first of some conditions that an image fails; None if it meets all of them
 unfoldable pub first_fault : Disk → List DirFault → Option DirFault
 first_fault image conditions = find (fails image) conditions

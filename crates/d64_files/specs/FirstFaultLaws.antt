@@ -5,8 +5,8 @@ use Rattle.d64_files.specs.Directory.{AllHold, IsFirstFault}
 use Rattle.d64_files.specs.FirstFault.{first_fault}
 use Rattle.d64_files.specs.declared.dir_fault.DirFault.{DirFault}
 
--- the tests of conditions of these numbers find none that fails exactly where all hold, and find
--- exactly the first that fails
+-- the tests of conditions with these numbers find no fault exactly if all hold, and otherwise find
+-- the first that fails
 abbrev pub TellsFirst : List DirFault → ℕ → ℕ → Type 0
 TellsFirst conditions first last =
     (image : Disk)

@@ -17,7 +17,7 @@ question_mark = 0x3F
 abbrev pub separators : Bytes
 separators = 0x3D ∷ 0x3A ∷ 0x2C ∷ 0x22 ∷ 0x0D ∷ 0xA0 ∷ []
 
--- 1 to 16 bytes, none of them forbidden
+-- 1 to 16 bytes, of which not one is forbidden
 pub record IsLabel (forbidden bytes : Bytes) : Type 0 where
   pub not_empty : 0 < length bytes
   pub short : length bytes ≤ 16
@@ -28,7 +28,7 @@ pub record IsLabel (forbidden bytes : Bytes) : Type 0 where
 abbrev pub holds_any_of : Bytes → Bytes → Bool
 holds_any_of forbidden bytes = list_any (λ b. list_any (λ f. f == b) forbidden) bytes
 
--- the same as a test of bytes
+-- whether some bytes are a label
 abbrev pub is_label : Bytes → Bytes → Bool
 is_label forbidden bytes = nat_lt 0 (length bytes) && nat_le (length bytes) 16 && not (holds_any_of forbidden bytes)
 

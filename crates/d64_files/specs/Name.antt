@@ -1,21 +1,21 @@
--- Which bytes are a name.
+-- The names of files and disks.
 use Rattle.std.specs.Prelude.{◌-◌, ◌==◌, Bool, not, ◌∷◌, ◌++◌, length, replicate, take_while}
 use Rattle.d64_image.specs.Disk.{Bytes}
 use Rattle.d64_files.specs.Label.{IsLabel, is_label, star, question_mark, separators}
 
--- the bytes that no name holds
+-- the bytes that no name has
 abbrev pub forbidden_in_names : Bytes
 forbidden_in_names = star ∷ question_mark ∷ separators
 
--- the name of a file or a disk
+-- the bytes are the name of a file or a disk
 abbrev pub IsName : Bytes → Type 0
 IsName = IsLabel forbidden_in_names
 
--- the same as a test of bytes
+-- whether some bytes are a name
 abbrev pub is_name : Bytes → Bool
 is_name = is_label forbidden_in_names
 
--- the name in a field: its bytes up to the first shifted space
+-- the name in a field: its bytes before the first shifted space
 abbrev pub name_in : Bytes → Bytes
 name_in field = take_while (λ byte. not (byte == 0xA0)) field
 

@@ -1,4 +1,4 @@
--- Which blocks the files of an image own.
+-- The blocks that the files of an image own.
 use Rattle.std.specs.Prelude.{◌≡◌, ◌≢◌, ℕ, false, if◌then◌else◌, List, [], ◌∷◌, All}
 use Rattle.std.specs.List.{flat_map}
 use Rattle.std.specs.Option.{option_to_list}
@@ -11,7 +11,7 @@ use Rattle.d64_files.specs.declared.kind.Kind.{Kind}
 use Rattle.d64_files.specs.declared.kind.Kind.TheVariants.{Del, Seq, Prg, Usr, Rel}
 
 -- the track and the sector from which each chain of a closed file leads: a REL file has a second
--- one, unless its side track is 0
+-- chain, unless its side track is 0
 abbrev pub roots_of : Kind → Bytes → List (ℕ × ℕ)
 roots_of Del cell = []
 roots_of Seq cell = first_pair cell ∷ []
@@ -19,11 +19,11 @@ roots_of Prg cell = first_pair cell ∷ []
 roots_of Usr cell = first_pair cell ∷ []
 roots_of Rel cell = first_pair cell ∷ option_to_list (side_pair cell)
 
--- the same for any slot: one that isn't closed has none
+-- the same for any slot: a file that isn't closed has no chain
 abbrev pub roots : Bytes → List (ℕ × ℕ)
 roots cell = if is_closed cell then roots_of (kind_of cell) cell else []
 
--- the chain from a track and a sector, or the empty list where there is none
+-- the chain from a track and a sector, or the empty list if there is no chain
 abbrev pub chain_at : Disk → ℕ × ℕ → Blocks
 chain_at image root = chain_from image root.0 root.1
 
@@ -31,10 +31,10 @@ chain_at image root = chain_from image root.0 root.1
 abbrev pub owned_by : Disk → Bytes → Blocks
 owned_by image cell = flat_map (chain_at image) (roots cell)
 
--- each chain that a slot should have is there
+-- each chain that a slot should have exists
 abbrev pub HasItsChains : Disk → Bytes → Type 0
 HasItsChains image cell = All (λ root. chain_at image root ≢ []) (roots cell)
 
--- the map marks none of the blocks free
+-- the map marks no block of a list free
 abbrev pub NoneIsFree : Disk → Blocks → Type 0
 NoneIsFree image blocks = All (λ block. set.contains (free_blocks image) block ≡ false) blocks

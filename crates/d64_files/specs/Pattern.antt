@@ -1,4 +1,4 @@
--- Which bytes are a pattern, and which names it matches.
+-- The patterns for names, and which names they match.
 use Rattle.std.specs.Prelude.{ℕ, Bool, true, false, ◌==◌, ◌&&◌, ◌||◌, ◌≢◌, [], ◌∷◌}
 use Rattle.d64_image.specs.Disk.{Bytes}
 use Rattle.d64_files.specs.Label.{IsLabel, is_label, star, question_mark, separators}
@@ -7,7 +7,7 @@ use Rattle.d64_files.specs.Label.{IsLabel, is_label, star, question_mark, separa
 abbrev pub IsPattern : Bytes → Type 0
 IsPattern = IsLabel separators
 
--- the same as a test of bytes
+-- whether some bytes are a pattern
 abbrev pub is_pattern : Bytes → Bool
 is_pattern = is_label separators
 
@@ -18,7 +18,7 @@ pub data Matches : Bytes → Bytes → Type 0 where
   any_byte : {b : ℕ} {pattern name : Bytes} → Matches pattern name → Matches (question_mark ∷ pattern) (b ∷ name)
   same_byte : {b : ℕ} {pattern name : Bytes} → b ≢ star → b ≢ question_mark → Matches pattern name → Matches (b ∷ pattern) (b ∷ name)
 
--- the same as a test of a pattern and a name
+-- whether a pattern matches a name
 abbrev pub matches : Bytes → Bytes → Bool
 matches [] [] = true
 matches [] (b ∷ name) = false

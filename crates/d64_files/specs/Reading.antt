@@ -1,4 +1,4 @@
--- The content of a file, and what keeps it from being read.
+-- The content of a file, and why it can't be read.
 use Rattle.std.specs.Prelude.{ℕ, not, Bool, true, false, if◌then◌else◌, [], slice_get, Option, Some, None, Result, Ok, Err, option_map}
 use Rattle.std.specs.Option.{option_or, option_map_or}
 use Rattle.d64_image.specs.Disk.{Disk, Bytes}
@@ -13,7 +13,7 @@ use Rattle.d64_files.specs.declared.kind.Kind.TheVariants.{Del}
 use Rattle.d64_files.specs.declared.reading.ReadFault.{ReadFault}
 use Rattle.d64_files.specs.declared.reading.ReadFault.TheVariants.{Directory, NotFound, NotClosed, WrongType, Memory}
 
--- a file's kind is DEL
+-- whether a file's kind is DEL
 abbrev pub is_del : Kind → Bool
 is_del Del = true
 is_del kind = false
@@ -26,12 +26,12 @@ file_refusal image cell =
     else (if is_del (kind_of cell) then Some WrongType
     else (if is_nil (chain_at image (first_pair cell)) then Some (Directory NoChain) else None)))
 
--- the same where there may be no such slot
+-- why the file of a slot can't be read, if there may be no such slot
 abbrev pub slot_refusal : Disk → Option Bytes → Option ReadFault
 slot_refusal image None = Some NotFound
 slot_refusal image (Some cell) = file_refusal image cell
 
--- why the content of a slot can't be read: what is wrong with the directory, or else with the slot
+-- why the content of a slot can't be read: first a fault of the directory, then one of the slot
 unfoldable pub content_refusal : Disk → ℕ → Option ReadFault
 content_refusal image slot = option_or (option_map Directory (first_fault image reading_conditions)) (slot_refusal image (slice_get (slots image) slot))
 
@@ -39,11 +39,11 @@ content_refusal image slot = option_or (option_map Directory (first_fault image 
 abbrev pub file_content : Disk → Bytes → Bytes
 file_content image cell = data_along image (chain_at image (first_pair cell))
 
--- the content of the file of a slot; nothing where there is no such slot
+-- the content of the file of a slot; nothing if there is no such slot
 abbrev pub content_at : Disk → ℕ → Bytes
 content_at image slot = option_map_or (file_content image) (slice_get (slots image) slot) []
 
--- the refusal that a result holds; want of memory is none
+-- the error of a result, unless memory is out
 abbrev pub refused_by : {A : Type 0} → Result A ReadFault → Option ReadFault
 refused_by (Ok value) = None
 refused_by (Err (Directory fault)) = Some (Directory fault)

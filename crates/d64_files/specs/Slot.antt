@@ -6,8 +6,7 @@ use Rattle.d64_files.specs.Name.{name_in}
 use Rattle.d64_files.specs.declared.kind.Kind.{Kind}
 use Rattle.d64_files.specs.declared.kind.Kind.TheVariants.{Del, Seq, Prg, Usr, Rel}
 
--- an entry of a directory: the number of its slot, from 0, the 32 bytes there, and the image that
--- it stands in
+-- an entry of a directory: the number of its slot, from 0, the 32 bytes there, and the image
 pub record EntryView : Type 0 where
   pub slot : ℕ
   pub bytes : Bytes
@@ -21,15 +20,15 @@ cell bytes index = take 32 (drop (32 * index) bytes)
 unfoldable pub cells : Bytes → List Bytes
 cells bytes = map (cell bytes) (range_with_len 0 8)
 
--- the type byte
+-- the type byte of a slot
 abbrev pub type_byte : Bytes → ℕ
 type_byte cell = slice_index cell 2
 
--- a bit of a byte is 1
+-- whether a bit of a byte is 1
 abbrev pub has_bit : ℕ → ℕ → Bool
 has_bit byte bit = not (bit_and byte (2 ^ bit) == 0)
 
--- a slot is used where its type byte isn't 0
+-- whether a slot is used: its type byte isn't 0
 abbrev pub is_used : Bytes → Bool
 is_used cell = not (type_byte cell == 0)
 
@@ -37,11 +36,11 @@ is_used cell = not (type_byte cell == 0)
 abbrev pub kind_number : Bytes → ℕ
 kind_number cell = type_byte cell % 16
 
--- there is a kind of that number
+-- there is a kind with the number in a slot
 abbrev pub HasKind : Bytes → Type 0
 HasKind cell = kind_number cell ≤ 4
 
--- the same as a test
+-- whether there is a kind with the number in a slot
 abbrev pub has_kind : Bytes → Bool
 has_kind cell = nat_le (kind_number cell) 4
 
@@ -53,11 +52,11 @@ kinds = Del ∷ Seq ∷ Prg ∷ Usr ∷ Rel ∷ []
 abbrev pub kind_of : Bytes → Kind
 kind_of cell = slice_index_or kinds (kind_number cell) Del
 
--- a file is locked where bit 6 of the type byte is 1
+-- whether a file is locked: bit 6 of the type byte is 1
 abbrev pub is_locked : Bytes → Bool
 is_locked cell = has_bit (type_byte cell) 6
 
--- a file is closed where bit 7 of the type byte is 1
+-- whether a file is closed: bit 7 of the type byte is 1
 abbrev pub is_closed : Bytes → Bool
 is_closed cell = has_bit (type_byte cell) 7
 
@@ -69,15 +68,15 @@ first_pair cell = (slice_index cell 3, slice_index cell 4)
 abbrev pub field_of : Bytes → Bytes
 field_of cell = slice_range cell 5 21
 
--- a file's name
+-- a file's name: its field up to the first shifted space
 abbrev pub name_of : Bytes → Bytes
 name_of cell = name_in (field_of cell)
 
--- the track and the sector of a file's first side block; none where that track is 0
+-- the track and the sector of a file's first side block; None if that track is 0
 abbrev pub side_pair : Bytes → Option (ℕ × ℕ)
 side_pair cell = if slice_index cell 0x15 == 0 then None else Some (slice_index cell 0x15, slice_index cell 0x16)
 
--- the type of a GEOS file; elsewhere 0
+-- the type of a GEOS file, and 0 for other files
 abbrev pub geos_type : Bytes → ℕ
 geos_type cell = slice_index cell 0x18
 

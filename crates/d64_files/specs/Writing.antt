@@ -1,4 +1,4 @@
--- What the writers of files and entries leave.
+-- The effect of the writers of files and entries.
 use Rattle.std.specs.Prelude.{ℕ, ◌+◌, ◌-◌, ◌*◌, ◌/◌, ◌%◌, ◌==◌, not, if◌then◌else◌, List, [], ◌∷◌, ◌++◌, length, take, drop, replicate, position, slice_index, Option}
 use Rattle.d64_image.specs.Disk.{Disk, Bytes, Blocks}
 use Rattle.d64_image.specs.Block.{pair_at}
@@ -13,19 +13,19 @@ use Rattle.d64_files.specs.declared.kind.Kind.TheVariants.{Del, Seq, Prg, Usr, R
 unfoldable pub written_at : Bytes → ℕ → Bytes → Bytes
 written_at bytes start part = take start bytes ++ (part ++ drop (start + length part) bytes)
 
--- the image with bytes written over those of a block, from a place on
+-- the image with bytes written into a block, from a place on
 abbrev pub with_bytes : Disk → ℕ → ℕ → Bytes → Disk
 with_bytes image block start part = with_sector image block (written_at (sector_at image block) start part)
 
--- the track and the sector of a block, as links and entries hold them
+-- the track and the sector of a block, as links and entries have them
 abbrev pub pair_bytes : ℕ → Bytes
 pair_bytes block = (pair_at block).0 ∷ (pair_at block).1 ∷ []
 
--- how many blocks a file of so many bytes takes: as few as hold them, 254 a block, and at least one
+-- how many blocks a file of n bytes takes: as few as hold them, at 254 a block, and at least one
 abbrev pub blocks_for : ℕ → ℕ
 blocks_for bytes = if bytes == 0 then 1 else (bytes + 253) / 254
 
--- a block of a file that another follows: the link to that one, and 254 bytes of data
+-- a block of a file before its last one: the link to the next block, and 254 bytes of data
 abbrev pub linked_block : ℕ → Bytes → Bytes
 linked_block next bytes = pair_bytes next ++ take 254 bytes
 
@@ -61,7 +61,7 @@ first_unused cells = position (λ cell. not (is_used cell)) cells
 abbrev pub dir_last : Disk → ℕ
 dir_last image = slice_index (directory image) (length (directory image) - 1)
 
--- the block of the directory in which a slot stands, eight a block
+-- the block of the directory that has a slot, at eight slots a block
 abbrev pub slot_block : Disk → ℕ → ℕ
 slot_block image slot = slice_index (directory image) (slot / 8)
 
@@ -73,10 +73,10 @@ slot_start slot = 32 * (slot % 8) + 2
 unfoldable pub with_entry : Disk → ℕ → Bytes → Disk
 with_entry image slot entry = with_bytes image (slot_block image slot) (slot_start slot) entry
 
--- a block of the directory without an entry, which no block follows
+-- the last block of a directory, with eight empty slots
 unfoldable pub empty_directory : Bytes
 empty_directory = 0x00 ∷ 0xFF ∷ replicate 254 0x00
 
--- the image whose directory has one block more: the last one's link names it, and it is empty
+-- the image whose directory has one more block: the last one's link leads to it, and it is empty
 unfoldable pub with_growth : Disk → ℕ → Disk
 with_growth image new = with_sector (with_bytes image (dir_last image) 0 (pair_bytes new)) new empty_directory

@@ -7,7 +7,7 @@ use d64_image::BLOCK_BYTES;
 
 /// Writes bytes into a block, from a place on. The other bytes of the block stay.
 ///
-/// The caller knows that the bytes end within the block.
+/// The bytes must end within the block.
 pub fn write_at(block: &mut [u8; BLOCK_BYTES], start: usize, bytes: &[u8])
     requires { start + length bytes.now ≤ BLOCK_BYTES }
     ensures { block.new ≡ written_at block.old start bytes.now }

@@ -1,4 +1,4 @@
-//! Lists of blocks that take no memory of their own.
+//! Lists of blocks that need no memory of their own.
 ghost use Rattle.std.specs.Prelude.{◌≡◌, ◌<◌, ◌≤◌, [], ◌∷◌, ◌++◌, length};
 ghost use Rattle.d64_image.specs.declared.block.TheConstants.{BLOCKS};
 
@@ -25,7 +25,7 @@ impl Model for BlockList {
 }
 
 impl BlockList {
-    /// The list with no blocks.
+    /// The empty list.
     pub fn empty() -> BlockList
         ensures { result ≡ [] }
     {
@@ -35,7 +35,7 @@ impl BlockList {
         }
     }
 
-    /// Takes all blocks off the list.
+    /// Removes all blocks.
     pub fn clear(&mut self)
         ensures { self.new ≡ [] }
     {
@@ -44,7 +44,7 @@ impl BlockList {
 
     /// Appends a block.
     ///
-    /// The caller knows that the list has room: that it has fewer blocks than an image.
+    /// The list must have room, that is, fewer blocks than an image.
     pub fn push(&mut self, block: BlockNo)
         requires { length self.old < BLOCKS }
         ensures { self.new ≡ self.old ++ block ∷ [] }
@@ -53,7 +53,7 @@ impl BlockList {
         self.len += 1;
     }
 
-    /// Another list of the same blocks.
+    /// A copy of the list.
     pub fn copy(&self) -> BlockList
         ensures { result ≡ self.now }
     {

@@ -16,7 +16,7 @@ pub(crate) enum Link {
     Broken,
 }
 
-/// The block of a track (from 1) and a sector (from 0), or None where the image has no such block.
+/// The block of a track (from 1) and a sector (from 0), or None if the image has no such block.
 #[tactic(auto, unfolding(crate::specs::Chain::block_in))]
 pub fn block_in(image: &Image, track: u8, sector: u8) -> Option<BlockNo>
     ensures block { result ≡ block_of_pair image.now track sector }
@@ -50,11 +50,11 @@ impl Link {
     }
 }
 
-/// Puts the chain from a block of the image in the place of what a list has, and returns whether
-/// there is one: there is none where a link leads off the disk, or back to a block of the chain, and
-/// then the list has the blocks up to there.
+/// Replaces a list by the chain from a block of the image, and returns whether there is one. There
+/// is no chain if a link leads off the disk, or back to a block of the chain; then the list has the
+/// blocks up to there.
 ///
-/// It ends after at most as many blocks as the image has, and takes no memory.
+/// It ends after at most as many blocks as the image has, and allocates nothing.
 pub(crate) fn follow(image: &Image, start: BlockNo, blocks: &mut BlockList) -> bool
     requires { start < length image.now }
     ensures found { result ≡ true → Chain image.now start blocks.new }
@@ -82,8 +82,8 @@ pub(crate) fn follow(image: &Image, start: BlockNo, blocks: &mut BlockList) -> b
     false
 }
 
-/// The chain from the block of a track (from 1) and a sector (from 0), or None where the image has
-/// no such block or no chain from it.
+/// The chain from the block of a track (from 1) and a sector (from 0), or None if the image has no
+/// such block or no chain from it.
 pub(crate) fn chain_from(image: &Image, track: u8, sector: u8) -> Option<BlockList>
     ensures value { unwrap_or result [] ≡ chain_of_pair image.now track sector }
     ensures exists { IsSome result ↔ (chain_of_pair image.now track sector ≢ []) }
@@ -96,7 +96,7 @@ pub(crate) fn chain_from(image: &Image, track: u8, sector: u8) -> Option<BlockLi
     }
 }
 
-/// The same in the place of what a list has, and whether there is such a chain.
+/// Replaces a list by that chain, and returns whether there is one.
 pub(crate) fn fill_from(image: &Image, track: u8, sector: u8, blocks: &mut BlockList) -> bool
     ensures value { result ≡ true → blocks.new ≡ chain_of_pair image.now track sector }
     ensures exists { (result ≡ true) ↔ (chain_of_pair image.now track sector ≢ []) }

@@ -4,14 +4,14 @@
 ghost use Rattle.d64_files.specs.ChainLaws.{AtMostOneChain, ChainIsThatChain, ChainBeginsWithItsStart};
 ghost use Rattle.d64_files.specs.ChainLaws.{ChainHasNoRepeats, ChainLiesInImage, ChainFitsImage, SameLinksSameChain, SameLinksSameFunction};
 
-/// There is at most one chain from a block, and the chain function gives it.
+/// There is at most one chain from a block, and the chain function returns it.
 pub fn chains_are_unique()
     ensures unique { AtMostOneChain }
     ensures function { ChainIsThatChain }
 {}
 
-/// A chain begins with its start, and holds only blocks of the image, none of them twice and so no
-/// more than there are.
+/// A chain begins with its start, and has only blocks of the image, each at most once, and so no
+/// more than the image has.
 pub fn chains_are_bounded()
     ensures start { ChainBeginsWithItsStart }
     ensures distinct { ChainHasNoRepeats }
@@ -19,7 +19,7 @@ pub fn chains_are_bounded()
     ensures len { ChainFitsImage }
 {}
 
-/// A chain stays where its blocks keep their links.
+/// A chain stays the same if its blocks keep their links.
 pub fn chains_need_their_links_alone()
     ensures chain { SameLinksSameChain }
     ensures function { SameLinksSameFunction }

@@ -13,7 +13,7 @@ use crate::kind::Kind;
 use crate::slots::Slots;
 use d64_image::{BLOCKS, BlockNo, BlockSet, Image};
 
-/// The blocks that were claimed so far.
+/// The blocks that were claimed.
 #[derive(Drop)]
 pub(crate) struct Claims {
     blocks: BlockSet,
@@ -22,7 +22,7 @@ pub(crate) struct Claims {
 }
 
 impl Claims {
-    /// No claims.
+    /// Claims of no block.
     pub(crate) fn none() -> Claims
         ensures { result ≡ claims_of [] }
     {
@@ -49,8 +49,8 @@ impl Claims {
         }
     }
 
-    /// Claims the chain from the block of a track (from 1) and a sector (from 0), or answers
-    /// `NoChain` where there is none.
+    /// Claims the chain from the block of a track (from 1) and a sector (from 0). The error is
+    /// `NoChain`, if there is no chain.
     pub(crate) fn claim_chain(&mut self, image: &Image, root: (u8, u8)) -> Result<(), DirFault>
         ensures chain { MatchResult result (λ _. chain_at image.now root ≢ []) (λ fault. (fault ≡ NoChain) × (chain_at image.now root ≡ [])) }
         ensures claimed { OnOk result ((before : List ℕ) → self.old ≡ claims_of before → self.new ≡ claims_of (before ++ chain_at image.now root)) }
@@ -72,7 +72,7 @@ impl Claims {
     }
 
     /// Claims what an entry owns: the chain of a closed SEQ, PRG, USR or REL file, and the side
-    /// chain of a REL file that has one. Answers `NoChain` where one of them is missing.
+    /// chain of a REL file that has one. The error is `NoChain`, if one of them is missing.
     pub(crate) fn claim_file(&mut self, image: &Image, entry: &Entry) -> Result<(), DirFault>
         ensures chains { MatchResult result (λ _. HasItsChains image.now entry.now.bytes) (λ fault. (fault ≡ NoChain) × ¬ (HasItsChains image.now entry.now.bytes)) }
         ensures claimed { OnOk result ((before : List ℕ) → self.old ≡ claims_of before → self.new ≡ claims_of (before ++ owned_by image.now entry.now.bytes)) }
@@ -93,7 +93,7 @@ impl Claims {
         }
     }
 
-    /// Claims what the slots own, or answers `NoChain` where a chain of one of them is missing.
+    /// Claims what the slots own. The error is `NoChain`, if a chain of one of them is missing.
     pub(crate) fn claim_files(&mut self, image: &Image, slots: Slots) -> Result<(), DirFault>
         ensures chains { MatchResult result (λ _. All (λ entry. HasItsChains image.now entry.bytes) slots.entry) (λ fault. (fault ≡ NoChain) × ¬ (All (λ entry. HasItsChains image.now entry.bytes) slots.entry)) }
         ensures claimed { OnOk result ((before : List ℕ) → self.old ≡ claims_of before → self.new ≡ claims_of (before ++ flat_map (λ entry. owned_by image.now entry.bytes) slots.entry)) }
@@ -111,7 +111,7 @@ impl Claims {
         self.blocks
     }
 
-    /// The blocks that were claimed, or `CrossLinked` where one was claimed twice.
+    /// The blocks that were claimed. The error is `CrossLinked`, if one was claimed twice.
     pub(crate) fn finish(self) -> Result<BlockSet, DirFault>
         ensures { (blocks : List ℕ) → self ≡ claims_of blocks
             → MatchResult result (λ owned. (owned ≡ set.from_list blocks) × IsDistinct nat_eq blocks) (λ fault. (fault ≡ CrossLinked) × ¬ (IsDistinct nat_eq blocks)) }

@@ -1,7 +1,7 @@
 //! The writers that change a slot of the directory in place (the VICE manual, "The D64 disk image
 //! format").
 //!
-//! They write through a patch, so that what they write can be taken back.
+//! They write through a patch, so that their changes can be undone.
 ghost use Rattle.std.specs.Prelude.{◌≡◌, ◌+◌, ◌<◌, ◌≤◌, length, OnOk};
 ghost use Rattle.d64_image.specs.Patch.{IsPatchOf, restored_image};
 ghost use Rattle.d64_files.specs.Clearing.{with_cleared_slot, with_name};
@@ -18,7 +18,7 @@ use crate::slots::SLOTS_PER_BLOCK;
 use d64_image::{Image, Patch};
 use std::alloc::AllocError;
 
-/// Where the type byte stands in a slot.
+/// The place of the type byte in a slot.
 const TYPE_BYTE: usize = 2;
 
 /// How many bytes after the type byte the field of the name begins.
@@ -58,8 +58,8 @@ fn filled(name: &Name) -> [u8; MAX_LEN]
 /// Makes a slot of the directory an unused one: its type byte becomes $00. The rest of its entry
 /// stays, and so does every other byte of the image.
 ///
-/// Refused where there is no memory to keep the bytes of the slot's block; then the image stays.
-/// The caller knows that the directory has that slot.
+/// An error comes if there is no memory to keep the bytes of the slot's block; then the image is
+/// unchanged. The directory must have that slot.
 #[tactic(auto, unfolding(crate::specs::Clearing::with_cleared_slot))]
 pub fn clear_slot(image: &mut Image, patch: &mut Patch, slot: SlotNo) -> Result<(), AllocError>
     requires { slot < length (slots image.old) }
@@ -73,8 +73,8 @@ pub fn clear_slot(image: &mut Image, patch: &mut Patch, slot: SlotNo) -> Result<
 /// Writes a name into the field of a slot of the directory, filled with shifted spaces. Every other
 /// byte of the image stays.
 ///
-/// Refused where there is no memory to keep the bytes of the slot's block; then the image stays.
-/// The caller knows that the directory has that slot.
+/// An error comes if there is no memory to keep the bytes of the slot's block; then the image is
+/// unchanged. The directory must have that slot.
 #[tactic(auto, unfolding(crate::specs::Clearing::with_name))]
 pub fn set_name(
     image: &mut Image,

@@ -1,10 +1,10 @@
-//! What can be wrong with a directory and the files in it.
+//! The conditions of a sound image that can fail.
 ghost use Rattle.std.specs.Prelude.{◌≡◌};
 ghost use Rattle.d64_files.specs.Directory.{number_of};
 
 use thiserror::Error;
 
-/// A condition of a sound image that fails, in the order in which they are looked at.
+/// A condition of a sound image that fails, in the order in which they are tested.
 #[derive(Clone, Copy, Debug, PartialEq, Eq, Error)]
 pub enum DirFault {
     /// A track's count of free blocks isn't the number of its blocks that the map marks free.

@@ -16,8 +16,8 @@ use std::marker::Model;
 /// The sector of the directory's first block on its track.
 pub const DIRECTORY_SECTOR: u8 = 1;
 
-/// The directory of an image: the blocks of its chain, walked once, each of whose slots has a kind
-/// of file.
+/// The directory of an image: the blocks of its chain, walked once. Each of its slots has a kind of
+/// file.
 ///
 /// In clauses it is the image itself.
 #[derive(Drop)]
@@ -39,10 +39,10 @@ impl<'a> Model for Directory<'a> {
 }
 
 impl<'a> Directory<'a> {
-    /// The directory of an image. It takes no memory.
+    /// Reads the directory of an image. It allocates nothing.
     ///
-    /// Refused with `NoDirectory` where there is no chain of blocks from track 18, sector 1, and
-    /// else with `UnknownKind` where the low four bits of a slot's type byte are above 4.
+    /// The error is `NoDirectory` if there is no chain of blocks from track 18, sector 1, and
+    /// otherwise `UnknownKind` if the low four bits of a slot's type byte are above 4.
     pub fn of(image: &'a Image) -> Result<Directory<'a>, DirFault>
         ensures image { IfOk result (λ directory. directory ≡ image.now) }
         ensures conditions { MatchResult result (λ _. AllHold image.now 2 3) (IsFirstFault image.now 2 3) }
@@ -59,7 +59,7 @@ impl<'a> Directory<'a> {
         Ok(Directory { image, blocks })
     }
 
-    /// The image that the directory was read from.
+    /// The image of the directory.
     pub fn image(&self) -> &'a Image
         ensures { result.now ≡ self.now }
     {
@@ -92,9 +92,9 @@ impl<'a> Directory<'a> {
         blocks[blocks.len() - 1]
     }
 
-    /// The block in which a slot stands, and which of its eight slots it is, from 0.
+    /// The block of a slot, and which of the block's eight slots it is, from 0.
     ///
-    /// The caller knows that the directory has that slot.
+    /// The directory must have that slot.
     pub fn place_of(&self, slot: SlotNo) -> (BlockNo, usize)
         requires { slot < length (slots self.now) }
         ensures place { result ≡ (slot_block self.now slot, slot % 8) }
@@ -108,7 +108,7 @@ impl<'a> Directory<'a> {
     }
 }
 
-/// The directory's blocks, or None where there is no chain of blocks from track 18, sector 1.
+/// The directory's blocks, or None if there is no chain of blocks from track 18, sector 1.
 fn directory_blocks(image: &Image) -> Option<BlockList>
     ensures value { unwrap_or result [] ≡ directory image.now }
     ensures exists { IsSome result ↔ (directory image.now ≢ []) }
@@ -126,7 +126,7 @@ pub(crate) fn last_directory_block(image: &Image) -> BlockNo
     blocks[blocks.len() - 1]
 }
 
-/// The block of the directory in which a slot stands, whatever kinds its slots have.
+/// The block of the directory that has a slot, whatever kinds its slots have.
 pub(crate) fn block_of_slot(image: &Image, slot: SlotNo) -> BlockNo
     requires { slot < length (slots image.now) }
     ensures block { result ≡ slot_block image.now slot }

@@ -31,7 +31,7 @@ impl Model for SlotNo {
     ghost inverse = { λ place. record { place = place } };
 }
 
-/// Whether a field ends at a place, or a filler stands there.
+/// Whether a field ends at a place, or a filler is there.
 fn ends_at(field: &[u8], place: usize) -> bool
     requires { place ≤ length field.now }
     ensures { result ≡ ((place == length field.now) || (slice_index field.now place == 0xA0)) }
@@ -40,7 +40,7 @@ fn ends_at(field: &[u8], place: usize) -> bool
 }
 
 impl SlotNo {
-    /// The slot of that place.
+    /// The slot at that place.
     pub fn at(place: usize) -> SlotNo
         ensures { result ≡ place }
     {
@@ -105,16 +105,15 @@ impl<'a> Entry<'a> {
         self.bytes[2]
     }
 
-    /// Whether the low four bits of the type byte are the number of a kind. In each slot of a
-    /// `Directory` they are.
+    /// Whether the low four bits of the type byte are the number of a kind. They are in each slot
+    /// of a `Directory`.
     pub fn has_kind(&self) -> bool
         ensures { result ≡ has_kind self.now.bytes }
     {
         self.bytes[2] % 16 <= LAST_KIND
     }
 
-    /// The kind of the file, the low four bits of the type byte; DEL where there is no kind of that
-    /// number.
+    /// The kind of the file, the low four bits of the type byte; DEL if that number has no kind.
     pub fn kind(&self) -> Kind
         ensures { result ≡ kind_of self.now.bytes }
     {
@@ -156,7 +155,7 @@ impl<'a> Entry<'a> {
         name_in(self.field())
     }
 
-    /// Whether its name is this one.
+    /// Whether the entry has exactly this name.
     pub(crate) fn is_called(&self, name: &Name) -> bool
         ensures { result ≡ bytes_eq (name_of self.now.bytes) name.now }
     {
@@ -169,8 +168,8 @@ impl<'a> Entry<'a> {
         &field[..len] == bytes
     }
 
-    /// The first block of the file, or None where the image that the entry stands in has no block
-    /// of that track and sector.
+    /// The first block of the file, or None if the entry's image has no block of that track and
+    /// sector.
     pub fn start(&self) -> Option<BlockNo>
         ensures { result ≡ block_in self.now.image (first_pair self.now.bytes).0 (first_pair self.now.bytes).1 }
     {
@@ -178,15 +177,15 @@ impl<'a> Entry<'a> {
         block_in(self.image, track, sector)
     }
 
-    /// The track (from 1) and the sector (from 0) of the first block, as they stand in the entry.
+    /// The track (from 1) and the sector (from 0) of the first block, as the entry has them.
     pub fn first_pair(&self) -> (u8, u8)
         ensures { result ≡ first_pair self.now.bytes }
     {
         (self.bytes[3], self.bytes[4])
     }
 
-    /// The track (from 1) and the sector (from 0) of the first side block of a REL file, as they
-    /// stand in the entry, or None where the track is 0: then there are no side blocks.
+    /// The track (from 1) and the sector (from 0) of the first side block of a REL file, as the
+    /// entry has them, or None if the track is 0: then there are no side blocks.
     pub fn side_pair(&self) -> Option<(u8, u8)>
         ensures { result ≡ side_pair self.now.bytes }
     {
@@ -197,7 +196,7 @@ impl<'a> Entry<'a> {
         }
     }
 
-    /// The byte $18 of the slot: the type of a GEOS file; elsewhere 0.
+    /// The byte $18 of the slot: the type of a GEOS file, and 0 for other files.
     pub fn geos_type(&self) -> u8
         ensures { result ≡ geos_type self.now.bytes }
     {

@@ -5,8 +5,8 @@
 ghost use Rattle.d64_files.specs.FirstFault.{reading_conditions, owning_conditions, sound_conditions};
 ghost use Rattle.d64_files.specs.FirstFaultLaws.{TellsFirst};
 
-/// The tests of the conditions find a fault exactly where one of them fails, and the first that
-/// does.
+/// The tests of the conditions find a fault exactly if a condition fails, and find the first that
+/// fails.
 pub fn first_fault_is_the_first()
     ensures sound { TellsFirst sound_conditions 1 6 }
     ensures owning { TellsFirst owning_conditions 2 5 }

@@ -8,7 +8,7 @@ use thiserror::Error;
 /// The most bytes of a name or a pattern, as many as the field of a directory entry has.
 pub(crate) const MAX_LEN: usize = 16;
 
-/// Why bytes are no name, or no pattern.
+/// Why bytes are not a name or a pattern.
 #[derive(Clone, Copy, Debug, PartialEq, Eq, Error)]
 pub enum BadName {
     /// There is no byte.
@@ -17,12 +17,12 @@ pub enum BadName {
     /// There are more than 16 bytes.
     #[error("the name is too long: at most 16 characters fit")]
     TooLong,
-    /// One of at most 16 bytes is forbidden.
+    /// There are 1 to 16 bytes, of which one is forbidden.
     #[error("a name can't hold = : , \" or a carriage return or shifted space, and only a pattern can hold * or ?")]
     Forbidden,
 }
 
-/// The bytes, where they are 1 to 16 and none of them is forbidden.
+/// The bytes, if they are 1 to 16 and not one of them is forbidden.
 pub(crate) fn label(bytes: &[u8], forbidden: &[u8]) -> Result<ArrayVec<u8, MAX_LEN>, BadName>
     ensures accepted { IsOk result ↔ IsLabel forbidden.now bytes.now }
     ensures test { is_ok result ≡ is_label forbidden.now bytes.now }

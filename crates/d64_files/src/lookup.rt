@@ -1,4 +1,4 @@
-//! The slots of the directory that commands ask for.
+//! Finding slots of the directory by their names.
 ghost use Rattle.std.specs.Prelude.{◌≡◌, find, IfOk, MatchResult};
 ghost use Rattle.d64_files.specs.Slot.{EntryView};
 ghost use Rattle.d64_files.specs.Directory.{slots, entries, is_named, first_named, AllHold, IsFirstFault};
@@ -10,8 +10,8 @@ use crate::pattern::{Pattern, matches};
 use d64_image::Image;
 
 impl<'a> Directory<'a> {
-    /// The entry of the first used slot whose name the pattern matches, or None where there is
-    /// none.
+    /// The entry of the first used slot whose name the pattern matches, or None if there is no such
+    /// slot.
     pub fn named(&self, pattern: &Pattern) -> Option<Entry<'a>>
         ensures { result ≡ find (λ (entry : EntryView). is_named pattern.now entry.bytes) (entries self.now (slots self.now)) }
     {
@@ -24,11 +24,11 @@ impl<'a> Directory<'a> {
     }
 }
 
-/// The first used slot whose name the pattern matches, or None where there is none. It takes no
-/// memory.
+/// The first used slot whose name the pattern matches, or None if there is no such slot. It
+/// allocates nothing.
 ///
-/// Refused with `NoDirectory` where there is no chain of blocks from track 18, sector 1, and else
-/// with `UnknownKind` where the low four bits of a slot's type byte are above 4.
+/// The error is `NoDirectory` if there is no chain of blocks from track 18, sector 1, and otherwise
+/// `UnknownKind` if the low four bits of a slot's type byte are above 4.
 pub fn find(image: &Image, pattern: &Pattern) -> Result<Option<SlotNo>, DirFault>
     ensures slot { IfOk result (λ slot. slot ≡ first_named pattern.now (slots image.now)) }
     ensures conditions { MatchResult result (λ _. AllHold image.now 2 3) (IsFirstFault image.now 2 3) }

@@ -7,7 +7,7 @@ use crate::label::{BadName, MAX_LEN, label};
 use arrayvec::ArrayVec;
 use std::marker::Model;
 
-/// The bytes that no name holds: the wildcards of patterns, the separators of the drive's commands,
+/// The bytes that no name has: the wildcards of patterns, the separators of the drive's commands,
 /// and the byte that fills the field of a name.
 const FORBIDDEN: &[u8; 8] = b"*?=:,\"\r\xA0";
 
@@ -25,8 +25,8 @@ pub fn name_in(field: &[u8]) -> &[u8]
     }
 }
 
-/// The name of a file or a disk (1541 User's Guide): 1 to 16 bytes of PETSCII, none of them one of
-/// `*` `?` `=` `:` `,` `"`, $0D and $A0.
+/// The name of a file or a disk (1541 User's Guide): 1 to 16 bytes of PETSCII other than `*` `?`
+/// `=` `:` `,` `"`, $0D and $A0.
 #[derive(Clone, Debug, Drop, PartialEq, Eq, Hash)]
 pub struct Name {
     text: ArrayVec<u8, MAX_LEN>,
@@ -46,10 +46,10 @@ impl Model for Name {
 }
 
 impl Name {
-    /// The name of these bytes. It takes no memory.
+    /// Makes a name of these bytes. It allocates nothing.
     ///
-    /// Refused with `Empty` where there is no byte, with `TooLong` where there are more than 16,
-    /// and else with `Forbidden` where one of them is `*` `?` `=` `:` `,` `"`, $0D or $A0.
+    /// The error is `Empty` if there is no byte, `TooLong` if there are more than 16, and otherwise
+    /// `Forbidden` if one of them is `*` `?` `=` `:` `,` `"`, $0D or $A0.
     pub fn new(bytes: &[u8]) -> Result<Name, BadName>
         ensures accepted { IsOk result ↔ IsName bytes.now }
         ensures test { is_ok result ≡ is_name bytes.now }

@@ -7,11 +7,11 @@ use crate::label::{BadName, MAX_LEN, label};
 use arrayvec::ArrayVec;
 use std::marker::Model;
 
-/// The bytes that no pattern holds: those that no name holds, but for the wildcards.
+/// The bytes that no pattern has: those that no name has, except the wildcards.
 const FORBIDDEN: &[u8; 6] = b"=:,\"\r\xA0";
 
-/// A pattern that selects files by their names (1541 User's Guide): 1 to 16 bytes of PETSCII, none
-/// of them one of `=` `:` `,` `"`, $0D and $A0.
+/// A pattern that selects files by their names (1541 User's Guide): 1 to 16 bytes of PETSCII other
+/// than `=` `:` `,` `"`, $0D and $A0.
 #[derive(Clone, Debug, Drop, PartialEq, Eq, Hash)]
 pub struct Pattern {
     text: ArrayVec<u8, MAX_LEN>,
@@ -31,10 +31,10 @@ impl Model for Pattern {
 }
 
 impl Pattern {
-    /// The pattern of these bytes. It takes no memory.
+    /// Makes a pattern of these bytes. It allocates nothing.
     ///
-    /// Refused with `Empty` where there is no byte, with `TooLong` where there are more than 16,
-    /// and else with `Forbidden` where one of them is `=` `:` `,` `"`, $0D or $A0.
+    /// The error is `Empty` if there is no byte, `TooLong` if there are more than 16, and otherwise
+    /// `Forbidden` if one of them is `=` `:` `,` `"`, $0D or $A0.
     pub fn new(bytes: &[u8]) -> Result<Pattern, BadName>
         ensures accepted { IsOk result ↔ IsPattern bytes.now }
         ensures test { is_ok result ≡ is_pattern bytes.now }

@@ -19,19 +19,19 @@ use thiserror::Error;
 /// Why a file can't be read.
 #[derive(Debug, Drop, Error)]
 pub enum ReadFault {
-    /// The directory, or the file's chain of blocks, isn't as it should be.
+    /// The directory, or the file's chain of blocks, is faulty.
     #[error("the disk can't be read: {0}")]
     Directory(DirFault),
     /// There is no such slot, or it isn't used.
     #[error("there is no such file: list the directory to see which there are")]
     NotFound,
-    /// The file was never closed, so its end isn't known.
+    /// The file was never closed, so that its end isn't known.
     #[error("the file was not closed after it was written")]
     NotClosed,
     /// A DEL entry has no content.
     #[error("a DEL entry has no content to read")]
     WrongType,
-    /// The content had no room in memory.
+    /// There is no memory for the content.
     #[error("out of memory: {0}")]
     Memory(AllocError),
 }
@@ -58,7 +58,7 @@ impl From<AllocError> for ReadFault {
     }
 }
 
-/// The entry of a slot, among those that are left of a walk.
+/// The entry of a slot among those that are left of a walk, or None if it isn't among them.
 pub(crate) fn entry_at<'a>(walk: Slots<'a>, slot: SlotNo) -> Option<Entry<'a>>
     ensures { result ≡ find (λ (entry : EntryView). entry.slot == slot) walk.entry }
 {
@@ -80,7 +80,7 @@ fn is_del(kind: Kind) -> bool
     }
 }
 
-/// The chain of a file that can be read.
+/// The chain of a file, if the file can be read.
 fn readable_chain(image: &Image, entry: &Entry) -> Result<BlockList, ReadFault>
     ensures refused { refused_by result ≡ file_refusal image.now entry.now.bytes }
     ensures chain { IfOk result (λ blocks. blocks ≡ chain_at image.now (first_pair entry.now.bytes)) }
@@ -101,12 +101,11 @@ fn readable_chain(image: &Image, entry: &Entry) -> Result<BlockList, ReadFault>
     }
 }
 
-/// The content of the file of an entry: the data of its chain of blocks, without a REL file's side
-/// blocks.
+/// Reads the file of an entry: the data of its chain of blocks, without a REL file's side blocks.
 ///
-/// Refused, in this order: with `NotFound` where the slot isn't used; with `NotClosed`; with
-/// `WrongType` for a DEL entry; with `Directory` where there is no chain from the file's first
-/// block (`NoChain`); with `Memory` where the content has no room.
+/// The error is the first of these that applies: `NotFound` if the slot isn't used; `NotClosed`;
+/// `WrongType` for a DEL entry; `Directory` if there is no chain from the file's first block
+/// (`NoChain`); `Memory` if there is no memory for the content.
 pub fn entry_content(alloc: Global, image: &Image, entry: &Entry) -> Result<Vec<u8>, ReadFault>
     ensures refused { refused_by result ≡ file_refusal image.now entry.now.bytes }
     ensures bytes { IfOk result (λ bytes. bytes.items ≡ file_content image.now entry.now.bytes) }
@@ -115,14 +114,13 @@ pub fn entry_content(alloc: Global, image: &Image, entry: &Entry) -> Result<Vec<
     Ok(data_along(alloc, image, blocks.as_slice())?)
 }
 
-/// The content of the file of a slot: the data of its chain of blocks, without a REL file's side
-/// blocks.
+/// Reads the file of a slot: the data of its chain of blocks, without a REL file's side blocks.
 ///
-/// Refused, in this order: with `Directory` where there is no chain of blocks from track 18, sector
-/// 1 (`NoDirectory`), or where the low four bits of a slot's type byte are above 4 (`UnknownKind`);
-/// with `NotFound` where the slot isn't there or isn't used; with `NotClosed`; with `WrongType` for
-/// a DEL entry; with `Directory` where there is no chain from the file's first block (`NoChain`);
-/// with `Memory` where the content has no room.
+/// The error is the first of these that applies: `Directory` if there is no chain of blocks from
+/// track 18, sector 1 (`NoDirectory`), or if the low four bits of a slot's type byte are above 4
+/// (`UnknownKind`); `NotFound` if there is no such slot or it isn't used; `NotClosed`; `WrongType`
+/// for a DEL entry; `Directory` if there is no chain from the file's first block (`NoChain`);
+/// `Memory` if there is no memory for the content.
 pub fn content(alloc: Global, image: &Image, slot: SlotNo) -> Result<Vec<u8>, ReadFault>
     ensures refused { refused_by result ≡ content_refusal image.now slot }
     ensures bytes { IfOk result (λ bytes. bytes.items ≡ content_at image.now slot) }

@@ -49,7 +49,7 @@ pub(crate) fn slot_of(block: &[u8; BLOCK_BYTES], index: usize) -> &[u8]
     &block[start..start + SLOT_BYTES]
 }
 
-/// The entry of a slot that stands in this block of the image.
+/// The entry of a slot in this block of the image.
 pub fn entry_in<'a>(image: &'a Image, block: BlockNo, slot: SlotNo) -> Entry<'a>
     requires { block < length image.now }
     ensures { result ≡ entry_of image.now (slot, slot_bytes (sector_at image.now block) (slot % 8)) }
@@ -71,10 +71,10 @@ pub(crate) fn kinds_are_known(block: &[u8; BLOCK_BYTES]) -> bool
 }
 
 impl<'a> Slots<'a> {
-    /// All slots of the directory. It takes no memory.
+    /// The slots of the directory. It allocates nothing.
     ///
-    /// Refused with `NoDirectory` where there is no chain of blocks from track 18, sector 1, and
-    /// else with `UnknownKind` where the low four bits of a slot's type byte are above 4.
+    /// The error is `NoDirectory` if there is no chain of blocks from track 18, sector 1, and
+    /// otherwise `UnknownKind` if the low four bits of a slot's type byte are above 4.
     pub fn of(image: &'a Image) -> Result<Slots<'a>, DirFault>
         ensures slots { IfOk result (λ walk. walk ≡ entries image.now (slots image.now)) }
         ensures len { IfOk result (λ walk. length walk ≤ 8 * BLOCKS) }
@@ -83,8 +83,8 @@ impl<'a> Slots<'a> {
         Ok(Directory::of(image)?.slots())
     }
 
-    /// The slots of blocks of the image, eight a block, whether or not each has a kind. It takes no
-    /// memory.
+    /// The slots of blocks of the image, eight in each block, whether or not each has a kind. It
+    /// allocates nothing.
     pub fn along(image: &'a Image, blocks: BlockList) -> Slots<'a>
         requires { LieIn image.now blocks }
         ensures slots { result ≡ entries image.now (slots_in image.now blocks) }

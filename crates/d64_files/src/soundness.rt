@@ -17,8 +17,8 @@ impl Directory<'_> {
     /// The blocks that are owned: the map's block, the directory's, and the chains of the closed
     /// files other than DEL.
     ///
-    /// Refused with `NoChain`, where a closed file's chain or side chain is missing, or else with
-    /// `CrossLinked`, where a block would be owned twice.
+    /// The error is `NoChain` if a closed file's chain or side chain is missing, and otherwise
+    /// `CrossLinked` if a block would be owned twice.
     fn owned(&self) -> Result<BlockSet, DirFault>
         ensures { MatchResult result (λ blocks. AllHold self.now 2 5 × (blocks ≡ set.from_list (owned_blocks self.now))) (IsFirstFault self.now 2 5) }
     {
@@ -31,12 +31,12 @@ impl Directory<'_> {
 }
 
 /// The blocks that are owned: the map's block, the directory's chain, and the chains of the closed
-/// files other than DEL. It takes no memory.
+/// files other than DEL. It allocates nothing.
 ///
-/// Refused with the first of these conditions that fails: `NoDirectory`, where there is no chain of
-/// blocks from track 18, sector 1; `UnknownKind`, where the low four bits of a slot's type byte are
-/// above 4; `NoChain`, where a closed file's chain or side chain is missing; `CrossLinked`, where a
-/// block would be owned twice.
+/// The error is the first of these conditions that fails: `NoDirectory` if there is no chain of
+/// blocks from track 18, sector 1; `UnknownKind` if the low four bits of a slot's type byte are
+/// above 4; `NoChain` if a closed file's chain or side chain is missing; `CrossLinked` if a block
+/// would be owned twice.
 pub fn owned(image: &Image) -> Result<BlockSet, DirFault>
     ensures verdict { MatchResult result (λ blocks. AllHold image.now 2 5 × (blocks ≡ set.from_list (owned_blocks image.now))) (IsFirstFault image.now 2 5) }
     ensures first { err_of result ≡ first_fault image.now owning_conditions }
@@ -44,9 +44,9 @@ pub fn owned(image: &Image) -> Result<BlockSet, DirFault>
     Directory::of(image)?.owned()
 }
 
-/// The directory of a sound image, and the blocks that are owned. It takes no memory.
+/// The directory of a sound image, and the blocks that are owned. It allocates nothing.
 ///
-/// Refused as `check` is.
+/// Errors come as from `check`.
 pub fn checked(image: &Image) -> Result<(Directory<'_>, BlockSet), DirFault>
     ensures image { IfOk result (λ found. found.0 ≡ image.now) }
     ensures verdict { MatchResult result (λ found. AllHold image.now 1 6 × (found.1 ≡ set.from_list (owned_blocks image.now))) (IsFirstFault image.now 1 6) }
@@ -64,11 +64,11 @@ pub fn checked(image: &Image) -> Result<(Directory<'_>, BlockSet), DirFault>
     }
 }
 
-/// The blocks that are owned, of a sound image. It takes no memory.
+/// The blocks that are owned in a sound image. It allocates nothing.
 ///
-/// Refused with `WrongCounts` where a track's count of free blocks isn't the number of its blocks
-/// that the map marks free; then as `owned` is; and then with `MarkedFree` where the map marks a
-/// block free that is owned.
+/// The error is `WrongCounts` if a track's count of free blocks isn't the number of its blocks that
+/// the map marks free; then as from `owned`; and then `MarkedFree` if the map marks a block free
+/// that is owned.
 pub fn check(image: &Image) -> Result<BlockSet, DirFault>
     ensures verdict { MatchResult result (λ blocks. AllHold image.now 1 6 × (blocks ≡ set.from_list (owned_blocks image.now))) (IsFirstFault image.now 1 6) }
     ensures first { err_of result ≡ first_fault image.now sound_conditions }
@@ -89,10 +89,10 @@ fn blocks_of(image: &Image, entry: &Entry) -> BlockSet
     }
 }
 
-/// The blocks that a slot of a sound image owns: those of its chain and of its side chain, and none
-/// where it owns nothing or isn't there. It takes no memory.
+/// The blocks that a slot of a sound image owns: those of its chain and of its side chain, and no
+/// block if it owns nothing or there is no such slot. It allocates nothing.
 ///
-/// The caller knows that `check` accepts the image.
+/// `check` must accept the image.
 pub fn slot_blocks(image: &Image, slot: SlotNo) -> BlockSet
     requires { AllHold image.now 1 6 }
     ensures { result ≡ set.from_list (slot_owns image.now slot) }

@@ -1,5 +1,5 @@
-//! What a new entry in the directory needs: a slot that isn't used, or else the last block; and a
-//! name that isn't taken.
+//! What a new entry in the directory needs: an unused slot, or else the last block; and a name that
+//! isn't taken.
 ghost use Rattle.std.specs.Prelude.{◌≡◌, ◌+◌, ◌*◌, ◌<◌, ◌≤◌, not, length, IfOk, IfSome, MatchResult};
 ghost use Rattle.std.specs.List.{position_from};
 ghost use Rattle.d64_image.specs.declared.block.TheConstants.{BLOCKS};
@@ -15,8 +15,8 @@ use crate::name::Name;
 use crate::slots::{SLOTS_PER_BLOCK, entry_in, slot_of};
 use d64_image::{BLOCK_BYTES, BlockNo, Image};
 
-/// The first slot of a block that isn't used, or None where all are. Its slots have the eight
-/// numbers from this one on.
+/// The first unused slot of a block, or None if all are used. Its slots have the eight numbers from
+/// `first` on.
 fn first_empty_of(block: &[u8; BLOCK_BYTES], first: usize) -> Option<SlotNo>
     requires { first ≤ 8 * BLOCKS }
     ensures slot { result ≡ position_from (λ cell. not (is_used cell)) first (cells block.now) }
@@ -51,7 +51,7 @@ fn is_taken_in(image: &Image, block: BlockNo, name: &Name) -> bool
 }
 
 impl Directory<'_> {
-    /// The first slot that isn't used, or None where all are.
+    /// The first unused slot, or None if all are used.
     pub fn first_empty(&self) -> Option<SlotNo>
         ensures slot { result ≡ first_unused (slots self.now) }
         ensures within { IfSome result (λ slot. slot < length (slots self.now)) }
@@ -80,10 +80,10 @@ impl Directory<'_> {
     }
 }
 
-/// The first slot that isn't used, or None where all are. It takes no memory.
+/// The first unused slot, or None if all are used. It allocates nothing.
 ///
-/// Refused with `NoDirectory` where there is no chain of blocks from track 18, sector 1, and else
-/// with `UnknownKind` where the low four bits of a slot's type byte are above 4.
+/// The error is `NoDirectory` if there is no chain of blocks from track 18, sector 1, and otherwise
+/// `UnknownKind` if the low four bits of a slot's type byte are above 4.
 pub fn first_empty(image: &Image) -> Result<Option<SlotNo>, DirFault>
     ensures slot { IfOk result (λ slot. slot ≡ first_unused (slots image.now)) }
     ensures conditions { MatchResult result (λ _. AllHold image.now 2 3) (IsFirstFault image.now 2 3) }
@@ -91,10 +91,10 @@ pub fn first_empty(image: &Image) -> Result<Option<SlotNo>, DirFault>
     Ok(Directory::of(image)?.first_empty())
 }
 
-/// Whether a used slot has exactly this name. It takes no memory.
+/// Whether a used slot has exactly this name. It allocates nothing.
 ///
-/// Refused with `NoDirectory` where there is no chain of blocks from track 18, sector 1, and else
-/// with `UnknownKind` where the low four bits of a slot's type byte are above 4.
+/// The error is `NoDirectory` if there is no chain of blocks from track 18, sector 1, and otherwise
+/// `UnknownKind` if the low four bits of a slot's type byte are above 4.
 pub fn is_taken(image: &Image, name: &Name) -> Result<bool, DirFault>
     ensures taken { IfOk result (λ taken. taken ≡ is_name_taken name.now (slots image.now)) }
     ensures conditions { MatchResult result (λ _. AllHold image.now 2 3) (IsFirstFault image.now 2 3) }
@@ -102,10 +102,10 @@ pub fn is_taken(image: &Image, name: &Name) -> Result<bool, DirFault>
     Ok(Directory::of(image)?.is_taken(name))
 }
 
-/// The directory's last block. It takes no memory.
+/// The directory's last block. It allocates nothing.
 ///
-/// Refused with `NoDirectory` where there is no chain of blocks from track 18, sector 1, and else
-/// with `UnknownKind` where the low four bits of a slot's type byte are above 4.
+/// The error is `NoDirectory` if there is no chain of blocks from track 18, sector 1, and otherwise
+/// `UnknownKind` if the low four bits of a slot's type byte are above 4.
 pub fn dir_last(image: &Image) -> Result<BlockNo, DirFault>
     ensures block { IfOk result (λ block. block ≡ dir_last image.now) }
     ensures conditions { MatchResult result (λ _. AllHold image.now 2 3) (IsFirstFault image.now 2 3) }

@@ -1,10 +1,9 @@
 //! The writers of files: their entries in the directory, and their chains of blocks (the VICE
 //! manual, "The D64 disk image format").
 //!
-//! They write through a patch, which keeps the blocks that they replace: the image with the patch
-//! put back stays the same. They are refused where there is no memory to keep what stood there.
-//! Then some blocks may be written, and the image with the patch put back is still the one from
-//! before.
+//! They write through a patch, which keeps the blocks that they replace: putting the patch back
+//! still gives the same image. An error comes if there is no memory to keep a block's bytes. Then
+//! some blocks may be written, and putting the patch back still gives the image from before.
 ghost use Rattle.std.specs.Prelude.{◌≡◌, ◌≢◌, ◌+◌, ◌*◌, ◌<◌, ◌≤◌, [], length, OnOk};
 ghost use Rattle.d64_image.specs.Image.{sector_at};
 ghost use Rattle.d64_image.specs.Patch.{IsPatchOf, restored_image};
@@ -22,18 +21,18 @@ use crate::slots::SLOTS_PER_BLOCK;
 use d64_image::{BLOCK_BYTES, BlockNo, Image, Patch};
 use std::alloc::AllocError;
 
-/// How many bytes of data a block of a file holds, beside its link.
+/// How many bytes of data a block of a file has, beside its link.
 const DATA_BYTES: usize = BLOCK_BYTES - 2;
 
 /// The bit of the type byte that says that a file is closed.
 const CLOSED: u8 = 0x80;
 
-/// How many bytes of an entry stand between its name and its size: those of a REL file's side
-/// blocks and records, and others without a use here.
+/// How many bytes of an entry come between its name and its size: those of a REL file's side blocks
+/// and records, and others without a use here.
 const SIDE_BYTES: usize = 9;
 
-/// How many blocks a file of so many bytes takes: as few as hold them, 254 bytes a block, and at
-/// least one.
+/// How many blocks a file of this many bytes takes: as few as hold them, at 254 bytes a block, and
+/// at least one.
 pub fn blocks_for(bytes: usize) -> usize
     ensures { result ≡ blocks_for bytes }
 {
@@ -64,7 +63,7 @@ fn write_entry(
     write_at(block, start + 28, &blocks.to_le_bytes());
 }
 
-/// A closed file as its entry in the directory tells it, without side blocks.
+/// A closed file as its entry in the directory describes it, without side blocks.
 #[derive(Clone, Copy)]
 pub struct ClosedFile<'n> {
     pub name: &'n Name,
@@ -75,12 +74,12 @@ pub struct ClosedFile<'n> {
     pub blocks: u16,
 }
 
-/// Writes the entry of a closed file into one of the eight slots of a block of the directory, which
-/// the image has, which are counted from 0: its kind, its first block, its name, no side blocks,
-/// and the size in blocks that the directory shows. Every other byte of the image stays.
+/// Writes the entry of a closed file into one of the eight slots, counted from 0, of a block of the
+/// directory, which the image has: its kind, its first block, its name, no side blocks, and the
+/// size in blocks that the directory shows. Every other byte of the image stays.
 ///
-/// Refused where there is no memory to keep what stood there: the image with the patch put back is
-/// still the one from before.
+/// An error comes if there is no memory to keep the block's bytes: putting the patch back still
+/// gives the image from before.
 pub fn put_entry_at(
     image: &mut Image,
     patch: &mut Patch,
@@ -111,8 +110,8 @@ pub fn put_entry_at(
 /// name, no side blocks, and the size in blocks that the directory shows. The first two bytes of
 /// the slot stay, and so does every other byte of the image.
 ///
-/// Refused where there is no memory to keep what stood there: the image with the patch put back is
-/// still the one from before. The caller knows that the directory has that slot.
+/// An error comes if there is no memory to keep the block's bytes: putting the patch back still
+/// gives the image from before. The directory must have that slot.
 pub fn put_entry(
     image: &mut Image,
     patch: &mut Patch,
@@ -139,7 +138,7 @@ pub fn put_entry(
     put_entry_at(image, patch, block, index, &file)
 }
 
-/// A block of a file that another one follows: the link to that one, and the first 254 of the
+/// A block of a file before its last one: the link to the next block, and the first 254 of the
 /// bytes.
 fn linked_block(next: BlockNo, bytes: &[u8]) -> [u8; BLOCK_BYTES]
     requires { 254 ≤ length bytes.now }
@@ -165,9 +164,9 @@ fn last_block(bytes: &[u8]) -> [u8; BLOCK_BYTES]
 /// Writes the data of a file into blocks of the image, each linked to the next. No other block
 /// changes.
 ///
-/// Refused where there is no memory to keep what stood there: then some blocks may be written, and
-/// the image with the patch put back is still the one from before. The caller knows that there are
-/// as many blocks as the file takes.
+/// An error comes if there is no memory to keep a block's bytes: then some blocks may be written,
+/// and putting the patch back still gives the image from before. There must be as many blocks as
+/// the file takes.
 pub fn put_chain(
     image: &mut Image,
     patch: &mut Patch,
@@ -189,7 +188,7 @@ pub fn put_chain(
     patch.write(image, blocks[last], &last_block(rest))
 }
 
-/// The bytes of a block of the directory that no block follows, and whose eight slots are empty.
+/// The bytes of the last block of a directory, with eight empty slots.
 pub fn empty_directory() -> [u8; BLOCK_BYTES]
     ensures { result ≡ empty_directory }
 {
@@ -210,12 +209,12 @@ fn linked_last(image: &Image, last: BlockNo, next: BlockNo) -> [u8; BLOCK_BYTES]
     bytes
 }
 
-/// Appends a block of the image to the directory: the last one's link names it, and its eight slots
-/// are empty. No other byte of the image changes.
+/// Appends a block of the image to the directory: the last block's link leads to it, and its eight
+/// slots are empty. No other byte of the image changes.
 ///
-/// Refused where there is no memory to keep what stood there: then the link may be written, and the
-/// image with the patch put back is still the one from before. The caller knows which block is the
-/// last one.
+/// An error comes if there is no memory to keep a block's bytes: then the link may be written, and
+/// putting the patch back still gives the image from before. `last` must be the directory's last
+/// block.
 pub fn grow_after(
     image: &mut Image,
     patch: &mut Patch,
@@ -232,10 +231,10 @@ pub fn grow_after(
     patch.write(image, new, &empty_directory())
 }
 
-/// Appends a block to the directory, as `grow_after` does after its last block, and refused as
+/// Appends a block to the directory, as `grow_after` does after its last block. Errors come as
 /// there.
 ///
-/// The caller knows that there is a directory.
+/// There must be a directory.
 pub fn grow(image: &mut Image, patch: &mut Patch, new: BlockNo) -> Result<(), AllocError>
     requires directory { directory image.old ≢ [] }
     requires new { new < length image.old }

@@ -4,7 +4,7 @@ use Rattle.d64_files.specs.Slot.{cell, is_used}
 use Rattle.d64_files.proofs.SlotTests.{position_found, position_more, position_past}
 use Rattle.d64_files.proofs.vacancy.first_empty_of.Goals as goal
 
--- a slot is unused where its type byte is 0
+-- a slot is unused if its type byte is 0
 unused : (slot bytes : List ℕ) → slot ≡ bytes → slice_index_or slot 2 0 ≡ 0 → not (is_used bytes) ≡ true
 unused slot bytes same zero = ap (λ (b : Bool). not (not b)) (eq-eqb _ _ (sym (ap (λ (s : List ℕ). slice_index_or s 2 0) same) ∙ zero))
 
