@@ -15,7 +15,7 @@ use Rattle.d64_inventory.proofs.AnyOf.{any_same, any_never}
 and_none : (t : Bool) → (t && false) ≡ false
 and_none t = and_right t false refl
 
--- none of the numbers from one on is a smaller one
+-- no number from one on is a smaller one
 none_later : (p : ℕ → Bool) (x a n : ℕ) → x < a → list_any (λ b. p b && eqb b x) (range_with_len a n) ≡ false
 none_later p x a zero less = refl
 none_later p x a (suc n) less =
@@ -23,7 +23,7 @@ none_later p x a (suc n) less =
     (and_right (p a) (eqb a x) (ne_eqb a x (λ e. omega arith)))
     (none_later p x (a + 1) n (omega arith))
 
--- one of a range passes a test and is a number of it where that number passes
+-- a number of a range passes a test if the test names it
 one_in : (p : ℕ → Bool) (x a n : ℕ) → a ≤ x → x < a + n → list_any (λ b. p b && eqb b x) (range_with_len a n) ≡ p x
 one_in p x a zero from below = absurd (omega arith)
 one_in p x a (suc n) from below = elim (cases_Bool (eqb a x)) [
@@ -55,7 +55,7 @@ any_or f g (x ∷ xs) = ap (λ (t : Bool). (f x || g x) || t) (any_or f g xs) �
     turned false true false d = refl
     turned false false c d = refl
 
--- one of the first so many numbers passes a test and is in a list of such where one of the list
+-- one of the first numbers passes a test and is in a list of such if one of the list
 -- passes
 any_in : (p : ℕ → Bool) (n : ℕ) (list : List ℕ) → ((b : ℕ) → list_any (eqb b) list ≡ true → b < n)
     → list_any (λ b. p b && list_any (eqb b) list) (range_with_len 0 n) ≡ list_any p list

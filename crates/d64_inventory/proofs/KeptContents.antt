@@ -13,11 +13,11 @@ use Rattle.d64_inventory.specs.Contents.{digested_along}
 use Rattle.d64_inventory.specs.ContentTables.{kept_content, TellsContents}
 use Rattle.d64_inventory.specs.declared.row.Content.{Content}
 
--- what is kept is what is told of the content along the way from a pair
+-- what is kept is the length and the digest of the content along the way from a pair
 abbrev so : List (List ℕ) → ℕ × ℕ → Content → Type 0
 so image pair content = Some content ≡ digested_along image (way image pair)
 
--- what holds of what is there, where it is another value
+-- what holds of a value in a list after another one is replaced
 held : (P : Content → Type 0) (found other : Option Content) → found ≡ other → IfSome other P → IfSome found P
 held P found other same is = subst (λ (f : Option Content). IfSome f P) (sym same) is
 
@@ -29,16 +29,16 @@ kept_none n (Some block) = elim (cases_lt block n) [
   | inr past ↦ get_or_past (replicate n None) block None (let long : length (replicate n None) ≤ block = omega (arith, length-replicate {A = Option Content} n None) in long)
 ]
 
--- so what is kept there is so
+-- so what is kept there holds
 pub none_kept : (n : ℕ) (image : List (List ℕ)) → TellsContents image (replicate n None)
 none_kept n image = λ pair. held (so image pair) (kept_content (replicate n None) (block_at image pair)) None (kept_none n (block_at image pair)) tt
 
--- what is told of the content along a way is so
+-- the length and the digest of the content along a way are right
 told_is : (image : List (List ℕ)) (pair : ℕ × ℕ) (content : Option Content) → content ≡ digested_along image (way image pair) → IfSome content (so image pair)
 told_is image pair None is = tt
 told_is image pair (Some content) is = is
 
--- what is told of one more content is kept
+-- the length and the digest of one more content are kept
 pub one_kept : (image : List (List ℕ)) (contents : List (Option Content)) (pair : ℕ × ℕ) (block : ℕ) (content : Option Content)
     → block_at image pair ≡ Some block → content ≡ digested_along image (way image pair) → TellsContents image contents → TellsContents image (slice_set contents block content)
 one_kept image contents pair block content found is tells = λ other. by_block other (block_at image other) refl
@@ -64,7 +64,7 @@ one_kept image contents pair block content found is tells = λ other. by_block o
           held (so image other) (kept_content (slice_set contents block content) (block_at image other)) (kept_content contents (block_at image other)) here (tells other)
     ]
 
--- what is kept for the block of a pair is told of the content along the way
+-- what is kept for the block of a pair belongs to the content along the way
 pub kept_at : (image : List (List ℕ)) (contents : List (Option Content)) (pair : ℕ × ℕ) (block n : ℕ) (content : Content) → TellsContents image contents
     → block_at image pair ≡ Some block → n ≡ block → slice_index_or contents n None ≡ Some content → Some content ≡ digested_along image (way image pair)
 kept_at image contents pair block n content tells found same is =

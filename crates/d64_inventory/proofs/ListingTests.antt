@@ -11,7 +11,7 @@ pub by_file : (dump : DumpView) → ltb 0 (unwhole_count dump) ≡ true → true
 unfolding is_listing_amiss
 by_file dump some = sym (ap (λ (t : Bool). t || (not (is_whole (directory_way dump.image).1) || is_directory_unreadable dump)) some)
 
--- none is, and the directory decides
+-- no file is, and the directory decides
 past_files : (dump : DumpView) → ltb 0 (unwhole_count dump) ≡ false → is_listing_amiss dump ≡ (not (is_whole (directory_way dump.image).1) || is_directory_unreadable dump)
 unfolding is_listing_amiss
 past_files dump none = ap (λ (t : Bool). t || (not (is_whole (directory_way dump.image).1) || is_directory_unreadable dump)) none

@@ -71,7 +71,7 @@ owned_at-is image slot block other =
     list_any-append (λ (o : ℕ × Owner). eqb block o.0 && is_part_of slot o.1) (part_owners image other Data) (part_owners image other Side)
     ∙ ap₂ ◌||◌ (any_owned slot block (File other.0 Data) (blocks_from image (pair_of Data other.1))) (any_owned slot block (File other.0 Side) (blocks_from image (pair_of Side other.1)))
 
--- the file of a slot owns a block where that is one of its own
+-- the file of a slot owns a block if that is one of its own
 pub owns-is : (image : List (List ℕ)) (slot block : ℕ) (cell : List ℕ) → slot_cell image slot ≡ Some cell → owns image slot block ≡ is_of_file image cell block
 unfolding owners
 owns-is image slot block cell there =
@@ -104,12 +104,12 @@ owns-is image slot block cell there =
 abbrev meets : List (List ℕ) → ℕ → ℕ → Fault → Bool
 meets image slot n fault = eqb (number fault) n && names image slot fault
 
--- a fault where there is one
+-- a fault if there is one
 any_where : (f : Fault → Bool) (there : Bool) (fault : Fault) → list_any f (where_so there fault) ≡ (there && f fault)
 any_where f true fault = or_none (f fault)
 any_where f false fault = refl
 
--- faults where there are some
+-- faults if there are some
 any_so : {X : Type 0} (f : Fault → Bool) (there : X → Bool) (fault : X → Fault) (xs : List X)
     → list_any f (flat_map (λ x. where_so (there x) (fault x)) xs) ≡ list_any (λ x. there x && f (fault x)) xs
 any_so f there fault xs =
@@ -173,7 +173,7 @@ shared_is image slot n = any_so (meets image slot n) (is_shared image) (λ block
 free_is : (image : List (List ℕ)) (slot n : ℕ) → list_any (meets image slot n) (free_faults image) ≡ free_met image slot n
 free_is image slot n = any_so (meets image slot n) (λ block. is_owned image block && set.contains (free_blocks image) block) (λ block. MarkedFree block) blocks
 
--- a condition is that of a slot where one of the four lists meets it
+-- a condition is that of a slot if one of the four lists meets it
 all_met : (image : List (List ℕ)) (slot n : ℕ) → is_condition_of image slot n ≡ (kinds_met image slot n || (files_met image slot n || (shared_met image slot n || free_met image slot n)))
 unfolding faults
 all_met image slot n =

@@ -2,7 +2,7 @@
 use Rattle.std.proofs.Common.{◌≡◌, ℕ, Bool, true, false, cond, List, [], ◌∷◌, ◌++◌, refl, ap, ◌∙◌, append_assoc}
 use Rattle.d64_inventory.specs.Conditions.{is_condition_of, conditions}
 
--- a number, where its condition fails
+-- a number, if its condition fails
 abbrev where_fails : Bool → ℕ → List ℕ
 where_fails fails n = cond fails (n ∷ []) []
 

@@ -32,7 +32,7 @@ nil_is : (list : List ℕ) → is_nil list ≡ true → list ≡ []
 nil_is [] e = refl
 nil_is (x ∷ list) e = absurd (let f : false ≡ true = e in cc)
 
--- the content along the way from a pair is the data of the chain, where there is one
+-- the content along the way from a pair is the data of the chain, if there is one
 along_chain : (image : List (List ℕ)) (pair : ℕ × ℕ) → content_along image (way image pair) ≡ cond (is_nil (chain_at image pair)) None (Some (data_along image (chain_at image pair)))
 along_chain image pair =
     let b = bounded image pair in
@@ -60,7 +60,7 @@ refusal closed kind nil = cond (not closed) (Some NotClosed) (cond (is_del kind)
 abbrev content_by : List (List ℕ) → List ℕ → Bool → Kind → Option (List ℕ)
 content_by image cell closed kind = option_and_then (λ pair. content_along image (way image pair)) (slice_get (cond closed (roots_of kind cell) []) 0)
 
--- a refusal for want of a chain alone
+-- a refusal only because there is no chain
 refused : (nil : Bool) (bytes : List ℕ) → cond nil None (Some bytes) ≡ cond (is_some (cond nil (Some (Directory NoChain)) None)) None (Some bytes)
 refused true bytes = refl
 refused false bytes = refl

@@ -11,7 +11,7 @@ use Rattle.d64_survey.specs.Inspection.{slot_cell}
 use Rattle.d64_survey.proofs.Told.{bounded}
 use Rattle.d64_survey.proofs.Trails.{lies}
 
--- it stands in one of the blocks
+-- it is in one of the blocks
 pub inside : (image : List (List ℕ)) (slot : ℕ) (bytes : List ℕ) → slot_cell image slot ≡ Some bytes → slot / 8 < length (directory_way image).0
 inside image slot bytes there =
     let within = slice_get_within (way_slots image) slot bytes there in
@@ -31,7 +31,7 @@ byte_there image slot bytes at there small =
     let is : bytes ≡ cell sector (slot % 8) = sym (get_or_from_slice_get (way_slots image) slot bytes [] there) ∙ slot_at_place image blocks slot (inside image slot bytes there) in
     sym (ap (λ (b : List ℕ). get_or b at 0) is ∙ get_or-take 32 (drop (32 * (slot % 8)) sector) at 0 small ∙ get_or-drop (32 * (slot % 8)) sector at 0)
 
--- what was found at the place of a slot: it stands in one of the blocks
+-- what was found at the place of a slot: it is in one of the blocks
 pub at_place : (image : List (List ℕ)) (items : List ℕ) (slot n : ℕ) (bytes : List ℕ) → slot_cell image slot ≡ Some bytes → n ≡ slot → items ≡ (directory_way image).0
     → n / 8 < length items
 at_place image items slot n bytes there same is =

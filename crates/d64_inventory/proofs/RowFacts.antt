@@ -1,4 +1,4 @@
--- What is told of a slot, field by field.
+-- What a row has of a slot, field by field.
 use Rattle.std.proofs.Common.{◌≡◌, ℕ, List}
 use Rattle.std.specs.Prelude.{option_map}
 use Rattle.d64_files.specs.Slot.{type_byte, kind_of, is_closed, is_locked, size_of, first_pair, field_of}
@@ -9,7 +9,7 @@ use Rattle.d64_inventory.specs.Contents.{content_of, digested_content}
 use Rattle.d64_inventory.specs.Conditions.{conditions}
 use Rattle.d64_inventory.specs.Rows.{FileRowView, known_kind, record_length_by, way_length, error_count, row_of}
 
--- what a row tells is so
+-- what a row has is right
 pub record AreTold (dump : DumpView) (numbered : ℕ × List ℕ) (row : FileRowView) : Type 0 where
   pub slot : row.slot ≡ numbered.0
   pub field : row.field ≡ field_of numbered.1

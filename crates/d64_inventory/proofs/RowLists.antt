@@ -25,7 +25,7 @@ bytes_of dump slot = get_or (way_slots dump.image) slot []
 abbrev later : DumpView → ℕ → List FileRowView
 later dump slot = rows_from dump (slot + 1)
 
--- those from a slot on are its own, where it is used, and the later ones
+-- those from a slot on are its own row, if it is used, and the later ones
 first_and_later : (dump : DumpView) (slot : ℕ) → slot < length (way_slots dump.image)
     → rows_from dump slot ≡ cond (is_used (bytes_of dump slot)) (row_of dump (slot, bytes_of dump slot) ∷ later dump slot) (later dump slot)
 first_and_later dump slot within =
@@ -61,7 +61,7 @@ pub row_first : (dump : DumpView) (slot : ℕ) (row : FileRowView) → slot < le
 row_first dump slot row within is =
     first_and_later dump slot within ∙ by_use (is_used (bytes_of dump slot)) (row_of dump (slot, bytes_of dump slot)) row (is ∙ row_there dump slot within) (later dump slot)
 
--- where there is none, the later ones are left
+-- if it has no row, the later ones are left
 pub row_later : (dump : DumpView) (slot : ℕ) → slot < length (way_slots dump.image) → None ≡ row_at dump slot → rows_from dump slot ≡ later dump slot
 row_later dump slot within is =
     first_and_later dump slot within ∙ by_no_use (is_used (bytes_of dump slot)) (row_of dump (slot, bytes_of dump slot)) (is ∙ row_there dump slot within) (later dump slot)

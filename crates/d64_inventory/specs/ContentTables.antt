@@ -6,11 +6,11 @@ use Rattle.d64_survey.specs.Way.{way, block_at}
 use Rattle.d64_inventory.specs.Contents.{digested_along}
 use Rattle.d64_inventory.specs.declared.row.Content.{Content}
 
--- what is kept for a block, where there is one
+-- what is kept for a block, if there is such a block
 abbrev pub kept_content : List (Option Content) → Option ℕ → Option Content
 kept_content contents block = option_map_or (λ block. slice_index_or contents block None) block None
 
--- what is kept for the first block of a way is told of the content along it
+-- what is kept for the first block of a way is the length and the digest of the content along it
 abbrev pub TellsContents : Disk → List (Option Content) → Type 0
 TellsContents image contents =
     (pair : ℕ × ℕ) → IfSome (kept_content contents (block_at image pair)) (λ content. Some content ≡ digested_along image (way image pair))

@@ -1,4 +1,4 @@
--- What is told of a used slot and of its file.
+-- The row of a used slot and its file.
 use Rattle.std.specs.Prelude.{ℕ, Bool, if◌then◌else◌, List, map, filter, drop, count_by, length, slice_index, nat_eq, Option, Some, None, option_map}
 use Rattle.std.specs.List.{list_any}
 use Rattle.std.specs.Option.{option_and_then}
@@ -22,7 +22,7 @@ use Rattle.d64_inventory.specs.Contents.{content_of, digested_content}
 use Rattle.d64_inventory.specs.Conditions.{conditions}
 use Rattle.d64_inventory.specs.declared.row.Content.{Content}
 
--- what a row tells
+-- what a row has
 pub record FileRowView : Type 0 where
   pub slot : ℕ
   pub field : Bytes
@@ -41,20 +41,20 @@ pub record FileRowView : Type 0 where
   pub conditions : List ℕ
   pub read_errors : ℕ
 
--- the kind of a slot; none where its number is no kind's
+-- the kind of a slot; None if its number is that of no kind
 abbrev pub known_kind : Bytes → Option Kind
 known_kind cell = if has_kind cell then Some (kind_of cell) else None
 
--- the length of a record, of a slot of this kind: the byte $17 where that is REL
+-- the length of a record of a slot of this kind: the byte $17 if the kind is REL, else None
 abbrev pub record_length_by : Kind → Bytes → Option ℕ
 record_length_by Rel cell = Some (slice_index cell 0x17)
 record_length_by kind cell = None
 
--- how many blocks the way of a part of a slot's file has; none where there is no such part
+-- how many blocks the way of a part of a slot's file has; None if there is no such part
 abbrev pub way_length : Disk → Bytes → Part → Option ℕ
 way_length image cell part = option_map (λ pair. length (way image pair).0) (pair_of part cell)
 
--- a block is one of those of a slot's file
+-- whether a block is one of those of a slot's file
 abbrev pub is_of_file : Disk → Bytes → ℕ → Bool
 is_of_file image cell block = list_any (nat_eq block) (slot_blocks image cell)
 
@@ -62,7 +62,7 @@ is_of_file image cell block = list_any (nat_eq block) (slot_blocks image cell)
 abbrev pub error_count : DumpView → Bytes → ℕ
 error_count dump cell = count_by (λ (error : ReadError). is_of_file dump.image cell error.block) (read_errors dump)
 
--- what is told of a numbered slot of a dump and of its file
+-- the row of a numbered slot of a dump and its file
 unfoldable pub row_of : DumpView → ℕ × Bytes → FileRowView
 row_of dump slot = record {
   slot = slot.0;
@@ -83,12 +83,12 @@ row_of dump slot = record {
   read_errors = error_count dump slot.1;
 }
 
--- the row of the slot of this number; none where the directory's way has no such slot, or it isn't
+-- the row of the slot of this number; None if the directory's way has no such slot, or it isn't
 -- used
 abbrev pub row_at : DumpView → ℕ → Option FileRowView
 row_at dump slot = option_and_then (λ cell. if is_used cell then Some (row_of dump (slot, cell)) else None) (slot_cell dump.image slot)
 
--- the rows of numbered slots of a dump: one for each that is used, in their order
+-- the rows of numbered slots of a dump: one for each that is used, in order
 abbrev pub rows_among : DumpView → List (ℕ × Bytes) → List FileRowView
 rows_among dump slots = map (row_of dump) (filter (λ (slot : ℕ × Bytes). is_used slot.1) slots)
 

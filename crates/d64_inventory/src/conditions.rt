@@ -1,4 +1,4 @@
-//! The conditions of a sound image that fail at a slot.
+//! The conditions of a sound image that fail for a slot.
 ghost use Rattle.std.specs.Prelude.{◌≡◌, ◌+◌, ◌<◌, ◌≤◌, ℕ, [], ◌∷◌, ◌++◌, Some, length, if◌then◌else◌};
 ghost use Rattle.std.specs.List.{list_any};
 ghost use Rattle.std.specs.FinSet as set;
@@ -14,10 +14,10 @@ use arrayvec::ArrayVec;
 use d64_files::Entry;
 use d64_survey::Survey;
 
-/// How many conditions a fault of a slot's file may fail: those of the numbers 3 to 6.
+/// How many conditions can fail for a slot: those with the numbers 3 to 6.
 pub(crate) const SLOT_CONDITIONS: usize = 4;
 
-/// Appends the number of a condition where that fails.
+/// Appends the number of a condition if that fails.
 fn number_if(list: &mut ArrayVec<u8, SLOT_CONDITIONS>, number: u8, fails: bool)
     requires { length list.old.items < 4 }
     ensures list { list.new.items ≡ list.old.items ++ (if fails then number ∷ [] else []) }

@@ -13,14 +13,14 @@ use d64_image::{BLOCKS, BlockNo, Image};
 use d64_survey::{data_pair, walk};
 use sha2::{Digest, Sha256};
 
-/// What is told of the contents along ways, by the first block of each. Ways from one block are one
-/// way.
+/// The lengths and digests of the contents along ways, by the first block of each. Ways from the
+/// same block are the same way.
 #[derive(Drop)]
 pub(crate) struct ContentTable {
     contents: [Option<Content>; BLOCKS],
 }
 
-/// What is told of the data of blocks of the image, one after another.
+/// The length and the digest of the data of blocks of the image, one after another.
 fn digest_along(image: &Image, blocks: &[BlockNo]) -> Content
     requires held { LieIn image.now blocks.now }
     requires len { length blocks.now ≤ BLOCKS }
@@ -39,8 +39,8 @@ fn digest_along(image: &Image, blocks: &[BlockNo]) -> Content
     }
 }
 
-/// What is told of the content along the way from a track and a sector, or None where that isn't a
-/// whole chain.
+/// The length and the digest of the content along the way from a track and a sector, or None if
+/// that isn't a whole chain.
 fn digest_from(image: &Image, track: u8, sector: u8) -> Option<Content>
     ensures { result ≡ digested_along image.now (way image.now (track, sector)) }
 {
@@ -54,7 +54,7 @@ fn digest_from(image: &Image, track: u8, sector: u8) -> Option<Content>
 }
 
 impl ContentTable {
-    /// The table that keeps nothing.
+    /// The empty table.
     pub(crate) fn empty(image: &Image) -> ContentTable
         ensures { TellsContents image.now result.contents }
     {
@@ -63,8 +63,8 @@ impl ContentTable {
         }
     }
 
-    /// What is told of the content of a slot's file, or None where it has none. The content is
-    /// digested only where what is told of it isn't kept for its first block.
+    /// The length and the digest of the content of a slot's file, or None if it has no content. It
+    /// is computed only if it isn't kept for the file's first block.
     pub(crate) fn content(&mut self, image: &Image, entry: &Entry) -> Option<Content>
         requires { TellsContents image.now self.old.contents }
         ensures content { result ≡ option_map digested_content (content_of image.now entry.now.bytes) }
@@ -76,7 +76,7 @@ impl ContentTable {
         }
     }
 
-    /// What is told of the content along the way from a track and a sector.
+    /// The length and the digest of the content along the way from a track and a sector.
     fn content_from(&mut self, image: &Image, track: u8, sector: u8) -> Option<Content>
         requires { TellsContents image.now self.old.contents }
         ensures content { result ≡ digested_along image.now (way image.now (track, sector)) }

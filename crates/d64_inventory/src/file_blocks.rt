@@ -25,8 +25,8 @@ pub(crate) struct FileBlocks {
 }
 
 impl FileBlocks {
-    /// The blocks of a slot's file, data and side blocks, by the set of those that the map marks
-    /// free.
+    /// The blocks of a slot's file, data and side blocks. `free` is the set of the blocks that the
+    /// map marks free.
     pub(crate) fn of(survey: &Survey, free: &BlockSet, entry: &Entry) -> FileBlocks
         requires { free.now ≡ free_blocks survey.now }
         ensures members { (block : ℕ) → set.contains result.members block ≡ is_of_file survey.now entry.now.bytes block }
@@ -45,7 +45,7 @@ impl FileBlocks {
         all
     }
 
-    /// Adds the blocks of the way from a pair, where there is one.
+    /// Adds the blocks of the way from a pair, if there is one.
     fn add_way(&mut self, survey: &Survey, free: &BlockSet, pair: Option<(u8, u8)>)
         ensures blocks { (block : ℕ) → set.contains self.new.members block ≡ (set.contains self.old.members block || list_any (nat_eq block) (blocks_from survey.now pair)) }
         ensures broken { self.new.is_broken ≡ (self.old.is_broken || is_broken_from survey.now pair) }

@@ -20,11 +20,11 @@ use std::marker::Model;
 /// How many bytes a slot has.
 const SLOT_BYTES: usize = BLOCK_BYTES / SLOTS_PER_BLOCK;
 
-/// The place in a slot of the length of a REL file's records.
+/// The place of the length of a REL file's records in a slot.
 const RECORD_LENGTH: usize = 0x17;
 
-/// The inventory of a dump: what is told of each file in its directory. It keeps the digests of
-/// contents, so that each way is digested once, and takes no memory of its own.
+/// The inventory of a dump: a row for each file in its directory. It keeps the digests of contents,
+/// so that each way is digested once, and allocates nothing.
 ///
 /// In clauses it is the dump itself.
 #[derive(Drop)]
@@ -48,8 +48,8 @@ impl<'a> Model for Inventory<'a> {
         × TellsContents inventory.inspection.now.image inventory.contents.contents };
 }
 
-/// The kind of the file of a slot, or None where the low four bits of its type byte are no kind's
-/// number.
+/// The kind of the file of a slot, or None if the low four bits of its type byte are the number of
+/// no kind.
 fn known_kind(entry: &Entry) -> Option<Kind>
     ensures { result ≡ known_kind entry.now.bytes }
 {
@@ -69,8 +69,7 @@ fn field_of(entry: &Entry) -> [u8; 16]
     field
 }
 
-/// The length of a record of the file of a slot, as it stands there, or None where its kind isn't
-/// REL.
+/// The length of a record of the file of a slot, as the slot has it, or None if its kind isn't REL.
 fn record_length(survey: &Survey, entry: &Entry) -> Option<u8>
     requires { slot_cell survey.now entry.now.slot ≡ Some entry.now.bytes }
     ensures { result ≡ record_length_by (kind_of entry.now.bytes) entry.now.bytes }
@@ -97,7 +96,7 @@ fn count_errors(errors: &[ReadError], blocks: &BlockSet) -> usize
 }
 
 impl<'a> Inventory<'a> {
-    /// The inventory of a dump that was inspected.
+    /// Makes the inventory of a dump that was inspected.
     pub fn of(inspection: &'a Inspection<'a>) -> Inventory<'a>
         ensures { result ≡ inspection.now }
     {
@@ -116,8 +115,8 @@ impl<'a> Inventory<'a> {
         SLOTS_PER_BLOCK * self.inspection.survey().directory().len()
     }
 
-    /// What is told of a slot and of its file, or None where the directory's way has no such slot,
-    /// or it isn't used. It walks the ways of the file at most twice.
+    /// The row of a slot and its file, or None if the directory's way has no such slot, or it isn't
+    /// used. It walks the ways of the file at most twice.
     pub fn row(&mut self, slot: SlotNo) -> Option<FileRow>
         ensures row { result ≡ row_at self.old slot }
         ensures same { self.new ≡ self.old }
@@ -128,7 +127,7 @@ impl<'a> Inventory<'a> {
         }
     }
 
-    /// What is told of an entry of the dump's image, or None where its slot isn't used.
+    /// The row of an entry of the dump's image, or None if its slot isn't used.
     fn row_of_used(&mut self, entry: &Entry) -> Option<FileRow>
         requires { slot_cell self.old.image entry.now.slot ≡ Some entry.now.bytes }
         ensures row { result ≡ (if is_used entry.now.bytes then Some (row_of self.old (entry.now.slot, entry.now.bytes)) else None) }
@@ -141,7 +140,7 @@ impl<'a> Inventory<'a> {
         }
     }
 
-    /// What is told of an entry of the dump's image.
+    /// The row of an entry of the dump's image.
     fn row_of_entry(&mut self, entry: &Entry) -> FileRow
         requires { slot_cell self.old.image entry.now.slot ≡ Some entry.now.bytes }
         ensures row { result ≡ row_of self.old (entry.now.slot, entry.now.bytes) }

@@ -12,32 +12,32 @@ pub struct Content {
     pub digest: [u8; 32],
 }
 
-/// What is told of a used slot of the directory's way and of its file.
+/// The row of a used slot of the directory's way and its file.
 #[derive(Debug, Drop)]
 pub struct FileRow {
     /// The number of the slot, from 0 along the directory's way.
     pub slot: usize,
-    /// The field of the name: the name, then a shifted space ($A0) where it is shorter than 16
+    /// The field of the name: the name, and then shifted spaces ($A0) if it is shorter than 16
     /// bytes.
     pub field: [u8; 16],
-    /// None where the low four bits of the type byte are above 4.
+    /// None if the low four bits of the type byte are above 4.
     pub kind: Option<Kind>,
     pub type_byte: u8,
     pub closed: bool,
     pub locked: bool,
     /// The size that the directory shows, in blocks.
     pub size: u16,
-    /// The track and the sector of the first block, as they stand in the slot.
+    /// The track and the sector of the first block, as the slot has them.
     pub first: (u8, u8),
-    /// The length of a record in bytes, as it stands in the slot; None where the kind isn't REL.
+    /// The length of a record in bytes, as the slot has it; None if the kind isn't REL.
     pub record: Option<u8>,
-    /// How many blocks the data way has, where there is one.
+    /// How many blocks the data way has, if there is one.
     pub blocks: Option<usize>,
-    /// How many blocks the side way has, where there is one.
+    /// How many blocks the side way has, if there is one.
     pub side: Option<usize>,
-    /// None where the file has no content: its data way is broken, or there is none.
+    /// None if the file has no content: its data way is broken, or there is no data way.
     pub content: Option<Content>,
-    /// None where it isn't known.
+    /// None if it isn't known.
     pub whole: Option<bool>,
     pub why: ArrayVec<Flaw, FLAWS>,
     /// The numbers of the conditions, from 3 to 6, of the faults that name the slot.

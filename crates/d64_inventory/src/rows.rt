@@ -16,8 +16,8 @@ struct Found {
     next: usize,
 }
 
-/// The rows of a dump that are left of a walk along its slots: one for each used slot, in their
-/// order. It takes no memory.
+/// The rows of a dump that are left of a walk along its slots: one for each used slot, in order. It
+/// allocates nothing.
 #[derive(Drop)]
 pub struct Rows<'a> {
     inventory: Inventory<'a>,
@@ -34,7 +34,7 @@ impl<'a> Model for Rows<'a> {
     ghost view = { λ walk. rows_from walk.inventory walk.place };
 }
 
-/// The first row from a place on, or None where no slot is used from there on.
+/// The first row from a place on, or None if no slot is used from there on.
 fn first_from(inventory: &mut Inventory, place: usize) -> Option<Found>
     ensures found { MatchOption result (rows_from inventory.old place ≡ []) (λ found. rows_from inventory.old place ≡ found.row ∷ rows_from inventory.old found.next) }
     ensures same { inventory.new ≡ inventory.old }

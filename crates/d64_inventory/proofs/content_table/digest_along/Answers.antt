@@ -6,7 +6,7 @@ use Rattle.d64_inventory.specs.Contents.{digested_content}
 use Rattle.d64_inventory.specs.declared.row.Content.{Content}
 use Rattle.d64_inventory.proofs.content_table.digest_along.Goals as goal
 
--- what is told of bytes
+-- the length and the digest of bytes
 told : (bytes : List ℕ) (count : ℕ) (digest : List ℕ) → count ≡ length bytes → digest ≡ sha256 bytes → ◌≡◌ {A = Content} (record { bytes = count; digest = digest }) (digested_content bytes)
 unfolding digested_content
 told bytes count digest e f = ap₂ (λ (n : ℕ) (d : List ℕ). record { bytes = n; digest = d }) e f
