@@ -9,7 +9,7 @@ use Rattle.host_names.specs.Shown.{shown_name}
 abbrev pub input_name : Option (List ℕ) → List ℕ
 input_name name = unwrap_or name (codes "-")
 
--- the place of a refusal: the input, and the number of the line of it that is refused, if it is one
+-- the place of a refusal: the input, and the number of the refused line, if it is one line
 abbrev pub place_of : Option (List ℕ) → Option ℕ → List ℕ
 place_of name line = shown_name (input_name name) ++ option_map_or (λ number. codes ":" ++ decimal number) line []
 

@@ -1,4 +1,4 @@
--- How a tool that is run as a job ends, and how that is told.
+-- How a tool that is run as a job ends, and how that is reported.
 use Rattle.std.specs.Prelude.{◌≡◌, ℕ, List, [], Option, Some, None, Result, Ok, Err, ◌⊎◌}
 use Rattle.std.specs.Io.KnownBytes.{Keeps}
 use Rattle.script_text.specs.Input.{IsUnreadable}
@@ -27,29 +27,30 @@ use Rattle.program_batch.specs.Reasons.{IsWriteReason, with_known_reason}
 use Rattle.program_batch.specs.Runs.{file_limit}
 use Rattle.program_batch.specs.declared.reason.Reason.{Reason}
 
--- how the fault of a tool's file that cannot be fetched is told
+-- the tool's fault for a host file that cannot be fetched
 abbrev pub fault_of_fetch : HostFault → ToolFault
 fault_of_fetch (files.Memory error) = tool_faults.Memory error
 fault_of_fetch fault = tool_faults.Read
 
--- the bytes of a host file that was fetched so, as a tool has them
+-- the tool's input, if a host file was fetched with this result
 abbrev pub taken_of : Result (List ℕ) HostFault → Result (List ℕ) ToolFault
 taken_of (Ok bytes) = Ok bytes
 taken_of (Err fault) = Err (fault_of_fetch fault)
 
--- what a tool has written of a host file that was fetched so, and what it answered
+-- what a tool has written, and its result, if its host file was fetched with this result
 abbrev pub WritesFetched : {A : Type 0} → Tool → Result (List ℕ) HostFault → Option (List ℕ) → Option (List ℕ) → Result A ToolFault → Type 0
 WritesFetched tool (Ok bytes) old new answer = HasWritten tool bytes old new answer
 WritesFetched tool (Err fault) old new answer = (answer ≡ Err (fault_of_fetch fault)) × Keeps old new
 
--- a tool has run on the input, or on the host file of this name
+-- a tool has run on the input, or on the host file with this name
 abbrev pub RanToolOn : {A : Type 0} → Tool → Option (List ℕ) → Outside → Outside → Result A ToolFault → Type 0
 RanToolOn tool None old new answer = RanTool tool old.reader new.reader old.output.contents new.output.contents answer × (new.host ≡ old.host)
 RanToolOn tool (Some name) old new answer = (new.reader ≡ old.reader)
     × (fetched : Result (List ℕ) HostFault) × FetchesFile old.host name file_limit fetched new.host × WritesFetched tool fetched old.output.contents new.output.contents answer
 
--- how a tool's answer is told: status 0 and nothing where it wrote its result; 1 and a status line,
--- whole unless writing it failed, where it refused its input; and else 2 and the line of a fault
+-- how a tool's result is reported: status 0 and no line if it wrote its output; 1 and a status
+-- line, whole unless writing it failed, if it refused its input; and otherwise 2 and the line of a
+-- fault
 abbrev pub TellsAnswer : {A : Type 0} → Result A ToolFault → Account → Account → ℕ → Type 0
 TellsAnswer (Ok done) faults told status = (status ≡ 0) × (told ≡ faults)
 TellsAnswer (Err (tool_faults.Text fault)) faults told status =
@@ -59,27 +60,27 @@ TellsAnswer (Err tool_faults.Read) faults told status = Reports Read faults told
 TellsAnswer (Err tool_faults.Write) faults told status = Reports Write faults told status
 TellsAnswer (Err (tool_faults.Memory error)) faults told status = Reports Memory faults told status
 
--- a tool has had the bytes that it works on, of the input or of the host file of this name; or it
--- has not, for this fault
+-- a tool has taken its input, of the standard input or of the host file with this name; or it could
+-- not, by this fault
 abbrev pub TakesInput : Option (List ℕ) → Outside → Outside → Result (List ℕ) ToolFault → Type 0
 TakesInput None old new (Ok bytes) = HasRead old.reader new.reader bytes × (new.host ≡ old.host) × (new.output ≡ old.output)
 TakesInput None old new (Err fault) = ReadsNot old.reader new.reader fault × (new.host ≡ old.host) × (new.output ≡ old.output)
 TakesInput (Some name) old new taken = (new.reader ≡ old.reader) × (new.output ≡ old.output)
     × (fetched : Result (List ℕ) HostFault) × FetchesFile old.host name file_limit fetched new.host × (taken ≡ taken_of fetched)
 
--- what a tool has stored of the bytes that it works on, which were had so; nothing is stored where
--- they were not
+-- what a tool has stored of the input that was taken with this result; nothing is stored if it
+-- could not be taken
 abbrev pub StoresTaken : Tool → Result (List ℕ) ToolFault → List ℕ → HostState → HostState → Result (Unit {0}) ToolFault → Type 0
 StoresTaken tool (Ok bytes) target old new answer = HasStored tool bytes target old new answer
 StoresTaken tool (Err fault) target old new answer = (answer ≡ Err fault) × (new ≡ old)
 
--- the bytes that a tool has had, if it has had them
+-- the bytes of a tool's input, if it has taken them
 abbrev pub bytes_of : Result (List ℕ) ToolFault → List ℕ
 bytes_of (Ok bytes) = bytes
 bytes_of (Err fault) = []
 
--- a tool that has had these bytes has run on the input, or on the host file of this name, to the
--- host file of a second name; nothing was written
+-- a tool that has taken these bytes has run on the input, or on the host file with this name, to
+-- the target file; nothing was written
 pub record RanToolTo (tool : Tool) (name : Option (List ℕ)) (target : List ℕ) (taken : Result (List ℕ) ToolFault) (old new : Outside) (answer : Result (Unit {0}) ToolFault) : Type 0 where
   pub middle : Outside
   pub takes : TakesInput name old middle taken
@@ -88,24 +89,25 @@ pub record RanToolTo (tool : Tool) (name : Option (List ℕ)) (target : List ℕ
   pub output : new.output ≡ old.output
 
 -- the faulty lines of a text whose program is loaded at an address are reported, with status 1; or
--- there is no memory for that
+-- memory ran out
 abbrev pub ReportsText : Option (List ℕ) → ℕ → List ℕ → Account → Account → ℕ → Type 0
 ReportsText name start text faults told status =
     ((status ≡ 1) × (lines : List FaultyLine) × AreFaultyIn start text lines × Writes faults told (refused_text name lines)) ⊎ Reports Memory faults told status
 
--- why an input is no program is reported, with status 1; or there is no memory for that
+-- why an input is no program is reported, with status 1; or memory ran out
 abbrev pub ReportsProgram : Option (List ℕ) → ListFault → Account → Account → ℕ → Type 0
 ReportsProgram name fault faults told status =
     ((status ≡ 1) × Writes faults told (refusal_line name None (status_of_listing fault) (list_fault_text fault))) ⊎ Reports Memory faults told status
 
--- that a result cannot be stored on a host of these files is reported with the reason, as far as the
--- host can say, and with status 2; or there is no memory for that
+-- a result that cannot be stored on a host with these files is reported with the reason, as far as
+-- the host can say, and with status 2; or memory ran out
 abbrev pub ReportsUnwritten : List ℕ → Option Files → Account → Account → ℕ → Type 0
 ReportsUnwritten target all faults told status =
     ((status ≡ 2) × (reason : Option Reason) × IsWriteReason all reason × Writes faults told (with_known_reason reason (unwritten_line target)))
     ⊎ Reports Memory faults told status
 
--- how a tool is reported that had these bytes and stores its result, on a host of these files then
+-- how a tool is reported that had these bytes and stores its result, on a host with these files
+-- then
 abbrev pub ReportsStored : {A : Type 0} → Tool → Option (List ℕ) → List ℕ → List ℕ → Option Files → Result A ToolFault → Account → Account → ℕ → Type 0
 ReportsStored tool name bytes target all (Ok done) faults told status = (status ≡ 0) × (told ≡ faults)
 ReportsStored tool name bytes target all (Err (tool_faults.Text fault)) faults told status = ReportsText name (start_of tool) bytes faults told status
@@ -121,14 +123,14 @@ EndedToolTo tool name target old new faults told status =
     (taken : Result (List ℕ) ToolFault) × (answer : Result (Unit {0}) ToolFault) × RanToolTo tool name target taken old new answer
     × (name ≡ None → answer ≡ Err tool_faults.Read → IsUnreadable new.reading) × ReportsStored tool name (bytes_of taken) target new.host.files answer faults told status
 
--- how a tool ended that writes its result; it tells a fault of reading its input, or of writing,
--- where the input cannot be read to its end, or a write or a flush has failed
+-- how a tool ended that prints its result; it reports a fault of reading its input, or of writing,
+-- only if the input cannot be read to its end, or a write or a flush has failed
 abbrev pub EndedTool : Tool → Option (List ℕ) → Outside → Outside → Account → Account → ℕ → Type 0
 EndedTool tool name old new faults told status =
     (answer : Result (Unit {0}) ToolFault) × RanToolOn tool name old new answer
     × (name ≡ None → ReadsWith answer new.reading) × WritesWith answer old.output.has_failed new.output.has_failed × TellsAnswer answer faults told status
 
--- how a tool ended whose result goes to the output, or to the host file of this name
+-- how a tool ended whose result goes to the output, or to the host file with this name
 abbrev pub EndedConversion : Tool → Option (List ℕ) → Option (List ℕ) → Outside → Outside → Account → Account → ℕ → Type 0
 EndedConversion tool name None old new faults told status = EndedTool tool name old new faults told status
 EndedConversion tool name (Some target) old new faults told status = EndedToolTo tool name target old new faults told status

@@ -1,4 +1,4 @@
--- What the tools make of an input, and what they leave.
+-- What the tools make of an input, and what they write.
 use Rattle.std.specs.Prelude.{◌≡◌, ◌⊎◌, ℕ, ◌<◌, ◌≤◌, ◌^◌, Bool, true, false, List, length, Option, IfSome, Result, Ok, Err, ⊤}
 use Rattle.std.specs.Io.KnownBytes.{Appends, Consumes, IsAtEnd, Keeps}
 use Rattle.cbm_text.specs.BasicText.{IsFileOf, IsFirstFault, TellsLine, fault_line}
@@ -23,19 +23,19 @@ abbrev pub Makes : Tool → List ℕ → List ℕ → Type 0
 Makes Petcat input output = Lists input output
 Makes (Crunch start) input output = IsFileOf start input output
 
--- the address at which a program is loaded that the tool makes; petcat makes none
+-- the address at which the tool's program is loaded; petcat makes none
 abbrev pub start_of : Tool → ℕ
 start_of Petcat = 0
 start_of (Crunch start) = start
 
--- why bytes are no program; want of memory is no such reason
+-- why bytes are not a program; out of memory is no such reason
 abbrev pub IsNoProgram : List ℕ → ListFault → Type 0
 IsNoProgram input list_faults.NoAddress = ListsNot input list_faults.NoAddress
 IsNoProgram input list_faults.Truncated = ListsNot input list_faults.Truncated
 IsNoProgram input (list_faults.Memory error) = ⊥
 
--- why the tool makes nothing of an input: it is no program or no text of one, for this fault, or
--- there is no memory
+-- why the tool makes nothing of an input: it is not a program, or not the text of one, by this
+-- fault; or memory ran out
 abbrev pub Refuses : Tool → List ℕ → ToolFault → Type 0
 Refuses Petcat input (NotBasic fault) = IsNoProgram input fault
 Refuses Petcat input (Text fault) = ⊥
@@ -48,8 +48,8 @@ Refuses (Crunch start) input (Memory error) = ⊤
 Refuses (Crunch start) input Read = ⊥
 Refuses (Crunch start) input Write = ⊥
 
--- what the tool writes of an input: all that it makes of it, or a first part where a write fails,
--- and else nothing
+-- what the tool writes of an input: all that it makes of it, a first part if a write fails, and
+-- nothing after another fault
 abbrev pub HasWritten : {A : Type 0} → Tool → List ℕ → Option (List ℕ) → Option (List ℕ) → Result A ToolFault → Type 0
 HasWritten tool input old new (Ok done) = (output : List ℕ) × Makes tool input output × Appends old new output
 HasWritten tool input old new (Err Read) = ⊥
@@ -58,18 +58,18 @@ HasWritten tool input old new (Err (Memory error)) = Keeps old new
 HasWritten tool input old new (Err (Text fault)) = Refuses tool input (Text fault) × Keeps old new
 HasWritten tool input old new (Err (NotBasic fault)) = Refuses tool input (NotBasic fault) × Keeps old new
 
--- how the fault of a store is a tool's: a result that cannot be stored cannot be written
+-- the tool's fault for a store's: a result that cannot be stored cannot be written
 abbrev pub fault_of_store : HostFault → ToolFault
 fault_of_store (files.Memory error) = Memory error
 fault_of_store fault = Write
 
--- how the answer of a store is a tool's
+-- the tool's result for a store's
 abbrev pub answer_of_store : {A : Type 0} → Result A HostFault → Result A ToolFault
 answer_of_store (Ok done) = Ok done
 answer_of_store (Err fault) = Err (fault_of_store fault)
 
--- what the tool stores of an input under a name: all that it makes of it, as the host answers; or
--- nothing, where it refuses the input
+-- what the tool stores of an input under a name: all that it makes of it, with the host's result;
+-- or nothing, if it refuses the input
 abbrev pub HasStored : Tool → List ℕ → List ℕ → HostState → HostState → Result (Unit {0}) ToolFault → Type 0
 HasStored tool input name old new answer =
     ((output : List ℕ) × Makes tool input output × (stored : Result (Unit {0}) HostFault) × StoresFile old name output stored new × (answer ≡ answer_of_store stored))
@@ -81,8 +81,8 @@ pub record HasRead (reader left : Option (List ℕ)) (input : List ℕ) : Type 0
   pub ended : IsAtEnd left
   pub within : length input ≤ script_limit
 
--- the reader's bytes were not had to their end: some were read; or there is no memory, and nothing
--- is known of those left
+-- the reader's bytes were not read to their end: some were read; or memory ran out, and nothing is
+-- known of those left
 abbrev pub ReadsNot : Option (List ℕ) → Option (List ℕ) → ToolFault → Type 0
 ReadsNot reader left Read = (consumed : List ℕ) × Consumes reader left consumed
 ReadsNot reader left (Memory error) = ⊤
@@ -90,11 +90,11 @@ ReadsNot reader left Write = ⊥
 ReadsNot reader left (Text fault) = ⊥
 ReadsNot reader left (NotBasic fault) = ⊥
 
--- the tool has read a whole input, and answered so
+-- the tool has read a whole input, with this result
 abbrev pub RanWholly : {A : Type 0} → Tool → Option (List ℕ) → Option (List ℕ) → Option (List ℕ) → Option (List ℕ) → Result A ToolFault → Type 0
 RanWholly tool reader left old new answer = (input : List ℕ) × HasRead reader left input × HasWritten tool input old new answer
 
--- what a run of the tool leaves of its reader and its writer, by how it ends
+-- what a run of the tool leaves of its reader and its writer, by its result
 abbrev pub RanTool : {A : Type 0} → Tool → Option (List ℕ) → Option (List ℕ) → Option (List ℕ) → Option (List ℕ) → Result A ToolFault → Type 0
 RanTool {A} tool reader left old new (Ok done) = RanWholly {A = A} tool reader left old new (Ok done)
 RanTool {A} tool reader left old new (Err Read) = ReadsNot reader left Read × Keeps old new
@@ -103,7 +103,7 @@ RanTool {A} tool reader left old new (Err (Memory error)) = Keeps old new
 RanTool {A} tool reader left old new (Err (Text fault)) = RanWholly {A = A} tool reader left old new (Err (Text fault))
 RanTool {A} tool reader left old new (Err (NotBasic fault)) = RanWholly {A = A} tool reader left old new (Err (NotBasic fault))
 
--- the line of a text that a fault tells has a number of 32 bits
+-- the line number in a fault of a text has 32 bits
 abbrev pub TellsSmallLine : ToolFault → Type 0
 TellsSmallLine (Text fault) = IfSome (fault_line fault) (λ line. line < 2 ^ 32)
 TellsSmallLine (NotBasic fault) = ⊤
@@ -111,7 +111,7 @@ TellsSmallLine (Memory error) = ⊤
 TellsSmallLine Read = ⊤
 TellsSmallLine Write = ⊤
 
--- a tool's output has failed where the tool tells a fault of writing, and nowhere else
+-- a tool returns a fault of writing if and only if its output has failed
 abbrev pub WritesWith : {A : Type 0} → Result A ToolFault → Bool → Bool → Type 0
 WritesWith (Ok done) old new = new ≡ old
 WritesWith (Err Write) old new = new ≡ true
@@ -120,8 +120,8 @@ WritesWith (Err (Memory error)) old new = new ≡ old
 WritesWith (Err (Text fault)) old new = new ≡ old
 WritesWith (Err (NotBasic fault)) old new = new ≡ old
 
--- a tool tells a fault of reading where its input cannot be read to its end, and nowhere else;
--- where memory runs out, it may not have got so far
+-- a tool returns a fault of reading if and only if its input cannot be read to its end; if memory
+-- runs out, it may have stopped before
 abbrev pub ReadsWith : {A : Type 0} → Result A ToolFault → Reading → Type 0
 ReadsWith (Ok done) input = input.has_failed ≡ false
 ReadsWith (Err Read) input = IsUnreadable input

@@ -8,8 +8,8 @@ use out_messages::push_number;
 use script_text::status::Status;
 use std::alloc::AllocError;
 
-/// Adds the line of a refusal: the input of this name, the line of it that is refused, if it is one,
-/// the status, and what is wrong.
+/// Appends the line of a refusal: the name of the input, the number of the refused line, if it is
+/// one line, the status, and what is wrong.
 #[tactic(auto, unfolding(crate::specs::RefusalLine::refusal_line))]
 pub(crate) fn push_refusal_line(
     out: &mut Vec<u8>,
@@ -26,7 +26,7 @@ pub(crate) fn push_refusal_line(
     out.extend_from_slice(b"\n")
 }
 
-/// Adds the name of an input, and the number of a line of it, if there is one.
+/// Appends the name of an input, and the number of a line of it, if there is one.
 fn push_place(out: &mut Vec<u8>, name: Option<&str>, line: Option<usize>) -> Result<(), AllocError>
     ensures { OnOk result (out.new.items ≡ out.old.items ++ place_of (option_copied name.entry) line) }
 {
@@ -40,7 +40,7 @@ fn push_place(out: &mut Vec<u8>, name: Option<&str>, line: Option<usize>) -> Res
     }
 }
 
-/// Adds a status between colons.
+/// Appends a status between colons.
 fn push_status(out: &mut Vec<u8>, status: Status) -> Result<(), AllocError>
     ensures { OnOk result (out.new.items ≡ out.old.items ++ (codes ": " ++ (status_text status ++ codes ": "))) }
 {

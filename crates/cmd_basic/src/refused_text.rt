@@ -15,8 +15,8 @@ use std::alloc::{AllocError, Global};
 /// The most faulty lines of a text that are printed.
 const MOST_LINES: usize = 20;
 
-/// What is printed of a text that is no program, of the input of this name: its first faulty lines,
-/// each with what is wrong and with its first characters below, and how many more there are.
+/// Returns what is printed of a text that is not a program: its first faulty lines, each with what
+/// is wrong and its first characters below, and how many more there are.
 pub(crate) fn refused_text(
     alloc: Global,
     name: Option<&str>,
@@ -33,7 +33,7 @@ pub(crate) fn refused_text(
     Ok(out)
 }
 
-/// Adds faulty lines.
+/// Appends faulty lines.
 fn push_faulty_lines(
     alloc: Global,
     out: &mut Vec<u8>,
@@ -49,7 +49,7 @@ fn push_faulty_lines(
     Ok(())
 }
 
-/// Adds a faulty line: its refusal, and its first characters below.
+/// Appends a faulty line: its refusal, and its first characters below.
 #[tactic(auto, unfolding(crate::specs::RefusedText::faulty_line))]
 fn push_faulty_line(
     alloc: Global,
@@ -67,7 +67,7 @@ fn push_faulty_line(
     push_indented(out, start.as_slice())
 }
 
-/// What is wrong with a line.
+/// Returns what is wrong with a line.
 fn cause_text(alloc: Global, cause: Cause) -> Result<Vec<u8>, AllocError>
     ensures { IfOk result (λ text. text.items ≡ cause_text cause) }
 {
@@ -76,7 +76,7 @@ fn cause_text(alloc: Global, cause: Cause) -> Result<Vec<u8>, AllocError>
     Ok(text)
 }
 
-/// Adds a line that does not begin at the left margin.
+/// Appends a line that does not begin at the left margin.
 #[tactic(auto, unfolding(crate::specs::RefusedText::indented))]
 fn push_indented(out: &mut Vec<u8>, text: &[u8]) -> Result<(), AllocError>
     ensures { OnOk result (out.new.items ≡ out.old.items ++ indented text.now) }
@@ -86,7 +86,7 @@ fn push_indented(out: &mut Vec<u8>, text: &[u8]) -> Result<(), AllocError>
     out.extend_from_slice(b"\n")
 }
 
-/// Adds how many faulty lines of so many are not printed, if there are some.
+/// Appends how many of `count` faulty lines are not printed, if there are some.
 #[tactic(auto, unfolding(crate::specs::RefusedText::more_lines))]
 fn push_more_lines(out: &mut Vec<u8>, count: usize) -> Result<(), AllocError>
     ensures { OnOk result (out.new.items ≡ out.old.items ++ more_lines count) }

@@ -37,9 +37,9 @@ pub(crate) struct StoredTool<'n> {
 }
 
 impl<'n> StoredTool<'n> {
-    /// Stores what the tool makes of its file, or of the input: all of it, or nothing if it refuses
-    /// the input, the input cannot be read, memory is out, or the store is refused; and returns the
-    /// exit status.
+    /// Stores what the tool makes of its file, or of the input, and returns the exit status.
+    /// Nothing is stored if it refuses the input, the input cannot be read, memory runs out, or the
+    /// store is refused.
     pub(crate) fn run<R: Read, F: Write, H: Host>(
         self,
         alloc: Global,
@@ -66,7 +66,7 @@ impl<'n> StoredTool<'n> {
         }
     }
 
-    /// The bytes that the tool works on: of its file, or of the input.
+    /// Returns the bytes that the tool works on: of its file, or of the input.
     fn taken<R: Read, H: Host>(
         self,
         alloc: Global,
@@ -96,8 +96,8 @@ impl<'n> StoredTool<'n> {
         }
     }
 
-    /// Stores what the tool makes of bytes. A store that is refused is returned as `Write`; `Read` is
-    /// not returned.
+    /// Stores what the tool makes of bytes. A refused store is returned as `Write`; `Read` is never
+    /// returned.
     fn store<H: Host>(self, alloc: Global, bytes: &[u8], host: &mut H) -> Result<(), ToolFault>
         ensures stored { HasStored self.entry.tool bytes.now self.entry.target.now (H.state host.old) (H.state host.new) result }
     {
@@ -111,7 +111,7 @@ impl<'n> StoredTool<'n> {
         }
     }
 
-    /// Reports how the tool ended that had these bytes, and returns the exit status.
+    /// Reports how the tool ended on these bytes, and returns the exit status.
     fn report<F: Write, H: Host>(
         self,
         alloc: Global,
@@ -157,7 +157,7 @@ impl<'n> StoredTool<'n> {
         }
     }
 
-    /// Reports why the input is no program, and returns the exit status.
+    /// Reports why the input is not a program, and returns the exit status.
     fn report_program<F: Write>(
         self,
         alloc: Global,
@@ -201,7 +201,8 @@ impl<'n> StoredTool<'n> {
     }
 }
 
-/// The line that a result cannot be written to a file, with the reason, as far as the host can say.
+/// Returns the line of a result that cannot be written to a file, with the reason, as far as the
+/// host can say.
 fn unwritten_text<H: Host>(alloc: Global, target: &str, host: &H) -> Result<Vec<u8>, AllocError>
     ensures { IfOk result (λ line. (reason : Option Reason) × IsWriteReason (H.state host.now).files reason × (line.items ≡ with_known_reason reason (unwritten_line target.now))) }
 {
@@ -211,7 +212,7 @@ fn unwritten_text<H: Host>(alloc: Global, target: &str, host: &H) -> Result<Vec<
     Ok(line)
 }
 
-/// The fault of a store as the tool's.
+/// Returns the fault of a store as the tool's.
 fn fault_of_store(fault: HostFault) -> ToolFault
     ensures { result ≡ fault_of_store fault }
 {

@@ -19,18 +19,18 @@ use script_text::status::Status;
 use std::alloc::Global;
 use std::io::{Read, Write};
 
-/// What the words ask of a tool.
+/// What the arguments ask of a tool.
 #[derive(Clone, Copy, Debug)]
 pub struct ToolJob<'n> {
     pub tool: Tool,
-    /// The host file that it works on; without one, it is the input.
+    /// The host file that it works on; without one, it works on the input.
     pub file: Option<&'n str>,
-    /// The host file that its result goes to; without one, it is the output.
+    /// The host file that its result goes to; without one, it goes to the output.
     pub target: Option<&'n str>,
 }
 
 impl<'n> ToolJob<'n> {
-    /// Runs the tool, and answers the exit status.
+    /// Runs the tool, and returns the exit status.
     pub fn run<R: Read, W: Write, F: Write, H: Host>(
         self,
         alloc: Global,
@@ -123,7 +123,7 @@ fn write_result<R: Read, W: Write, H: Host>(
     }
 }
 
-/// Tells a tool's answer, and answers the exit status.
+/// Reports a tool's result, and returns the exit status.
 fn tell_answer<F: Write>(answer: Result<(), ToolFault>, faults: &mut OutputStream<'_, F>) -> u8
     requires { IfErr answer TellsSmallLine }
     ensures faults { faults.new.writer.ghost_name ≡ faults.old.writer.ghost_name }
@@ -141,8 +141,8 @@ fn tell_answer<F: Write>(answer: Result<(), ToolFault>, faults: &mut OutputStrea
     }
 }
 
-/// Writes the status line of a refusal, and answers the exit status. Where a write fails, the rest
-/// of the line is dropped.
+/// Writes the status line of a refusal, and returns the exit status. If a write fails, the rest of
+/// the line is dropped.
 fn tell_refusal<F: Write>(status: Status, faults: &mut OutputStream<'_, F>) -> u8
     ensures faults { faults.new.writer.ghost_name ≡ faults.old.writer.ghost_name }
     ensures status { result ≡ 1 }

@@ -20,7 +20,7 @@ use thiserror::Error;
 pub enum Tool {
     /// Lists a BASIC program file as text.
     Petcat,
-    /// Makes the program file that a BASIC text stands for, loaded at `start`.
+    /// Makes the program file of a BASIC text, loaded at `start`.
     Crunch { start: u16 },
 }
 
@@ -34,7 +34,7 @@ pub enum ToolFault {
     /// A write failed, or took nothing. A first part of the result is written.
     #[error("the output could not be written")]
     Write,
-    /// There is no memory. Nothing is written.
+    /// Memory ran out. Nothing is written.
     #[error("out of memory")]
     Memory(AllocError),
     /// The input is no BASIC text. Nothing is written.
@@ -58,7 +58,7 @@ pub fn petcat_run<R: Read, W: Write>(
     Tool::Petcat.run(alloc, &mut input, &mut output)
 }
 
-/// Reads a BASIC text to its end and writes the program file that it stands for, loaded at `start`.
+/// Reads a BASIC text to its end and writes its program file, loaded at `start`.
 pub fn crunch_run<R: Read, W: Write>(
     alloc: Global,
     start: u16,
@@ -92,7 +92,7 @@ impl Tool {
         self.write(alloc, &bytes, output)
     }
 
-    /// Writes what the tool makes of an input. It answers no `Read`.
+    /// Writes what the tool makes of an input. `Read` is never returned.
     pub(crate) fn write<W: Write>(
         self,
         alloc: Global,
@@ -112,7 +112,7 @@ impl Tool {
         }
     }
 
-    /// The address at which a program is loaded that the tool makes; `petcat` makes none.
+    /// Returns the address at which the tool's program is loaded; `petcat` makes none.
     pub(crate) fn start(self) -> u16
         ensures { result ≡ start_of self }
     {
@@ -122,7 +122,7 @@ impl Tool {
         }
     }
 
-    /// What the tool makes of an input. It answers no `Read` and no `Write`.
+    /// Returns what the tool makes of an input; never `Read` or `Write`.
     pub(crate) fn output(self, alloc: Global, input: &[u8]) -> Result<Vec<u8>, ToolFault>
         ensures made { IfOk result (λ output. Makes self input.now output.items) }
         ensures refused { IfErr result (Refuses self input.now) }
@@ -142,7 +142,7 @@ impl Tool {
     }
 }
 
-/// All that the reader has, under the limits of a script. It answers `Read` or `Memory`.
+/// Returns all that the reader has, under the limits of a script, or `Read` or `Memory`.
 pub(crate) fn whole_input<R: Read>(
     alloc: Global,
     input: &mut InputStream<'_, R>,
