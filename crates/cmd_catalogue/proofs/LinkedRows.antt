@@ -33,7 +33,7 @@ used_one folder dump naming after entry rest before now whole used is row so =
     ∙ ap (λ (t : Bool). before ++ (if t then here ++ later else passed)) (sym used)
     ∙ so
 
--- an entry that isn't used has none
+-- an entry that is not used has no row
 pub unused_one : (folder : List ℕ) (dump : DumpView) (naming : Naming) (entry : EntryView) (rest : List EntryView) (before whole : List ℕ)
     → is_used entry.bytes ≡ false → before ++ linked_rows folder dump naming (entry ∷ rest) ≡ whole
     → before ++ linked_rows folder dump naming rest ≡ whole

@@ -1,4 +1,4 @@
--- What `catalogue` says of a file.
+-- What `catalogue` prints of a file.
 use Rattle.std.specs.Prelude.{ℕ, if◌then◌else◌, List, [], Option, Some, None, codes, option_map, string_bytes}
 use Rattle.d64_image.specs.Disk.{Bytes}
 use Rattle.d64_survey.specs.Dump.{DumpView}
@@ -13,22 +13,22 @@ use Rattle.cmd_catalogue.specs.Links.{folder_of}
 use Rattle.cmd_catalogue.specs.Sections.{section, unanswered_section}
 use Rattle.cmd_catalogue.specs.Title.{page_title}
 
--- the folder of the links that a page is asked for with, where it is
+-- the folder for links that the page's options name, if they do
 abbrev pub links_of : Page → Option (List ℕ)
 links_of page = option_map string_bytes page.links
 
--- what stands before all images: the head of the page
+-- what is printed before the first image: the head of the page
 abbrev pub catalogue_heading : Page → List ℕ
 catalogue_heading page = page_head (page_title (option_map string_bytes page.title))
 
--- what is answered of bytes: of a dump, its section, amiss where a file isn't whole or some may be
--- missing; and else that they are of a wrong length
+-- the result for bytes: the section of a dump, amiss if a file is not whole or may be missing; and
+-- otherwise that their length is wrong
 abbrev pub answer_of : Page → Bytes → Bytes → Option DumpView → Answer
 answer_of page name bytes None = record { printed = unanswered_section name (no_dump_text bytes); complaint = wrong_length_line name bytes; verdict = Failed }
 answer_of page name bytes (Some dump) = record { printed = section page.maps (folder_of (links_of page) name) name dump; complaint = []; verdict = if is_listing_amiss dump then Amiss else Clean }
 
--- what `catalogue` answers of a file on a page that is made so: of its bytes, or that it cannot be
--- read
+-- the rule of `catalogue` on a page with these options: the result for a file's bytes, or that it
+-- cannot be read
 abbrev pub catalogue_rule : Page → Rule
 catalogue_rule page name None = record { printed = unanswered_section name (codes "cannot be read"); complaint = unread_line name; verdict = Failed }
 catalogue_rule page name (Some bytes) = answer_of page name bytes (dump_of bytes)

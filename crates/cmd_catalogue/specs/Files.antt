@@ -15,15 +15,15 @@ use Rattle.out_markup.specs.Markup.{element}
 use Rattle.cmd_catalogue.specs.Elements.{linked_text_in, text_in}
 use Rattle.cmd_catalogue.specs.Links.{Naming, file_url, first_naming, naming_after}
 
--- why the file of a slot isn't whole, or why that isn't known
+-- why the file of a slot is not whole, or why that is not known
 unfoldable pub reasons : Disk → Bytes → List Flaw → List ℕ
 reasons image cell flaws = flaws_text (size_of cell) (length (slot_blocks image cell)) flaws
 
--- that it isn't known whether the file is whole, and why, where there is more to say
+-- that it is not known whether the file is whole, and why, if there is more to say
 unfoldable pub unknown_text : Disk → Bytes → List Flaw → List ℕ
 unknown_text image cell flaws = codes "not known" ++ (if length flaws == 0 then [] else codes ": " ++ reasons image cell flaws)
 
--- whether the file is whole, or what is amiss, by the answer to that
+-- whether the file is whole, or what is wrong with it; None means that it is not known
 abbrev pub wholeness_text : Option Bool → Disk → Bytes → List Flaw → List ℕ
 wholeness_text None image cell flaws = unknown_text image cell flaws
 wholeness_text (Some true) image cell flaws = codes "whole"
@@ -37,7 +37,7 @@ locked_text locked = if locked then codes ", locked" else []
 unfoldable pub state_words : Disk → Bytes → List Flaw → List ℕ
 state_words image cell flaws = wholeness_text (wholeness_by cell flaws) image cell flaws ++ locked_text (is_locked cell)
 
--- the attribute by which a state looks different
+-- the attribute that gives a state its look
 abbrev pub state_class : Option Bool → List ℕ
 state_class None = codes " class=\"unknown\""
 state_class (Some true) = codes " class=\"whole\""
@@ -47,11 +47,11 @@ state_class (Some false) = codes " class=\"broken\""
 unfoldable pub state_cell : Disk → Bytes → List Flaw → List ℕ
 state_cell image cell flaws = text_in (codes "td") (state_class (wholeness_by cell flaws)) (state_words image cell flaws)
 
--- the size that the directory shows
+-- the size that the directory has
 unfoldable pub size_cell : Bytes → List ℕ
 size_cell cell = text_in (codes "td") [] (decimal (size_of cell))
 
--- the name in text form, with this link; it is the head of its row
+-- the name in text form, with this link; it is the header of its row
 unfoldable pub name_cell : Option (List ℕ) → Bytes → List ℕ
 name_cell link cell = linked_text_in (codes "th") (codes " scope=\"row\"") link (spelling (name_of cell))
 
@@ -71,7 +71,7 @@ flawed_row link image cell flaws = element (codes "tr") [] (file_cells link imag
 unfoldable pub used_row : Option (List ℕ) → DumpView → Bytes → List ℕ
 used_row link dump cell = flawed_row link dump.image cell (why dump.image dump.codes cell)
 
--- the row of a slot, where it is used
+-- the row of a slot, if it is used
 unfoldable pub file_row : DumpView → Bytes → List ℕ
 file_row dump cell = if is_used cell then used_row None dump cell else []
 
@@ -79,7 +79,7 @@ file_row dump cell = if is_used cell then used_row None dump cell else []
 unfoldable pub file_rows : DumpView → List Bytes → List ℕ
 file_rows dump cells = flat_map (file_row dump) cells
 
--- the rows of entries, each with a link to its host file in a folder, where that is written
+-- the rows of entries, each with a link to its host file in a folder, if that is written
 unfoldable pub linked_rows : List ℕ → DumpView → Naming → List EntryView → List ℕ
 linked_rows folder dump naming [] = []
 linked_rows folder dump naming (entry ∷ rest) =
@@ -87,16 +87,16 @@ linked_rows folder dump naming (entry ∷ rest) =
     then used_row (file_url folder dump naming entry) dump entry.bytes ++ linked_rows folder dump (naming_after dump naming entry) rest
     else linked_rows folder dump naming rest
 
--- the rows of a dump, with links to host files in this folder, where there is one
+-- the rows of a dump, with links to host files in this folder, if there is one
 unfoldable pub dump_rows : Option (List ℕ) → DumpView → List ℕ
 dump_rows None dump = file_rows dump (way_slots dump.image)
 dump_rows (Some folder) dump = linked_rows folder dump first_naming (entries dump.image (way_slots dump.image))
 
--- the heads of the columns
+-- the headers of the columns
 unfoldable pub table_head : List ℕ
 table_head =
     codes "<thead><tr><th scope=\"col\">Blocks</th><th scope=\"col\">Name</th><th scope=\"col\">Kind</th><th scope=\"col\">State</th></tr></thead>\n"
 
--- the table, with links to host files in this folder, where there is one
+-- the table, with links to host files in this folder, if there is one
 unfoldable pub table : Option (List ℕ) → DumpView → List ℕ
 table folder dump = element (codes "table") [] (codes "\n" ++ (table_head ++ element (codes "tbody") [] (codes "\n" ++ dump_rows folder dump))) ++ codes "\n"

@@ -1,10 +1,10 @@
--- What stands before the sections.
+-- What is printed before the sections.
 use Rattle.std.specs.Prelude.{ℕ, List, [], ◌++◌, codes}
 use Rattle.cmd_catalogue.specs.Elements.{text_line}
 use Rattle.cmd_catalogue.specs.Style.{style}
 use Rattle.cmd_catalogue.specs.Script.{script}
 
--- the beginning of the page: its language, and what it may load, of scripts only its own (by its
+-- the beginning of the page: its language, and what it may load; of scripts only its own (by its
 -- digest)
 unfoldable pub opening : List ℕ
 opening = codes "<!DOCTYPE html>\n<html lang=\"en\">\n<head>\n<meta charset=\"utf-8\">\n<meta name=\"viewport\" content=\"width=device-width, initial-scale=1\">\n<meta http-equiv=\"Content-Security-Policy\" content=\"default-src 'none'; style-src 'unsafe-inline'; script-src 'sha256-t0GAwf4aeND4mvEu34xdsTTTSa89vA+KvxshQNC3Rb8='; base-uri 'none'; form-action 'none'\">\n"
@@ -13,15 +13,15 @@ opening = codes "<!DOCTYPE html>\n<html lang=\"en\">\n<head>\n<meta charset=\"ut
 unfoldable pub head_end : List ℕ
 head_end = codes "</head>\n<body>\n<header>\n"
 
--- what stands above the sections, below the heading: the search field, the buttons, and how many
--- disks are shown
+-- what is above the sections, below the heading: the search field, the buttons, and how many disks
+-- are shown
 unfoldable pub search_head : List ℕ
 search_head = codes "<div class=\"tools\" role=\"search\" hidden>\n<input type=\"search\" aria-label=\"Search disks and files\" placeholder=\"Search disks and files\" autocomplete=\"off\" autocapitalize=\"none\" spellcheck=\"false\">\n<div role=\"group\" aria-label=\"State\">\n<button type=\"button\" value=\"\" aria-pressed=\"true\">All</button>\n<button type=\"button\" value=\"sound\" aria-pressed=\"false\">Sound</button>\n<button type=\"button\" value=\"amiss\" aria-pressed=\"false\">Problems</button>\n</div>\n<output></output>\n</div>\n</header>\n"
 
--- the end of the head, and all that stands above the sections, with this heading
+-- the end of the head, and all that is above the sections, with this heading
 unfoldable pub header : List ℕ → List ℕ
 header title = head_end ++ (text_line (codes "h1") [] title ++ search_head)
 
--- all of it, with this title: what it leaves open, `body` and `html`, ends with the page
+-- the head of the page, with this title: `body` and `html` stay open until the page ends
 unfoldable pub page_head : List ℕ → List ℕ
 page_head title = opening ++ (text_line (codes "title") [] title ++ (style ++ (script ++ header title)))

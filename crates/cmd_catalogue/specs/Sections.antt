@@ -23,11 +23,11 @@ use Rattle.cmd_catalogue.specs.Files.{table}
 unfoldable pub disk_line : Disk → List ℕ
 disk_line image = text_line (codes "h2") (codes " class=\"name\"") (spelling (disk_name image))
 
--- its id
+-- the disk's id
 unfoldable pub id_line : Disk → List ℕ
 id_line image = text_line (codes "span") (codes " class=\"id\"") (spelling (disk_id image))
 
--- a name of the host as it is shown, in an element of this name
+-- a name of the host as it is shown, in an element with this tag
 unfoldable pub host_line : List ℕ → Bytes → List ℕ
 host_line element_name name = text_line element_name (codes " class=\"host\"") (held_text (shown_name name))
 
@@ -35,15 +35,15 @@ host_line element_name name = text_line element_name (codes " class=\"host\"") (
 unfoldable pub contents_line : Disk → List ℕ
 contents_line image = text_line (codes "span") (codes " class=\"contents\"") (contents_text image)
 
--- its state
+-- the disk's state
 unfoldable pub state_line : DumpView → List ℕ
 state_line dump = text_line (codes "span") (codes " class=\"state\"") (state_text dump)
 
--- which disk it is
+-- the lines by which the disk is known
 unfoldable pub label_lines : Bytes → Disk → List ℕ
 label_lines name image = disk_line image ++ (id_line image ++ host_line (codes "span") name)
 
--- what is seen of a section that is closed
+-- what is seen of a closed section
 unfoldable pub summary : Bytes → DumpView → List ℕ
 summary name dump =
     element (codes "summary") [] (codes "\n" ++ (label_lines name dump.image ++ (contents_line dump.image ++ state_line dump))) ++ codes "\n"
@@ -56,27 +56,27 @@ fault_item image fault = text_line (codes "li") [] (fault_text image fault)
 unfoldable pub error_item : Disk → ReadError → List ℕ
 error_item image error = text_line (codes "li") [] (read_error_text image error)
 
--- one each
+-- an item for each fault
 unfoldable pub fault_items : Disk → List Fault → List ℕ
 fault_items image list = flat_map (fault_item image) list
 
 unfoldable pub error_items : Disk → List ReadError → List ℕ
 error_items image list = flat_map (error_item image) list
 
--- what is wrong
+-- all that is wrong
 unfoldable pub wrongs : DumpView → List ℕ
 wrongs dump = element (codes "ul") [] (fault_items dump.image (faults dump.image) ++ error_items dump.image (read_errors dump)) ++ codes "\n"
 
--- the picture of the blocks, where it is wanted
+-- the picture of the blocks, if it is wanted
 abbrev pub picture_where : Bool → Bytes → DumpView → List ℕ
 picture_where maps name dump = if maps then page_svg_of name dump else []
 
--- all that is in the section, with links to host files in this folder, where there is one
+-- the whole content of the section, with links to host files in this folder, if there is one
 unfoldable pub content : Bool → Option (List ℕ) → Bytes → DumpView → List ℕ
 content maps folder name dump = codes "\n" ++ (summary name dump ++ (wrongs dump ++ (table folder dump ++ picture_where maps name dump)))
 
--- the attributes that say whether anything is amiss, and how its sign looks: a warning where the
--- disk is sound beside that
+-- the attributes that say whether anything is wrong, and how its sign looks: a warning if the disk
+-- is otherwise sound
 abbrev pub amiss_class : Bool → Bool → List ℕ
 amiss_class sound amiss =
     if amiss then (if sound then codes " class=\"amiss\" data-sign=\"warning\"" else codes " class=\"amiss\"")
@@ -87,7 +87,7 @@ unfoldable pub section : Bool → Option (List ℕ) → Bytes → DumpView → L
 section maps folder name dump =
     element (codes "details") (amiss_class (is_sound dump.image) (is_amiss dump)) (content maps folder name dump) ++ codes "\n"
 
--- the section of a file that is not answered, with what is wrong with it
+-- the section of a file that is not a dump, with what is wrong with it
 unfoldable pub unanswered_section : Bytes → List ℕ → List ℕ
 unanswered_section name wrong =
     element (codes "section") (codes " class=\"amiss\"") (codes "\n" ++ (host_line (codes "h2") name ++ text_line (codes "p") [] wrong)) ++ codes "\n"

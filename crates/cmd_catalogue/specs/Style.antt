@@ -1,4 +1,4 @@
--- How the page looks.
+-- The style of the page.
 use Rattle.std.specs.Prelude.{ℕ, List, [], ◌++◌, codes}
 use Rattle.out_markup.specs.Markup.{element}
 use Rattle.cmd_map.specs.Style.{picture_rules}
@@ -15,7 +15,7 @@ search_rules = codes ".tools{display:flex;flex-wrap:wrap;gap:.5rem;align-items:c
 unfoldable pub section_rules : List ℕ
 section_rules = codes "details,section{margin-bottom:.5rem;background:var(--card);border:1px solid var(--line);border-radius:.6rem}\nsummary,section{display:grid;grid-template-columns:1.6rem auto 1fr auto .8rem;column-gap:.6rem;align-items:baseline;padding:.6rem .9rem;list-style:none}\nsummary{cursor:pointer}\nsummary::-webkit-details-marker{display:none}\nsummary::before,section::before{grid-row:1/3;align-self:start;width:1.5rem;height:1.5rem;font:700 .9rem/1.5rem system-ui;text-align:center;color:var(--card);content:\"\\2713\";content:\"\\2713\"/\"\";background:var(--good);border-radius:50%;print-color-adjust:exact}\n.amiss summary::before,section::before{content:\"!\";content:\"!\"/\"\";line-height:1.75rem;background:var(--bad);border-radius:0;clip-path:polygon(50% 0,100% 100%,0 100%)}\n[data-sign] summary::before{background:var(--odd)}\nsummary::after{grid-area:1/5/3;align-self:center;content:\"\\203a\";content:\"\\203a\"/\"\";font-size:1.4rem;color:var(--soft);text-align:center}\n[open] summary::after{transform:rotate(90deg)}\n"
 
--- the words in them: what is seen when they are closed, and what is wrong
+-- the texts in them: what is seen when they are closed, and what is wrong
 unfoldable pub label_rules : List ℕ
 label_rules = codes "h2{margin:0;font:600 1rem/1.5 var(--mono);white-space:pre-wrap;overflow-wrap:anywhere}\nspan,p{font-size:.9rem}\n.id{font-family:var(--mono);color:var(--soft);white-space:pre}\n.host{grid-column:2/4;overflow-wrap:anywhere}\nspan.host,.contents{color:var(--soft)}\n.state,p{grid-area:1/4;margin:0;text-align:right;font-weight:600;color:var(--good)}\n.contents{grid-column:4;text-align:right}\n.contents[data-found]::after{content:\", \" attr(data-found);color:var(--ink);font-weight:600}\n[open] .contents::after{content:none}\n.amiss .state,p{color:var(--bad)}\n[data-sign] .state{color:var(--odd)}\nul{padding:0;list-style:none;color:var(--bad);font-size:.9rem}\nul:empty{display:none}\nli{overflow-wrap:anywhere}\n"
 
@@ -31,6 +31,6 @@ medium_rules = codes ":focus-visible{outline:3px solid var(--good);outline-offse
 unfoldable pub rules : List ℕ
 rules = page_rules ++ (search_rules ++ (section_rules ++ (label_rules ++ (table_rules ++ medium_rules))))
 
--- the style, with how the pictures look
+-- the style, with that of the pictures
 unfoldable pub style : List ℕ
 style = element (codes "style") [] (codes "\n" ++ (rules ++ picture_rules)) ++ codes "\n"

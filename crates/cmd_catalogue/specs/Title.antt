@@ -12,19 +12,19 @@ is_control byte = nat_lt byte 0x20 || byte == 0x7F
 abbrev pub ends_control : List ℕ → ℕ → Bool
 ends_control text place = is_in_range 0x80 0x9F (slice_index text place) && (nat_le 1 place && slice_index text (place - 1) == 0xC2)
 
--- a byte of a text in which a space stands for each control character of ASCII, and a no-break
--- space, U+00A0, for each other one
+-- a byte of a text in which a space replaces each control character of ASCII, and a no-break space,
+-- U+00A0, each other one
 abbrev pub plain_byte : List ℕ → ℕ → ℕ
 plain_byte text place =
     if is_control (slice_index text place) then 32
     else (if ends_control text place then 0xA0 else slice_index text place)
 
--- such a text
+-- a text with these replacements
 unfoldable pub plain_text : List ℕ → List ℕ
 plain_text text = map (plain_byte text) (range_with_len 0 (length text))
 
 -- the title and heading of the page: the text that is asked for, without control characters and
--- what no page holds, or else the usual one
+-- what a page cannot have, or the usual one
 unfoldable pub page_title : Option (List ℕ) → List ℕ
 page_title None = codes "Disks"
 page_title (Some text) = held_text (plain_text text)

@@ -15,7 +15,7 @@ use program_arguments::Page;
 use program_batch::{AnswerRoom, Report, Verdict};
 use std::alloc::{AllocError, Global};
 
-/// The report of `catalogue`, with the memory that it keeps from file to file.
+/// The report of `catalogue`, with the buffers that it uses for one file after another.
 #[derive(Drop)]
 pub struct CatalogueReport {
     alloc: Global,
@@ -28,7 +28,7 @@ pub struct CatalogueReport {
 }
 
 impl CatalogueReport {
-    /// A report on a page that is made so.
+    /// Returns a report on a page with these options.
     pub fn new(alloc: Global, page: Page) -> Result<CatalogueReport, AllocError>
         ensures { IfOk result (λ report. report.page ≡ page) }
     {
@@ -43,7 +43,7 @@ impl CatalogueReport {
         })
     }
 
-    /// What is told of the dump that was read of a file, with these bytes.
+    /// Puts the section of the dump that was read into the buffer, and returns the verdict.
     fn tell_dump(&mut self, name: &[u8], room: &mut AnswerRoom) -> Result<Verdict, AllocError>
         ensures page { self.new.page ≡ self.old.page }
         ensures answered { room.old.printed.items ≡ [] → room.old.complaint.items ≡ [] → (bytes : List ℕ) → IfOk result (λ verdict.
@@ -68,7 +68,7 @@ impl CatalogueReport {
         }
     }
 
-    /// What is told of a file that cannot be read.
+    /// Puts the section of a file that cannot be read into the buffer.
     fn tell_unread(&mut self, name: &[u8], room: &mut AnswerRoom) -> Result<Verdict, AllocError>
         ensures page { self.new.page ≡ self.old.page }
         ensures answered { room.old.printed.items ≡ [] → room.old.complaint.items ≡ [] → IfOk result (λ verdict.
@@ -80,7 +80,7 @@ impl CatalogueReport {
         Ok(Verdict::Failed)
     }
 
-    /// What is told of a file with these bytes, where no dump has so many.
+    /// Puts the section of a file whose length is not a dump's into the buffer.
     fn tell_wrong_length(
         &mut self,
         name: &[u8],

@@ -6,7 +6,7 @@ ghost use Rattle.cmd_catalogue.specs.Elements.{linked_text, linked_text_in, text
 use out_markup::push_escaped;
 use std::alloc::AllocError;
 
-/// Adds the tag at which an element begins, with its end.
+/// Appends the tag that begins an element.
 #[tactic(auto, unfolding(out_markup::specs::Markup::tag))]
 fn push_start(out: &mut Vec<u8>, name: &[u8], attributes: &[u8]) -> Result<(), AllocError>
     ensures { OnOk result (out.new.items ≡ out.old.items ++ (tag name.now attributes.now ++ codes ">")) }
@@ -17,7 +17,7 @@ fn push_start(out: &mut Vec<u8>, name: &[u8], attributes: &[u8]) -> Result<(), A
     out.extend_from_slice(b">")
 }
 
-/// Adds the tag at which an element ends.
+/// Appends the tag that ends an element.
 fn push_end(out: &mut Vec<u8>, name: &[u8]) -> Result<(), AllocError>
     ensures { OnOk result (out.new.items ≡ out.old.items ++ (codes "</" ++ (name.now ++ codes ">"))) }
 {
@@ -26,7 +26,7 @@ fn push_end(out: &mut Vec<u8>, name: &[u8]) -> Result<(), AllocError>
     out.extend_from_slice(b">")
 }
 
-/// Adds an element of these attributes whose content is a text, in which no byte makes markup.
+/// Appends an element with these attributes whose content is a text, in which no byte makes markup.
 #[tactic(auto, unfolding(crate::specs::Elements::text_in, out_markup::specs::Markup::element))]
 pub(crate) fn push_text_in(
     out: &mut Vec<u8>,
@@ -41,7 +41,7 @@ pub(crate) fn push_text_in(
     push_end(out, name)
 }
 
-/// Adds the same on a line of its own.
+/// Appends the same on a line of its own.
 #[tactic(auto, unfolding(crate::specs::Elements::text_line))]
 pub(crate) fn push_text_line(
     out: &mut Vec<u8>,
@@ -55,7 +55,7 @@ pub(crate) fn push_text_line(
     out.extend_from_slice(b"\n")
 }
 
-/// Adds the attribute of a link to a URL.
+/// Appends the attribute of a link to a URL.
 #[tactic(auto, unfolding(out_markup::specs::Markup::attribute))]
 fn push_href(out: &mut Vec<u8>, url: &[u8]) -> Result<(), AllocError>
     ensures { OnOk result (out.new.items ≡ out.old.items ++ attribute (codes "href") (escaped_text url.now)) }
@@ -65,7 +65,7 @@ fn push_href(out: &mut Vec<u8>, url: &[u8]) -> Result<(), AllocError>
     out.extend_from_slice(b"\"")
 }
 
-/// Adds a text that is a link to a URL.
+/// Appends a text that is a link to a URL.
 #[tactic(auto, unfolding(crate::specs::Elements::text_in, out_markup::specs::Markup::element, out_markup::specs::Markup::tag))]
 fn push_link(out: &mut Vec<u8>, url: &[u8], label: &[u8]) -> Result<(), AllocError>
     ensures { OnOk result (out.new.items ≡ out.old.items ++ text_in (codes "a") (attribute (codes "href") (escaped_text url.now)) label.now) }
@@ -77,7 +77,7 @@ fn push_link(out: &mut Vec<u8>, url: &[u8], label: &[u8]) -> Result<(), AllocErr
     push_end(out, b"a")
 }
 
-/// Adds a text that is a link to a URL, where there is one.
+/// Appends a text that is a link to a URL, if there is one.
 fn push_linked_text(out: &mut Vec<u8>, link: Option<&[u8]>, text: &[u8]) -> Result<(), AllocError>
     ensures { OnOk result (out.new.items ≡ out.old.items ++ linked_text (option_map (λ link. link.now) link.entry) text.now) }
 {
@@ -87,7 +87,7 @@ fn push_linked_text(out: &mut Vec<u8>, link: Option<&[u8]>, text: &[u8]) -> Resu
     }
 }
 
-/// Adds an element of these attributes whose content is such a text.
+/// Appends an element with these attributes whose content is such a text.
 #[tactic(auto, unfolding(crate::specs::Elements::linked_text_in, out_markup::specs::Markup::element))]
 pub(crate) fn push_linked_text_in(
     out: &mut Vec<u8>,

@@ -18,11 +18,11 @@ use out_messages::{blocks_there, kind_letters, push_flaws, push_number};
 use petscii::push_spelling;
 use std::alloc::AllocError;
 
-/// The heads of the columns.
+/// The headers of the columns.
 const TABLE_HEAD: &[u8] =
     b"<thead><tr><th scope=\"col\">Blocks</th><th scope=\"col\">Name</th><th scope=\"col\">Kind</th><th scope=\"col\">State</th></tr></thead>\n";
 
-/// Adds why the file of a slot isn't whole, or why that isn't known.
+/// Appends why the file of a slot is not whole, or why that is not known.
 #[tactic(auto, unfolding(crate::specs::Files::reasons))]
 fn push_reasons(
     out: &mut Vec<u8>,
@@ -41,7 +41,7 @@ fn push_reasons(
     )
 }
 
-/// Adds that it isn't known whether the file is whole, and why, where there is more to say.
+/// Appends that it is not known whether the file is whole, and why, if there is more to say.
 #[tactic(auto, unfolding(crate::specs::Files::unknown_text))]
 fn push_unknown(
     out: &mut Vec<u8>,
@@ -60,7 +60,7 @@ fn push_unknown(
     push_reasons(out, image, entry, flaws)
 }
 
-/// Adds whether the file is whole, or what is amiss.
+/// Appends whether the file is whole, or what is wrong with it.
 fn push_wholeness(
     out: &mut Vec<u8>,
     image: &Image,
@@ -77,14 +77,14 @@ fn push_wholeness(
     }
 }
 
-/// That a file is locked.
+/// Returns the text of a locked file; empty if it is not locked.
 fn locked_text(locked: bool) -> &'static [u8]
     ensures { result.now ≡ locked_text locked }
 {
     if locked { b", locked" } else { b"" }
 }
 
-/// Adds the state of the file of a slot with these flaws.
+/// Appends the state of the file of a slot with these flaws.
 #[tactic(auto, unfolding(crate::specs::Files::state_words))]
 fn push_state_words(
     out: &mut Vec<u8>,
@@ -99,7 +99,7 @@ fn push_state_words(
     out.extend_from_slice(locked_text(entry.locked()))
 }
 
-/// The attribute by which a state looks different.
+/// Returns the attribute that gives a state its look.
 fn state_class(wholeness: Option<bool>) -> &'static [u8]
     ensures { result.now ≡ state_class wholeness }
 {
@@ -110,7 +110,7 @@ fn state_class(wholeness: Option<bool>) -> &'static [u8]
     }
 }
 
-/// Adds the cell of the state.
+/// Appends the cell of the state.
 #[tactic(auto, unfolding(crate::specs::Files::state_cell))]
 fn push_state_cell(
     out: &mut Vec<u8>,
@@ -132,7 +132,7 @@ fn push_state_cell(
     )
 }
 
-/// Adds the size that the directory shows.
+/// Appends the size that the directory has.
 #[tactic(auto, unfolding(crate::specs::Files::size_cell))]
 fn push_size_cell(out: &mut Vec<u8>, entry: &Entry, text: &mut Vec<u8>) -> Result<(), AllocError>
     ensures { OnOk result (out.new.items ≡ out.old.items ++ size_cell entry.now.bytes) }
@@ -142,7 +142,7 @@ fn push_size_cell(out: &mut Vec<u8>, entry: &Entry, text: &mut Vec<u8>) -> Resul
     push_text_in(out, b"td", b"", text.as_slice())
 }
 
-/// Adds the name, with a link to a URL, where there is one.
+/// Appends the name, with a link to a URL, if there is one.
 #[tactic(auto, unfolding(crate::specs::Files::name_cell))]
 fn push_name_cell(
     out: &mut Vec<u8>,
@@ -157,7 +157,7 @@ fn push_name_cell(
     push_linked_text_in(out, b"th", b" scope=\"row\"", link, text.as_slice())
 }
 
-/// The letters of the kind of a slot's file.
+/// Returns the letters of the kind of a slot's file.
 fn letters_of(entry: &Entry) -> &'static [u8]
     ensures { result.now ≡ letters_of entry.now.bytes }
 {
@@ -168,7 +168,7 @@ fn letters_of(entry: &Entry) -> &'static [u8]
     }
 }
 
-/// Adds the letters of the kind.
+/// Appends the letters of the kind.
 #[tactic(auto, unfolding(crate::specs::Files::kind_cell))]
 fn push_kind_cell(out: &mut Vec<u8>, entry: &Entry) -> Result<(), AllocError>
     ensures { OnOk result (out.new.items ≡ out.old.items ++ kind_cell entry.now.bytes) }
@@ -176,7 +176,7 @@ fn push_kind_cell(out: &mut Vec<u8>, entry: &Entry) -> Result<(), AllocError>
     push_text_in(out, b"td", b"", letters_of(entry))
 }
 
-/// Adds all cells of a file.
+/// Appends all cells of a file.
 #[tactic(auto, unfolding(crate::specs::Files::file_cells))]
 fn push_file_cells(
     out: &mut Vec<u8>,
@@ -195,7 +195,7 @@ fn push_file_cells(
     push_state_cell(out, image, entry, flaws, text)
 }
 
-/// Adds the row of a file.
+/// Appends the row of a file.
 #[tactic(auto, unfolding(crate::specs::Files::flawed_row, out_markup::specs::Markup::element, out_markup::specs::Markup::tag))]
 fn push_flawed_row(
     out: &mut Vec<u8>,
@@ -213,7 +213,7 @@ fn push_flawed_row(
     out.extend_from_slice(b"</tr>\n")
 }
 
-/// Adds the row of the file of a slot, with a link to a URL, where there is one.
+/// Appends the row of the file of a slot, with a link to a URL, if there is one.
 #[tactic(auto, unfolding(crate::specs::Files::used_row))]
 fn push_used_row(
     out: &mut Vec<u8>,
@@ -228,7 +228,7 @@ fn push_used_row(
     push_flawed_row(out, link, all.image(), entry, flaws.as_slice(), text)
 }
 
-/// Adds the row of a slot, where it is used.
+/// Appends the row of a slot, if it is used.
 #[tactic(auto, unfolding(crate::specs::Files::file_row))]
 fn push_file_row(
     out: &mut Vec<u8>,
@@ -244,7 +244,7 @@ fn push_file_row(
     push_used_row(out, None, all, entry, text)
 }
 
-/// Adds the rows of all files.
+/// Appends the rows of all files.
 #[tactic(auto, unfolding(crate::specs::Files::file_rows))]
 fn push_file_rows(out: &mut Vec<u8>, all: &Inspection, text: &mut Vec<u8>) -> Result<(), AllocError>
     ensures { OnOk result (out.new.items ≡ out.old.items ++ file_rows all.now (way_slots all.now.image)) }
@@ -255,7 +255,7 @@ fn push_file_rows(out: &mut Vec<u8>, all: &Inspection, text: &mut Vec<u8>) -> Re
     Ok(())
 }
 
-/// Adds the row of the next entry's file, with a link to its host file in a folder, where that is
+/// Appends the row of the next entry's file, with a link to its host file in a folder, if that is
 /// written.
 fn push_linked_row(
     out: &mut Vec<u8>,
@@ -276,7 +276,7 @@ fn push_linked_row(
     push_used_row(out, link, all, entry, text)
 }
 
-/// Adds the rows of all files, with links to their host files in a folder.
+/// Appends the rows of all files, with links to their host files in a folder.
 fn push_linked_rows(
     out: &mut Vec<u8>,
     all: &Inspection,
@@ -295,7 +295,7 @@ fn push_linked_rows(
     Ok(())
 }
 
-/// Adds the rows of all files, with links to their host files in a folder, where there is one.
+/// Appends the rows of all files, with links to their host files in a folder, if there is one.
 #[tactic(auto, unfolding(crate::specs::Files::dump_rows))]
 fn push_dump_rows(
     out: &mut Vec<u8>,
@@ -312,7 +312,7 @@ fn push_dump_rows(
     }
 }
 
-/// Adds the body of the table.
+/// Appends the body of the table.
 #[tactic(auto, unfolding(out_markup::specs::Markup::element, out_markup::specs::Markup::tag))]
 fn push_table_body(
     out: &mut Vec<u8>,
@@ -328,7 +328,7 @@ fn push_table_body(
     out.extend_from_slice(b"</tbody>")
 }
 
-/// Adds the heads of the columns.
+/// Appends the headers of the columns.
 #[tactic(auto, unfolding(crate::specs::Files::table_head))]
 fn push_table_head(out: &mut Vec<u8>) -> Result<(), AllocError>
     ensures { OnOk result (out.new.items ≡ out.old.items ++ table_head) }
@@ -336,7 +336,7 @@ fn push_table_head(out: &mut Vec<u8>) -> Result<(), AllocError>
     out.extend_from_slice(TABLE_HEAD)
 }
 
-/// Adds the table of the files, with links to their host files in a folder, where there is one.
+/// Appends the table of the files, with links to their host files in a folder, if there is one.
 #[tactic(auto, unfolding(crate::specs::Files::table, out_markup::specs::Markup::element, out_markup::specs::Markup::tag))]
 pub(crate) fn push_table(
     out: &mut Vec<u8>,

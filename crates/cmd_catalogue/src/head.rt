@@ -1,5 +1,5 @@
-//! The page down to its first section: the policy, the title, the style, the script and the search.
-//! The end tags of what it leaves open, `body` and `html`, may be left out in HTML.
+//! The page up to its first section: the policy, the title, the style, the script and the search.
+//! `body` and `html` stay open: HTML lets their end tags be left out.
 ghost use Rattle.std.specs.Prelude.{◌≡◌, ◌++◌, option_map, OnOk};
 ghost use Rattle.cmd_catalogue.specs.Head.{opening, head_end, search_head, header, page_head};
 ghost use Rattle.cmd_catalogue.specs.Title.{page_title};
@@ -10,7 +10,7 @@ use crate::style::push_style;
 use crate::title::push_page_title;
 use std::alloc::AllocError;
 
-/// The beginning of the page: its language, and what it may load, of scripts only its own (by its
+/// The beginning of the page: its language, and what it may load; of scripts only its own (by its
 /// digest).
 const OPENING: &[u8] = b"<!DOCTYPE html>\n\
 <html lang=\"en\">\n\
@@ -24,8 +24,8 @@ const HEAD_END: &[u8] = b"</head>\n\
 <body>\n\
 <header>\n";
 
-/// What stands above the sections, below the heading: the search field, the buttons, and how many
-/// disks are shown.
+/// What is above the sections, below the heading: the search field, the buttons, and how many disks
+/// are shown.
 const SEARCH_HEAD: &[u8] = b"<div class=\"tools\" role=\"search\" hidden>\n\
 <input type=\"search\" aria-label=\"Search disks and files\" placeholder=\"Search disks and files\" autocomplete=\"off\" autocapitalize=\"none\" spellcheck=\"false\">\n\
 <div role=\"group\" aria-label=\"State\">\n\
@@ -37,7 +37,7 @@ const SEARCH_HEAD: &[u8] = b"<div class=\"tools\" role=\"search\" hidden>\n\
 </div>\n\
 </header>\n";
 
-/// Adds the beginning of the page.
+/// Appends the beginning of the page.
 #[tactic(auto, unfolding(crate::specs::Head::opening))]
 fn push_opening(out: &mut Vec<u8>) -> Result<(), AllocError>
     ensures { OnOk result (out.new.items ≡ out.old.items ++ opening) }
@@ -45,7 +45,7 @@ fn push_opening(out: &mut Vec<u8>) -> Result<(), AllocError>
     out.extend_from_slice(OPENING)
 }
 
-/// Adds the end of its head.
+/// Appends the end of its head.
 #[tactic(auto, unfolding(crate::specs::Head::head_end))]
 fn push_head_end(out: &mut Vec<u8>) -> Result<(), AllocError>
     ensures { OnOk result (out.new.items ≡ out.old.items ++ head_end) }
@@ -53,7 +53,7 @@ fn push_head_end(out: &mut Vec<u8>) -> Result<(), AllocError>
     out.extend_from_slice(HEAD_END)
 }
 
-/// Adds what stands below the heading.
+/// Appends what is below the heading.
 #[tactic(auto, unfolding(crate::specs::Head::search_head))]
 fn push_search_head(out: &mut Vec<u8>) -> Result<(), AllocError>
     ensures { OnOk result (out.new.items ≡ out.old.items ++ search_head) }
@@ -61,7 +61,7 @@ fn push_search_head(out: &mut Vec<u8>) -> Result<(), AllocError>
     out.extend_from_slice(SEARCH_HEAD)
 }
 
-/// Adds the end of the head, and all that stands above the sections, with this heading.
+/// Appends the end of the head, and all that is above the sections, with this heading.
 #[tactic(auto, unfolding(crate::specs::Head::header))]
 fn push_header(out: &mut Vec<u8>, title: &[u8]) -> Result<(), AllocError>
     ensures { OnOk result (out.new.items ≡ out.old.items ++ header title.now) }
@@ -71,7 +71,7 @@ fn push_header(out: &mut Vec<u8>, title: &[u8]) -> Result<(), AllocError>
     push_search_head(out)
 }
 
-/// Adds what stands before all sections, with this title.
+/// Appends what is printed before all sections, with this title.
 #[tactic(auto, unfolding(crate::specs::Head::page_head))]
 fn push_titled_head(out: &mut Vec<u8>, title: &[u8]) -> Result<(), AllocError>
     ensures { OnOk result (out.new.items ≡ out.old.items ++ page_head title.now) }
@@ -83,8 +83,8 @@ fn push_titled_head(out: &mut Vec<u8>, title: &[u8]) -> Result<(), AllocError>
     push_header(out, title)
 }
 
-/// Adds what stands before all sections, with the title that is asked for, or the usual one. The
-/// text is room that is used again.
+/// Appends what is printed before all sections, with the title that is asked for, or the usual one.
+/// `text` is a buffer.
 pub(crate) fn push_head(
     out: &mut Vec<u8>,
     title: Option<&str>,

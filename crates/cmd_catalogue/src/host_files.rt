@@ -14,8 +14,8 @@ use host_names::{Ending, ImagePlace, TakenNames};
 use petscii::push_spelling;
 use std::alloc::{AllocError, Global};
 
-/// The folder of the image of this name, below the one that is asked for; None where none is, or
-/// the name is not UTF-8, so that no file has it.
+/// Returns the folder of the image with this name, below the links' folder; None if there is no
+/// such folder, or the name is not UTF-8.
 pub(crate) fn folder_of(
     alloc: Global,
     links: Option<&str>,
@@ -33,7 +33,7 @@ pub(crate) fn folder_of(
     Ok(Some(done_path(alloc, into, &place)?))
 }
 
-/// The ending of the host name of the file of an entry.
+/// Returns the ending of the host name of an entry's file.
 fn ending_of(entry: &Entry) -> Ending
     ensures { result ≡ ending_by (known_kind entry.now.bytes) }
 {
@@ -44,8 +44,8 @@ fn ending_of(entry: &Entry) -> Ending
     }
 }
 
-/// The host files that `extract` writes of the files of an image, one after another, in memory that
-/// is kept from image to image.
+/// The host files that `extract` writes of the files of an image, one after another, in buffers
+/// that are used for one image after another.
 #[derive(Drop)]
 pub(crate) struct HostFiles {
     pub(crate) extraction: ContentExtraction,
@@ -54,16 +54,16 @@ pub(crate) struct HostFiles {
     bytes: Vec<u8>,
     /// The name of a file in text form.
     text: Vec<u8>,
-    /// Its name on the host.
+    /// The file's name on the host.
     pub(crate) name: Vec<u8>,
-    /// Its path there.
+    /// The file's path on the host.
     path: Vec<u8>,
-    /// The URL of that.
+    /// The URL of that path.
     pub(crate) url: Vec<u8>,
 }
 
 impl HostFiles {
-    /// No files, and no memory yet.
+    /// Returns a list without files, whose buffers have no memory yet.
     pub(crate) fn new(alloc: Global) -> HostFiles {
         HostFiles {
             extraction: ContentExtraction::new(),
@@ -84,8 +84,8 @@ impl HostFiles {
         self.taken.clear();
     }
 
-    /// Names the host file of the next entry's file, and says whether there is one: whether it has
-    /// a content and the files before leave room for that. The name is taken from then on.
+    /// Names the host file of the next entry's file, and returns whether there is one: it needs a
+    /// content that fits after the files before. The name is taken from then on.
     #[tactic(auto, unfolding(crate::specs::Links::file_name, crate::specs::Links::naming_after, cmd_extract::specs::Progress::host_name, d64_inventory::specs::Rows::row_of))]
     fn name_next(&mut self, all: &Inspection, entry: &Entry) -> Result<bool, AllocError>
         ensures name { IfOk result (λ is_written. (if is_written then Some self.new.name.items else None) ≡ file_name all.now (naming_of self.old) entry.now) }
@@ -106,8 +106,8 @@ impl HostFiles {
         Ok(true)
     }
 
-    /// Puts the URL of the host file of the next entry's file, in this folder, into `url`, and says
-    /// whether there is one.
+    /// Puts the URL of the host file of the next entry's file, in this folder, into `url`, and
+    /// returns whether there is one.
     pub(crate) fn find_next(
         &mut self,
         all: &Inspection,

@@ -1,7 +1,7 @@
-//! How the page searches itself. Without the script all of it can be read.
+//! The script by which the page is searched. The page can be read without it.
 //!
-//! The policy in `head` has the digest of the script: who changes it changes that too, and
-//! scripts/sweep-catalogue says which it must be.
+//! The policy in `head` has the digest of the script: a change of the script needs a change there,
+//! and scripts/sweep-catalogue prints the digest.
 ghost use Rattle.std.specs.Prelude.{◌≡◌, ◌++◌, OnOk};
 ghost use Rattle.cmd_catalogue.specs.Script.{gathering, showing, listening, steps, script};
 
@@ -20,8 +20,8 @@ addEventListener(\"DOMContentLoaded\", () => {\n\
 \x20 });\n\
 \x20 document.documentElement.className = \"\";\n";
 
-/// What is shown: the sections and files whose name holds what is typed, of the state that is asked
-/// for.
+/// What is shown: the sections and files whose name contains what is typed, in the state that is
+/// chosen.
 const SHOWING: &[u8] = b"  let state = \"\", last = \"\", rest = [], noted = [], frame;\n\
 \x20 const more = (most = 100) => {\n\
 \x20   for (const disk of rest.splice(0, most)) known(disk).box.hidden = disk.hidden = false;\n\
@@ -66,7 +66,7 @@ const SHOWING: &[u8] = b"  let state = \"\", last = \"\", rest = [], noted = [],
 \x20   more();\n\
 \x20 };\n";
 
-/// When that is asked: as the page opens, by its address, and by the reader.
+/// When the search runs: as the page opens, by its address, and by the reader.
 const LISTENING: &[u8] = b"  const search = () => {\n\
 \x20   const [, text = \"\"] = location.hash.match(/^#q=(.*)/) || [];\n\
 \x20   try { field.value = decodeURIComponent(text); } catch { field.value = text; }\n\
@@ -87,7 +87,7 @@ const LISTENING: &[u8] = b"  const search = () => {\n\
 \x20 search();\n\
 });\n";
 
-/// Adds what is on the page.
+/// Appends the part that gathers what is on the page.
 #[tactic(auto, unfolding(crate::specs::Script::gathering))]
 fn push_gathering(out: &mut Vec<u8>) -> Result<(), AllocError>
     ensures { OnOk result (out.new.items ≡ out.old.items ++ gathering) }
@@ -95,7 +95,7 @@ fn push_gathering(out: &mut Vec<u8>) -> Result<(), AllocError>
     out.extend_from_slice(GATHERING)
 }
 
-/// Adds what is shown.
+/// Appends the part that shows and hides.
 #[tactic(auto, unfolding(crate::specs::Script::showing))]
 fn push_showing(out: &mut Vec<u8>) -> Result<(), AllocError>
     ensures { OnOk result (out.new.items ≡ out.old.items ++ showing) }
@@ -103,7 +103,7 @@ fn push_showing(out: &mut Vec<u8>) -> Result<(), AllocError>
     out.extend_from_slice(SHOWING)
 }
 
-/// Adds when that is asked.
+/// Appends the part that says when the search runs.
 #[tactic(auto, unfolding(crate::specs::Script::listening))]
 fn push_listening(out: &mut Vec<u8>) -> Result<(), AllocError>
     ensures { OnOk result (out.new.items ≡ out.old.items ++ listening) }
@@ -111,7 +111,7 @@ fn push_listening(out: &mut Vec<u8>) -> Result<(), AllocError>
     out.extend_from_slice(LISTENING)
 }
 
-/// Adds all steps.
+/// Appends all steps.
 #[tactic(auto, unfolding(crate::specs::Script::steps))]
 fn push_steps(out: &mut Vec<u8>) -> Result<(), AllocError>
     ensures { OnOk result (out.new.items ≡ out.old.items ++ steps) }
@@ -121,7 +121,7 @@ fn push_steps(out: &mut Vec<u8>) -> Result<(), AllocError>
     push_listening(out)
 }
 
-/// Adds the script.
+/// Appends the script.
 #[tactic(auto, unfolding(crate::specs::Script::script, out_markup::specs::Markup::element, out_markup::specs::Markup::tag))]
 pub(crate) fn push_script(out: &mut Vec<u8>) -> Result<(), AllocError>
     ensures { OnOk result (out.new.items ≡ out.old.items ++ script) }

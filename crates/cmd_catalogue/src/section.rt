@@ -17,7 +17,7 @@ use out_messages::{push_contents, push_fault, push_number, push_read_error, push
 use petscii::push_spelling;
 use std::alloc::AllocError;
 
-/// Adds the disk's name.
+/// Appends the disk's name.
 #[tactic(auto, unfolding(crate::specs::Sections::disk_line))]
 fn push_disk_line(out: &mut Vec<u8>, image: &Image, text: &mut Vec<u8>) -> Result<(), AllocError>
     ensures { OnOk result (out.new.items ≡ out.old.items ++ disk_line image.now) }
@@ -27,7 +27,7 @@ fn push_disk_line(out: &mut Vec<u8>, image: &Image, text: &mut Vec<u8>) -> Resul
     push_text_line(out, b"h2", b" class=\"name\"", text.as_slice())
 }
 
-/// Adds the disk's id.
+/// Appends the disk's id.
 #[tactic(auto, unfolding(crate::specs::Sections::id_line))]
 fn push_id_line(out: &mut Vec<u8>, image: &Image, text: &mut Vec<u8>) -> Result<(), AllocError>
     ensures { OnOk result (out.new.items ≡ out.old.items ++ id_line image.now) }
@@ -37,7 +37,7 @@ fn push_id_line(out: &mut Vec<u8>, image: &Image, text: &mut Vec<u8>) -> Result<
     push_text_line(out, b"span", b" class=\"id\"", text.as_slice())
 }
 
-/// Adds a name of the host in an element.
+/// Appends a name of the host in an element.
 #[tactic(auto, unfolding(crate::specs::Sections::host_line))]
 fn push_host_line(out: &mut Vec<u8>, element: &[u8], name: &[u8]) -> Result<(), AllocError>
     ensures { OnOk result (out.new.items ≡ out.old.items ++ host_line element.now name.now) }
@@ -49,7 +49,7 @@ fn push_host_line(out: &mut Vec<u8>, element: &[u8], name: &[u8]) -> Result<(), 
     push_text_line(out, element, b" class=\"host\"", held.as_slice())
 }
 
-/// Adds what is on the disk.
+/// Appends what is on the disk.
 #[tactic(auto, unfolding(crate::specs::Sections::contents_line))]
 fn push_contents_line(
     out: &mut Vec<u8>,
@@ -63,7 +63,7 @@ fn push_contents_line(
     push_text_line(out, b"span", b" class=\"contents\"", text.as_slice())
 }
 
-/// Adds the state of the image.
+/// Appends the state of the image.
 #[tactic(auto, unfolding(crate::specs::Sections::state_line))]
 fn push_state_line(
     out: &mut Vec<u8>,
@@ -77,7 +77,7 @@ fn push_state_line(
     push_text_line(out, b"span", b" class=\"state\"", text.as_slice())
 }
 
-/// Adds which disk it is.
+/// Appends the lines by which the disk is known.
 #[tactic(auto, unfolding(crate::specs::Sections::label_lines))]
 fn push_label_lines(
     out: &mut Vec<u8>,
@@ -92,7 +92,7 @@ fn push_label_lines(
     push_host_line(out, b"span", name)
 }
 
-/// Adds the lines of what is seen of a section that is closed.
+/// Appends the lines that are seen of a closed section.
 fn push_summary_lines(
     out: &mut Vec<u8>,
     name: &[u8],
@@ -107,7 +107,7 @@ fn push_summary_lines(
     push_state_line(out, all, text)
 }
 
-/// Adds what is seen of a section that is closed.
+/// Appends what is seen of a closed section.
 #[tactic(auto, unfolding(crate::specs::Sections::summary, out_markup::specs::Markup::element, out_markup::specs::Markup::tag))]
 fn push_summary(
     out: &mut Vec<u8>,
@@ -122,7 +122,7 @@ fn push_summary(
     out.extend_from_slice(b"</summary>\n")
 }
 
-/// Adds a fault.
+/// Appends a fault.
 #[tactic(auto, unfolding(crate::specs::Sections::fault_item))]
 fn push_fault_item(
     out: &mut Vec<u8>,
@@ -137,7 +137,7 @@ fn push_fault_item(
     push_text_line(out, b"li", b"", text.as_slice())
 }
 
-/// Adds each fault.
+/// Appends each fault.
 #[tactic(auto, unfolding(crate::specs::Sections::fault_items))]
 fn push_fault_items(
     out: &mut Vec<u8>,
@@ -153,7 +153,7 @@ fn push_fault_items(
     Ok(())
 }
 
-/// Adds a read error.
+/// Appends a read error.
 #[tactic(auto, unfolding(crate::specs::Sections::error_item))]
 fn push_error_item(
     out: &mut Vec<u8>,
@@ -168,7 +168,7 @@ fn push_error_item(
     push_text_line(out, b"li", b"", text.as_slice())
 }
 
-/// Adds each read error.
+/// Appends each read error.
 #[tactic(auto, unfolding(crate::specs::Sections::error_items))]
 fn push_error_items(
     out: &mut Vec<u8>,
@@ -184,7 +184,7 @@ fn push_error_items(
     Ok(())
 }
 
-/// Adds what is wrong with the image.
+/// Appends all that is wrong with the image.
 #[tactic(auto, unfolding(crate::specs::Sections::wrongs, out_markup::specs::Markup::element, out_markup::specs::Markup::tag))]
 fn push_wrongs(out: &mut Vec<u8>, all: &Inspection, text: &mut Vec<u8>) -> Result<(), AllocError>
     ensures { OnOk result (out.new.items ≡ out.old.items ++ wrongs all.now) }
@@ -196,7 +196,7 @@ fn push_wrongs(out: &mut Vec<u8>, all: &Inspection, text: &mut Vec<u8>) -> Resul
     out.extend_from_slice(b"</ul>\n")
 }
 
-/// Adds the picture of the blocks, where it is wanted.
+/// Appends the picture of the blocks, if it is wanted.
 fn push_picture_where(
     out: &mut Vec<u8>,
     maps: bool,
@@ -212,7 +212,7 @@ fn push_picture_where(
     }
 }
 
-/// Adds all that is in the section.
+/// Appends the whole content of the section.
 #[tactic(auto, unfolding(crate::specs::Sections::content))]
 fn push_content(
     out: &mut Vec<u8>,
@@ -232,7 +232,7 @@ fn push_content(
     push_picture_where(out, maps, name, all)
 }
 
-/// The attributes that say whether anything is amiss, and how its sign looks.
+/// Returns the attributes that say whether anything is wrong, and how its sign looks.
 fn amiss_class(is_sound: bool, is_amiss: bool) -> &'static [u8]
     ensures { result.now ≡ amiss_class is_sound is_amiss }
 {
@@ -243,8 +243,8 @@ fn amiss_class(is_sound: bool, is_amiss: bool) -> &'static [u8]
     }
 }
 
-/// Adds the section of an image, with links to its host files in a folder, where there is one. The
-/// text is room that is used again.
+/// Appends the section of an image, with links to its host files in a folder, if there is one.
+/// `text` is a buffer.
 #[tactic(auto, unfolding(crate::specs::Sections::section, out_markup::specs::Markup::element, out_markup::specs::Markup::tag))]
 pub(crate) fn push_section(
     out: &mut Vec<u8>,
@@ -264,7 +264,7 @@ pub(crate) fn push_section(
     out.extend_from_slice(b"</details>\n")
 }
 
-/// Adds the name of a file that is not answered, and what is wrong with it.
+/// Appends the name of a file that is not a dump, and what is wrong with it.
 fn push_wrong_lines(out: &mut Vec<u8>, name: &[u8], wrong: &[u8]) -> Result<(), AllocError>
     ensures { OnOk result (out.new.items ≡ out.old.items ++ (host_line (codes "h2") name.now ++ text_line (codes "p") [] wrong.now)) }
 {
@@ -272,7 +272,7 @@ fn push_wrong_lines(out: &mut Vec<u8>, name: &[u8], wrong: &[u8]) -> Result<(), 
     push_text_line(out, b"p", b"", wrong)
 }
 
-/// Adds the section of a file that is not answered, with what is wrong with it.
+/// Appends the section of a file that is not a dump, with what is wrong with it.
 #[tactic(auto, unfolding(crate::specs::Sections::unanswered_section, out_markup::specs::Markup::element, out_markup::specs::Markup::tag))]
 pub(crate) fn push_unanswered(
     out: &mut Vec<u8>,

@@ -1,4 +1,4 @@
-//! How the page looks.
+//! The style of the page.
 ghost use Rattle.std.specs.Prelude.{◌≡◌, ◌++◌, OnOk};
 ghost use Rattle.cmd_catalogue.specs.Style.{page_rules, search_rules, section_rules, label_rules, table_rules, medium_rules, rules, style};
 ghost use Rattle.cmd_map.specs.Style.{picture_rules};
@@ -39,7 +39,7 @@ summary::before,section::before{grid-row:1/3;align-self:start;width:1.5rem;heigh
 summary::after{grid-area:1/5/3;align-self:center;content:\"\\203a\";content:\"\\203a\"/\"\";font-size:1.4rem;color:var(--soft);text-align:center}\n\
 [open] summary::after{transform:rotate(90deg)}\n";
 
-/// The words in them: what is seen when they are closed, and what is wrong.
+/// The texts in them: what is seen when they are closed, and what is wrong.
 const LABEL_RULES: &[u8] =
     b"h2{margin:0;font:600 1rem/1.5 var(--mono);white-space:pre-wrap;overflow-wrap:anywhere}\n\
 span,p{font-size:.9rem}\n\
@@ -85,7 +85,7 @@ summary,thead{break-after:avoid}tr,li,svg,section,details:not(:has(tr:nth-child(
 details::details-content{content-visibility:visible;display:block}details:has(svg)::details-content{display:grid;grid-template-columns:6fr 5fr;align-items:start}\n\
 details:has(svg) ul{grid-column:1/3}details:has(svg) :is(table,svg){width:auto;max-width:none;margin:0 .9rem .9rem}details:has(svg) tr :nth-child(n+2){width:auto}.whole{white-space:nowrap!important}}\n";
 
-/// Adds the rules of the colours, light and dark, and the page.
+/// Appends the rules of the colours, light and dark, and the page.
 #[tactic(auto, unfolding(crate::specs::Style::page_rules))]
 fn push_page_rules(out: &mut Vec<u8>) -> Result<(), AllocError>
     ensures { OnOk result (out.new.items ≡ out.old.items ++ page_rules) }
@@ -93,7 +93,7 @@ fn push_page_rules(out: &mut Vec<u8>) -> Result<(), AllocError>
     out.extend_from_slice(PAGE_RULES)
 }
 
-/// Adds the rules of the search field and its buttons.
+/// Appends the rules of the search field and its buttons.
 #[tactic(auto, unfolding(crate::specs::Style::search_rules))]
 fn push_search_rules(out: &mut Vec<u8>) -> Result<(), AllocError>
     ensures { OnOk result (out.new.items ≡ out.old.items ++ search_rules) }
@@ -101,7 +101,7 @@ fn push_search_rules(out: &mut Vec<u8>) -> Result<(), AllocError>
     out.extend_from_slice(SEARCH_RULES)
 }
 
-/// Adds the rules of the sections, and the marks of their state.
+/// Appends the rules of the sections, and the marks of their state.
 #[tactic(auto, unfolding(crate::specs::Style::section_rules))]
 fn push_section_rules(out: &mut Vec<u8>) -> Result<(), AllocError>
     ensures { OnOk result (out.new.items ≡ out.old.items ++ section_rules) }
@@ -109,7 +109,7 @@ fn push_section_rules(out: &mut Vec<u8>) -> Result<(), AllocError>
     out.extend_from_slice(SECTION_RULES)
 }
 
-/// Adds the rules of the words in them.
+/// Appends the rules of the texts in them.
 #[tactic(auto, unfolding(crate::specs::Style::label_rules))]
 fn push_label_rules(out: &mut Vec<u8>) -> Result<(), AllocError>
     ensures { OnOk result (out.new.items ≡ out.old.items ++ label_rules) }
@@ -117,7 +117,7 @@ fn push_label_rules(out: &mut Vec<u8>) -> Result<(), AllocError>
     out.extend_from_slice(LABEL_RULES)
 }
 
-/// Adds the rules of the table of files, and of the picture.
+/// Appends the rules of the table of files, and of the picture.
 #[tactic(auto, unfolding(crate::specs::Style::table_rules))]
 fn push_table_rules(out: &mut Vec<u8>) -> Result<(), AllocError>
     ensures { OnOk result (out.new.items ≡ out.old.items ++ table_rules) }
@@ -125,7 +125,7 @@ fn push_table_rules(out: &mut Vec<u8>) -> Result<(), AllocError>
     out.extend_from_slice(TABLE_RULES)
 }
 
-/// Adds the rules of what differs for the keyboard, on a narrow screen, and in print.
+/// Appends the rules of what differs for the keyboard, on a narrow screen, and in print.
 #[tactic(auto, unfolding(crate::specs::Style::medium_rules))]
 fn push_medium_rules(out: &mut Vec<u8>) -> Result<(), AllocError>
     ensures { OnOk result (out.new.items ≡ out.old.items ++ medium_rules) }
@@ -133,7 +133,7 @@ fn push_medium_rules(out: &mut Vec<u8>) -> Result<(), AllocError>
     out.extend_from_slice(MEDIUM_RULES)
 }
 
-/// Adds all rules.
+/// Appends all rules.
 #[tactic(auto, unfolding(crate::specs::Style::rules))]
 fn push_rules(out: &mut Vec<u8>) -> Result<(), AllocError>
     ensures { OnOk result (out.new.items ≡ out.old.items ++ rules) }
@@ -146,7 +146,7 @@ fn push_rules(out: &mut Vec<u8>) -> Result<(), AllocError>
     push_medium_rules(out)
 }
 
-/// Adds all rules of the page, and those of the pictures in it.
+/// Appends all rules of the page, and those of the pictures in it.
 fn push_rules_with_pictures(out: &mut Vec<u8>) -> Result<(), AllocError>
     ensures { OnOk result (out.new.items ≡ out.old.items ++ (rules ++ picture_rules)) }
 {
@@ -154,7 +154,7 @@ fn push_rules_with_pictures(out: &mut Vec<u8>) -> Result<(), AllocError>
     push_picture_rules(out)
 }
 
-/// Adds the style.
+/// Appends the style.
 #[tactic(auto, unfolding(crate::specs::Style::style, out_markup::specs::Markup::element, out_markup::specs::Markup::tag))]
 pub(crate) fn push_style(out: &mut Vec<u8>) -> Result<(), AllocError>
     ensures { OnOk result (out.new.items ≡ out.old.items ++ style) }

@@ -5,11 +5,11 @@ ghost use Rattle.cmd_catalogue.specs.Title.{plain_byte, plain_text, page_title};
 use out_markup::push_held;
 use std::alloc::AllocError;
 
-/// The title where none is asked for.
+/// The title if the options give none.
 const USUAL_TITLE: &[u8] = b"Disks";
 
-/// The byte at a place of a text in which a space stands for each control character of ASCII, and a
-/// no-break space for each other one.
+/// Returns the byte at a place of a text in which a space replaces each control character of ASCII,
+/// and a no-break space each other one.
 fn plain_byte(text: &[u8], place: usize) -> u8
     requires { place < length text.now }
     ensures { result ≡ plain_byte text.now place }
@@ -21,7 +21,7 @@ fn plain_byte(text: &[u8], place: usize) -> u8
     }
 }
 
-/// Adds a text of UTF-8 in which spaces stand for control characters.
+/// Appends a text of UTF-8 in which spaces replace control characters.
 #[tactic(auto, unfolding(crate::specs::Title::plain_text))]
 fn push_plain(out: &mut Vec<u8>, text: &[u8]) -> Result<(), AllocError>
     ensures { OnOk result (out.new.items ≡ out.old.items ++ plain_text text.now) }
@@ -32,8 +32,8 @@ fn push_plain(out: &mut Vec<u8>, text: &[u8]) -> Result<(), AllocError>
     Ok(())
 }
 
-/// Adds the title and heading of the page: the text that is asked for, without control characters
-/// and what no page holds, or else the usual one.
+/// Appends the title and heading of the page: the text that is asked for, without control
+/// characters and what a page cannot have, or the usual one.
 #[tactic(auto, unfolding(crate::specs::Title::page_title))]
 pub(crate) fn push_page_title(out: &mut Vec<u8>, title: Option<&str>) -> Result<(), AllocError>
     ensures { OnOk result (out.new.items ≡ out.old.items ++ page_title (option_map (λ title. title.now) title.entry)) }

@@ -5,7 +5,7 @@ ghost use Rattle.cmd_catalogue.specs.Urls.{is_url_byte, url_digit, url_byte, beg
 
 use std::alloc::AllocError;
 
-/// Whether a byte stands for itself in the path of a URL.
+/// Whether the path of a URL has a byte as it is.
 #[tactic(auto, unfolding(crate::specs::Urls::is_url_byte, crate::specs::Urls::url_characters))]
 fn is_url_byte(byte: u8) -> bool
     ensures { result ≡ is_url_byte byte }
@@ -13,7 +13,7 @@ fn is_url_byte(byte: u8) -> bool
     byte.is_ascii_alphanumeric() || matches!(byte, b'-' | b'.' | b'_' | b'~' | b'/')
 }
 
-/// A hexadecimal digit, with capital letters.
+/// Returns a hexadecimal digit, with capital letters.
 fn url_digit(number: u8) -> u8
     requires { number < 16 }
     ensures { result ≡ url_digit number }
@@ -25,7 +25,7 @@ fn url_digit(number: u8) -> u8
     }
 }
 
-/// Adds a byte as it stands in a URL.
+/// Appends a byte as a URL has it.
 #[tactic(auto, unfolding(crate::specs::Urls::url_byte))]
 fn push_url_byte(url: &mut Vec<u8>, byte: u8) -> Result<(), AllocError>
     ensures { OnOk result (url.new.items ≡ url.old.items ++ url_byte byte) }
@@ -43,7 +43,7 @@ fn begins_host(path: &[u8]) -> bool
     path.starts_with(b"//")
 }
 
-/// Adds what is put before a path in its URL, so that it stays a path.
+/// Appends what is put before a path in its URL, so that it stays a path.
 #[tactic(auto, unfolding(crate::specs::Urls::url_front))]
 fn push_url_front(url: &mut Vec<u8>, path: &[u8]) -> Result<(), AllocError>
     ensures { OnOk result (url.new.items ≡ url.old.items ++ url_front path.now) }
@@ -55,7 +55,7 @@ fn push_url_front(url: &mut Vec<u8>, path: &[u8]) -> Result<(), AllocError>
     }
 }
 
-/// Adds the bytes of a path as they stand in a URL.
+/// Appends the bytes of a path as a URL has them.
 fn push_url_bytes(url: &mut Vec<u8>, path: &[u8]) -> Result<(), AllocError>
     ensures { OnOk result (url.new.items ≡ url.old.items ++ flat_map url_byte path.now) }
 {
@@ -65,8 +65,8 @@ fn push_url_bytes(url: &mut Vec<u8>, path: &[u8]) -> Result<(), AllocError>
     Ok(())
 }
 
-/// Puts the URL of a path in the place of what a list had. It names neither a host nor a scheme, so
-/// it leads to the path, seen from the page.
+/// Replaces a list's contents by the URL of a path. It has neither a host nor a scheme, so it leads
+/// to the path, seen from the page.
 #[tactic(auto, unfolding(crate::specs::Urls::url_of))]
 pub(crate) fn put_url(url: &mut Vec<u8>, path: &[u8]) -> Result<(), AllocError>
     ensures { OnOk result (url.new.items ≡ url_of path.now) }
