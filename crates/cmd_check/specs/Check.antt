@@ -1,4 +1,4 @@
--- What `check` says of a file.
+-- What `check` prints of a file.
 use Rattle.std.specs.Prelude.{ℕ, Bool, List, [], Option, Some, None, if◌then◌else◌, codes}
 use Rattle.sha2.specs.Sha256.{sha256}
 use Rattle.d64_image.specs.Disk.{Bytes}
@@ -16,7 +16,7 @@ use Rattle.program_batch.specs.Answers.{Answer, Rule}
 use Rattle.program_batch.specs.declared.report.Verdict.TheVariants.{Clean, Amiss, Failed}
 use Rattle.d64_g64.specs.DumpOf.{dump_of}
 
--- the digest of bytes, where it is asked for
+-- the digest of bytes, if it is asked for
 abbrev pub digest_of : Bool → Bytes → Option Bytes
 digest_of asked bytes = if asked then Some (sha256 bytes) else None
 
@@ -32,26 +32,26 @@ printed_unread Text digest name = []
 printed_unread Json digest name = line_of (unread_object name)
 printed_unread Csv digest name = unanswered_row name digest (codes "cannot be read")
 
--- and of one with these bytes, which is no dump
+-- what is printed of bytes that are not a dump
 abbrev pub printed_wrong_length : Format → Bool → List ℕ → Bytes → List ℕ
 printed_wrong_length Text digest name bytes = []
 printed_wrong_length Json digest name bytes = line_of (no_dump_object name bytes)
 printed_wrong_length Csv digest name bytes = unanswered_row name digest (no_dump_error bytes)
 
--- what stands before all answers: the header row of CSV
+-- what is printed before the first result: the header row of CSV
 abbrev pub heading_of : Format → Bool → List ℕ
 heading_of Text digest = []
 heading_of Json digest = []
 heading_of Csv digest = header_row digest
 
--- what is answered of bytes: of a dump, what is found; and else that they are of a wrong length
+-- the result for bytes: the findings if they are a dump, and otherwise that their length is wrong
 abbrev pub answer_of : Format → Bool → List ℕ → Bytes → Option DumpView → Answer
 answer_of form digest name bytes None =
     record { printed = printed_wrong_length form digest name bytes; complaint = wrong_length_line name bytes; verdict = Failed }
 answer_of form digest name bytes (Some dump) =
     record { printed = printed_of form name dump (digest_of digest bytes); complaint = []; verdict = if is_amiss dump then Amiss else Clean }
 
--- what `check` answers of a file in a form, with digests or without: of its bytes, or that it
+-- the rule of `check` in a form, with digests or without: the result for a file's bytes, or that it
 -- cannot be read
 abbrev pub check_rule : Format → Bool → Rule
 check_rule form digest name None = record { printed = printed_unread form digest name; complaint = unread_line name; verdict = Failed }

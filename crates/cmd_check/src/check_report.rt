@@ -17,7 +17,7 @@ use sha2::{Digest, Sha256};
 use std::alloc::{AllocError, Global};
 use std::mem;
 
-/// The report of `check`, with the memory that it keeps from file to file.
+/// The report of `check`, with the buffers that it uses for one file after another.
 #[derive(Drop)]
 pub struct CheckReport {
     alloc: Global,
@@ -30,7 +30,7 @@ pub struct CheckReport {
 }
 
 impl CheckReport {
-    /// A report in a form, with the digest of each file where that is asked for.
+    /// Returns a report in a form, with the digest of each file if that is asked for.
     pub fn new(alloc: Global, form: Format, has_digest: bool) -> Result<CheckReport, AllocError>
         ensures form { IfOk result (λ report. report.form ≡ form) }
         ensures digest { IfOk result (λ report. report.has_digest ≡ has_digest) }
@@ -46,7 +46,7 @@ impl CheckReport {
         })
     }
 
-    /// What is told of the dump that was read of a file, with these bytes.
+    /// Puts what is printed of the dump that was read into the buffer, and returns the verdict.
     fn tell_dump(
         &mut self,
         name: &[u8],
@@ -81,7 +81,7 @@ impl CheckReport {
         }
     }
 
-    /// What is told of a file that cannot be read.
+    /// Puts what is printed of a file that cannot be read into the buffer.
     fn tell_unread(&mut self, name: &[u8], room: &mut AnswerRoom) -> Result<Verdict, AllocError>
         ensures form { self.new.form ≡ self.old.form }
         ensures digest { self.new.has_digest ≡ self.old.has_digest }
@@ -95,7 +95,7 @@ impl CheckReport {
         Ok(Verdict::Failed)
     }
 
-    /// What is told of a file with these bytes, where no dump has so many.
+    /// Puts what is printed of a file whose length is not a dump's into the buffer.
     fn tell_wrong_length(
         &mut self,
         name: &[u8],

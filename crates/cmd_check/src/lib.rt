@@ -1,5 +1,5 @@
 //! `d64sh check`: what it prints of a file as text, as JSON and as CSV, and when something is
-//! amiss.
+//! wrong.
 #![tactic(auto)]
 
 mod check_report;

@@ -1,4 +1,4 @@
-//! Printing what is found, in one of the three forms.
+//! Printing the findings in one of the three forms.
 ghost use Rattle.std.specs.Prelude.{◌≡◌, ◌++◌, IfOk, length, option_map};
 ghost use Rattle.cmd_check.specs.Check.{heading_of, printed_of, printed_unread, printed_wrong_length};
 
@@ -10,7 +10,7 @@ use out_messages::check_text;
 use program_arguments::Format;
 use std::alloc::AllocError;
 
-/// Appends what stands before all answers.
+/// Appends what is printed before the first result.
 pub(crate) fn print_heading(
     scratch: &mut Scratch,
     form: Format,
@@ -64,7 +64,7 @@ pub(crate) fn print_unread(
     }
 }
 
-/// Appends what is printed of a file with these bytes, which is no dump.
+/// Appends what is printed of bytes that are not a dump.
 pub(crate) fn print_wrong_length(
     scratch: &mut Scratch,
     form: Format,
