@@ -13,7 +13,7 @@ kept_by false kept block rest = ap (λ (xs : List ℕ). xs ++ rest) (append-nil 
 pub kept_more : (test : ℕ → Bool) (kept : List ℕ) (block : ℕ) (rest : List ℕ) → (kept ++ (if test block then block ∷ [] else [])) ++ filter test rest ≡ kept ++ filter test (block ∷ rest)
 kept_more test kept block rest = kept_by (test block) kept block (filter test rest)
 
--- the first so many numbers are below that
+-- the first n numbers are below n
 pub all_below : (n : ℕ) → All (λ block. block < n) (range_with_len 0 n)
 all_below n =
     All-from_get_or (λ block. block < n) (range_with_len 0 n) 0 (λ i h.

@@ -1,4 +1,4 @@
--- What changes from a dump to itself, and what it says of images that nothing changes.
+-- What changes from a dump to itself, and what holds of images between which nothing changes.
 use Rattle.std.proofs.Common.{◌≡◌, ◌≢◌, ℕ, ◌<◌, Bool, true, false, not, if◌then◌else◌, List, [], ◌∷◌, ◌++◌, length, Option, Some, None, nat_eq, nat_lt, refl, sym, ap, ap₂, ◌∙◌, inl, inr, arith}
 use Rattle.std.specs.Prelude.{◌&&◌, ◌||◌, is_some}
 use Rattle.std.specs.List.{All, filter, flat_map, range_with_len}
@@ -22,7 +22,7 @@ same_bytes bytes = (bytes_decides bytes bytes).1 refl
 alike_itself : (value : Json) → are_alike value value ≡ true
 alike_itself value = same_bytes (line_of value)
 
--- a change of a slot to itself is none
+-- a slot does not change to itself
 no_slot_change : (row : Option FileRowView) → slot_change row row ≡ []
 no_slot_change None = refl
 no_slot_change (Some row) = ap (λ (same : Bool). if same then [] else FileChanged row row ∷ []) (alike_itself (entry_object row))
@@ -36,7 +36,7 @@ no_slot_changes : (dump : DumpView) (count : ℕ) → slot_changes dump dump cou
 unfolding slot_changes
 no_slot_changes dump count = none_of_slots dump (range_with_len 0 count)
 
--- what no element passes keeps none
+-- a test that no element passes keeps no element
 keeps_none : (test : ℕ → Bool) (xs : List ℕ) → ((x : ℕ) → test x ≡ false) → filter test xs ≡ []
 keeps_none test [] never = refl
 keeps_none test (x ∷ xs) never = ap (λ (kept : Bool). if kept then x ∷ filter test xs else filter test xs) (never x) ∙ keeps_none test xs never
@@ -92,7 +92,7 @@ no_blocks : (blocks : List ℕ) → where_any BlocksChanged blocks ≡ [] → bl
 no_blocks [] none = refl
 no_blocks (block ∷ blocks) none = absurd (cc)
 
--- where no change is told, no block is
+-- if no change is listed, no block is
 no_block_told : (old new : DumpView) → changes old new ≡ [] → changed_blocks old.image new.image ≡ []
 unfolding changes
 no_block_told old new none =
@@ -100,7 +100,7 @@ no_block_told old new none =
     let last = no_second (slot_changes old new (slot_count old new)) _ rest in
     no_blocks (changed_blocks old.image new.image) (no_first (where_any BlocksChanged (changed_blocks old.image new.image)) _ last)
 
--- after the last block there is none
+-- there is no block after the last one
 past_end : (image : List (List ℕ)) → sector_at image (length image) ≡ []
 past_end [] = refl
 past_end (sector ∷ image) = past_end image
@@ -129,7 +129,7 @@ by_sizes old new (inl a) (inr b) is_old is_new none =
 by_sizes old new (inr a) (inl b) is_old is_new none =
     absurd (larger_differs old new is_old (omega (arith, a, b)) (sym (ap₂ (by_counts old new) a b) ∙ none))
 
--- where no change is told, the images are equal
+-- if no change is listed, the images are equal
 pub equal_where_silent : (old new : DumpView) → IsDump old → IsDump new → changes old new ≡ [] → old.image ≡ new.image
 equal_where_silent old new is_old is_new none =
     by_sizes old.image new.image is_old.0.0 is_new.0.0 is_old.0.1 is_new.0.1 (no_block_told old new none)

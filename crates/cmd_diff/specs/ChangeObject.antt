@@ -13,7 +13,7 @@ use Rattle.cmd_diff.specs.Changes.{DumpChange, DiskChanged, Added, Removed, File
 abbrev pub change_member : List ℕ → Field
 change_member word = (codes "change", string word)
 
--- what is told of a file; null where there is none
+-- the value of a file; null if there is no file
 abbrev pub entry_value : Option FileRowView → Json
 entry_value row = option_map_or entry_object row null
 
@@ -25,7 +25,7 @@ slot_members slot word = (codes "slot", numeral slot) ∷ change_member word ∷
 abbrev pub entry_members : Option FileRowView → Option FileRowView → List Field
 entry_members old new = (codes "old", entry_value old) ∷ (codes "new", entry_value new) ∷ []
 
--- a change of a slot, with the file before and after, where there is one
+-- a change of a slot, with the file before and after, if there is one
 abbrev pub slot_object : ℕ → List ℕ → Option FileRowView → Option FileRowView → Json
 slot_object slot word old new = object_of (slot_members slot word ++ entry_members old new)
 
@@ -33,7 +33,7 @@ slot_object slot word old new = object_of (slot_members slot word ++ entry_membe
 abbrev pub disk_members : DumpView → DumpView → List Field
 disk_members old new = (codes "old", disk_object old) ∷ (codes "new", disk_object new) ∷ []
 
--- the pair of a block
+-- the text of a block's track and sector
 abbrev pub block_value : ℕ → Json
 block_value block = string (block_text block)
 

@@ -1,5 +1,5 @@
--- What is printed of a change for people: lines of the old dump behind `-`, lines of the new one
--- behind `+`.
+-- What is printed of a change for people: lines of the old dump after `-`, lines of the new one
+-- after `+`.
 use Rattle.std.specs.Prelude.{ℕ, nat_eq, if◌then◌else◌, Bool, List, [], ◌++◌, length, is_some, codes, decimal}
 use Rattle.std.specs.List.{flat_map}
 use Rattle.std.specs.Cmp.Lexicographic.{pointwise}
@@ -31,7 +31,7 @@ tracks_text image = decimal (tracks_of (length image)) ++ codes " tracks, "
 unfoldable pub free_text : Disk → List ℕ
 free_text image = count_of (blocks_free image) (codes "block") ++ codes " free"
 
--- what is told of the disk after its label
+-- what the disk's line says after its label
 unfoldable pub size_text : DumpView → List ℕ
 size_text dump = dos_text dump.image ++ (tracks_text dump.image ++ (free_text dump.image ++ codes_text (is_some dump.codes)))
 
@@ -47,11 +47,11 @@ old_line line = codes "-" ++ line
 abbrev pub new_line : List ℕ → List ℕ
 new_line line = codes "+" ++ line
 
--- that a file changed whose line is the same
+-- the line for a file that changed although its two lines are equal
 abbrev pub same_line : List ℕ → List ℕ → List ℕ
 same_line old new = if pointwise nat_eq old new then codes "  (the same line, but the file's content, blocks or entry differ)\n" else []
 
--- two lines of a file, and what to say where they are the same
+-- the two lines of a file, and what is added if they are equal
 unfoldable pub both_lines : List ℕ → List ℕ → List ℕ
 both_lines old new = old_line old ++ (new_line new ++ same_line old new)
 

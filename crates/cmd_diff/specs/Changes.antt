@@ -17,15 +17,15 @@ use Rattle.cmd_files.specs.FileObject.{file_members}
 
 -- a change from an old dump to a new one
 pub data DumpChange : Type 0 where
-  -- what is told of the disk
+  -- another label, DOS version, size or number of free blocks
   DiskChanged : DumpView → DumpView → DumpChange
-  -- a file in a slot that is used in the new dump alone
+  -- a file in a slot that is used only in the new dump
   Added : FileRowView → DumpChange
-  -- a file in a slot that is used in the old dump alone
+  -- a file in a slot that is used only in the old dump
   Removed : FileRowView → DumpChange
-  -- what is told of the file in a slot that is used in both
+  -- another row for the file in a slot that is used in both
   FileChanged : FileRowView → FileRowView → DumpChange
-  -- blocks with other bytes, or that one of the dumps hasn't
+  -- blocks with other bytes, or that one of the dumps does not have
   BlocksChanged : Blocks → DumpChange
   -- blocks with another read code
   CodesChanged : Blocks → DumpChange
@@ -42,15 +42,15 @@ size_members dump = (codes "tracks", numeral (tracks_of (length dump.image))) �
 abbrev pub free_members : Disk → List Field
 free_members image = (codes "free", numeral (blocks_free image)) ∷ []
 
--- what is told of the disk
+-- what is compared of the disk
 unfoldable pub disk_object : DumpView → Json
 disk_object dump = object_of (size_members dump ++ (label_members dump.image ++ free_members dump.image))
 
--- what is told of a file, but for the image and the slot
+-- what is compared of a file: its row without the image and the slot
 unfoldable pub entry_object : FileRowView → Json
 entry_object row = object_of (file_members row)
 
--- the change of the disk, where something else is told of it
+-- the change of the disk, if its objects differ
 abbrev pub disk_change : DumpView → DumpView → List DumpChange
 disk_change old new = if are_alike (disk_object old) (disk_object new) then [] else DiskChanged old new ∷ []
 
@@ -65,7 +65,7 @@ slot_change (Some old) (Some new) = if are_alike (entry_object old) (entry_objec
 abbrev pub slot_count : DumpView → DumpView → ℕ
 slot_count old new = max (length (way_slots old.image)) (length (way_slots new.image))
 
--- the changes of the first slots, so many
+-- the changes of the first slots, up to this count
 unfoldable pub slot_changes : DumpView → DumpView → ℕ → List DumpChange
 slot_changes old new count = flat_map (λ slot. slot_change (row_at old slot) (row_at new slot)) (range_with_len 0 count)
 
@@ -73,19 +73,19 @@ slot_changes old new count = flat_map (λ slot. slot_change (row_at old slot) (r
 abbrev pub changed_blocks : Disk → Disk → Blocks
 changed_blocks old new = if nat_lt (length old) (length new) then differences new old else differences old new
 
--- a block's read codes differ, and aren't both good
+-- a block's read codes differ, and are not both good
 abbrev pub has_other_code : Option Bytes → Option Bytes → ℕ → Bool
 has_other_code old new block = not (nat_eq (code_of old block) (code_of new block)) && (is_read_error (code_of old block) || is_read_error (code_of new block))
 
--- the blocks that both dumps have whose read codes differ and aren't both good, ascending
+-- the blocks that both dumps have whose read codes differ and are not both good, ascending
 unfoldable pub other_codes : DumpView → DumpView → Blocks
 other_codes old new = filter (has_other_code old.codes new.codes) (range_with_len 0 (min (length old.image) (length new.image)))
 
--- these; none where one of the dumps has no codes
+-- these blocks; none if one of the dumps has no codes
 unfoldable pub changed_codes : DumpView → DumpView → Blocks
 changed_codes old new = if is_some old.codes && is_some new.codes then other_codes old new else []
 
--- the change of blocks, where there are some
+-- the change of blocks, if there are some
 abbrev pub where_any : (Blocks → DumpChange) → Blocks → List DumpChange
 where_any change [] = []
 where_any change (block ∷ blocks) = change (block ∷ blocks) ∷ []

@@ -1,4 +1,4 @@
--- What is said of two dumps.
+-- What is printed of two dumps.
 use Rattle.std.specs.Prelude.{ℕ, ◌==◌, ◌&&◌, Bool, nat_eq, List, [], ◌∷◌, ◌++◌, length, Option, Some, None, Result, Ok, Err, is_some, if◌then◌else◌, codes}
 use Rattle.std.specs.List.{flat_map}
 use Rattle.std.specs.Cmp.Lexicographic.{pointwise}
@@ -23,7 +23,7 @@ use Rattle.cmd_diff.specs.ChangeText.{blocks_line, change_lines, heading}
 abbrev pub Contents : Type 0
 Contents = Result Bytes (Option Reason)
 
--- the same as the code has it, where this gives the bytes
+-- the same for a value of the code, by the bytes that it holds
 abbrev pub contents_by : {B : Type 0} → (B → Bytes) → Result B (Option Reason) → Contents
 contents_by bytes_of (Ok bytes) = Ok (bytes_of bytes)
 contents_by bytes_of (Err reason) = Err reason
@@ -37,19 +37,19 @@ printed_change Json change = line_of (change_object change)
 unfoldable pub printed_changes : DiffForm → List DumpChange → List ℕ
 printed_changes form list = flat_map (printed_change form) list
 
--- what is printed of blocks: a line that begins with this heading, or an object of the change of
--- this word
+-- what is printed of blocks: a line that begins with this heading, or an object whose change has
+-- this name
 abbrev pub printed_list : DiffForm → List ℕ → List ℕ → Blocks → List ℕ
 printed_list Text heading word blocks = blocks_line heading blocks
 printed_list Json heading word blocks = line_of (blocks_object word blocks)
 
--- and that where there are some
+-- the same, or nothing if there are no blocks
 abbrev pub printed_blocks : DiffForm → List ℕ → List ℕ → Blocks → List ℕ
 printed_blocks form heading word [] = []
 printed_blocks form heading word (block ∷ blocks) = printed_list form heading word (block ∷ blocks)
 
--- the changes for people, with these lines: the names stand before them; files that differ where no
--- line tells it differ in good read codes
+-- these lines for people, below the names of the files; without lines the files differ only in good
+-- read codes
 unfoldable pub under_names : Bytes → Bytes → List ℕ → List ℕ
 under_names old_name new_name lines = if length lines == 0 then codes "only good read codes differ\n" else heading old_name new_name ++ lines
 
@@ -58,28 +58,28 @@ abbrev pub printed_difference : DiffForm → Bytes → Bytes → DumpView → Du
 printed_difference Text old_name new_name old new = under_names old_name new_name (printed_changes Text (changes old new))
 printed_difference Json old_name new_name old new = printed_changes Json (changes old new)
 
--- the line on standard error of a file that isn't answered: it cannot be read, with the reason, or
--- it is no dump
+-- the line on standard error of a file that is not compared: it cannot be read, with the reason, or
+-- it is not a dump
 abbrev pub fault_line : Bytes → Contents → List ℕ
 fault_line name (Err reason) = with_known_reason reason (unread_line name)
 fault_line name (Ok bytes) = if is_some (dump_of bytes) then [] else wrong_length_line name bytes
 
--- and what is printed of it
+-- what is printed of such a file
 abbrev pub printed_fault : DiffForm → Bytes → Contents → List ℕ
 printed_fault Text name contents = []
 printed_fault Json name (Err reason) = line_of (unread_object name)
 printed_fault Json name (Ok bytes) = if is_some (dump_of bytes) then [] else line_of (no_dump_object name bytes)
 
--- what is answered where one of two files isn't, or neither
+-- the result if one of two files, or both, cannot be compared
 abbrev pub unanswered_pair : DiffForm → Bytes → Contents → Bytes → Contents → Answer
 unanswered_pair form old_name old new_name new =
     record { printed = printed_fault form old_name old ++ printed_fault form new_name new; complaint = fault_line old_name old ++ fault_line new_name new; verdict = Failed }
 
--- what is answered of two dumps that differ in a byte
+-- the result for two dumps that differ in a byte
 abbrev pub amiss_with : List ℕ → Answer
 amiss_with printed = record { printed = printed; complaint = []; verdict = Amiss }
 
--- what is answered where nothing is said
+-- the result for two dumps that do not
 abbrev pub silence : Answer
 silence = record { printed = []; complaint = []; verdict = Clean }
 
@@ -87,16 +87,16 @@ silence = record { printed = []; complaint = []; verdict = Clean }
 abbrev pub are_same : DumpView → DumpView → Bool
 are_same old new = pointwise nat_eq (bytes_of old.image) (bytes_of new.image) && pointwise nat_eq (code_bytes old.codes) (code_bytes new.codes)
 
--- what is answered of two files by the dumps that they are: nothing where these have the same
--- bytes, and else what changed
+-- the result for two files by the dumps that they are: nothing is printed if these have the same
+-- bytes, and otherwise what changed
 abbrev pub difference_by : DiffForm → Bytes → Bytes → Bytes → Bytes → Option DumpView → Option DumpView → Answer
 difference_by form old_name old new_name new (Some old_dump) (Some new_dump) =
     if are_same old_dump new_dump then silence else amiss_with (printed_difference form old_name new_name old_dump new_dump)
 difference_by form old_name old new_name new (Some old_dump) None = unanswered_pair form old_name (Ok old) new_name (Ok new)
 difference_by form old_name old new_name new None new_dump = unanswered_pair form old_name (Ok old) new_name (Ok new)
 
--- what `diff` answers of an old file and a new one in a form: of their bytes, or that they cannot
--- be read
+-- the rule of `diff` in a form: the result for the bytes of an old file and a new one, or for the
+-- reasons why they cannot be read
 abbrev pub difference_rule : DiffForm → Bytes → Contents → Bytes → Contents → Answer
 difference_rule form old_name (Ok old) new_name (Ok new) = difference_by form old_name old new_name new (dump_of old) (dump_of new)
 difference_rule form old_name (Ok old) new_name (Err reason) = unanswered_pair form old_name (Ok old) new_name (Err reason)

@@ -11,7 +11,7 @@ use Rattle.cmd_diff.specs.Differences.{difference_rule, silence}
 abbrev pub NoChangeToItself : Type 0
 NoChangeToItself = (dump : DumpView) → changes dump dump ≡ []
 
--- of two files that are one dump nothing is said
+-- nothing is printed of two files that are the same dump
 abbrev pub EqualDumpsAreSilent : Type 0
 EqualDumpsAreSilent =
     (form : DiffForm) (old_name new_name old new : Bytes) (dump : DumpView)
@@ -19,6 +19,6 @@ EqualDumpsAreSilent =
     → dump_of new ≡ Some dump
     → difference_rule form old_name (Ok old) new_name (Ok new) ≡ silence
 
--- where no change is told, the images are equal: each byte of an image that differs is told
+-- if no change is listed, the images are equal: each byte of an image that differs is listed
 abbrev pub EachByteOfImagesIsTold : Type 0
 EachByteOfImagesIsTold = (old new : DumpView) → IsDump old → IsDump new → changes old new ≡ [] → old.image ≡ new.image

@@ -1,4 +1,4 @@
--- Why `diff` complains of no files that it calls clean.
+-- Why `diff` writes nothing to the standard error about files that it calls clean.
 use Rattle.std.specs.Prelude.{◌≡◌, ℕ, Bool, true, false, if◌then◌else◌, List, [], Option, Some, None, Ok, Err, refl}
 use Rattle.d64_image.specs.Disk.{Bytes}
 use Rattle.d64_survey.specs.Dump.{DumpView}
@@ -7,7 +7,7 @@ use Rattle.d64_g64.specs.DumpOf.{dump_of}
 use Rattle.program_arguments.specs.declared.asked.DiffForm.{DiffForm}
 use Rattle.cmd_diff.specs.Differences.{are_same, Contents, silence, amiss_with, difference_by, difference_rule}
 
--- neither silence nor what is amiss has a complaint
+-- neither result has a complaint
 either-is_quiet : (equal : Bool) (printed : List ℕ) → (if equal then silence else amiss_with printed).complaint ≡ []
 either-is_quiet true printed = refl
 either-is_quiet false printed = refl
@@ -18,7 +18,7 @@ difference_by-is_quiet form old_name old new_name new (Some old_dump) (Some new_
 difference_by-is_quiet form old_name old new_name new (Some old_dump) None clean = cc
 difference_by-is_quiet form old_name old new_name new None new_dump clean = cc
 
--- a clean answer has no complaint
+-- a clean result has no complaint
 pub difference_rule-is_quiet : (form : DiffForm) (old_name : Bytes) (old : Contents) (new_name : Bytes) (new : Contents)
     → (difference_rule form old_name old new_name new).verdict ≡ Clean → (difference_rule form old_name old new_name new).complaint ≡ []
 difference_rule-is_quiet form old_name (Ok old) new_name (Ok new) clean = difference_by-is_quiet form old_name old new_name new (dump_of old) (dump_of new) clean

@@ -7,7 +7,7 @@ use d64_image::{BlockNo, Image};
 use d64_survey::{Inspection, code_of, is_read_error};
 use std::alloc::AllocError;
 
-/// Appends a block to a list where it is to be kept.
+/// Appends a block to a list if it is to be kept.
 fn keep_if(blocks: &mut Vec<BlockNo>, block: BlockNo, is_kept: bool) -> Result<(), AllocError>
     ensures { OnOk result (blocks.new.items ≡ blocks.old.items ++ (if is_kept then block ∷ [] else [])) }
 {
@@ -18,8 +18,7 @@ fn keep_if(blocks: &mut Vec<BlockNo>, block: BlockNo, is_kept: bool) -> Result<(
     Ok(())
 }
 
-/// Lists the blocks of an image whose bytes another one hasn't, ascending, in the place of what the
-/// list had.
+/// Replaces a list by the blocks of an image whose bytes another one does not have, ascending.
 fn list_differences(
     image: &Image,
     other: &Image,
@@ -36,8 +35,8 @@ fn list_differences(
     Ok(())
 }
 
-/// Lists the blocks whose bytes differ, and those that only the larger one of two images has,
-/// ascending, in the place of what the list had.
+/// Replaces a list by the blocks whose bytes differ, and those that only the larger one of two
+/// images has, ascending.
 pub fn list_changed_blocks(
     old: &Image,
     new: &Image,
@@ -52,7 +51,7 @@ pub fn list_changed_blocks(
     }
 }
 
-/// The image with fewer blocks.
+/// Returns the image with fewer blocks.
 fn smaller_of<'a>(old: &'a Image, new: &'a Image) -> &'a Image
     ensures { length result.now ≡ min (length old.now) (length new.now) }
 {
@@ -63,7 +62,7 @@ fn smaller_of<'a>(old: &'a Image, new: &'a Image) -> &'a Image
     }
 }
 
-/// Whether a block's read codes differ, and aren't both good.
+/// Whether a block's read codes differ, and are not both good.
 fn has_other_code(old: Option<&[u8]>, new: Option<&[u8]>, block: BlockNo) -> bool
     ensures { result ≡ has_other_code (option_map (λ codes. codes.now) old.entry) (option_map (λ codes. codes.now) new.entry) block }
 {
@@ -72,8 +71,8 @@ fn has_other_code(old: Option<&[u8]>, new: Option<&[u8]>, block: BlockNo) -> boo
     old_code != new_code && (is_read_error(old_code) || is_read_error(new_code))
 }
 
-/// Lists the blocks that both dumps have whose read codes differ and aren't both good, ascending,
-/// after what the list has.
+/// Appends the blocks that both dumps have whose read codes differ and are not both good,
+/// ascending, to a list.
 #[tactic(auto, unfolding(crate::specs::Changes::other_codes))]
 fn list_other_codes(
     old: &Inspection,
@@ -90,8 +89,8 @@ fn list_other_codes(
     Ok(())
 }
 
-/// Lists the blocks that both dumps have whose read codes differ and aren't both good, ascending,
-/// in the place of what the list had. There are none where one of the dumps has no codes.
+/// Replaces a list by the blocks that both dumps have whose read codes differ and are not both
+/// good, ascending. There are none if one of the dumps has no codes.
 #[tactic(auto, unfolding(crate::specs::Changes::changed_codes))]
 pub fn list_changed_codes(
     old: &Inspection,

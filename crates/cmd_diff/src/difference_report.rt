@@ -14,7 +14,7 @@ use program_batch::{AnswerRoom, Reason, Verdict};
 use std::alloc::{AllocError, Global};
 use std::mem;
 
-/// The report of `diff`, with the memory that it keeps.
+/// The report of `diff`, with its buffers.
 #[derive(Drop)]
 pub struct DifferenceReport {
     alloc: Global,
@@ -26,7 +26,7 @@ pub struct DifferenceReport {
 }
 
 impl DifferenceReport {
-    /// A report in a form.
+    /// Returns a report in a form.
     pub fn new(alloc: Global, form: DiffForm) -> Result<DifferenceReport, AllocError>
         ensures { IfOk result (λ report. report.form ≡ form) }
     {
@@ -77,8 +77,8 @@ impl DifferenceReport {
         }
     }
 
-    /// Says of two files, with these bytes or the reason why one cannot be read, why they aren't
-    /// answered.
+    /// Reports why two files, with these bytes or the reason why one cannot be read, are not
+    /// compared.
     fn tell_unanswered(
         &mut self,
         old_name: &[u8],
@@ -106,7 +106,7 @@ impl DifferenceReport {
         Ok(Verdict::Failed)
     }
 
-    /// Says of two files with these bytes what changed.
+    /// Compares two files with these bytes.
     fn tell_bytes(
         &mut self,
         old_name: &[u8],
@@ -132,9 +132,9 @@ impl DifferenceReport {
         Ok(Verdict::Amiss)
     }
 
-    /// Puts into the room, in the place of what that had, what is told of an old file and a new one
-    /// with these names and these bytes, or with the reason, if it is known, where one cannot be
-    /// read. The answer is the same whatever was answered before.
+    /// Replaces the buffer's contents by the result for an old file and a new one with these names
+    /// and these bytes, or with the reason, if it is known, if one cannot be read. The result is
+    /// the same whatever was compared before.
     pub fn answer(
         &mut self,
         old_name: &[u8],

@@ -1,4 +1,4 @@
-//! Lines that are compared before they are printed, in memory that is kept.
+//! Lines that are compared before they are printed, in buffers.
 ghost use Rattle.std.specs.Prelude.{◌≡◌, IfOk};
 ghost use Rattle.cmd_diff.specs.Changes.{are_alike, disk_object, entry_object};
 
@@ -9,11 +9,11 @@ use d64_survey::Inspection;
 use std::alloc::{AllocError, Global};
 use std::mem;
 
-/// Memory for lines and lists on their way, kept from one difference to the next.
+/// Buffers for lines and lists, which are used for one difference after the next.
 #[derive(Drop)]
 pub(crate) struct Drafts {
     pub(crate) alloc: Global,
-    /// A text on its way into a line.
+    /// A text for a line.
     pub(crate) text: Vec<u8>,
     /// A line of the old dump.
     pub(crate) old: Vec<u8>,
@@ -26,7 +26,7 @@ pub(crate) struct Drafts {
 }
 
 impl Drafts {
-    /// Drafts that have no memory yet.
+    /// Returns buffers that have no memory yet.
     pub(crate) fn new(alloc: Global) -> Drafts {
         Drafts {
             alloc,
@@ -38,7 +38,7 @@ impl Drafts {
         }
     }
 
-    /// Whether the same is told of two disks.
+    /// Whether the objects of two disks are equal.
     pub(crate) fn is_same_disk(
         &mut self,
         old: &Inspection,
@@ -58,7 +58,7 @@ impl Drafts {
         Ok(is_same)
     }
 
-    /// Whether the same is told of two files.
+    /// Whether the rows of two files are equal, without the image and the slot.
     pub(crate) fn is_same_entry(&mut self, old: &FileRow, new: &FileRow) -> Result<bool, AllocError>
         ensures { IfOk result (λ is_same. is_same ≡ are_alike (entry_object old.now) (entry_object new.now)) }
     {

@@ -1,4 +1,4 @@
-//! A dump with its faults and read errors, in memory that is kept.
+//! A dump with its faults and read errors, in buffers.
 ghost use Rattle.std.specs.Prelude.{◌≡◌, if◌then◌else◌, Some, None, IfOk};
 ghost use Rattle.d64_survey.specs.Dump.{code_bytes};
 ghost use Rattle.d64_g64.specs.DumpOf.{dump_of};
@@ -9,7 +9,7 @@ use d64_image::Image;
 use d64_survey::{Dump, DumpFault, Fault, ReadError};
 use std::alloc::{AllocError, Global};
 
-/// A dump, and room for what an inspection lists of it.
+/// A dump, and the buffers of its inspection.
 #[derive(Drop)]
 pub(crate) struct DumpRoom {
     alloc: Global,
@@ -19,7 +19,7 @@ pub(crate) struct DumpRoom {
 }
 
 impl DumpRoom {
-    /// Room with the blank dump.
+    /// Returns the buffers with the blank dump.
     pub(crate) fn new(alloc: Global) -> Result<DumpRoom, AllocError> {
         Ok(DumpRoom {
             alloc,
@@ -29,8 +29,7 @@ impl DumpRoom {
         })
     }
 
-    /// Puts the dump with these bytes in the place of the one that was there, and whether there is
-    /// such a dump.
+    /// Replaces the dump by the one with these bytes, and returns whether there is such a dump.
     pub(crate) fn refill(&mut self, bytes: &[u8]) -> Result<bool, AllocError>
         ensures { IfOk result (λ is_dump. dump_of bytes.now ≡ (if is_dump then Some self.new.dump else None)) }
     {
@@ -42,7 +41,7 @@ impl DumpRoom {
     }
 }
 
-/// The read codes of a dump, none where it has none.
+/// Returns the read codes of a dump; empty if it has none.
 fn codes_of(dump: &Dump) -> &[u8]
     ensures { result.now ≡ code_bytes dump.now.codes }
 {

@@ -1,13 +1,14 @@
 //! Laws of differences: each function's contract is a law, and its body is empty.
 ghost use Rattle.cmd_diff.specs.Laws.{NoChangeToItself, EqualDumpsAreSilent, EachByteOfImagesIsTold};
 
-/// Nothing changes from a dump to itself, and nothing is said of two files that are the same dump.
+/// Nothing changes from a dump to itself, and nothing is printed of two files that are the same
+/// dump.
 pub fn equal_dumps_are_silent()
     ensures changes { NoChangeToItself }
     ensures silent { EqualDumpsAreSilent }
 {}
 
-/// Each byte of an image that differs is told: where no change is told, the images are equal.
+/// Each byte of an image that differs is listed: if no change is listed, the images are equal.
 pub fn images_are_told()
     ensures { EachByteOfImagesIsTold }
 {}

@@ -25,7 +25,7 @@ pub(crate) const OTHER_BYTES: &[u8] = b"blocks that differ:";
 
 pub(crate) const OTHER_CODES: &[u8] = b"blocks with another read code:";
 
-/// What ends the disk's line.
+/// Returns what ends the disk's line.
 fn codes_text(has_codes: bool) -> &'static [u8]
     ensures { result.now ≡ codes_text has_codes }
 {
@@ -36,7 +36,7 @@ fn codes_text(has_codes: bool) -> &'static [u8]
     }
 }
 
-/// Adds the DOS version.
+/// Appends the DOS version.
 #[tactic(auto, unfolding(crate::specs::ChangeText::dos_text))]
 fn push_dos(out: &mut Vec<u8>, image: &Image) -> Result<(), AllocError>
     ensures { OnOk result (out.new.items ≡ out.old.items ++ dos_text image.now) }
@@ -46,7 +46,7 @@ fn push_dos(out: &mut Vec<u8>, image: &Image) -> Result<(), AllocError>
     out.extend_from_slice(b", ")
 }
 
-/// Adds how many tracks there are.
+/// Appends how many tracks there are.
 #[tactic(auto, unfolding(crate::specs::ChangeText::tracks_text))]
 fn push_tracks(out: &mut Vec<u8>, image: &Image) -> Result<(), AllocError>
     ensures { OnOk result (out.new.items ≡ out.old.items ++ tracks_text image.now) }
@@ -55,7 +55,7 @@ fn push_tracks(out: &mut Vec<u8>, image: &Image) -> Result<(), AllocError>
     out.extend_from_slice(b" tracks, ")
 }
 
-/// Adds how many blocks are free.
+/// Appends how many blocks are free.
 #[tactic(auto, unfolding(crate::specs::ChangeText::free_text))]
 fn push_free(out: &mut Vec<u8>, image: &Image) -> Result<(), AllocError>
     ensures { OnOk result (out.new.items ≡ out.old.items ++ free_text image.now) }
@@ -64,7 +64,7 @@ fn push_free(out: &mut Vec<u8>, image: &Image) -> Result<(), AllocError>
     out.extend_from_slice(b" free")
 }
 
-/// Adds what is told of the disk after its label.
+/// Appends what the disk's line says after its label.
 #[tactic(auto, unfolding(crate::specs::ChangeText::size_text))]
 fn push_size(out: &mut Vec<u8>, all: &Inspection) -> Result<(), AllocError>
     ensures { OnOk result (out.new.items ≡ out.old.items ++ size_text all.now) }
@@ -75,7 +75,7 @@ fn push_size(out: &mut Vec<u8>, all: &Inspection) -> Result<(), AllocError>
     out.extend_from_slice(codes_text(all.codes().is_some()))
 }
 
-/// Adds the disk's line.
+/// Appends the disk's line.
 #[tactic(auto, unfolding(crate::specs::ChangeText::disk_line))]
 fn push_disk(out: &mut Vec<u8>, all: &Inspection) -> Result<(), AllocError>
     ensures { OnOk result (out.new.items ≡ out.old.items ++ disk_line all.now) }
@@ -85,7 +85,7 @@ fn push_disk(out: &mut Vec<u8>, all: &Inspection) -> Result<(), AllocError>
     push_size(out, all)
 }
 
-/// Adds the lines of the disk, before and after.
+/// Appends the lines of the disk, before and after.
 pub(crate) fn push_disks(
     out: &mut Vec<u8>,
     old: &Inspection,
@@ -99,7 +99,7 @@ pub(crate) fn push_disks(
     push_disk(out, new)
 }
 
-/// Adds a line of the old dump.
+/// Appends a line of the old dump.
 fn push_old(out: &mut Vec<u8>, line: &[u8]) -> Result<(), AllocError>
     ensures { OnOk result (out.new.items ≡ out.old.items ++ old_line line.now) }
 {
@@ -107,7 +107,7 @@ fn push_old(out: &mut Vec<u8>, line: &[u8]) -> Result<(), AllocError>
     out.extend_from_slice(line)
 }
 
-/// Adds a line of the new dump.
+/// Appends a line of the new dump.
 fn push_new(out: &mut Vec<u8>, line: &[u8]) -> Result<(), AllocError>
     ensures { OnOk result (out.new.items ≡ out.old.items ++ new_line line.now) }
 {
@@ -115,7 +115,7 @@ fn push_new(out: &mut Vec<u8>, line: &[u8]) -> Result<(), AllocError>
     out.extend_from_slice(line)
 }
 
-/// Adds that a file changed whose line is the same, where it is.
+/// Appends the line for a file that changed although its two lines are equal, if they are.
 fn push_same(out: &mut Vec<u8>, old: &[u8], new: &[u8]) -> Result<(), AllocError>
     ensures { OnOk result (out.new.items ≡ out.old.items ++ same_line old.now new.now) }
 {
@@ -125,7 +125,7 @@ fn push_same(out: &mut Vec<u8>, old: &[u8], new: &[u8]) -> Result<(), AllocError
     out.extend_from_slice(b"  (the same line, but the file's content, blocks or entry differ)\n")
 }
 
-/// Adds the lines of a file, before and after.
+/// Appends the lines of a file, before and after.
 #[tactic(auto, unfolding(crate::specs::ChangeText::both_lines))]
 pub(crate) fn push_both(out: &mut Vec<u8>, old: &[u8], new: &[u8]) -> Result<(), AllocError>
     ensures { OnOk result (out.new.items ≡ out.old.items ++ both_lines old.now new.now) }
@@ -135,7 +135,7 @@ pub(crate) fn push_both(out: &mut Vec<u8>, old: &[u8], new: &[u8]) -> Result<(),
     push_same(out, old, new)
 }
 
-/// Adds the line of a file that is in the old dump alone.
+/// Appends the line of a file that is only in the old dump.
 pub(crate) fn push_removed(
     scratch: &mut Vec<u8>,
     out: &mut Vec<u8>,
@@ -147,7 +147,7 @@ pub(crate) fn push_removed(
     push_file_line(scratch, out, row)
 }
 
-/// Adds the line of a file that is in the new dump alone.
+/// Appends the line of a file that is only in the new dump.
 pub(crate) fn push_added(
     scratch: &mut Vec<u8>,
     out: &mut Vec<u8>,
@@ -159,7 +159,7 @@ pub(crate) fn push_added(
     push_file_line(scratch, out, row)
 }
 
-/// Adds blocks, each after a space.
+/// Appends blocks, each after a space.
 fn push_listed(out: &mut Vec<u8>, blocks: &[BlockNo]) -> Result<(), AllocError>
     ensures { OnOk result (out.new.items ≡ out.old.items ++ flat_map listed_block blocks.now) }
 {
@@ -170,7 +170,7 @@ fn push_listed(out: &mut Vec<u8>, blocks: &[BlockNo]) -> Result<(), AllocError>
     Ok(())
 }
 
-/// Adds a line of blocks.
+/// Appends a line of blocks.
 #[tactic(auto, unfolding(crate::specs::ChangeText::blocks_line))]
 pub(crate) fn push_blocks(
     out: &mut Vec<u8>,
@@ -184,7 +184,7 @@ pub(crate) fn push_blocks(
     out.extend_from_slice(b"\n")
 }
 
-/// Adds the names of the dumps.
+/// Appends the names of the dumps.
 #[tactic(auto, unfolding(crate::specs::ChangeText::heading))]
 pub(crate) fn push_heading(out: &mut Vec<u8>, old: &[u8], new: &[u8]) -> Result<(), AllocError>
     ensures { OnOk result (out.new.items ≡ out.old.items ++ heading old.now new.now) }

@@ -50,7 +50,7 @@ fn put_free(writer: &mut Writer, image: &Image) -> Result<(), AllocError>
     put_number(writer, "free", u64::from(blocks_free(image)))
 }
 
-/// Prints what is told of the disk.
+/// Prints what is compared of the disk.
 fn put_disk(scratch: &mut Vec<u8>, writer: &mut Writer, all: &Inspection) -> Result<(), AllocError>
     ensures before { writer.new.before ≡ writer.old.before }
     ensures tokens { OnOk result (writer.new.tokens ≡ writer.old.tokens ++ json_tokens (disk_object all.now)) }
@@ -62,7 +62,7 @@ fn put_disk(scratch: &mut Vec<u8>, writer: &mut Writer, all: &Inspection) -> Res
     writer.end_object()
 }
 
-/// Prints what is told of a file.
+/// Prints what is compared of a file.
 fn put_entry(scratch: &mut Vec<u8>, writer: &mut Writer, row: &FileRow) -> Result<(), AllocError>
     ensures before { writer.new.before ≡ writer.old.before }
     ensures tokens { OnOk result (writer.new.tokens ≡ writer.old.tokens ++ json_tokens (entry_object row.now)) }
@@ -72,7 +72,7 @@ fn put_entry(scratch: &mut Vec<u8>, writer: &mut Writer, row: &FileRow) -> Resul
     writer.end_object()
 }
 
-/// Prints what is told of a file, or null.
+/// Prints what is compared of a file, or null.
 fn put_file(
     scratch: &mut Vec<u8>,
     writer: &mut Writer,
@@ -91,7 +91,7 @@ fn put_file(
     }
 }
 
-/// Adds a line to a text: what is told of the disk.
+/// Appends a line with what is compared of the disk to a text.
 pub(crate) fn disk_line_json(
     scratch: &mut Vec<u8>,
     all: &Inspection,
@@ -105,7 +105,7 @@ pub(crate) fn disk_line_json(
     into_line(writer, start)
 }
 
-/// Adds a line to a text: what is told of a file.
+/// Appends a line with what is compared of a file to a text.
 pub(crate) fn entry_line_json(
     scratch: &mut Vec<u8>,
     row: &FileRow,
@@ -119,7 +119,7 @@ pub(crate) fn entry_line_json(
     into_line(writer, start)
 }
 
-/// The text of a block's track and sector, as `17/3`.
+/// Returns the text of a block's track and sector, such as `17/3`.
 fn block_text(block: BlockNo) -> ArrayString<PAIR_LEN>
     ensures { result.bytes ≡ block_text_of block }
 {
@@ -153,7 +153,7 @@ fn put_block_list(writer: &mut Writer, blocks: &[BlockNo]) -> Result<(), AllocEr
     put_blocks(writer, blocks)
 }
 
-/// Adds the line of a change of blocks to a text.
+/// Appends the line of a change of blocks to a text.
 pub(crate) fn blocks_json(
     word: &str,
     blocks: &[BlockNo],
@@ -187,7 +187,7 @@ fn put_disks(
     put_disk(scratch, writer, new)
 }
 
-/// Adds the line of a change of the disk to a text.
+/// Appends the line of a change of the disk to a text.
 pub(crate) fn disks_json(
     scratch: &mut Vec<u8>,
     old: &Inspection,
@@ -215,7 +215,7 @@ fn put_slot(writer: &mut Writer, slot: usize, word: &str) -> Result<(), AllocErr
     put_text(writer, "change", word)
 }
 
-/// Prints the file before and after, where there is one.
+/// Prints the file before and after, if there is one.
 fn put_files(
     scratch: &mut Vec<u8>,
     writer: &mut Writer,
@@ -229,7 +229,7 @@ fn put_files(
     put_file(scratch, writer, "new", new)
 }
 
-/// Adds the line of a change of a slot to a text, with the file before and after, where there is
+/// Appends the line of a change of a slot to a text, with the file before and after, if there is
 /// one.
 pub(crate) fn slot_json(
     scratch: &mut Vec<u8>,

@@ -21,7 +21,7 @@ use program_arguments::DiffForm;
 use std::alloc::AllocError;
 use std::mem;
 
-/// Appends what is printed of two disks of which something else is told.
+/// Appends what is printed of two disks whose objects differ.
 fn print_disks(
     form: DiffForm,
     drafts: &mut Drafts,
@@ -41,7 +41,7 @@ fn print_disks(
     }
 }
 
-/// Appends the change of the disk, where something else is told of it.
+/// Appends the change of the disk, if its objects differ.
 #[tactic(auto, unfolding(crate::specs::Differences::printed_changes))]
 fn print_disk(
     form: DiffForm,
@@ -59,7 +59,7 @@ fn print_disk(
     print_disks(form, drafts, old, new, out)
 }
 
-/// Appends what is printed of a file in the new dump alone.
+/// Appends what is printed of a file that is only in the new dump.
 fn print_added(
     form: DiffForm,
     drafts: &mut Drafts,
@@ -78,7 +78,7 @@ fn print_added(
     }
 }
 
-/// Appends what is printed of a file in the old dump alone.
+/// Appends what is printed of a file that is only in the old dump.
 fn print_removed(
     form: DiffForm,
     drafts: &mut Drafts,
@@ -97,7 +97,7 @@ fn print_removed(
     }
 }
 
-/// Adds the lines of a file of which something else is told.
+/// Appends the lines of a file whose rows differ.
 fn push_changed(
     drafts: &mut Drafts,
     out: &mut Vec<u8>,
@@ -113,7 +113,7 @@ fn push_changed(
     push_both(out, drafts.old.as_slice(), drafts.new.as_slice())
 }
 
-/// Appends what is printed of a file of which something else is told.
+/// Appends what is printed of a file whose rows differ.
 fn print_changed(
     form: DiffForm,
     drafts: &mut Drafts,
@@ -140,8 +140,7 @@ fn print_changed(
     }
 }
 
-/// Appends the change of a file in a slot that is used in both dumps, where something else is told
-/// of it.
+/// Appends the change of a file in a slot that is used in both dumps, if its rows differ.
 #[tactic(auto, unfolding(crate::specs::Differences::printed_changes))]
 fn print_file(
     form: DiffForm,
@@ -199,8 +198,8 @@ fn print_slots(
     Ok(text)
 }
 
-/// Appends what is printed of blocks: a line that begins with this heading, or an object of the
-/// change of this word.
+/// Appends what is printed of blocks: a line that begins with this heading, or an object whose
+/// change has this name.
 fn print_block_list(
     form: DiffForm,
     heading: &[u8],
@@ -220,7 +219,7 @@ fn print_block_list(
     }
 }
 
-/// Appends what is printed of blocks, where there are some.
+/// Appends what is printed of blocks, if there are some.
 fn print_blocks(
     form: DiffForm,
     heading: &[u8],
@@ -254,7 +253,7 @@ pub(crate) fn print_changes(
     print_blocks(form, OTHER_CODES, "codes", drafts.blocks.as_slice(), blocks)
 }
 
-/// Adds lines for people, with the names of the dumps before them.
+/// Appends lines for people, with the names of the dumps before them.
 #[tactic(auto, unfolding(crate::specs::Differences::under_names))]
 fn push_under_names(
     out: &mut Vec<u8>,
@@ -271,7 +270,7 @@ fn push_under_names(
     out.extend_from_slice(lines)
 }
 
-/// Adds all changes for people, with the names of the dumps before them.
+/// Appends all changes for people, with the names of the dumps before them.
 pub(crate) fn push_difference(
     drafts: &mut Drafts,
     old_name: &[u8],

@@ -10,8 +10,8 @@ use program_arguments::DiffForm;
 use program_batch::{Reason, push_known_reason};
 use std::alloc::{AllocError, Global};
 
-/// Puts the line on standard error of a file that isn't answered into room that is empty: it has
-/// these bytes, or cannot be read, for a reason that may be known.
+/// Puts the line on standard error of a file that is not compared into an empty buffer: the file
+/// has these bytes, or cannot be read, for a reason that may be known.
 fn push_fault_line(
     out: &mut Vec<u8>,
     name: &[u8],
@@ -29,8 +29,8 @@ fn push_fault_line(
     }
 }
 
-/// Puts the lines on standard error of two files into room that is empty: of each that isn't
-/// answered.
+/// Puts the lines on standard error of two files into an empty buffer, for each that is not
+/// compared.
 pub(crate) fn push_fault_lines(
     alloc: Global,
     out: &mut Vec<u8>,
@@ -47,7 +47,7 @@ pub(crate) fn push_fault_lines(
     out.extend_from_slice(line.as_slice())
 }
 
-/// Appends the object of a file with these bytes, where it is no dump.
+/// Appends the object of a file with these bytes, if they are not a dump.
 fn print_wrong_length(
     scratch: &mut Scratch,
     name: &[u8],
@@ -62,7 +62,7 @@ fn print_wrong_length(
     no_dump_json(scratch, name, bytes, out)
 }
 
-/// Appends what is printed of a file that isn't answered.
+/// Appends what is printed of a file that is not compared.
 pub(crate) fn print_fault(
     form: DiffForm,
     scratch: &mut Scratch,
