@@ -1,4 +1,4 @@
--- The answers to the dump that bytes are, and to bytes that are none.
+-- The result for bytes that are a dump, and for bytes that are not.
 use Rattle.std.proofs.Common.{◌≡◌, ℕ, List, Option, Some, None, Result, subst, sym, ap, ◌∙◌}
 use Rattle.std.specs.Prelude.{IfOk}
 use Rattle.std.specs.Option.{option_map_or}
@@ -10,7 +10,7 @@ use Rattle.d64_g64.specs.DumpOf.{dump_of}
 use Rattle.program_arguments.specs.declared.asked.PictureForm.{PictureForm}
 use Rattle.cmd_map.specs.Pictures.{answer_of, failed_with, map_rule}
 
--- bytes that are a dump are answered as it
+-- bytes that are a dump have its result
 rule-dump : (form : PictureForm) (name bytes : List ℕ) (given : Option (List ℕ)) (dump : DumpView) → given ≡ Some bytes → dump_of bytes ≡ Some dump
     → answer_of form name dump ≡ map_rule form name given
 rule-dump form name bytes given dump is_given is_dump =
@@ -23,7 +23,7 @@ pub answered_dump : {E : Type 0} (result : Result Verdict E) (answer : Verdict �
 answered_dump result answer form name bytes given dump is_given is_dump answered =
     subst (λ (a : Answer). IfOk result (λ verdict. answer verdict ≡ a)) (rule-dump form name bytes given dump is_given is_dump) answered
 
--- bytes that are none are of a wrong length
+-- other bytes have a wrong length
 pub answered_none : (form : PictureForm) (name bytes : List ℕ) (given : Option (List ℕ)) (answer : Answer) → given ≡ Some bytes → dump_of bytes ≡ None
     → answer ≡ failed_with (wrong_length_line name bytes) → answer ≡ map_rule form name given
 answered_none form name bytes given answer is_given none is =

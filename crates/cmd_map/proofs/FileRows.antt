@@ -3,8 +3,7 @@ use Rattle.std.proofs.Common.{◌≡◌, ℕ, ◌+◌, ◌-◌, ◌<◌, ◌≤�
 use Rattle.std.specs.Prelude.{if◌then◌else◌}
 use Rattle.std.specs.List.{flat_map, enumerate_from}
 
--- what is left of the rows: those of the items that a test finds, each with its place, of which
--- there are at most so many
+-- what is left of the rows: a row for each item that passes a test, with its place, up to a limit
 abbrev pub rows_left : {A : Type 0} → (ℕ × A → List ℕ) → (A → Bool) → ℕ → ℕ → List A → List ℕ
 rows_left row test limit place items = flat_map row (take (limit - place) (enumerate_from place (filter test items)))
 
@@ -38,13 +37,13 @@ one_row {A = A} row test limit place item items before after whole fits found mo
     ∙ ap (λ (t : List ℕ). before ++ t) (sym (rows_left-found row test limit place item items fits found))
     ∙ so
 
--- none more
+-- there are no more rows
 pub no_row : {A : Type 0} (row : ℕ × A → List ℕ) (test : A → Bool) (limit place : ℕ) (item : A) (items : List A) (before whole : List ℕ) → test item ≡ false
     → before ++ rows_left row test limit place (item ∷ items) ≡ whole → before ++ rows_left row test limit place items ≡ whole
 no_row {A = A} row test limit place item items before whole other so =
     ap (λ (t : List ℕ). before ++ t) (sym (rows_left-other row test limit place item items other)) ∙ so
 
--- none more, where there is no place
+-- there are no more rows, since no place is left
 pub no_place : {A : Type 0} (row : ℕ × A → List ℕ) (test : A → Bool) (limit place : ℕ) (all items : List A) (before whole : List ℕ) → limit ≤ place
     → before ++ rows_left row test limit place all ≡ whole → before ++ rows_left row test limit place items ≡ whole
 no_place {A = A} row test limit place all items before whole full so =

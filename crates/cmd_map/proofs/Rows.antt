@@ -13,7 +13,7 @@ use Rattle.d64_map.proofs.Ranges.{range_push}
 use Rattle.d64_map.proofs.Searching.{all_on, take_on}
 use Rattle.d64_map.proofs.Maps.{sectors_few}
 
--- all blocks of a track, where so many are taken as a track has at most
+-- all blocks of a track, if as many are taken as a track can have
 pub all_taken : (track count : ℕ) → sectors_on track ≤ count → take count (blocks_on track) ≡ blocks_on track
 all_taken track count few =
     take_all count (blocks_on track) (omega (arith, ap length (all_on track), length-range_with_len (first_block track) (sectors_on track)))
@@ -36,7 +36,7 @@ one_taken {A = A} f before after old track sector block one within is so more =
     ∙ sym (range_push (first_block track) sector)
     ∙ sym (take_on track (sector + 1) (omega arith)))
 
--- and where the track has no such sector, nothing more
+-- if the track has no such sector, nothing follows
 pub none_taken : {A : Type 0} (f : ℕ → List A) (before after old : List A) (track sector : ℕ) → 1 ≤ track → track < 41
     → block_of track sector ≡ None → before ≡ old ++ flat_map f (take sector (blocks_on track)) → after ≡ before
     → after ≡ old ++ flat_map f (take (sector + 1) (blocks_on track))

@@ -1,4 +1,4 @@
--- The state of a block, by what is told of its owners.
+-- The state of a block, by the owners that are known of it.
 use Rattle.std.proofs.Common.{◌≡◌, ℕ, ◌<◌, ◌≤◌, Bool, true, false, List, [], ◌∷◌, length, take, get_or, refl, sym, ap, ◌∙◌, arith}
 use Rattle.std.specs.Prelude.{◌&&◌, ◌||◌, not, nat_lt, if◌then◌else◌}
 use Rattle.std.proofs.lemmas.Bool.{false≢true}
@@ -35,12 +35,12 @@ ruled-is dump block all free unreadable owners marked read =
     ∙ ap (λ (f : Bool). ruled all f (is_unreadable dump block)) marked
     ∙ ap (λ (u : Bool). ruled all free u) read
 
--- where none of the first eight is shown, there is none
+-- if none of the first eight owners is shown, there is no owner
 none_shown : (all shown : List Owner) → shown ≡ take 8 all → length shown < 1 → all ≡ []
 none_shown [] shown is few = refl
 none_shown (owner ∷ all) shown is few = absurd (omega (arith, ap length is))
 
--- where one is shown, there is one
+-- if one is shown, there is one
 one_shown : (all shown : List Owner) (d : Owner) → shown ≡ take 8 all → 1 ≤ length shown → length shown < 2 → all ≡ get_or shown 0 d ∷ []
 one_shown [] shown d is some few = absurd (omega (arith, ap length is))
 one_shown (owner ∷ []) shown d is some few = ap (λ (s : List Owner). get_or s 0 d ∷ []) (sym is)
@@ -57,7 +57,7 @@ shared_wins : (shared other : Bool) (state : BlockState) → shared ≡ true →
 shared_wins true other state is = refl
 shared_wins false other state is = absurd (false≢true is)
 
--- where two are shown, there are more than one
+-- if two are shown, there is more than one
 more_shown : (all shown : List Owner) → shown ≡ take 8 all → 2 ≤ length shown → nat_lt 1 (length all) ≡ true
 more_shown [] shown is some = absurd (omega (arith, ap length is))
 more_shown (owner ∷ []) shown is some = absurd (omega (arith, ap length is))

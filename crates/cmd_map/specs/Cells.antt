@@ -1,4 +1,4 @@
--- A cell of a picture: a block's square, its mark, and what is said of it.
+-- A cell of a picture: a block's square, its mark, and its title.
 use Rattle.std.specs.Prelude.{ℕ, ◌+◌, ◌*◌, ◌==◌, Bool, if◌then◌else◌, List, [], ◌++◌, length, codes, decimal}
 use Rattle.std.specs.List.{flat_map, range_with_len}
 use Rattle.std.specs.FinSet as set
@@ -19,34 +19,34 @@ use Rattle.cmd_map.specs.Colours.{class_of, colour_of}
 use Rattle.out_markup.specs.Markup.{attribute, element, escaped_within}
 use Rattle.cmd_map.specs.Shapes.{path_from, path_of}
 
--- the place of a sector's column
+-- the x coordinate of a sector's column
 abbrev pub column_x : ℕ → ℕ
 column_x sector = 46 + 22 * sector
 
--- the place of a track's row
+-- the y coordinate of a track's row
 abbrev pub row_y : ℕ → ℕ
 row_y track = 62 + 22 * track
 
--- a read error of this code, with the drive's status of it, where it has one
+-- a read error with this code, and the drive's status for it, if there is one
 unfoldable pub read_text : ℕ → List ℕ
 read_text code = codes "could not be read (code " ++ (decimal code ++ (status_text (drive_status code) ++ codes "), "))
 
--- the same, where the code is a read error's
+-- the same, if the code is a read error's
 unfoldable pub error_text : ℕ → List ℕ
 error_text code = if is_read_error code then read_text code else []
 
--- what stands before the owners of a block, of which there are so many
+-- the text before the owners of a block that has this many
 unfoldable pub claim_text : ℕ → List ℕ
 claim_text count = if count == 1 then codes "belongs to " else codes "shared by " ++ (decimal count ++ codes ": ")
 
--- how a block of so many owners is marked, before the owners
+-- how a block with this many owners is marked; the owners follow
 unfoldable pub mark_text : ℕ → Bool → List ℕ
 mark_text count free =
     if count == 0
     then (if free then codes "free" else codes "marked used, belongs to no file")
     else (if free then codes "marked free, but " else []) ++ claim_text count
 
--- a block, a read error of it, and how it is marked and owned
+-- a block, its read error, and how it is marked and owned
 unfoldable pub cell_text : DumpView → ℕ → List ℕ
 cell_text dump block =
     block_text block
@@ -54,7 +54,7 @@ cell_text dump block =
     ++ (error_text (code_of dump.codes block)
     ++ (mark_text (length (owners_of dump.image block)) (set.contains (free_blocks dump.image) block) ++ block_owners dump.image block)))
 
--- what a browser shows of a block under the pointer
+-- the title of a block, which a browser shows under the pointer
 unfoldable pub cell_title : DumpView → ℕ → List ℕ
 cell_title dump block = element (codes "title") [] (escaped_within 80 (cell_text dump block))
 
@@ -62,7 +62,7 @@ cell_title dump block = element (codes "title") [] (escaped_within 80 (cell_text
 unfoldable pub square_of : Colour → ℕ → ℕ → List ℕ
 square_of colour x y = attribute (codes "class") (class_of colour) ++ path_from (x + 2) (y + 2) (codes "h16v16h-16z")
 
--- the mark of a state on a square: a dot where nothing owns the block, a triangle with `!` for a
+-- the mark of a state on a square: a dot if nothing owns the block, a triangle with `!` for a
 -- fault, and a box with a cross for a read error
 unfoldable pub mark_at : ℕ → ℕ → BlockState → List ℕ
 mark_at x y Free = []

@@ -11,11 +11,11 @@ use Rattle.d64_survey.specs.declared.owner.Owner.TheVariants as owners
 use Rattle.cmd_map.specs.declared.colour.Colour.{Colour}
 use Rattle.cmd_map.specs.declared.colour.Colour.TheVariants.{Free, Unowned, System, File}
 
--- the colour of the file of a slot: one of sixteen, and after the last the first again
+-- the colour of the file of a slot: one of sixteen, which repeat
 abbrev pub colour_of_slot : ℕ → Colour
 colour_of_slot slot = File (slot % 16)
 
--- the colour of what an owner has
+-- the colour of an owner's blocks
 abbrev pub colour_of_owner : Owner → Colour
 colour_of_owner owners.Map = System
 colour_of_owner owners.Directory = System
@@ -25,11 +25,11 @@ colour_of_owner (owners.File slot part) = colour_of_slot slot
 abbrev pub colour_of_unowned : Disk → ℕ → Colour
 colour_of_unowned image block = if set.contains (free_blocks image) block then Free else Unowned
 
--- the colour of a block: that of its first owner, where it has one
+-- the colour of a block: that of its first owner, if it has one
 unfoldable pub colour_of : Disk → ℕ → Colour
 colour_of image block = option_map_or colour_of_owner (slice_get (owners_of image block) 0) (colour_of_unowned image block)
 
--- the class that has the colour
+-- the class of the colour in the style
 unfoldable pub class_of : Colour → List ℕ
 class_of Free = codes "free"
 class_of Unowned = codes "unowned"

@@ -18,7 +18,7 @@ use Rattle.cmd_map.specs.Colours.{class_of, colour_of_slot}
 use Rattle.out_markup.specs.Markup.{empty_element, escaped_text, shortened_text}
 use Rattle.cmd_map.specs.Shapes.{text_at, text_of, path_of}
 
--- the colour by which a state is explained
+-- the colour in which a state is shown in the legend
 abbrev pub sample : BlockState → Colour
 sample states.Free = Free
 sample states.File = File 0
@@ -27,7 +27,7 @@ sample states.Unowned = Unowned
 sample states.Fault = File 0
 sample states.Unreadable = File 0
 
--- a state in words
+-- the legend's text for a state
 abbrev pub state_words : BlockState → List ℕ
 state_words states.Free = codes "free"
 state_words states.File = codes "a file, in its colour"
@@ -44,34 +44,34 @@ state_sample y state = empty_element (codes "path") (square_of (sample state) 53
 unfoldable pub state_row : ℕ → BlockState → List ℕ
 state_row y state = state_sample y state ++ (text_at 560 (y + 14) (escaped_text (state_words state)) ++ codes "\n")
 
--- a row for each state
+-- the rows of all states
 unfoldable pub state_rows : List ℕ
 state_rows =
     state_row 84 states.Free
     ++ (state_row 106 states.File
     ++ (state_row 128 states.System ++ (state_row 150 states.Unowned ++ (state_row 172 states.Fault ++ state_row 194 states.Unreadable))))
 
--- how many files are shown at most
+-- the most files that are shown
 abbrev pub shown_files : ℕ
 shown_files = 144
 
--- how many rows there are beside the grid
+-- the number of rows beside the grid
 abbrev pub rows_beside : ℕ
 rows_beside = 30
 
--- where the row at a place in the list of files stands: beside the grid, and from the thirtieth on
--- below it, three side by side
+-- the x coordinate of the row at a place in the list of files: beside the grid, and from the
+-- thirtieth on below it, three side by side
 unfoldable pub row_x : ℕ → ℕ
 row_x place = if nat_lt place rows_beside then 532 else 46 + 243 * ((place - rows_beside) % 3)
 
 unfoldable pub row_y : ℕ → ℕ → ℕ
 row_y tracks place = if nat_lt place rows_beside then 240 + 20 * place else 98 + 22 * tracks + 20 * ((place - rows_beside) / 3)
 
--- a file's name in text form, as far as there is room
+-- a file's name in text form, as far as it fits
 unfoldable pub name_at : ℕ → ℕ → List ℕ → List ℕ
 name_at x y name = text_at x y (escaped_text (shortened_text 24 (spelling name)))
 
--- the row of a slot's file that has so many blocks: its colour, its name, and how many these are
+-- the row of a slot's file: its colour, its name, and its number of blocks
 unfoldable pub file_row : ℕ → ℕ → ℕ → List ℕ → ℕ → List ℕ
 file_row x y slot cell blocks =
     path_of (class_of (colour_of_slot slot)) (x + 2) (y + 2) (codes "h10v10h-10z")
@@ -81,7 +81,7 @@ file_row x y slot cell blocks =
 abbrev pub files_of : Disk → List EntryView
 files_of image = filter (λ (entry : EntryView). is_used entry.bytes) (entries image (way_slots image))
 
--- the row of a file at a place in the list
+-- the row of the file at a place in the list
 unfoldable pub placed_row : Disk → ℕ × EntryView → List ℕ
 placed_row image file =
     file_row (row_x file.0) (row_y (tracks_of (length image)) file.0) file.1.slot file.1.bytes (length (slot_blocks image file.1.bytes))
@@ -90,14 +90,14 @@ placed_row image file =
 unfoldable pub file_rows : Disk → List ℕ
 file_rows image = flat_map (placed_row image) (take shown_files (enumerate_from 0 (files_of image)))
 
--- how many files there are beside these, of so many, where there are more
+-- how many of this many files are not shown, if there are some
 unfoldable pub more_row : ℕ → ℕ → List ℕ
 more_row tracks count =
     if nat_lt shown_files count
     then text_at (row_x shown_files + 22) (row_y tracks shown_files + 11) (escaped_text (codes "and " ++ (decimal (count - shown_files) ++ codes " more"))) ++ codes "\n"
     else []
 
--- what stands above the files
+-- the heading of the files
 unfoldable pub files_head : List ℕ
 files_head = text_of (codes "start") 532 230 (escaped_text (codes "file")) ++ (text_of (codes "end") 758 230 (escaped_text (codes "blocks")) ++ codes "\n")
 
@@ -105,6 +105,6 @@ files_head = text_of (codes "start") 532 230 (escaped_text (codes "file")) ++ (t
 unfoldable pub legend : Disk → List ℕ
 legend image = state_rows ++ (files_head ++ (file_rows image ++ more_row (tracks_of (length image)) (entry_count image)))
 
--- how many rows stand below the grid, of so many files
+-- how many rows are below the grid, for this many files
 unfoldable pub rows_below : ℕ → ℕ
 rows_below count = if nat_le count rows_beside then 0 else (count - rows_beside + 2) / 3

@@ -1,4 +1,4 @@
--- The map of a disk as text: a line a track, and a character a sector.
+-- The map of a disk as text: a line for each track, and a character for each sector.
 use Rattle.std.specs.Prelude.{ℕ, nat_lt, if◌then◌else◌, List, ◌++◌, length, codes, decimal}
 use Rattle.std.specs.List.{flat_map, range_with_len}
 use Rattle.d64_image.specs.Image.{tracks_of}
@@ -28,11 +28,11 @@ row dump track = flat_map (λ block. mark (state_of dump block)) (blocks_on trac
 unfoldable pub track_line : DumpView → ℕ → List ℕ
 track_line dump track = padded_number track ++ (codes "  " ++ (row dump track ++ codes "\n"))
 
--- one for each track
+-- the lines of all tracks
 unfoldable pub track_lines : DumpView → List ℕ
 track_lines dump = flat_map (track_line dump) (range_with_len 1 (tracks_of (length dump.image)))
 
--- what the characters stand for
+-- what the characters mean
 abbrev pub legend_line : List ℕ
 legend_line = codes "- free   # a file   = map or directory   ? marked used, belongs to no file   ! shared, or wrongly marked free   x read error\n"
 

@@ -24,17 +24,17 @@ use Rattle.cmd_map.specs.Regions.{colour_of_region, is_in}
 use Rattle.cmd_map.specs.States.{state_of}
 use Rattle.cmd_map.specs.Svg.{title, page, front, view_box, height}
 
--- steps from the corner of a block's cell, on a grid whose cells are one wide: its sector to the
--- right, and its track down
+-- these steps of a path from the corner of a block's cell, on a grid whose cells are one wide: as
+-- far right as its sector, as far down as its track
 unfoldable pub step_from : List ℕ → ℕ → List ℕ
 step_from steps block = codes "M" ++ (decimal (pair_at block).1 ++ (codes " " ++ (decimal (pair_at block).0 ++ steps)))
 
--- the same, where the block is in a region
+-- the same, if the block is in a region
 unfoldable pub step_in : Disk → Region → List ℕ → ℕ → List ℕ
 step_in image region steps block =
     if is_in region (slice_get (owners_of image block) 0) (set.contains (free_blocks image) block) then step_from steps block else []
 
--- the same of all blocks
+-- the same for all blocks
 unfoldable pub steps_in : Disk → Region → List ℕ → List ℕ
 steps_in image region steps = flat_map (step_in image region steps) (range_with_len 0 (length image))
 
@@ -43,11 +43,11 @@ unfoldable pub region_attributes : Disk → Region → List ℕ
 region_attributes image region =
     attribute (codes "class") (class_of (colour_of_region region)) ++ attribute (codes "d") (steps_in image region (codes "h1v1h-1z"))
 
--- what a browser shows of a region under the pointer
+-- the title of a region, which a browser shows under the pointer
 unfoldable pub region_title : List ℕ → List ℕ
 region_title text = element (codes "title") [] (escaped_text text)
 
--- the shape of a region, of which this text is said
+-- the shape of a region, with this title
 unfoldable pub region_shape : Disk → Region → List ℕ → List ℕ
 region_shape image region text = element (codes "path") (region_attributes image region) (region_title text) ++ codes "\n"
 
@@ -55,26 +55,26 @@ region_shape image region text = element (codes "path") (region_attributes image
 unfoldable pub dots : Disk → List ℕ
 dots image = codes "<path class=\"dot\" transform=\"translate(.5 .5)\" d=\"" ++ (steps_in image Unowned (codes "h0") ++ codes "\"/>\n")
 
--- the regions that are no file's
+-- the regions that belong to no file
 unfoldable pub plain_regions : Disk → List ℕ
 plain_regions image =
     region_shape image Free (codes "free")
     ++ (region_shape image Unowned (codes "marked used, belongs to no file") ++ (dots image ++ region_shape image System (codes "map or directory")))
 
--- the region of the file of a slot, with its name in text form, where the slot is used
+-- the region of the file of a slot, with its name in text form, if the slot is used
 unfoldable pub file_region : Disk → EntryView → List ℕ
 file_region image entry = if is_used entry.bytes then region_shape image (File entry.slot) (spelling (name_of entry.bytes)) else []
 
--- those of all files
+-- the regions of all files
 unfoldable pub file_regions : Disk → List ℕ
 file_regions image = flat_map (file_region image) (entries image (way_slots image))
 
--- all regions, where the cells of the grid are
+-- all regions, in the cells of the grid
 unfoldable pub regions : Disk → List ℕ
 regions image =
     codes "<g class=\"cells\" transform=\"translate(46 62) scale(22)\">\n" ++ (plain_regions image ++ (file_regions image ++ codes "</g>\n"))
 
--- the mark of a state in which something is wrong with a block
+-- the mark of a state, if it means that something is wrong with the block
 abbrev pub alert_at : ℕ → ℕ → BlockState → List ℕ
 alert_at x y states.Free = []
 alert_at x y states.File = []
@@ -83,24 +83,24 @@ alert_at x y states.Unowned = []
 alert_at x y states.Fault = mark_at x y states.Fault
 alert_at x y states.Unreadable = mark_at x y states.Unreadable
 
--- the mark of a block, where something is wrong with it
+-- the mark of a block, if something is wrong with it
 unfoldable pub alert : DumpView → ℕ → List ℕ
 alert dump block = alert_at (column_x (pair_at block).1) (row_y (pair_at block).0) (state_of dump block)
 
--- those of all blocks
+-- the marks of all blocks
 unfoldable pub alerts : DumpView → List ℕ
 alerts dump = flat_map (alert dump) (range_with_len 0 (length dump.image))
 
--- the attributes of the picture: it is one image to who cannot see it
+-- the attributes of the picture, which a screen reader takes for one image
 unfoldable pub page_attributes : ℕ → List ℕ
 page_attributes high = attribute (codes "class") (codes "disk") ++ (attribute (codes "role") (codes "img") ++ view_box high)
 
--- all that is in the picture
+-- the whole content of the picture
 unfoldable pub page_content : List ℕ → DumpView → ℕ → List ℕ
 page_content name dump high =
     codes "\n" ++ (title name dump ++ (page high ++ (front name dump ++ (regions dump.image ++ (alerts dump ++ legend dump.image)))))
 
--- the picture of a dump that is so high
+-- the picture of a dump, with this height
 unfoldable pub page_picture : List ℕ → DumpView → ℕ → List ℕ
 page_picture name dump high = element (codes "svg") (page_attributes high) (page_content name dump high) ++ codes "\n"
 

@@ -1,4 +1,4 @@
--- What `map` says of a file.
+-- What `map` prints of a file.
 use Rattle.std.specs.Prelude.{ℕ, List, [], Some, None, if◌then◌else◌}
 use Rattle.std.specs.Option.{option_map_or}
 use Rattle.d64_survey.specs.Dump.{DumpView}
@@ -17,16 +17,16 @@ abbrev pub picture_of : PictureForm → List ℕ → DumpView → List ℕ
 picture_of Text name dump = map_text name dump
 picture_of Svg name dump = svg_of name dump
 
--- what is answered of a dump
+-- the result for a dump
 abbrev pub answer_of : PictureForm → List ℕ → DumpView → Answer
 answer_of form name dump = record { printed = picture_of form name dump; complaint = []; verdict = if is_amiss dump then Amiss else Clean }
 
--- what is answered of a file that isn't told of, but for this line on standard error
+-- the result for a file of which only this line on the standard error is written
 abbrev pub failed_with : List ℕ → Answer
 failed_with line = record { printed = []; complaint = line; verdict = Failed }
 
--- what `map` answers of a file in a form: that it cannot be read; or of its bytes, as the dump that
--- they are, or that they are of a wrong length
+-- the rule of `map` in a form: the result for a file's bytes if they are a dump, and otherwise that
+-- it cannot be read or that its length is wrong
 abbrev pub map_rule : PictureForm → Rule
 map_rule form name None = failed_with (unread_line name)
 map_rule form name (Some bytes) = option_map_or (answer_of form name) (dump_of bytes) (failed_with (wrong_length_line name bytes))

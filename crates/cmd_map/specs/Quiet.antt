@@ -1,4 +1,4 @@
--- Why `map` complains of no file that it calls clean.
+-- Why `map` writes nothing to the standard error about a file that it calls clean.
 use Rattle.std.specs.Prelude.{◌≡◌, ℕ, List, [], Option, Some, None, refl}
 use Rattle.std.specs.Option.{option_map_or}
 use Rattle.d64_survey.specs.Dump.{DumpView}
@@ -9,7 +9,7 @@ use Rattle.d64_g64.specs.DumpOf.{dump_of}
 use Rattle.program_arguments.specs.declared.asked.PictureForm.{PictureForm}
 use Rattle.cmd_map.specs.Pictures.{answer_of, failed_with, map_rule}
 
--- the answer to a dump has no complaint, and one that has a complaint is a failure
+-- the result for a dump has no complaint, and a result with a complaint is a failure
 answer_of-is_quiet : (form : PictureForm) (name line : List ℕ) (dump : Option DumpView)
     → (option_map_or (answer_of form name) dump (failed_with line)).verdict ≡ Clean → (option_map_or (answer_of form name) dump (failed_with line)).complaint ≡ []
 answer_of-is_quiet form name line None clean = cc

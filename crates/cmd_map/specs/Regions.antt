@@ -1,4 +1,4 @@
--- Regions of a disk: the blocks that have the same first owner, or none.
+-- Regions of a disk: the blocks that have the same first owner, or no owner.
 use Rattle.std.specs.Prelude.{ℕ, ◌==◌, not, Bool, true, false, Option}
 use Rattle.std.specs.Option.{option_map_or}
 use Rattle.d64_survey.specs.declared.owner.Owner.{Owner}
@@ -37,6 +37,6 @@ is_owned_in Unowned owner = false
 is_owned_in System owner = is_system owner
 is_owned_in (File slot) owner = is_file_of slot owner
 
--- a block with this first owner, or none, is in a region
+-- a block with this first owner, or with none, is in a region
 abbrev pub is_in : Region → Option Owner → Bool → Bool
 is_in region owner free = option_map_or (is_owned_in region) owner (is_bare_in region free)

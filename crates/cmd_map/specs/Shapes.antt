@@ -3,11 +3,11 @@ use Rattle.std.specs.Prelude.{ℕ, List, [], ◌++◌, codes, decimal}
 use Rattle.out_markup.specs.Markup.{attribute, number_attribute, element, empty_element}
 use Rattle.cmd_map.specs.Colours.{class_of}
 
--- where a path begins, and how it goes on from there
+-- a path that begins at a point and goes on with these steps
 unfoldable pub path_from : ℕ → ℕ → List ℕ → List ℕ
 path_from x y steps = attribute (codes "d") (codes "M" ++ (decimal x ++ (codes " " ++ (decimal y ++ steps))))
 
--- where an element stands
+-- the place of an element
 unfoldable pub place_at : ℕ → ℕ → List ℕ
 place_at x y = number_attribute (codes "x") x ++ number_attribute (codes "y") y
 
@@ -15,10 +15,10 @@ place_at x y = number_attribute (codes "x") x ++ number_attribute (codes "y") y
 unfoldable pub text_at : ℕ → ℕ → List ℕ → List ℕ
 text_at x y content = element (codes "text") (place_at x y) content
 
--- one of a class
+-- a line of text with a class
 unfoldable pub text_of : List ℕ → ℕ → ℕ → List ℕ → List ℕ
 text_of class x y content = element (codes "text") (attribute (codes "class") class ++ place_at x y) content
 
--- a path of a class
+-- a path with a class
 unfoldable pub path_of : List ℕ → ℕ → ℕ → List ℕ → List ℕ
 path_of class x y steps = empty_element (codes "path") (attribute (codes "class") class ++ path_from x y steps)

@@ -1,4 +1,4 @@
--- The state of a block, of which a map shows one for each.
+-- The state of a block, which a map shows for each block.
 use Rattle.std.specs.Prelude.{ℕ, ◌&&◌, ◌||◌, Bool, true, false, if◌then◌else◌, List, [], ◌∷◌, codes}
 use Rattle.std.specs.List.{list_any}
 use Rattle.std.specs.FinSet as set
@@ -30,12 +30,12 @@ is_faulty image block = is_shared image block || (is_owned image block && set.co
 abbrev pub is_unreadable : DumpView → ℕ → Bool
 is_unreadable dump block = is_read_error (code_of dump.codes block)
 
--- the state by the last of these rules that holds, and this one where none does
+-- the state of the last of these rules that holds, or the default if no rule holds
 abbrev pub by_last : BlockState → List (Bool × BlockState) → BlockState
 by_last state [] = state
 by_last state (rule ∷ rules) = by_last (if rule.0 then rule.1 else state) rules
 
--- the state of a block: free, unless one of these rules holds, of which a later one wins
+-- the state of a block: free, unless one of these rules holds; the last one wins
 unfoldable pub state_of : DumpView → ℕ → BlockState
 state_of dump block =
     by_last Free
@@ -46,7 +46,7 @@ state_of dump block =
     ∷ (is_unreadable dump block, Unreadable)
     ∷ [])
 
--- the state of a block that this owner has alone, and that is marked used
+-- the state of a block with this one owner that is marked used
 abbrev pub state_of_owner : Owner → BlockState
 state_of_owner owner = if is_system owner then System else File
 

@@ -13,7 +13,7 @@ use Rattle.out_markup.specs.Markup.{attribute, number_attribute, element, empty_
 use Rattle.cmd_map.specs.Shapes.{text_at, text_of}
 use Rattle.cmd_map.specs.Style.{style}
 
--- a name of the host as it is shown, in characters that XML holds
+-- a name of the host as it is shown, in characters that XML allows
 unfoldable pub name_text : List ℕ → List ℕ
 name_text name = held_text (shown_name name)
 
@@ -21,7 +21,7 @@ name_text name = held_text (shown_name name)
 unfoldable pub summary : List ℕ → DumpView → List ℕ
 summary name dump = name_text name ++ (codes ": " ++ (contents_text dump.image ++ (codes ": " ++ state_text dump)))
 
--- the disk's name and id, and that
+-- the disk's name and id, and the summary
 unfoldable pub description : List ℕ → DumpView → List ℕ
 description name dump = label_text dump.image ++ (codes ", " ++ summary name dump)
 
@@ -29,27 +29,27 @@ description name dump = label_text dump.image ++ (codes ", " ++ summary name dum
 unfoldable pub title : List ℕ → DumpView → List ℕ
 title name dump = element (codes "title") [] (escaped_text (description name dump)) ++ codes "\n"
 
--- how wide the picture is
+-- the width of the picture
 abbrev pub width : ℕ
 width = 790
 
--- how high it is, of so many tracks and files
+-- the height of the picture, for this many tracks and files
 unfoldable pub height : ℕ → ℕ → ℕ
 height tracks count = 108 + 22 * tracks + 20 * rows_below (min count (shown_files + 1))
 
--- the attributes of the paper
+-- the attributes of the background
 unfoldable pub page_attributes : ℕ → List ℕ
 page_attributes high = attribute (codes "class") (codes "page") ++ (number_attribute (codes "width") width ++ number_attribute (codes "height") high)
 
--- the paper
+-- the background
 unfoldable pub page : ℕ → List ℕ
 page high = empty_element (codes "rect") (page_attributes high) ++ codes "\n"
 
--- the disk's name and id, as far as there is room
+-- the disk's name and id, as far as they fit
 unfoldable pub label_line : Disk → List ℕ
 label_line image = text_of (codes "head") 46 30 (escaped_text (shortened_text 60 (label_text image)))
 
--- the summary below them
+-- the summary, below them
 unfoldable pub summary_line : List ℕ → DumpView → List ℕ
 summary_line name dump = text_at 46 50 (escaped_text (summary name dump))
 
@@ -83,19 +83,19 @@ picture_attributes high =
     attribute (codes "xmlns") (codes "http://www.w3.org/2000/svg")
     ++ (attribute (codes "version") (codes "1.1") ++ (attribute (codes "class") (codes "disk") ++ view_box high))
 
--- the title, how all looks, and the paper
+-- the title, the style and the background
 unfoldable pub top : List ℕ → DumpView → ℕ → List ℕ
 top name dump high = codes "\n" ++ (title name dump ++ (style ++ page high))
 
--- what stands around the cells, before them
+-- what is drawn around the cells, before them
 unfoldable pub front : List ℕ → DumpView → List ℕ
 front name dump = heads name dump ++ (column_heads ++ row_heads (tracks_of (length dump.image)))
 
--- all that is in the picture
+-- the whole content of the picture
 unfoldable pub content : List ℕ → DumpView → ℕ → List ℕ
 content name dump high = top name dump high ++ (front name dump ++ (cells dump ++ legend dump.image))
 
--- the picture of a dump that is so high
+-- the picture of a dump, with this height
 unfoldable pub picture : List ℕ → DumpView → ℕ → List ℕ
 picture name dump high = element (codes "svg") (picture_attributes high) (content name dump high) ++ codes "\n"
 

@@ -19,14 +19,14 @@ pub enum BlockState {
     System,
     /// It is marked used, and nothing owns it.
     Unowned,
-    /// It has more than one owner, or one though the map marks it free.
+    /// It has more than one owner, or an owner although the map marks it free.
     Fault,
-    /// It couldn't be read well.
+    /// It could not be read without an error.
     Unreadable,
 }
 
 impl BlockState {
-    /// The character that stands for a block of this state.
+    /// Returns the character for a block in this state.
     pub fn mark(self) -> &'static [u8]
         ensures { result.now ≡ mark self }
     {
@@ -41,7 +41,7 @@ impl BlockState {
     }
 }
 
-/// The state of a block that this owner has alone.
+/// Returns the state of a block with this one owner.
 fn state_of_owner(owner: Owner) -> BlockState
     ensures { result ≡ state_of_owner owner }
 {
@@ -51,21 +51,21 @@ fn state_of_owner(owner: Owner) -> BlockState
     }
 }
 
-/// Whether a block couldn't be read well.
+/// Whether a block could not be read without an error.
 pub(crate) fn is_unreadable(inspection: &Inspection, block: BlockNo) -> bool
     ensures { result ≡ is_unreadable inspection.now block }
 {
     is_read_error(code_of(inspection.codes(), block))
 }
 
-/// Whether the map marks a block free. A block that the image doesn't have is not marked.
+/// Whether the map marks a block free; false for a block that the image does not have.
 pub(crate) fn is_marked_free(image: &Image, block: BlockNo) -> bool
     ensures { result ≡ set.contains (free_blocks image.now) block }
 {
     image.holds(block) && is_free(image, block)
 }
 
-/// The state of a block: a read error, or else a fault, or else who owns it.
+/// Returns the state of a block: a read error comes before a fault, and a fault before the owner.
 pub fn state_of(inspection: &Inspection, block: BlockNo) -> BlockState
     ensures { result ≡ state_of inspection.now block }
 {

@@ -14,10 +14,10 @@ use out_markup::push_escaped_within;
 use out_messages::{push_block, push_number, push_owners, push_status};
 use std::alloc::AllocError;
 
-/// How many bytes there are for what is said of a block.
+/// The most bytes that the title of a block has.
 const TITLE_BYTES: usize = 80;
 
-/// The place of a sector's column.
+/// Returns the x coordinate of a sector's column.
 pub(crate) fn column_x(sector: u8) -> usize
     ensures value { result ≡ column_x sector }
     ensures small { result < 6000 }
@@ -25,7 +25,7 @@ pub(crate) fn column_x(sector: u8) -> usize
     46 + 22 * usize::from(sector)
 }
 
-/// The place of a track's row.
+/// Returns the y coordinate of a track's row.
 pub(crate) fn row_y(track: u8) -> usize
     ensures value { result ≡ row_y track }
     ensures small { result < 6000 }
@@ -33,7 +33,7 @@ pub(crate) fn row_y(track: u8) -> usize
     62 + 22 * usize::from(track)
 }
 
-/// Adds a read error of this code.
+/// Appends a read error with this code.
 #[tactic(auto, unfolding(crate::specs::Cells::read_text))]
 fn push_read(out: &mut Vec<u8>, code: u8) -> Result<(), AllocError>
     ensures { OnOk result (out.new.items ≡ out.old.items ++ read_text code) }
@@ -45,7 +45,7 @@ fn push_read(out: &mut Vec<u8>, code: u8) -> Result<(), AllocError>
     Ok(())
 }
 
-/// Adds a read error, where a code is one.
+/// Appends a read error, if the code is one.
 #[tactic(auto, unfolding(crate::specs::Cells::error_text))]
 fn push_error(out: &mut Vec<u8>, code: u8) -> Result<(), AllocError>
     ensures { OnOk result (out.new.items ≡ out.old.items ++ error_text code) }
@@ -56,7 +56,7 @@ fn push_error(out: &mut Vec<u8>, code: u8) -> Result<(), AllocError>
     Ok(())
 }
 
-/// Adds what stands before so many owners of a block.
+/// Appends the text before the owners of a block, which has `count` of them.
 #[tactic(auto, unfolding(crate::specs::Cells::claim_text))]
 fn push_claim(out: &mut Vec<u8>, count: usize) -> Result<(), AllocError>
     ensures { OnOk result (out.new.items ≡ out.old.items ++ claim_text count) }
@@ -69,7 +69,7 @@ fn push_claim(out: &mut Vec<u8>, count: usize) -> Result<(), AllocError>
     out.extend_from_slice(b": ")
 }
 
-/// Adds how a block of so many owners is marked, before the owners.
+/// Appends how a block with `count` owners is marked; the owners follow.
 #[tactic(auto, unfolding(crate::specs::Cells::mark_text))]
 fn push_marking(out: &mut Vec<u8>, count: usize, is_free: bool) -> Result<(), AllocError>
     ensures { OnOk result (out.new.items ≡ out.old.items ++ mark_text count is_free) }
@@ -85,7 +85,7 @@ fn push_marking(out: &mut Vec<u8>, count: usize, is_free: bool) -> Result<(), Al
     }
 }
 
-/// Adds a block, a read error of it, and how it is marked and owned.
+/// Appends a block, its read error, and how it is marked and owned.
 #[tactic(auto, unfolding(crate::specs::Cells::cell_text))]
 fn push_cell_text(
     out: &mut Vec<u8>,
@@ -106,7 +106,7 @@ fn push_cell_text(
     push_owners(out, survey, block)
 }
 
-/// Adds what a browser shows of a block under the pointer. The text is room that is used again.
+/// Appends the title of a block, which a browser shows under the pointer. `text` is a buffer.
 #[tactic(auto, unfolding(crate::specs::Cells::cell_title, out_markup::specs::Markup::element, out_markup::specs::Markup::tag))]
 fn push_title(
     out: &mut Vec<u8>,
@@ -123,7 +123,7 @@ fn push_title(
     out.extend_from_slice(b"</title>")
 }
 
-/// Adds the square of a block at a place, and what is said of it.
+/// Appends the square of a block at a place, with its title.
 #[tactic(auto, unfolding(crate::specs::Cells::cell_square, out_markup::specs::Markup::element))]
 fn push_square(
     out: &mut Vec<u8>,
@@ -140,7 +140,7 @@ fn push_square(
     out.extend_from_slice(b"</path>")
 }
 
-/// Adds the cell of a block.
+/// Appends the cell of a block.
 #[tactic(auto, unfolding(crate::specs::Cells::cell))]
 fn push_cell(
     out: &mut Vec<u8>,
@@ -156,7 +156,7 @@ fn push_cell(
     out.extend_from_slice(b"\n")
 }
 
-/// Adds the cells of all blocks.
+/// Appends the cells of all blocks.
 #[tactic(auto, unfolding(crate::specs::Cells::cells))]
 pub(crate) fn push_cells(
     out: &mut Vec<u8>,

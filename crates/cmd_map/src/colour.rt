@@ -9,7 +9,7 @@ use d64_survey::{Owner, Survey};
 use out_messages::push_number;
 use std::alloc::AllocError;
 
-/// How many colours files have.
+/// The number of colours for files.
 const FILE_COLOURS: usize = 16;
 
 /// The colour of a block.
@@ -22,14 +22,14 @@ pub(crate) enum Colour {
     File(u8),
 }
 
-/// The colour of the file of a slot.
+/// Returns the colour of the file of a slot.
 pub(crate) fn colour_of_slot(slot: SlotNo) -> Colour
     ensures { result ≡ colour_of_slot slot }
 {
     Colour::File((slot.place() % FILE_COLOURS) as u8)
 }
 
-/// The colour of what an owner has.
+/// Returns the colour of an owner's blocks.
 fn colour_of_owner(owner: Owner) -> Colour
     ensures { result ≡ colour_of_owner owner }
 {
@@ -39,7 +39,7 @@ fn colour_of_owner(owner: Owner) -> Colour
     }
 }
 
-/// The colour of a block without owners.
+/// Returns the colour of a block without owners.
 fn colour_of_unowned(image: &Image, block: BlockNo) -> Colour
     ensures { result ≡ colour_of_unowned image.now block }
 {
@@ -50,7 +50,7 @@ fn colour_of_unowned(image: &Image, block: BlockNo) -> Colour
     }
 }
 
-/// The colour of a block: that of its first owner, where it has one.
+/// Returns the colour of a block: that of its first owner, if it has one.
 #[tactic(auto, unfolding(crate::specs::Colours::colour_of))]
 pub(crate) fn colour_of(survey: &Survey, block: BlockNo) -> Colour
     ensures { result ≡ colour_of survey.now block }
@@ -61,7 +61,7 @@ pub(crate) fn colour_of(survey: &Survey, block: BlockNo) -> Colour
     }
 }
 
-/// Adds the class that has the colour.
+/// Appends the class of the colour.
 #[tactic(auto, unfolding(crate::specs::Colours::class_of))]
 pub(crate) fn push_class(out: &mut Vec<u8>, colour: Colour) -> Result<(), AllocError>
     ensures { OnOk result (out.new.items ≡ out.old.items ++ class_of colour) }

@@ -17,19 +17,19 @@ use out_messages::{blocks_there, push_number};
 use petscii::push_spelling;
 use std::alloc::AllocError;
 
-/// How many files are shown at most.
+/// The most files that are shown.
 pub(crate) const SHOWN_FILES: usize = 144;
 
-/// How many rows there are beside the grid.
+/// The number of rows beside the grid.
 const ROWS_BESIDE: usize = 30;
 
-/// How many bytes of a file's name are shown at most, in text form.
+/// The most bytes of a file's name that are shown, in text form.
 const NAME_BYTES: usize = 24;
 
-/// The column beside the grid.
+/// The x coordinate of the column beside the grid.
 const BESIDE: usize = 532;
 
-/// The colour by which a state is explained.
+/// Returns the colour in which a state is shown.
 fn sample(state: BlockState) -> Colour
     ensures { result ≡ sample state }
 {
@@ -41,7 +41,7 @@ fn sample(state: BlockState) -> Colour
     }
 }
 
-/// A state in words.
+/// Returns the legend's text for a state.
 fn state_words(state: BlockState) -> &'static [u8]
     ensures { result.now ≡ state_words state }
 {
@@ -55,7 +55,7 @@ fn state_words(state: BlockState) -> &'static [u8]
     }
 }
 
-/// Adds a square and the mark of a state on it.
+/// Appends a square and the mark of a state on it.
 #[tactic(auto, unfolding(out_markup::specs::Markup::empty_element))]
 fn push_sample(out: &mut Vec<u8>, y: usize, state: BlockState) -> Result<(), AllocError>
     requires { y < 1000 }
@@ -66,7 +66,7 @@ fn push_sample(out: &mut Vec<u8>, y: usize, state: BlockState) -> Result<(), All
     push_mark(out, BESIDE, y, state)
 }
 
-/// Adds the row of a state.
+/// Appends the row of a state.
 #[tactic(auto, unfolding(crate::specs::Legend::state_row))]
 fn push_state_row(out: &mut Vec<u8>, y: usize, state: BlockState) -> Result<(), AllocError>
     requires { y < 1000 }
@@ -77,7 +77,7 @@ fn push_state_row(out: &mut Vec<u8>, y: usize, state: BlockState) -> Result<(), 
     out.extend_from_slice(b"\n")
 }
 
-/// Adds a row for each state.
+/// Appends a row for each state.
 #[tactic(auto, unfolding(crate::specs::Legend::state_rows))]
 fn push_state_rows(out: &mut Vec<u8>) -> Result<(), AllocError>
     ensures { OnOk result (out.new.items ≡ out.old.items ++ state_rows) }
@@ -90,7 +90,7 @@ fn push_state_rows(out: &mut Vec<u8>) -> Result<(), AllocError>
     push_state_row(out, 194, BlockState::Unreadable)
 }
 
-/// Where the row at a place in the list of files stands, from the left.
+/// Returns the x coordinate of the row at a place in the list of files.
 #[tactic(auto, unfolding(crate::specs::Legend::row_x))]
 fn row_x(place: usize) -> usize
     ensures value { result ≡ row_x_of place }
@@ -103,7 +103,7 @@ fn row_x(place: usize) -> usize
     }
 }
 
-/// Where it stands from above, in the picture of so many tracks.
+/// Returns its y coordinate, in the picture of a disk with this many tracks.
 #[tactic(auto, unfolding(crate::specs::Legend::row_y))]
 fn row_y(tracks: u8, place: usize) -> usize
     requires { place ≤ 144 }
@@ -117,7 +117,7 @@ fn row_y(tracks: u8, place: usize) -> usize
     }
 }
 
-/// Adds a file's name, as far as there is room.
+/// Appends a file's name, as far as it fits.
 #[tactic(auto, unfolding(crate::specs::Legend::name_at))]
 fn push_name(out: &mut Vec<u8>, x: usize, y: usize, name: &[u8]) -> Result<(), AllocError>
     ensures { OnOk result (out.new.items ≡ out.old.items ++ name_at x y name.now) }
@@ -129,7 +129,7 @@ fn push_name(out: &mut Vec<u8>, x: usize, y: usize, name: &[u8]) -> Result<(), A
     push_text_at(out, x, y, shown.as_slice())
 }
 
-/// Adds the row of a file at a place: its colour, its name, and how many blocks it has.
+/// Appends the row of a file at a place: its colour, its name, and its number of blocks.
 #[tactic(auto, unfolding(crate::specs::Legend::file_row))]
 fn push_file_row(
     out: &mut Vec<u8>,
@@ -154,7 +154,7 @@ fn push_file_row(
     Ok(())
 }
 
-/// Adds the row of a file at a place in the list.
+/// Appends the row of a file at a place in the list.
 #[tactic(auto, unfolding(crate::specs::Legend::placed_row))]
 fn push_placed_row(
     out: &mut Vec<u8>,
@@ -169,7 +169,7 @@ fn push_placed_row(
     push_file_row(out, row_x(place), y, entry, blocks_there(image, entry))
 }
 
-/// Adds the rows of the first of the files.
+/// Appends the rows of the first of the files.
 #[tactic(auto, unfolding(crate::specs::Legend::file_rows))]
 fn push_file_rows(out: &mut Vec<u8>, inspection: &Inspection) -> Result<(), AllocError>
     ensures { OnOk result (out.new.items ≡ out.old.items ++ file_rows inspection.now.image) }
@@ -184,7 +184,7 @@ fn push_file_rows(out: &mut Vec<u8>, inspection: &Inspection) -> Result<(), Allo
     Ok(())
 }
 
-/// Adds how many files there are beside those that are shown, of so many, where there are more.
+/// Appends how many of `count` files are not shown, if there are some.
 #[tactic(auto, unfolding(crate::specs::Legend::more_row))]
 fn push_more_row(out: &mut Vec<u8>, tracks: u8, count: usize) -> Result<(), AllocError>
     ensures { OnOk result (out.new.items ≡ out.old.items ++ more_row tracks count) }
@@ -205,7 +205,7 @@ fn push_more_row(out: &mut Vec<u8>, tracks: u8, count: usize) -> Result<(), Allo
     out.extend_from_slice(b"\n")
 }
 
-/// Adds what stands above the files.
+/// Appends the heading of the files.
 #[tactic(auto, unfolding(crate::specs::Legend::files_head))]
 fn push_files_head(out: &mut Vec<u8>) -> Result<(), AllocError>
     ensures { OnOk result (out.new.items ≡ out.old.items ++ files_head) }
@@ -215,7 +215,7 @@ fn push_files_head(out: &mut Vec<u8>) -> Result<(), AllocError>
     out.extend_from_slice(b"\n")
 }
 
-/// Adds the legend.
+/// Appends the legend.
 #[tactic(auto, unfolding(crate::specs::Legend::legend))]
 pub(crate) fn push_legend(out: &mut Vec<u8>, inspection: &Inspection) -> Result<(), AllocError>
     ensures { OnOk result (out.new.items ≡ out.old.items ++ legend inspection.now.image) }
@@ -226,7 +226,7 @@ pub(crate) fn push_legend(out: &mut Vec<u8>, inspection: &Inspection) -> Result<
     push_more_row(out, inspection.image().tracks(), inspection.entries())
 }
 
-/// How many rows stand below the grid, of so many files.
+/// Returns how many rows are below the grid, for `count` files.
 #[tactic(auto, unfolding(crate::specs::Legend::rows_below))]
 pub(crate) fn rows_below(count: usize) -> usize
     requires { count < 1000 }

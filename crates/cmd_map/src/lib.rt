@@ -1,5 +1,5 @@
-//! `d64sh map`: the blocks of a disk as text and as a picture in SVG, with whose each is and where
-//! something is wrong; and the pictures of a catalogue.
+//! `d64sh map`: the blocks of a disk as text and as a picture in SVG, with their owners and what is
+//! wrong with them; and the pictures of a catalogue.
 #![tactic(auto)]
 
 mod block_state;

@@ -13,7 +13,7 @@ use program_arguments::PictureForm;
 use program_batch::{AnswerRoom, Report, Verdict};
 use std::alloc::{AllocError, Global};
 
-/// The report of `map`, with the memory that it keeps from file to file.
+/// The report of `map`, with the buffers that it uses for one file after another.
 #[derive(Drop)]
 pub struct MapReport {
     alloc: Global,
@@ -23,7 +23,7 @@ pub struct MapReport {
     errors: Vec<ReadError>,
 }
 
-/// Adds the map of a dump in a form.
+/// Appends the map of a dump in a form.
 fn push_picture(
     out: &mut Vec<u8>,
     form: PictureForm,
@@ -39,7 +39,7 @@ fn push_picture(
 }
 
 impl MapReport {
-    /// A report in a form.
+    /// Returns a report in a form.
     pub fn new(alloc: Global, form: PictureForm) -> Result<MapReport, AllocError>
         ensures { IfOk result (λ report. report.form ≡ form) }
     {
@@ -52,7 +52,7 @@ impl MapReport {
         })
     }
 
-    /// What is told of the dump that was read.
+    /// Puts the map of the dump that was read into the buffer, and returns the verdict.
     fn tell_dump(&mut self, name: &[u8], room: &mut AnswerRoom) -> Result<Verdict, AllocError>
         ensures form { self.new.form ≡ self.old.form }
         ensures answered { room.old.printed.items ≡ [] → room.old.complaint.items ≡ [] → IfOk result (λ verdict.

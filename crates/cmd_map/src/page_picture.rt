@@ -1,5 +1,5 @@
-//! The picture of a disk inside a page: the blocks of a file are one shape, and how the shapes look
-//! is said once for all pictures of the page.
+//! The picture of a disk inside a page: the blocks of a file are one shape, and the page has one
+//! style for all of its pictures.
 ghost use Rattle.std.specs.Prelude.{◌≡◌, ◌++◌, [], length, codes, OnOk};
 ghost use Rattle.std.specs.List.{flat_map, slice_get};
 ghost use Rattle.std.specs.FinSet as set;
@@ -31,7 +31,7 @@ const SQUARE: &[u8] = b"h1v1h-1z";
 /// The steps of a dot, on a grid that is moved to the middle of the cells.
 const DOT: &[u8] = b"h0";
 
-/// Adds steps from the corner of a block's cell.
+/// Appends steps from the corner of a block's cell.
 #[tactic(auto, unfolding(crate::specs::PagePicture::step_from))]
 fn push_step(out: &mut Vec<u8>, steps: &[u8], block: BlockNo) -> Result<(), AllocError>
     ensures { OnOk result (out.new.items ≡ out.old.items ++ step_from steps.now block) }
@@ -43,7 +43,7 @@ fn push_step(out: &mut Vec<u8>, steps: &[u8], block: BlockNo) -> Result<(), Allo
     out.extend_from_slice(steps)
 }
 
-/// Adds the same, where the block is in a region.
+/// Appends the same, if the block is in a region.
 #[tactic(auto, unfolding(crate::specs::PagePicture::step_in))]
 fn push_step_in(
     out: &mut Vec<u8>,
@@ -62,7 +62,7 @@ fn push_step_in(
     Ok(())
 }
 
-/// Adds the same of all blocks.
+/// Appends the same for all blocks.
 #[tactic(auto, unfolding(crate::specs::PagePicture::steps_in))]
 fn push_steps_in(
     out: &mut Vec<u8>,
@@ -78,7 +78,7 @@ fn push_steps_in(
     Ok(())
 }
 
-/// Adds the attributes of a region's shape: its colour, and its squares.
+/// Appends the attributes of a region's shape: its colour, and its squares.
 #[tactic(auto, unfolding(crate::specs::PagePicture::region_attributes, out_markup::specs::Markup::attribute))]
 fn push_region_attributes(
     out: &mut Vec<u8>,
@@ -93,7 +93,7 @@ fn push_region_attributes(
     out.extend_from_slice(b"\"")
 }
 
-/// Adds what a browser shows of a region under the pointer.
+/// Appends the title of a region, which a browser shows under the pointer.
 #[tactic(auto, unfolding(crate::specs::PagePicture::region_title, out_markup::specs::Markup::element, out_markup::specs::Markup::tag))]
 fn push_region_title(out: &mut Vec<u8>, text: &[u8]) -> Result<(), AllocError>
     ensures { OnOk result (out.new.items ≡ out.old.items ++ region_title text.now) }
@@ -103,7 +103,7 @@ fn push_region_title(out: &mut Vec<u8>, text: &[u8]) -> Result<(), AllocError>
     out.extend_from_slice(b"</title>")
 }
 
-/// Adds the shape of a region, of which this text is said.
+/// Appends the shape of a region, with this title.
 #[tactic(auto, unfolding(crate::specs::PagePicture::region_shape, out_markup::specs::Markup::element, out_markup::specs::Markup::tag))]
 fn push_region(
     out: &mut Vec<u8>,
@@ -120,7 +120,7 @@ fn push_region(
     out.extend_from_slice(b"</path>\n")
 }
 
-/// Adds the dots on blocks that are marked used and belong to no file.
+/// Appends the dots on blocks that are marked used and belong to no file.
 #[tactic(auto, unfolding(crate::specs::PagePicture::dots))]
 fn push_dots(out: &mut Vec<u8>, inspection: &Inspection) -> Result<(), AllocError>
     ensures { OnOk result (out.new.items ≡ out.old.items ++ dots inspection.now.image) }
@@ -130,7 +130,7 @@ fn push_dots(out: &mut Vec<u8>, inspection: &Inspection) -> Result<(), AllocErro
     out.extend_from_slice(b"\"/>\n")
 }
 
-/// Adds the regions that are no file's.
+/// Appends the regions that belong to no file.
 #[tactic(auto, unfolding(crate::specs::PagePicture::plain_regions))]
 fn push_plain_regions(out: &mut Vec<u8>, inspection: &Inspection) -> Result<(), AllocError>
     ensures { OnOk result (out.new.items ≡ out.old.items ++ plain_regions inspection.now.image) }
@@ -146,8 +146,7 @@ fn push_plain_regions(out: &mut Vec<u8>, inspection: &Inspection) -> Result<(), 
     push_region(out, inspection, &Region::System, b"map or directory")
 }
 
-/// Adds the region of the file of a slot, where the slot is used. The text is room that is used
-/// again.
+/// Appends the region of the file of a slot, if the slot is used. `text` is a buffer.
 #[tactic(auto, unfolding(crate::specs::PagePicture::file_region))]
 fn push_file_region(
     out: &mut Vec<u8>,
@@ -166,7 +165,7 @@ fn push_file_region(
     push_region(out, inspection, &region, text.as_slice())
 }
 
-/// Adds the regions of all files.
+/// Appends the regions of all files.
 #[tactic(auto, unfolding(crate::specs::PagePicture::file_regions))]
 fn push_file_regions(out: &mut Vec<u8>, inspection: &Inspection) -> Result<(), AllocError>
     ensures { OnOk result (out.new.items ≡ out.old.items ++ file_regions inspection.now.image) }
@@ -178,7 +177,7 @@ fn push_file_regions(out: &mut Vec<u8>, inspection: &Inspection) -> Result<(), A
     Ok(())
 }
 
-/// Adds all regions, on a grid whose cells are one wide.
+/// Appends all regions, on a grid whose cells are one wide.
 #[tactic(auto, unfolding(crate::specs::PagePicture::regions))]
 fn push_regions(out: &mut Vec<u8>, inspection: &Inspection) -> Result<(), AllocError>
     ensures { OnOk result (out.new.items ≡ out.old.items ++ regions inspection.now.image) }
@@ -189,7 +188,7 @@ fn push_regions(out: &mut Vec<u8>, inspection: &Inspection) -> Result<(), AllocE
     out.extend_from_slice(b"</g>\n")
 }
 
-/// Adds the mark of a state, where something is wrong with the block.
+/// Appends the mark of a state, if it means that something is wrong with the block.
 fn push_alert_at(out: &mut Vec<u8>, x: usize, y: usize, state: BlockState) -> Result<(), AllocError>
     ensures { OnOk result (out.new.items ≡ out.old.items ++ alert_at x y state) }
 {
@@ -199,7 +198,7 @@ fn push_alert_at(out: &mut Vec<u8>, x: usize, y: usize, state: BlockState) -> Re
     }
 }
 
-/// Adds the mark of a block, where something is wrong with it.
+/// Appends the mark of a block, if something is wrong with it.
 #[tactic(auto, unfolding(crate::specs::PagePicture::alert))]
 fn push_alert(out: &mut Vec<u8>, inspection: &Inspection, block: BlockNo) -> Result<(), AllocError>
     ensures { OnOk result (out.new.items ≡ out.old.items ++ alert inspection.now block) }
@@ -208,7 +207,7 @@ fn push_alert(out: &mut Vec<u8>, inspection: &Inspection, block: BlockNo) -> Res
     push_alert_at(out, column_x(block.sector()), row_y(block.track()), state)
 }
 
-/// Adds the marks of all blocks.
+/// Appends the marks of all blocks.
 #[tactic(auto, unfolding(crate::specs::PagePicture::alerts))]
 fn push_alerts(out: &mut Vec<u8>, inspection: &Inspection) -> Result<(), AllocError>
     ensures { OnOk result (out.new.items ≡ out.old.items ++ alerts inspection.now) }
@@ -219,7 +218,7 @@ fn push_alerts(out: &mut Vec<u8>, inspection: &Inspection) -> Result<(), AllocEr
     Ok(())
 }
 
-/// Adds the attributes of the picture, which is one image to who cannot see it.
+/// Appends the attributes of the picture, which a screen reader takes for one image.
 #[tactic(auto, unfolding(crate::specs::PagePicture::page_attributes))]
 fn push_page_attributes(out: &mut Vec<u8>, high: usize) -> Result<(), AllocError>
     ensures { OnOk result (out.new.items ≡ out.old.items ++ page_attributes high) }
@@ -229,7 +228,7 @@ fn push_page_attributes(out: &mut Vec<u8>, high: usize) -> Result<(), AllocError
     push_view_box(out, high)
 }
 
-/// Adds all that is in the picture.
+/// Appends the whole content of the picture.
 #[tactic(auto, unfolding(crate::specs::PagePicture::page_content))]
 fn push_page_content(
     out: &mut Vec<u8>,
@@ -248,8 +247,9 @@ fn push_page_content(
     push_legend(out, inspection)
 }
 
-/// Adds the map as a picture inside a page, whose style has `push_picture_rules`: a shape for the
-/// blocks of each file, with its name as a title, and a mark where something is wrong with a block.
+/// Appends the map as a picture inside a page, whose style has `push_picture_rules`: a shape for
+/// the blocks of each file, with its name as a title, and a mark on each block with which something
+/// is wrong.
 #[tactic(auto, unfolding(crate::specs::PagePicture::page_svg_of, crate::specs::PagePicture::page_picture, out_markup::specs::Markup::element, out_markup::specs::Markup::tag))]
 pub fn page_svg(name: &[u8], inspection: &Inspection, out: &mut Vec<u8>) -> Result<(), AllocError>
     ensures { OnOk result (out.new.items ≡ out.old.items ++ page_svg_of name.now inspection.now) }

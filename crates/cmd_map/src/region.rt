@@ -1,4 +1,4 @@
-//! Regions of a disk: the blocks that the same file has, or nothing, or the disk itself.
+//! Regions of a disk: the blocks that belong to the same file, to no file, or to the disk itself.
 ghost use Rattle.std.specs.Prelude.{◌≡◌};
 ghost use Rattle.std.specs.List.{slice_get};
 ghost use Rattle.d64_survey.specs.Owners.{owners_of};
@@ -10,7 +10,7 @@ use d64_files::SlotNo;
 use d64_image::BlockNo;
 use d64_survey::{Owner, Survey};
 
-/// Blocks that have the same first owner, or none.
+/// Blocks that have the same first owner, or no owner.
 #[derive(Clone, Copy, Debug, PartialEq, Eq)]
 pub(crate) enum Region {
     Free,
@@ -19,7 +19,7 @@ pub(crate) enum Region {
     File(SlotNo),
 }
 
-/// The colour of a region.
+/// Returns the colour of a region.
 pub(crate) fn colour_of_region(region: &Region) -> Colour
     ensures { result ≡ colour_of_region region.now }
 {
@@ -31,7 +31,7 @@ pub(crate) fn colour_of_region(region: &Region) -> Colour
     }
 }
 
-/// The first owner of a block.
+/// Returns the first owner of a block.
 pub(crate) fn first_owner(survey: &Survey, block: BlockNo) -> Option<Owner>
     ensures { result ≡ slice_get (owners_of survey.now block) 0 }
 {

@@ -11,7 +11,7 @@ use out_markup::{push_attribute, push_escaped, push_number_attribute};
 use out_messages::push_number;
 use std::alloc::AllocError;
 
-/// Adds where a path begins, and how it goes on from there.
+/// Appends a path that begins at a point and goes on with these steps.
 #[tactic(auto, unfolding(crate::specs::Shapes::path_from, out_markup::specs::Markup::attribute))]
 fn push_path_from(out: &mut Vec<u8>, x: usize, y: usize, steps: &[u8]) -> Result<(), AllocError>
     ensures { OnOk result (out.new.items ≡ out.old.items ++ path_from x y steps.now) }
@@ -24,7 +24,7 @@ fn push_path_from(out: &mut Vec<u8>, x: usize, y: usize, steps: &[u8]) -> Result
     out.extend_from_slice(b"\"")
 }
 
-/// Adds where an element stands.
+/// Appends the place of an element.
 #[tactic(auto, unfolding(crate::specs::Shapes::place_at))]
 fn push_place(out: &mut Vec<u8>, x: usize, y: usize) -> Result<(), AllocError>
     ensures { OnOk result (out.new.items ≡ out.old.items ++ place_at x y) }
@@ -33,7 +33,7 @@ fn push_place(out: &mut Vec<u8>, x: usize, y: usize) -> Result<(), AllocError>
     push_number_attribute(out, b"y", y)
 }
 
-/// Adds the tag of a line of text.
+/// Appends the tag of a line of text.
 #[tactic(auto, unfolding(out_markup::specs::Markup::tag))]
 fn push_text_tag(out: &mut Vec<u8>, x: usize, y: usize) -> Result<(), AllocError>
     ensures { OnOk result (out.new.items ≡ out.old.items ++ tag (codes "text") (place_at x y)) }
@@ -42,7 +42,7 @@ fn push_text_tag(out: &mut Vec<u8>, x: usize, y: usize) -> Result<(), AllocError
     push_place(out, x, y)
 }
 
-/// Adds the tag of a line of text of a class.
+/// Appends the tag of a line of text with a class.
 #[tactic(auto, unfolding(out_markup::specs::Markup::tag))]
 fn push_class_text_tag(
     out: &mut Vec<u8>,
@@ -57,7 +57,7 @@ fn push_class_text_tag(
     push_place(out, x, y)
 }
 
-/// Adds a line of text, in which no byte makes markup.
+/// Appends a line of text, in which no byte makes markup.
 #[tactic(auto, unfolding(crate::specs::Shapes::text_at, out_markup::specs::Markup::element))]
 pub(crate) fn push_text_at(
     out: &mut Vec<u8>,
@@ -73,7 +73,7 @@ pub(crate) fn push_text_at(
     out.extend_from_slice(b"</text>")
 }
 
-/// Adds a line of text of a class, in which no byte makes markup.
+/// Appends a line of text with a class, in which no byte makes markup.
 #[tactic(auto, unfolding(crate::specs::Shapes::text_of, out_markup::specs::Markup::element))]
 pub(crate) fn push_text_of(
     out: &mut Vec<u8>,
@@ -90,7 +90,7 @@ pub(crate) fn push_text_of(
     out.extend_from_slice(b"</text>")
 }
 
-/// Adds a number of a class.
+/// Appends a number with a class.
 #[tactic(auto, unfolding(crate::specs::Shapes::text_of, out_markup::specs::Markup::element))]
 pub(crate) fn push_number_of(
     out: &mut Vec<u8>,
@@ -107,7 +107,7 @@ pub(crate) fn push_number_of(
     out.extend_from_slice(b"</text>")
 }
 
-/// Adds the class that has a colour, as an attribute.
+/// Appends the class of a colour, as an attribute.
 #[tactic(auto, unfolding(out_markup::specs::Markup::attribute))]
 pub(crate) fn push_colour(out: &mut Vec<u8>, colour: Colour) -> Result<(), AllocError>
     ensures { OnOk result (out.new.items ≡ out.old.items ++ attribute (codes "class") (class_of colour)) }
@@ -117,7 +117,7 @@ pub(crate) fn push_colour(out: &mut Vec<u8>, colour: Colour) -> Result<(), Alloc
     out.extend_from_slice(b"\"")
 }
 
-/// Adds the tag of a path in a colour.
+/// Appends the tag of a path in a colour.
 #[tactic(auto, unfolding(out_markup::specs::Markup::tag))]
 fn push_path_tag(
     out: &mut Vec<u8>,
@@ -133,7 +133,7 @@ fn push_path_tag(
     push_path_from(out, x, y, steps)
 }
 
-/// Adds a path in a colour.
+/// Appends a path in a colour.
 #[tactic(auto, unfolding(crate::specs::Shapes::path_of, out_markup::specs::Markup::empty_element))]
 pub(crate) fn push_path(
     out: &mut Vec<u8>,
@@ -148,7 +148,7 @@ pub(crate) fn push_path(
     out.extend_from_slice(b"/>")
 }
 
-/// Adds a path of a class.
+/// Appends a path with a class.
 #[tactic(auto, unfolding(crate::specs::Shapes::path_of, out_markup::specs::Markup::empty_element, out_markup::specs::Markup::tag))]
 fn push_class_path(
     out: &mut Vec<u8>,
@@ -165,7 +165,7 @@ fn push_class_path(
     out.extend_from_slice(b"/>")
 }
 
-/// Adds the tag of a square.
+/// Appends the tag of a square.
 #[tactic(auto, unfolding(crate::specs::Cells::square_of))]
 pub(crate) fn push_square_tag(
     out: &mut Vec<u8>,
@@ -179,7 +179,7 @@ pub(crate) fn push_square_tag(
     push_path_tag(out, colour, x + 2, y + 2, b"h16v16h-16z")
 }
 
-/// Adds the mark of a state on a square.
+/// Appends the mark of a state on a square.
 #[tactic(auto, unfolding(crate::specs::Cells::mark_at))]
 pub(crate) fn push_mark(
     out: &mut Vec<u8>,

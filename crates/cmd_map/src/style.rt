@@ -1,4 +1,4 @@
-//! How the parts of a picture look.
+//! The style of a picture.
 ghost use Rattle.std.specs.Prelude.{◌≡◌, ◌++◌, OnOk};
 ghost use Rattle.cmd_map.specs.Style.{basic_rules, colour_rules, mark_rules, region_rules, picture_rules, style};
 
@@ -16,8 +16,8 @@ const BASIC_RULES: &[u8] = b".disk text{font:12px sans-serif;fill:#2d3440}\n\
 .disk .unowned{fill:#cdd2d9;stroke:#cdd2d9}\n\
 .disk .system{fill:#4b5563;stroke:#4b5563}\n";
 
-/// The colours of files: eight that can be told apart without seeing all colours (Paul Tol's light
-/// scheme), and these again in a frame.
+/// The colours of files: eight that can be told apart with any colour vision (Paul Tol's light
+/// scheme), and the same eight with a frame.
 const COLOUR_RULES: &[u8] = b".disk .c0{fill:#7ad;stroke:#7ad}\n\
 .disk .c1{fill:#e86;stroke:#e86}\n\
 .disk .c2{fill:#4b9;stroke:#4b9}\n\
@@ -45,7 +45,7 @@ const REGION_RULES: &[u8] = b".disk .cells path{stroke:#fff;stroke-width:.1}\n\
 .disk .cells .dot{stroke:#6b7280;stroke-width:.23}\n\
 .disk .cells :is(.c8,.c9,.c10,.c11,.c12,.c13,.c14,.c15){stroke:#456;stroke-width:.13}\n";
 
-/// Adds the rules of the page, of texts and of squares.
+/// Appends the rules of the page, of texts and of squares.
 #[tactic(auto, unfolding(crate::specs::Style::basic_rules))]
 fn push_basic_rules(out: &mut Vec<u8>) -> Result<(), AllocError>
     ensures { OnOk result (out.new.items ≡ out.old.items ++ basic_rules) }
@@ -53,7 +53,7 @@ fn push_basic_rules(out: &mut Vec<u8>) -> Result<(), AllocError>
     out.extend_from_slice(BASIC_RULES)
 }
 
-/// Adds those of the colours of files.
+/// Appends the rules of the colours of files.
 #[tactic(auto, unfolding(crate::specs::Style::colour_rules))]
 fn push_colour_rules(out: &mut Vec<u8>) -> Result<(), AllocError>
     ensures { OnOk result (out.new.items ≡ out.old.items ++ colour_rules) }
@@ -61,7 +61,7 @@ fn push_colour_rules(out: &mut Vec<u8>) -> Result<(), AllocError>
     out.extend_from_slice(COLOUR_RULES)
 }
 
-/// Adds those of the marks.
+/// Appends the rules of the marks.
 #[tactic(auto, unfolding(crate::specs::Style::mark_rules))]
 fn push_mark_rules(out: &mut Vec<u8>) -> Result<(), AllocError>
     ensures { OnOk result (out.new.items ≡ out.old.items ++ mark_rules) }
@@ -69,7 +69,7 @@ fn push_mark_rules(out: &mut Vec<u8>) -> Result<(), AllocError>
     out.extend_from_slice(MARK_RULES)
 }
 
-/// Adds those of the regions inside a page.
+/// Appends the rules of the regions inside a page.
 #[tactic(auto, unfolding(crate::specs::Style::region_rules))]
 fn push_region_rules(out: &mut Vec<u8>) -> Result<(), AllocError>
     ensures { OnOk result (out.new.items ≡ out.old.items ++ region_rules) }
@@ -77,7 +77,7 @@ fn push_region_rules(out: &mut Vec<u8>) -> Result<(), AllocError>
     out.extend_from_slice(REGION_RULES)
 }
 
-/// Adds the rules of all pictures inside a page, which stand in its style.
+/// Appends the rules of all pictures inside a page, for the page's style.
 #[tactic(auto, unfolding(crate::specs::Style::picture_rules))]
 pub fn push_picture_rules(out: &mut Vec<u8>) -> Result<(), AllocError>
     ensures { OnOk result (out.new.items ≡ out.old.items ++ picture_rules) }
@@ -86,7 +86,7 @@ pub fn push_picture_rules(out: &mut Vec<u8>) -> Result<(), AllocError>
     push_region_rules(out)
 }
 
-/// Adds all rules.
+/// Appends all rules.
 fn push_rules(out: &mut Vec<u8>) -> Result<(), AllocError>
     ensures { OnOk result (out.new.items ≡ out.old.items ++ (basic_rules ++ (colour_rules ++ mark_rules))) }
 {
@@ -95,7 +95,7 @@ fn push_rules(out: &mut Vec<u8>) -> Result<(), AllocError>
     push_mark_rules(out)
 }
 
-/// Adds all that says how the parts look.
+/// Appends the whole style.
 #[tactic(auto, unfolding(crate::specs::Style::style, out_markup::specs::Markup::element, out_markup::specs::Markup::tag, out_markup::specs::Markup::attribute))]
 pub(crate) fn push_style(out: &mut Vec<u8>) -> Result<(), AllocError>
     ensures { OnOk result (out.new.items ≡ out.old.items ++ style) }

@@ -18,16 +18,16 @@ use out_markup::{push_attribute, push_escaped, push_held, push_number_attribute,
 use out_messages::{push_contents, push_label, push_number, push_state};
 use std::alloc::AllocError;
 
-/// How wide the picture is.
+/// The width of the picture.
 const WIDTH: usize = 790;
 
-/// How many columns there are: as many as a track has sectors at most.
+/// The number of columns: the most sectors of a track.
 const COLUMNS: u8 = 21;
 
-/// How many bytes of the disk's name and id are shown above the grid.
+/// The most bytes of the disk's name and id that are shown above the grid.
 const LABEL_BYTES: usize = 60;
 
-/// How high the picture is, of so many tracks and files.
+/// Returns the height of the picture, for this many tracks and files.
 #[tactic(auto, unfolding(crate::specs::Svg::height))]
 pub(crate) fn height(tracks: u8, count: usize) -> usize
     ensures { result ≡ height_of tracks count }
@@ -35,7 +35,7 @@ pub(crate) fn height(tracks: u8, count: usize) -> usize
     108 + 22 * usize::from(tracks) + 20 * rows_below(count.min(SHOWN_FILES + 1))
 }
 
-/// Adds a name of the host as it is shown, in characters that XML holds.
+/// Appends a name of the host as it is shown, in characters that XML allows.
 #[tactic(auto, unfolding(crate::specs::Svg::name_text))]
 fn push_name_text(out: &mut Vec<u8>, name: &[u8]) -> Result<(), AllocError>
     ensures { OnOk result (out.new.items ≡ out.old.items ++ name_text name.now) }
@@ -45,7 +45,7 @@ fn push_name_text(out: &mut Vec<u8>, name: &[u8]) -> Result<(), AllocError>
     push_held(out, text.as_slice())
 }
 
-/// Adds the file's name, what is on the disk, and its state.
+/// Appends the file's name, what is on the disk, and its state.
 #[tactic(auto, unfolding(crate::specs::Svg::summary))]
 fn push_summary(out: &mut Vec<u8>, name: &[u8], inspection: &Inspection) -> Result<(), AllocError>
     ensures { OnOk result (out.new.items ≡ out.old.items ++ summary name.now inspection.now) }
@@ -57,7 +57,7 @@ fn push_summary(out: &mut Vec<u8>, name: &[u8], inspection: &Inspection) -> Resu
     push_state(out, inspection)
 }
 
-/// Adds the disk's name and id, and the summary.
+/// Appends the disk's name and id, and the summary.
 #[tactic(auto, unfolding(crate::specs::Svg::description))]
 fn push_description(
     out: &mut Vec<u8>,
@@ -71,7 +71,7 @@ fn push_description(
     push_summary(out, name, inspection)
 }
 
-/// Adds the title.
+/// Appends the title.
 #[tactic(auto, unfolding(crate::specs::Svg::title, out_markup::specs::Markup::element, out_markup::specs::Markup::tag))]
 pub(crate) fn push_title(
     out: &mut Vec<u8>,
@@ -87,7 +87,7 @@ pub(crate) fn push_title(
     out.extend_from_slice(b"</title>\n")
 }
 
-/// Adds the attributes of the paper.
+/// Appends the attributes of the background.
 #[tactic(auto, unfolding(crate::specs::Svg::page_attributes))]
 fn push_page_attributes(out: &mut Vec<u8>, high: usize) -> Result<(), AllocError>
     ensures { OnOk result (out.new.items ≡ out.old.items ++ page_attributes high) }
@@ -97,7 +97,7 @@ fn push_page_attributes(out: &mut Vec<u8>, high: usize) -> Result<(), AllocError
     push_number_attribute(out, b"height", high)
 }
 
-/// Adds the paper.
+/// Appends the background.
 #[tactic(auto, unfolding(crate::specs::Svg::page, out_markup::specs::Markup::empty_element, out_markup::specs::Markup::tag))]
 pub(crate) fn push_page(out: &mut Vec<u8>, high: usize) -> Result<(), AllocError>
     ensures { OnOk result (out.new.items ≡ out.old.items ++ page high) }
@@ -107,7 +107,7 @@ pub(crate) fn push_page(out: &mut Vec<u8>, high: usize) -> Result<(), AllocError
     out.extend_from_slice(b"/>\n")
 }
 
-/// Adds the disk's name and id, as far as there is room.
+/// Appends the disk's name and id, as far as they fit.
 #[tactic(auto, unfolding(crate::specs::Svg::label_line))]
 fn push_label_line(out: &mut Vec<u8>, image: &Image) -> Result<(), AllocError>
     ensures { OnOk result (out.new.items ≡ out.old.items ++ label_line image.now) }
@@ -119,7 +119,7 @@ fn push_label_line(out: &mut Vec<u8>, image: &Image) -> Result<(), AllocError>
     push_text_of(out, b"head", 46, 30, shown.as_slice())
 }
 
-/// Adds the summary below them.
+/// Appends the summary, below them.
 #[tactic(auto, unfolding(crate::specs::Svg::summary_line))]
 fn push_summary_line(
     out: &mut Vec<u8>,
@@ -133,7 +133,7 @@ fn push_summary_line(
     push_text_at(out, 46, 50, text.as_slice())
 }
 
-/// Adds the two lines above the grid.
+/// Appends the two lines above the grid.
 #[tactic(auto, unfolding(crate::specs::Svg::heads))]
 fn push_heads(out: &mut Vec<u8>, name: &[u8], inspection: &Inspection) -> Result<(), AllocError>
     ensures { OnOk result (out.new.items ≡ out.old.items ++ heads name.now inspection.now) }
@@ -144,7 +144,7 @@ fn push_heads(out: &mut Vec<u8>, name: &[u8], inspection: &Inspection) -> Result
     out.extend_from_slice(b"\n")
 }
 
-/// Adds the number of a sector, above its column.
+/// Appends the number of a sector, above its column.
 #[tactic(auto, unfolding(crate::specs::Svg::column_head))]
 fn push_column_head(out: &mut Vec<u8>, sector: u8) -> Result<(), AllocError>
     ensures { OnOk result (out.new.items ≡ out.old.items ++ column_head sector) }
@@ -159,7 +159,7 @@ fn push_column_head(out: &mut Vec<u8>, sector: u8) -> Result<(), AllocError>
     out.extend_from_slice(b"\n")
 }
 
-/// Adds the numbers of the sectors.
+/// Appends the numbers of the sectors.
 #[tactic(auto, unfolding(crate::specs::Svg::column_heads))]
 fn push_column_heads(out: &mut Vec<u8>) -> Result<(), AllocError>
     ensures { OnOk result (out.new.items ≡ out.old.items ++ column_heads) }
@@ -170,7 +170,7 @@ fn push_column_heads(out: &mut Vec<u8>) -> Result<(), AllocError>
     Ok(())
 }
 
-/// Adds the number of a track, before its row.
+/// Appends the number of a track, before its row.
 #[tactic(auto, unfolding(crate::specs::Svg::row_head))]
 fn push_row_head(out: &mut Vec<u8>, track: u8) -> Result<(), AllocError>
     ensures { OnOk result (out.new.items ≡ out.old.items ++ row_head track) }
@@ -179,7 +179,7 @@ fn push_row_head(out: &mut Vec<u8>, track: u8) -> Result<(), AllocError>
     out.extend_from_slice(b"\n")
 }
 
-/// Adds the numbers of so many tracks.
+/// Appends the numbers of the tracks.
 fn push_row_heads(out: &mut Vec<u8>, tracks: u8) -> Result<(), AllocError>
     requires { tracks < 41 }
     ensures { OnOk result (out.new.items ≡ out.old.items ++ row_heads tracks) }
@@ -190,7 +190,7 @@ fn push_row_heads(out: &mut Vec<u8>, tracks: u8) -> Result<(), AllocError>
     Ok(())
 }
 
-/// Adds the part of the page that is seen.
+/// Appends the part of the page that is seen.
 #[tactic(auto, unfolding(crate::specs::Svg::view_box, out_markup::specs::Markup::attribute))]
 pub(crate) fn push_view_box(out: &mut Vec<u8>, high: usize) -> Result<(), AllocError>
     ensures { OnOk result (out.new.items ≡ out.old.items ++ view_box high) }
@@ -201,7 +201,7 @@ pub(crate) fn push_view_box(out: &mut Vec<u8>, high: usize) -> Result<(), AllocE
     Ok(())
 }
 
-/// Adds the attributes of the picture.
+/// Appends the attributes of the picture.
 #[tactic(auto, unfolding(crate::specs::Svg::picture_attributes))]
 fn push_attributes(out: &mut Vec<u8>, high: usize) -> Result<(), AllocError>
     ensures { OnOk result (out.new.items ≡ out.old.items ++ picture_attributes high) }
@@ -213,7 +213,7 @@ fn push_attributes(out: &mut Vec<u8>, high: usize) -> Result<(), AllocError>
     Ok(())
 }
 
-/// Adds the title, how all looks, and the paper.
+/// Appends the title, the style and the background.
 #[tactic(auto, unfolding(crate::specs::Svg::top))]
 fn push_top(
     out: &mut Vec<u8>,
@@ -229,7 +229,7 @@ fn push_top(
     push_page(out, high)
 }
 
-/// Adds what stands around the cells, before them.
+/// Appends what is drawn around the cells, before them.
 #[tactic(auto, unfolding(crate::specs::Svg::front))]
 pub(crate) fn push_front(
     out: &mut Vec<u8>,
@@ -243,7 +243,7 @@ pub(crate) fn push_front(
     push_row_heads(out, inspection.image().tracks())
 }
 
-/// Adds all that is in the picture.
+/// Appends the whole content of the picture.
 #[tactic(auto, unfolding(crate::specs::Svg::content))]
 fn push_content(
     out: &mut Vec<u8>,
@@ -260,9 +260,9 @@ fn push_content(
     push_legend(out, inspection)
 }
 
-/// Adds the map as a picture in SVG 1.1: a cell for each block, in the colour of its file, with a
-/// mark where something is wrong with it, and a title that says whose it is; a legend. No name
-/// makes markup in it.
+/// Appends the map as a picture in SVG 1.1: a cell for each block, in the colour of its file, with
+/// a mark if something is wrong with it, and a title with its owners; and a legend. No name makes
+/// markup in it.
 #[tactic(auto, unfolding(crate::specs::Svg::svg_of, crate::specs::Svg::picture, out_markup::specs::Markup::element, out_markup::specs::Markup::tag))]
 pub fn map_svg(name: &[u8], inspection: &Inspection, out: &mut Vec<u8>) -> Result<(), AllocError>
     ensures { OnOk result (out.new.items ≡ out.old.items ++ svg_of name.now inspection.now) }

@@ -9,17 +9,17 @@ use host_names::push_shown;
 use out_messages::{push_label, push_number, push_state};
 use std::alloc::AllocError;
 
-/// How many sectors a track has at most.
+/// The most sectors of a track.
 const SECTORS: u8 = 21;
 
 /// The numbers of the sectors, above the rows: tens, and then ones.
 const COLUMN_LINES: &[u8] = b"      0         1         2\n      012345678901234567890\n";
 
-/// What each character stands for.
+/// What each character means.
 const LEGEND_LINE: &[u8] =
     b"- free   # a file   = map or directory   ? marked used, belongs to no file   ! shared, or wrongly marked free   x read error\n";
 
-/// Adds the line of the file's name, the disk's, and its state.
+/// Appends the line with the file's name, the disk's name, and its state.
 #[tactic(auto, unfolding(crate::specs::MapText::head_line))]
 fn push_head(out: &mut Vec<u8>, name: &[u8], inspection: &Inspection) -> Result<(), AllocError>
     ensures { OnOk result (out.new.items ≡ out.old.items ++ head_line name.now inspection.now) }
@@ -32,7 +32,7 @@ fn push_head(out: &mut Vec<u8>, name: &[u8], inspection: &Inspection) -> Result<
     out.extend_from_slice(b"\n")
 }
 
-/// Adds a track's number, right-aligned to four characters.
+/// Appends a track's number, right-aligned to four characters.
 #[tactic(auto, unfolding(crate::specs::MapText::padded_number))]
 fn push_padded(out: &mut Vec<u8>, track: u8) -> Result<(), AllocError>
     ensures { OnOk result (out.new.items ≡ out.old.items ++ padded_number track) }
@@ -41,7 +41,7 @@ fn push_padded(out: &mut Vec<u8>, track: u8) -> Result<(), AllocError>
     push_number(out, usize::from(track))
 }
 
-/// Adds the characters of a track's blocks.
+/// Appends the characters of a track's blocks.
 fn push_row(out: &mut Vec<u8>, inspection: &Inspection, track: u8) -> Result<(), AllocError>
     requires { (1 ≤ track) × (track < 41) }
     ensures { OnOk result (out.new.items ≡ out.old.items ++ row inspection.now track) }
@@ -55,7 +55,7 @@ fn push_row(out: &mut Vec<u8>, inspection: &Inspection, track: u8) -> Result<(),
     Ok(())
 }
 
-/// Adds the line of a track.
+/// Appends the line of a track.
 #[tactic(auto, unfolding(crate::specs::MapText::track_line))]
 fn push_track(out: &mut Vec<u8>, inspection: &Inspection, track: u8) -> Result<(), AllocError>
     requires { (1 ≤ track) × (track < 41) }
@@ -67,7 +67,7 @@ fn push_track(out: &mut Vec<u8>, inspection: &Inspection, track: u8) -> Result<(
     out.extend_from_slice(b"\n")
 }
 
-/// Adds a line each track.
+/// Appends the lines of all tracks.
 fn push_tracks(out: &mut Vec<u8>, inspection: &Inspection) -> Result<(), AllocError>
     ensures { OnOk result (out.new.items ≡ out.old.items ++ track_lines inspection.now) }
 {
@@ -77,8 +77,8 @@ fn push_tracks(out: &mut Vec<u8>, inspection: &Inspection) -> Result<(), AllocEr
     Ok(())
 }
 
-/// Adds the map as text: a head line, the numbers of the sectors, a line a track with a character
-/// for each sector that it has, and what the characters stand for.
+/// Appends the map as text: a head line, the numbers of the sectors, a line for each track with a
+/// character for each of its sectors, and what the characters mean.
 #[tactic(auto, unfolding(crate::specs::MapText::map_text))]
 pub fn map_text(name: &[u8], inspection: &Inspection, out: &mut Vec<u8>) -> Result<(), AllocError>
     ensures { OnOk result (out.new.items ≡ out.old.items ++ map_text_of name.now inspection.now) }
