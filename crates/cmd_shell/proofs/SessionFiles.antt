@@ -39,7 +39,7 @@ fetches_none (Some all) name limit Device opened = tt
 fetches_none (Some all) name limit TooLong opened = absurd opened
 fetches_none (Some all) name limit (Memory error) opened = tt
 
--- a device may fail, and memory be wanting, whatever the files are
+-- whatever the files are, a device may fail and memory may run out
 pub fetches_failed : (files : Option Files) (name : List ℕ) (limit : ℕ) (fault : HostFault) → IsOfDeviceOrMemory fault → Fetches files name limit (Err fault)
 fetches_failed files name limit Missing failed = absurd failed
 fetches_failed files name limit TooLong failed = absurd failed

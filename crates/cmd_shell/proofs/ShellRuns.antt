@@ -22,7 +22,7 @@ use Rattle.script_run.specs.declared.runner.Outcome.{Outcome}
 use Rattle.script_run.specs.declared.runner.ShellFault.{ShellFault}
 use Rattle.script_run.specs.declared.runner.ShellFault.TheVariants.{Read, Write, Memory}
 
--- where `save` stores by default
+-- the file that `save` stores to by default
 pub home_is : (name : Option (Bor (List ℕ))) (empty : Bor (List ℕ)) → empty.now ≡ [] → (unwrap_or name empty).now ≡ home_of (option_copied name)
 home_is None empty e = e
 home_is (Some name) empty e = refl
@@ -110,12 +110,12 @@ RanShell-flushed old new ended beginning source from manner at host first last w
       (rw (at_manner, from_source) at ran) flushed;
 }
 
--- however a run ended, a flush that fails is told as a write fault
+-- however a run ended, a flush that fails is reported as a write fault
 pub told_of-write : (ended : Result Outcome ShellFault) → IsToldOf ended faults.Write
 told_of-write (Ok outcome) = refl
 told_of-write (Err fault) = inr refl
 
--- a fault is due where the one that it is told as is
+-- a fault is due if the one that it is reported as is due
 due_by : (told other : ProgramFault) (source : Source) (new : Outside) → told ≡ other → IsDue other source new → IsDue told source new
 due_by told other source new is due = subst (λ (f : ProgramFault). IsDue f source new) (sym is) due
 
@@ -144,13 +144,13 @@ no_session_due (Err fault) told source new is = due_by told _ source new is (fil
 no_session_due (Ok bytes) told source new (inl first) = due_by told _ source new first.2 (resume_due first.0 source new)
 no_session_due (Ok bytes) told source new (inr is) = due_by told _ source new is tt
 
--- and none of a session that cannot be begun
+-- no fault is due of a session that cannot be begun
 pub no_history_due : (told : ProgramFault) (old last : HostState) (beginning : Beginning) (source : Source) (new : Outside) → HasNoHistory told old beginning last → IsDue told source new
 no_history_due told old last (Blank tracks) source new none = due_by told _ source new none.0 tt
 no_history_due told old last (ImageFile name) source new none = no_image_due none.0 told source new none.2
 no_history_due told old last (SessionFile name) source new none = no_session_due none.0 told source new none.2
 
--- a fault of a run is due where the run's is
+-- a fault is due if the run's is due
 run_due : (fault : ShellFault) (source : Source) (new : Outside) → (fault ≡ Read → IsReadDue source new.reading) → (fault ≡ Write → new.output.has_failed ≡ true)
     → IsDue (fault_of_run fault) source new
 run_due Read source new reads writes = reads refl

@@ -3,25 +3,26 @@ use Rattle.std.specs.Prelude.{ℕ, if◌then◌else◌, List, [], ◌∷◌, ◌
 use Rattle.script_run.specs.declared.manners.Refusals.{Refusals}
 use Rattle.script_run.specs.declared.manners.Refusals.TheVariants.{GoOn, Stop}
 
--- what a script begins with: a blank image of so many tracks, the image of a host file, or the
+-- what a script begins with: a blank image of this many tracks, the image of a host file, or the
 -- session of one
 pub data Beginning : Type 0 where
   Blank : ℕ → Beginning
   ImageFile : List ℕ → Beginning
   SessionFile : List ℕ → Beginning
 
--- what the words ask the shell to begin with: of an image and a session file, the session file
+-- what the arguments ask the shell to begin with: if they name an image and a session file, the
+-- session
 abbrev pub beginning_of : Option (List ℕ) → ℕ → Option (List ℕ) → Beginning
 beginning_of image tracks (Some file) = SessionFile file
 beginning_of (Some name) tracks None = ImageFile name
 beginning_of None tracks None = Blank tracks
 
--- where `save` stores by default: in the image file, where there is one
+-- the file that `save` stores to by default: the image file, if there is one
 abbrev pub home_of : Option (List ℕ) → List ℕ
 home_of None = []
 home_of (Some name) = name
 
--- where a script comes from: the input, or the words of the program, which give its text
+-- where a script comes from: the input, or the text that the arguments give
 pub data Source : Type 0 where
   Input : Source
   Given : List ℕ → Source
@@ -30,16 +31,16 @@ pub data Source : Type 0 where
 abbrev pub text_of_lines : List (List ℕ) → List ℕ
 text_of_lines lines = flat_map (λ line. line ++ 10 ∷ []) lines
 
--- the script of these lines, or that of the input where there are none
+-- the script of these lines, or that of the input if there are no lines
 abbrev pub source_of : List (List ℕ) → Source
 source_of [] = Input
 source_of (line ∷ lines) = Given (text_of_lines (line ∷ lines))
 
--- the script of this text, or that of the input where there is none
+-- the script of this text, or that of the input if there is no text
 abbrev pub source_by : Option (List ℕ) → Source
 source_by None = Input
 source_by (Some text) = Given text
 
--- what a refused line does to its script
+-- what happens to a script when a line of it is refused
 abbrev pub refusals_of : Bool → Refusals
 refusals_of stops = if stops then Stop else GoOn

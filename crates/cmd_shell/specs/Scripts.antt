@@ -1,4 +1,4 @@
--- The script that the words ask for, as the code has it.
+-- The script that the arguments ask for, by the fields of `ShellJob`.
 use Rattle.std.specs.Prelude.{map, option_copied, string_bytes}
 use Rattle.script_run.specs.Transcript.{Manner}
 use Rattle.cmd_shell.specs.Beginnings.{Beginning, Source, beginning_of, home_of, source_of}

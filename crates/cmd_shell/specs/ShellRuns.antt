@@ -32,20 +32,20 @@ session_limit = 67108864
 unfoldable pub blank_image : ℕ → List (List ℕ)
 blank_image tracks = replicate (count_of_tracks tracks) (replicate BLOCK_BYTES 0)
 
--- the history that a script begins with, and what the host shows then
+-- the history that a script begins with, and the state of the host then
 abbrev pub IsFirstHistory : HostState → Beginning → History → HostState → Type 0
 IsFirstHistory old (Blank tracks) history new = (history ≡ new_history (blank_image tracks)) × (new ≡ old)
 IsFirstHistory old (ImageFile name) history new =
     (image : List (List ℕ)) × IsImage image × FetchesFile old name file_limit (Ok (bytes_of image)) new × (history ≡ new_history image)
 IsFirstHistory old (SessionFile name) history new = IsSession history × FetchesFile old name session_limit (Ok (file_of history)) new
 
--- a script has run that comes from the input, or from the words: then nothing of the input was
+-- a script has run that comes from the input, or from the arguments: then nothing of the input was
 -- read, and the text is all that there was to read
 abbrev pub RanFrom : Source → Manner → Option (List ℕ) → Option (List ℕ) → ScriptState → ScriptState → Result Outcome ShellFault → Type 0
 RanFrom Input manner reader left old new ended = Ran manner reader left old new ended
 RanFrom (Given text) manner reader left old new ended = (left ≡ reader) × Ran manner (Some text) (Some []) old new ended
 
--- the script has run from this beginning, and ended so
+-- the script has run from this beginning, and ended with this result
 pub record RanShell (beginning : Beginning) (source : Source) (manner : Manner) (old new : Outside) (ended : Result Outcome ShellFault) : Type 0 where
   pub first : History
   pub host : HostState
@@ -59,63 +59,64 @@ pub record RanShell (beginning : Beginning) (source : Source) (manner : Manner) 
 abbrev pub HasNotBegun : Outside → Outside → Type 0
 HasNotBegun old new = (new.reader ≡ old.reader) × Keeps old.output.contents new.output.contents
 
--- a script that ran to its end gives status 0 where all of its lines were accepted, and else 1
+-- the exit status of a script that ran to its end: 0 if all of its lines were accepted, and
+-- otherwise 1
 abbrev pub status_of : Outcome → ℕ
 status_of outcome = if outcome.refused == 0 then 0 else 1
 
--- why a host file that was fetched so gives no image: it was not fetched, or is of another length,
--- or there is no memory
+-- why a host file that was fetched with this result gives no image: the fetch failed, the length is
+-- wrong, or memory ran out
 abbrev pub GivesNoImage : Result (List ℕ) HostFault → ProgramFault → Type 0
 GivesNoImage (Err fault) told = told ≡ fault_of_file UnreadableImage fault
 GivesNoImage (Ok bytes) told = ((told ≡ WrongLength (length bytes)) × (is_image_length (length bytes) ≡ false)) ⊎ (told ≡ Memory)
 
--- why a host file that was fetched so gives no session: it was not fetched, or its bytes are no
--- session file, of which the first fault is told, or there is no memory
+-- why a host file that was fetched with this result gives no session: the fetch failed, its bytes
+-- are not a session, of which the first fault is reported, or memory ran out
 abbrev pub GivesNoSession : Result (List ℕ) HostFault → ProgramFault → Type 0
 GivesNoSession (Err fault) told = told ≡ fault_of_file UnreadableSession fault
 GivesNoSession (Ok bytes) told = ((fault : ResumeFault) × (first_fault bytes ≡ Some fault) × (told ≡ fault_of_resume fault)) ⊎ (told ≡ Memory)
 
--- why there is no session to begin with, and what the host shows then
+-- why there is no session to begin with, and the state of the host then
 abbrev pub HasNoHistory : ProgramFault → HostState → Beginning → HostState → Type 0
 HasNoHistory told old (Blank tracks) new = (told ≡ Memory) × (new ≡ old)
 HasNoHistory told old (ImageFile name) new = (fetched : Result (List ℕ) HostFault) × FetchesFile old name file_limit fetched new × GivesNoImage fetched told
 HasNoHistory told old (SessionFile name) new = (fetched : Result (List ℕ) HostFault) × FetchesFile old name session_limit fetched new × GivesNoSession fetched told
 
--- no line has run for want of a session
+-- no line has run, since there is no session
 abbrev pub HasNotBegunFor : ProgramFault → Beginning → Outside → Outside → Type 0
 HasNotBegunFor fault beginning old new = HasNoHistory fault old.host beginning new.host × HasNotBegun old new
 
--- no line has run, since there is no memory for the text that the words give
+-- no line has run, since memory ran out for the text that the arguments give
 abbrev pub HasNoText : ProgramFault → Source → Outside → Outside → Type 0
 HasNoText fault Input old new = ⊥
 HasNoText fault (Given text) old new = (fault ≡ Memory) × (new ≡ old)
 
--- why a run that ended so is told as this fault: it was stopped by it, or the output takes no more
--- bytes
+-- why a run that ended with this result is reported as this fault: the fault stopped it, or the
+-- output takes no more bytes
 abbrev pub IsToldOf : Result Outcome ShellFault → ProgramFault → Type 0
 IsToldOf (Ok outcome) told = told ≡ Write
 IsToldOf (Err fault) told = (told ≡ fault_of_run fault) ⊎ (told ≡ Write)
 
--- what a fault says of the run: no line has run for want of a text or of a session; or the script
--- has run to some end, and is told of by this fault
+-- what a reported fault says of the run: no line has run, since there is no text or no session; or
+-- the script has run until this fault
 abbrev pub StoppedBy : ProgramFault → Beginning → Source → Manner → Outside → Outside → Type 0
 StoppedBy fault beginning source manner old new =
     HasNoText fault source old new ⊎ (HasNotBegunFor fault beginning old new
     ⊎ ((ended : Result Outcome ShellFault) × RanShell beginning source manner old new ended × IsToldOf ended fault))
 
--- a fault of reading is due: the input cannot be read to its end, or the words give more than a
+-- a fault of reading is due: the input cannot be read to its end, or the arguments give more than a
 -- script may have
 abbrev pub IsReadDue : Source → Reading → Type 0
 IsReadDue Input reading = IsUnreadable reading
 IsReadDue (Given text) reading = script_limit < length text
 
--- a fault is due: of reading, as above; and of writing, where a write or a flush has failed
+-- a fault is due: of reading, as above; and of writing, if a write or a flush has failed
 abbrev pub IsDue : ProgramFault → Source → Outside → Type 0
 IsDue Read source new = IsReadDue source new.reading
 IsDue Write source new = new.output.has_failed ≡ true
 IsDue other source new = ⊤
 
--- how a shell ended: the script ran to its end, and no fault is told; or a fault stopped it
+-- how the shell ended: the script ran to its end, and no fault is reported; or a fault stopped it
 abbrev pub EndedShell : Beginning → Source → Manner → Outside → Outside → Account → Account → ℕ → Type 0
 EndedShell beginning source manner old new faults told status =
     ((outcome : Outcome) × RanShell beginning source manner old new (Ok outcome) × (status ≡ status_of outcome) × (told ≡ faults))

@@ -25,24 +25,24 @@ use std::io::{Read, Write};
 /// The most bytes of a session file that are read.
 const SESSION_BYTES: u32 = 67_108_864;
 
-/// What the words ask of the shell.
+/// What the arguments ask of the shell.
 #[derive(Clone, Copy, Debug)]
 pub struct ShellJob<'n> {
-    /// The image file on which the script runs, and where `save` stores by default.
+    /// The image file on which the script runs, and to which `save` stores by default.
     pub image: Option<&'n str>,
     /// The tracks of the blank image on which it runs without one.
     pub tracks: u8,
-    /// The session file on whose session it runs instead.
+    /// The session file whose session it continues instead.
     pub resume: Option<&'n str>,
-    /// The lines of the script; where there are none, it is the input.
+    /// The lines of the script; if there are none, the script is the input.
     pub lines: &'n [String],
     pub refusals: Refusals,
 }
 
 impl<'n> ShellJob<'n> {
-    /// Runs the script on its session, and then flushes the output. Where the words give the
-    /// script, nothing of the input is read. All this is the same with every listener, which is
-    /// told of the session's begin and end, too.
+    /// Runs the script on its session, and then flushes the output. If the arguments give the
+    /// script, nothing of the input is read. The run is the same with every listener, which follows
+    /// the session's begin and end, too.
     pub fn run<R: Read, W: Write, H: Host, L: Listener>(
         self,
         alloc: Global,
@@ -94,7 +94,7 @@ impl<'n> ShellJob<'n> {
 }
 
 impl<'n> ShellJob<'n> {
-    /// What a listener is told of it at the session's begin.
+    /// Returns what the listener gets at the session's begin.
     fn opening(&self) -> Opening<'n> {
         Opening {
             home: self.image.unwrap_or(""),
@@ -105,7 +105,7 @@ impl<'n> ShellJob<'n> {
     }
 }
 
-/// The text of the lines, each with a line feed after it, where there are some.
+/// Returns the text of the lines, each with a line feed after it, or None if there are no lines.
 fn given_text(alloc: Global, lines: &[String]) -> Result<Option<Vec<u8>>, AllocError>
     ensures text { IfOk result (λ text. source_by (option_map (λ bytes. bytes.items) text) ≡ source_of (map string_bytes lines.now)) }
     ensures none { IfErr result (λ _. source_of (map string_bytes lines.now) ≡ Given (text_of_lines (map string_bytes lines.now))) }
@@ -116,7 +116,7 @@ fn given_text(alloc: Global, lines: &[String]) -> Result<Option<Vec<u8>>, AllocE
     Ok(Some(text_of_lines(alloc, lines)?))
 }
 
-/// The text of the lines, each with a line feed after it.
+/// Returns the text of the lines, each with a line feed after it.
 fn text_of_lines(alloc: Global, lines: &[String]) -> Result<Vec<u8>, AllocError>
     ensures { IfOk result (λ text. text.items ≡ text_of_lines (map string_bytes lines.now)) }
 {
@@ -132,13 +132,13 @@ fn text_of_lines(alloc: Global, lines: &[String]) -> Result<Vec<u8>, AllocError>
 #[derive(Clone, Copy, Debug)]
 struct GivenScript<'n> {
     alloc: Global,
-    /// Its text; without one, it is the input.
+    /// Its text; without one, the script is the input.
     text: Option<&'n [u8]>,
     manner: Manner<'n>,
 }
 
 impl<'n> GivenScript<'n> {
-    /// Runs it on a session. Where it has a text, nothing of the input is read.
+    /// Runs the script on a session. If it has a text, nothing of the input is read.
     fn run<R: Read, W: Write, H: Host, L: Listener>(
         self,
         input: &mut InputStream<'_, R>,
@@ -172,8 +172,8 @@ impl<'n> GivenScript<'n> {
     }
 }
 
-/// The session that the script runs on: of a session file, of an image file, or of a blank image.
-/// The listener is told of a file that gives none.
+/// Returns the session that the script runs on: of a session file, of an image file, or of a blank
+/// image. The listener gets the file that gives none.
 fn first_session<H: Host, L: Listener>(
     alloc: Global,
     host: &mut H,
@@ -200,7 +200,7 @@ fn first_session<H: Host, L: Listener>(
     }
 }
 
-/// The session of a host file.
+/// Returns the session of a host file.
 fn session_of_file<H: Host, L: Listener>(
     alloc: Global,
     host: &mut H,
@@ -236,7 +236,7 @@ fn session_of_file<H: Host, L: Listener>(
     }
 }
 
-/// A blank image of so many tracks.
+/// Returns a blank image of this many tracks.
 fn blank_image(alloc: Global, tracks: u8) -> Result<Image, AllocError>
     ensures { IfOk result (λ image. image ≡ blank_image tracks) }
 {
@@ -247,7 +247,7 @@ fn blank_image(alloc: Global, tracks: u8) -> Result<Image, AllocError>
     }
 }
 
-/// The image of a host file.
+/// Returns the image of a host file.
 fn image_of_file<H: Host, L: Listener>(
     alloc: Global,
     host: &mut H,
@@ -273,7 +273,7 @@ fn image_of_file<H: Host, L: Listener>(
     }
 }
 
-/// The image of the bytes of the host file of this name.
+/// Returns the image of the bytes of the host file with this name.
 fn image_of_bytes<L: Listener>(
     alloc: Global,
     name: &str,
@@ -294,7 +294,7 @@ fn image_of_bytes<L: Listener>(
     }
 }
 
-/// What a refused line does.
+/// Returns what a refused line does.
 pub fn refusals_of(stops: bool) -> Refusals
     ensures { result ≡ refusals_of stops }
 {
@@ -305,7 +305,7 @@ pub fn refusals_of(stops: bool) -> Refusals
     }
 }
 
-/// The exit status of a script that ran to its end.
+/// Returns the exit status of a script that ran to its end.
 pub fn exit_status(outcome: Outcome) -> u8
     ensures { result ≡ status_of outcome }
 {

@@ -25,7 +25,7 @@ unfolding blank_image
 of_count tracks most r same made =
     IfOk-weaker r _ _ (λ image is. is ∙ ap (λ b. replicate (cond b 768 683) (replicate BLOCK_BYTES 0)) (sym same)) made
 
--- what the code asks
+-- the tests of the code
 asked : (tracks : ℕ) (count : Option ℕ) (told most : Bool) → count ≡ blocks_of tracks → told ≡ option_eq eqb count (Some 768) → told ≡ most → (tracks == 40) ≡ most
 asked tracks count told most is test answer =
     sym (has_most tracks) ∙ ap (λ (n : Option ℕ). option_eq eqb n (Some 768)) (sym is) ∙ sym test ∙ answer
