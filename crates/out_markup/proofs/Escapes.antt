@@ -1,4 +1,4 @@
--- Texts as they stand in elements, a byte at a time.
+-- Texts as they are written in elements, a byte at a time.
 use Rattle.std.proofs.Common.{◌≡◌, ℕ, ◌+◌, ◌-◌, ◌<◌, ◌≤◌, Bool, true, false, List, [], ◌∷◌, ◌++◌, length, drop, get_or, sym, ap, ◌∙◌, append_assoc, append-nil, arith}
 use Rattle.std.specs.Prelude.{map, nat_le, if◌then◌else◌, codes}
 use Rattle.std.specs.List.{range_with_len}
@@ -7,7 +7,7 @@ use Rattle.std.proofs.lemmas.List.FromFn.{map-range_with_len_more}
 use Rattle.std.proofs.lemmas.Bool.Decides.{nat_tests}
 use Rattle.out_markup.specs.Markup.{escaped_byte, escaped_within}
 
--- a byte that has room
+-- a byte that fits
 within-room : (room byte : ℕ) (text : List ℕ) → length (escaped_byte byte) ≤ room
     → escaped_within room (byte ∷ text) ≡ escaped_byte byte ++ escaped_within (room - length (escaped_byte byte)) text
 unfolding escaped_within
@@ -15,7 +15,7 @@ within-room room byte text fits =
     let e : nat_le (length (escaped_byte byte)) room ≡ true = grind (arith, nat_tests) in
     ap (λ (t : Bool). if t then escaped_byte byte ++ escaped_within (room - length (escaped_byte byte)) text else codes "..") e
 
--- a byte that has none
+-- a byte that does not fit
 within-full : (room byte : ℕ) (text : List ℕ) → room < length (escaped_byte byte) → escaped_within room (byte ∷ text) ≡ codes ".."
 unfolding escaped_within
 within-full room byte text full =
@@ -43,7 +43,7 @@ one_more before after whole text left next index d within fits less more so =
     ∙ sym (at_drop_more (escaped_within left) text index d within))
     ∙ so
 
--- no room for it
+-- it does not fit
 pub no_more : (before after whole text : List ℕ) (left index d : ℕ) → index < length text → left < length (escaped_byte (get_or text index d))
     → after ≡ before ++ codes ".." → before ++ escaped_within left (drop index text) ≡ whole → after ≡ whole
 no_more before after whole text left index d within full more so =

@@ -1,7 +1,7 @@
-//! Laws of what is drawn: empty functions, whose contracts are the laws.
+//! Laws of markup: empty functions, whose contracts are the laws.
 ghost use Rattle.out_markup.specs.Markup.{NoNameMakesMarkup, NoPartMakesMarkup};
 
-/// No name opens a tag or ends an attribute in a text or an attribute, and none makes an entity,
+/// No name opens a tag or ends an attribute in a text or an attribute, and no name makes an entity,
 /// whole or cut short.
 #[inline]
 pub fn no_name_makes_markup()

@@ -1,11 +1,11 @@
-//! Elements of XML, and texts as they stand in them.
+//! Elements of XML, and texts as they are written in them.
 ghost use Rattle.std.specs.Prelude.{◌≡◌, ◌<◌, ◌++◌, length, option_map, codes, OnOk};
 ghost use Rattle.out_markup.specs.Markup.{entity_in, entities, escaped_byte, escaped_text, escaped_within, shortened_text, held_byte, held_text, attribute, number_attribute, tag};
 
 use itoa::Buffer;
 use std::alloc::AllocError;
 
-/// The entity of a byte, where it has one.
+/// Returns the entity of a byte, if it has one.
 #[tactic(auto, unfolding(crate::specs::Markup::entities))]
 fn entity(byte: u8) -> Option<&'static [u8]>
     ensures { option_map (λ entity. entity.now) result ≡ entity_in entities byte }
@@ -20,7 +20,7 @@ fn entity(byte: u8) -> Option<&'static [u8]>
     }
 }
 
-/// Adds a byte of a text.
+/// Appends a byte of a text.
 #[tactic(auto, unfolding(crate::specs::Markup::escaped_byte))]
 fn push_escaped_byte(out: &mut Vec<u8>, byte: u8) -> Result<(), AllocError>
     ensures { OnOk result (out.new.items ≡ out.old.items ++ escaped_byte byte) }
@@ -31,7 +31,7 @@ fn push_escaped_byte(out: &mut Vec<u8>, byte: u8) -> Result<(), AllocError>
     }
 }
 
-/// How many bytes a byte of a text takes.
+/// Returns how many bytes a byte of a text takes.
 #[tactic(auto, unfolding(crate::specs::Markup::escaped_byte))]
 fn escaped_len(byte: u8) -> usize
     ensures { result ≡ length (escaped_byte byte) }
@@ -42,7 +42,7 @@ fn escaped_len(byte: u8) -> usize
     }
 }
 
-/// Adds a text, in which no byte makes markup.
+/// Appends a text, in which no byte makes markup.
 #[tactic(auto, unfolding(crate::specs::Markup::escaped_text))]
 pub fn push_escaped(out: &mut Vec<u8>, text: &[u8]) -> Result<(), AllocError>
     ensures { OnOk result (out.new.items ≡ out.old.items ++ escaped_text text.now) }
@@ -53,7 +53,7 @@ pub fn push_escaped(out: &mut Vec<u8>, text: &[u8]) -> Result<(), AllocError>
     Ok(())
 }
 
-/// Adds a text as far as it has room in so many bytes, and `..` where it has not. No entity is cut.
+/// Appends a text as far as it fits into `room` bytes, and `..` if it does not. No entity is cut.
 pub fn push_escaped_within(out: &mut Vec<u8>, room: usize, text: &[u8]) -> Result<(), AllocError>
     ensures { OnOk result (out.new.items ≡ out.old.items ++ escaped_within room text.now) }
 {
@@ -69,7 +69,7 @@ pub fn push_escaped_within(out: &mut Vec<u8>, room: usize, text: &[u8]) -> Resul
     Ok(())
 }
 
-/// Adds at most so many bytes of a text, and `..` where it has more.
+/// Appends at most `count` bytes of a text, and `..` if it has more.
 pub fn push_shortened(out: &mut Vec<u8>, count: usize, text: &[u8]) -> Result<(), AllocError>
     ensures { OnOk result (out.new.items ≡ out.old.items ++ shortened_text count text.now) }
 {
@@ -80,7 +80,8 @@ pub fn push_shortened(out: &mut Vec<u8>, count: usize, text: &[u8]) -> Result<()
     out.extend_from_slice(b"..")
 }
 
-/// The byte at a place of a text in which U+FFFD stands for U+FFFE and U+FFFF, which no XML holds.
+/// Returns the byte at a place of a text in which U+FFFD replaces U+FFFE and U+FFFF, which XML does
+/// not allow.
 fn held_byte(text: &[u8], place: usize) -> u8
     requires { place < length text.now }
     ensures { result ≡ held_byte text.now place }
@@ -91,7 +92,7 @@ fn held_byte(text: &[u8], place: usize) -> u8
     text[place]
 }
 
-/// Adds a text of UTF-8 in which U+FFFD stands for U+FFFE and U+FFFF.
+/// Appends a text of UTF-8 in which U+FFFD replaces U+FFFE and U+FFFF.
 #[tactic(auto, unfolding(crate::specs::Markup::held_text))]
 pub fn push_held(out: &mut Vec<u8>, text: &[u8]) -> Result<(), AllocError>
     ensures { OnOk result (out.new.items ≡ out.old.items ++ held_text text.now) }
@@ -102,7 +103,7 @@ pub fn push_held(out: &mut Vec<u8>, text: &[u8]) -> Result<(), AllocError>
     Ok(())
 }
 
-/// Adds an attribute.
+/// Appends an attribute.
 #[tactic(auto, unfolding(crate::specs::Markup::attribute))]
 pub fn push_attribute(out: &mut Vec<u8>, name: &[u8], value: &[u8]) -> Result<(), AllocError>
     ensures { OnOk result (out.new.items ≡ out.old.items ++ attribute name.now value.now) }
@@ -114,7 +115,7 @@ pub fn push_attribute(out: &mut Vec<u8>, name: &[u8], value: &[u8]) -> Result<()
     out.extend_from_slice(b"\"")
 }
 
-/// Adds an attribute whose value is a number.
+/// Appends an attribute whose value is a number.
 #[tactic(auto, unfolding(crate::specs::Markup::attribute))]
 pub fn push_number_attribute(
     out: &mut Vec<u8>,
