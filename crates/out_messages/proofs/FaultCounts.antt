@@ -54,7 +54,7 @@ first-more f n list x = by_test (nat_lt (length list) n) refl
         let long : n ≤ length list = ltb-false (length list) n is in
         ap (flat_map f) (take-append-le n list (x ∷ []) long) ∙ sym (append-nil (flat_map f (take n list)))
 
--- the lines of the first faults of a number, among so many of a list
+-- the lines of the first faults with a number, if this many of a list are counted
 abbrev pub lines_within : Disk → List Fault → ℕ → ℕ → List ℕ
 lines_within image list i condition = flat_map (fault_line image) (take most_lines (faults_of (take i list) condition))
 

@@ -11,7 +11,7 @@ use Rattle.d64_survey.specs.Owners.{way_slots}
 use Rattle.d64_survey.specs.declared.flaw.Flaw.{Flaw}
 use Rattle.out_messages.specs.FileText.{comma, flaw_text, flaws_from, file_line, file_lines}
 
--- one reason more is told
+-- one more reason is written
 pub flaw_more : (shown there place : ℕ) (before between after whole : List ℕ) (flaws : List Flaw) (i : ℕ) (d : Flaw)
     → place ≡ i → i < length flaws → between ≡ before ++ comma place → after ≡ between ++ flaw_text shown there (get_or flaws i d)
     → before ++ flaws_from shown there i (drop i flaws) ≡ whole → after ++ flaws_from shown there (i + 1) (drop (i + 1) flaws) ≡ whole
@@ -30,7 +30,7 @@ flaw_more shown there place before between after whole flaws i d here within apa
     ∙ ap (λ (text : List ℕ). before ++ text) (sym step)
     ∙ so
 
--- all reasons are told
+-- all reasons are written
 pub flaws_end : (shown there : ℕ) (before whole : List ℕ) (flaws : List Flaw) (i : ℕ) → length flaws ≤ i
     → before ++ flaws_from shown there i (drop i flaws) ≡ whole → before ≡ whole
 unfolding flaws_from

@@ -19,7 +19,7 @@ end_cons : (byte : ℕ) (rest : List ℕ) → begins_character byte ≡ true →
 unfolding first_characters
 end_cons byte rest begins = ap (λ t. cond t [] (byte ∷ first_characters 0 rest)) begins
 
--- nothing is left
+-- no text is left
 pub none_left : (count : ℕ) (rest : List ℕ) → length rest ≡ 0 → first_characters count rest ≡ []
 unfolding first_characters
 none_left count [] none = refl

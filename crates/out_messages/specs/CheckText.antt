@@ -1,5 +1,5 @@
--- What is told of an image for people: its line, and below it a line each fault, read error and
--- file that isn't whole. Of many faults of one number the first have a line each.
+-- What is printed of an image for people: its line, and below it a line for each fault, read error
+-- and file that is not whole. Of many faults with the same number only the first have a line each.
 use Rattle.std.specs.Prelude.{ℕ, ◌-◌, ◌==◌, ◌&&◌, nat_lt, if◌then◌else◌, Bool, List, [], ◌++◌, filter, length, take, codes, decimal}
 use Rattle.std.specs.List.{flat_map, list_any, range_with_len}
 use Rattle.d64_image.specs.Disk.{Disk}
@@ -26,7 +26,7 @@ use Rattle.out_messages.specs.FileText.{file_lines}
 unfoldable pub label_text : Disk → List ℕ
 label_text image = quoted_name (disk_name image) ++ (codes " " ++ spelling (disk_id image))
 
--- what is on it
+-- what is on the disk
 unfoldable pub contents_text : Disk → List ℕ
 contents_text image = count_of (entry_count image) (codes "file") ++ (codes ", " ++ (count_of (blocks_free image) (codes "block") ++ codes " free"))
 
@@ -34,11 +34,11 @@ contents_text image = count_of (entry_count image) (codes "file") ++ (codes ", "
 abbrev pub faults_text : ℕ → List ℕ
 faults_text count = if count == 0 then codes "sound" else count_of count (codes "fault")
 
--- what comes before what else is amiss: right behind `sound` it is a contrast
+-- what joins the next item to the line: after `sound` it is a contrast
 abbrev pub joining : Bool → List ℕ
 joining is_contrast = if is_contrast then codes ", but " else codes ", "
 
--- how many more things are amiss, where there are some
+-- how many more things are wrong, if there are some
 unfoldable pub and_so_many : Bool → ℕ → List ℕ → List ℕ
 and_so_many is_contrast count noun = if count == 0 then [] else joining is_contrast ++ count_of count noun
 
@@ -67,7 +67,7 @@ image_line name dump =
 abbrev pub fault_line : Disk → Fault → List ℕ
 fault_line image fault = line_below (fault_text image fault)
 
--- how many faults of one number have a line each
+-- how many faults with the same number have a line each
 abbrev pub most_lines : ℕ
 most_lines = 10
 
@@ -75,15 +75,15 @@ most_lines = 10
 unfoldable pub more_text : ℕ → List ℕ
 more_text count = codes "and " ++ (decimal count ++ codes " more of these")
 
--- a line of how many more there are than have one each, where there are more
+-- the line for the faults beyond the first, if there are some
 unfoldable pub more_line : ℕ → List ℕ
 more_line count = if nat_lt most_lines count then line_below (more_text (count - most_lines)) else []
 
--- a line each of the first faults of a list, and one of the others
+-- a line for each of the first faults of a list, and one for the others
 abbrev pub first_lines : Disk → List Fault → List ℕ
 first_lines image list = flat_map (fault_line image) (take most_lines list) ++ more_line (length list)
 
--- those of the faults that have this number
+-- the faults with this number
 abbrev pub faults_of : List Fault → ℕ → List Fault
 faults_of list condition = filter (λ fault. number fault == condition) list
 
@@ -91,15 +91,15 @@ faults_of list condition = filter (λ fault. number fault == condition) list
 unfoldable pub fault_lines : Disk → List Fault → List ℕ
 fault_lines image list = flat_map (λ condition. first_lines image (faults_of list condition)) (range_with_len 1 6)
 
--- a line each read error
+-- a line for each read error
 unfoldable pub read_error_lines : Disk → List ReadError → List ℕ
 read_error_lines image list = flat_map (λ error. line_below (read_error_text image error)) list
 
--- a line of so many, where there are some
+-- the line for this many blocks that nothing owns, if there are some
 unfoldable pub unowned_by : ℕ → List ℕ
 unowned_by count = if count == 0 then [] else line_below (unowned_text count)
 
--- a line of them, where something is amiss and they are no doubt, which the image's line says
+-- this line, if something is wrong and these blocks are not a doubt, which the image's line names
 unfoldable pub unowned_line : DumpView → List ℕ
 unowned_line dump =
     if is_amiss dump then (if list_any is_of_unowned (doubts dump.image) then [] else unowned_by (unowned_count dump.image)) else []

@@ -9,15 +9,16 @@ use Rattle.d64_survey.specs.declared.doubt.Doubt.{Doubt}
 use Rattle.d64_survey.specs.declared.doubt.Doubt.TheVariants.{Version, Blank, Unowned, Filler}
 use Rattle.out_messages.specs.Words.{count_of}
 
--- what is said of so many blocks that are marked used and that nothing owns
+-- the text for this many blocks that are marked used and that nothing owns
 abbrev pub unowned_words : ℕ → List ℕ
 unowned_words count = if count == 1 then codes " is marked used and belongs to no file" else codes " are marked used and belong to no file"
 
--- how many blocks these are
+-- the number of these blocks, with that text
 unfoldable pub unowned_text : ℕ → List ℕ
 unowned_text count = count_of count (codes "block") ++ unowned_words count
 
--- which of the blocks is blank, if one is: that of the map, or the directory's first one
+-- which of the first blocks of map and directory are blank; the flags say that the map's is, and
+-- the directory's
 abbrev pub blank_text : Bool → Bool → List ℕ
 blank_text map directory =
     if map then (if directory then codes "the blocks 18/0 and 18/1, of map and directory, are blank" else codes "the map's block is blank")
@@ -34,11 +35,11 @@ doubt_text image Filler = codes "a block is filled with -=[BAD SECTOR]=-, which 
 unfoldable pub next_doubt : Disk → Doubt → List ℕ
 next_doubt image doubt = codes ", " ++ doubt_text image doubt
 
--- what is before the first doubt of an image: a contrast right behind `sound`
+-- what comes before the first doubt of an image: after `sound` it is a contrast
 abbrev pub doubtful_words : Bool → List ℕ
 doubtful_words clean = if clean then codes ", but doubtful: " else codes ", and doubtful: "
 
--- the doubts of an image, which is clean if nothing else is amiss
+-- the doubts of an image, which is clean if nothing else is wrong
 unfoldable pub doubts_text : Disk → Bool → List Doubt → List ℕ
 doubts_text image clean [] = []
 doubts_text image clean (doubt ∷ doubts) = doubtful_words clean ++ (doubt_text image doubt ++ flat_map (next_doubt image) doubts)

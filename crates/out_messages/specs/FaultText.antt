@@ -16,17 +16,17 @@ use Rattle.d64_survey.specs.declared.owner.Part.TheVariants.{Data, Side}
 use Rattle.out_messages.specs.Words.{count_of, pair_text, block_text}
 use Rattle.out_messages.specs.OwnerText.{file_part, block_owners}
 
--- from the last block of a chain, or where there is none from what names its first block
+-- the last block of a chain, or what names its first block if the chain has none
 unfoldable pub last_text : LastBlock → List ℕ
 last_text Missing = codes "its first block"
 last_text (Block block) = block_text block
 
--- the words for a part of a file are a plural where they begin with the side sectors
+-- the name for a part of a file is a plural if it begins with the side sectors
 abbrev pub are_many : Part → Bool
 are_many Data = false
 are_many Side = true
 
--- the verbs of what is told of a chain, or of chains
+-- the verb for a chain, or for chains
 abbrev pub breaks_text : Bool → List ℕ
 breaks_text many = if many then codes " break off: " else codes " breaks off: "
 
@@ -44,7 +44,7 @@ off_text many at pair = breaks_text many ++ (last_text at ++ (codes " leads to "
 unfoldable pub loop_text : Bool → LastBlock → ℕ × ℕ → List ℕ
 loop_text many at pair = loops_text many ++ (last_text at ++ (codes " leads back to " ++ pair_text pair))
 
--- how a chain ends that isn't whole; one that is whole is no fault
+-- how a chain ends that is not whole; a whole chain is no fault
 abbrev pub end_text : Bool → LastBlock → WayEnd → List ℕ
 end_text many at End = ends_text many
 end_text many at (Off track sector) = off_text many at (track, sector)
@@ -59,7 +59,7 @@ count_text track count marked =
 unfoldable pub kind_text : Disk → ℕ → ℕ → List ℕ
 kind_text image slot type = file_part image slot Data ++ (codes " has the type byte " ++ (decimal type ++ codes ", which is no kind of file"))
 
--- a block, words, and the owners of the block
+-- a block, this text, and the owners of the block
 abbrev pub owned_text : Disk → ℕ → List ℕ → List ℕ
 owned_text image block words = block_text block ++ (words ++ block_owners image block)
 
@@ -72,11 +72,11 @@ fault_text image (BrokenFile slot part at end) = file_part image slot part ++ en
 fault_text image (Shared block) = owned_text image block (codes " is shared by ")
 fault_text image (MarkedFree block) = owned_text image block (codes " is marked free, but belongs to ")
 
--- the drive's status of a read code, where it has one
+-- the drive's status for a read code, if it has one
 unfoldable pub status_text : Option ℕ → List ℕ
 status_text status = option_map_or (λ number. codes ", drive error " ++ decimal number) status []
 
--- to whom a block belongs, if to anyone
+-- the owners of a block, if it has some
 unfoldable pub belonging_text : Disk → ℕ → List ℕ
 belonging_text image block =
     if length (owners_of image block) == 0 then codes ", belongs to no file" else codes ", belongs to " ++ block_owners image block

@@ -22,16 +22,15 @@ kind_letters Prg = codes "prg"
 kind_letters Usr = codes "usr"
 kind_letters Rel = codes "rel"
 
--- those of a slot's file
+-- the letters of a slot's file
 abbrev pub letters_of : Bytes → List ℕ
 letters_of cell = if has_kind cell then kind_letters (kind_of cell) else codes "???"
 
--- the size that the directory shows, and how many blocks there are
+-- the size that the directory has, and how many blocks there are
 unfoldable pub size_text : ℕ → ℕ → List ℕ
 size_text shown there = codes "the directory says " ++ (count_of shown (codes "block") ++ (codes ", " ++ (decimal there ++ (if there == 1 then codes " is there" else codes " are there"))))
 
--- a reason why a file isn't whole, of which the directory shows a size, and so many blocks are
--- there
+-- a reason why a file is not whole; the directory has this size, and this many blocks are there
 unfoldable pub flaw_text : ℕ → ℕ → Flaw → List ℕ
 flaw_text shown there Unclosed = codes "never closed"
 flaw_text shown there Kindless = codes "of no kind"
@@ -41,7 +40,7 @@ flaw_text shown there Unreadable = codes "has a read error"
 flaw_text shown there Missized = size_text shown there
 flaw_text shown there Geos = codes "a GEOS file, whose records are not checked"
 
--- what stands before the reason at a place
+-- what comes before the reason at a place
 abbrev pub comma : ℕ → List ℕ
 comma place = if place == 0 then [] else codes ", "
 
@@ -54,14 +53,14 @@ flaws_from shown there place (flaw ∷ flaws) = comma place ++ (flaw_text shown 
 abbrev pub flaws_text : ℕ → ℕ → List Flaw → List ℕ
 flaws_text shown there flaws = flaws_from shown there 0 flaws
 
--- a file that isn't whole, for these reasons
+-- a file that is not whole, for these reasons
 unfoldable pub file_text : Disk → Bytes → List Flaw → List ℕ
 file_text image cell flaws = quoted_name (name_of cell) ++ (codes " " ++ (letters_of cell ++ (codes ": " ++ flaws_text (size_of cell) (length (slot_blocks image cell)) flaws)))
 
--- the line of a slot, where its file isn't whole
+-- the line of a slot, if its file is not whole
 unfoldable pub file_line : DumpView → Bytes → List ℕ
 file_line dump cell = if is_unwhole_file dump cell then line_below (file_text dump.image cell (why dump.image dump.codes cell)) else []
 
--- a line each file that isn't whole
+-- a line for each file that is not whole
 unfoldable pub file_lines : DumpView → List Bytes → List ℕ
 file_lines dump cells = flat_map (file_line dump) cells

@@ -5,8 +5,8 @@ use Rattle.std.specs.Option.{option_map_or}
 use Rattle.out_messages.specs.declared.guess.Guess.{Guess}
 use Rattle.out_messages.specs.declared.guess.Guess.TheVariants.{Empty, Tracks36, Tracks37, Tracks38, Tracks39, Tracks41, Tracks42, Disk1571, Disk1581, D67, D80, D82, G64, Nib, T64, P00, Zip, Gzip, Cut35, Cut40}
 
--- files that are known by their length: images of other sizes, each without read codes and with one
--- a block. A track beyond the 35th has 17 blocks
+-- files that are known by their length: images of other sizes, each without read codes and with a
+-- code for each block. A track beyond the 35th has 17 blocks
 unfoldable pub lengths : List (ℕ × Guess)
 lengths =
     (0, Empty)
@@ -21,8 +21,8 @@ lengths =
     ∷ (176640, D67) ∷ (533248, D80) ∷ (1066496, D82)
     ∷ []
 
--- files that are known by the bytes that they begin with; a P00 file before a T64 archive, with
--- whose letters it begins
+-- files that are known by their first bytes; a P00 file comes before a T64 archive, since it begins
+-- with the letters of one
 unfoldable pub first_bytes : List (List ℕ × Guess)
 first_bytes =
     (codes "GCR-1541", G64)
@@ -38,32 +38,31 @@ abbrev pub guess_in : List (ℕ × Guess) → ℕ → Option Guess
 guess_in [] len = None
 guess_in (row ∷ rows) len = if len == row.0 then Some row.1 else guess_in rows len
 
--- what a file of this length seems to be, by that alone
+-- what a file with this length seems to be, by that alone
 abbrev pub guess_by_length : ℕ → Option Guess
 guess_by_length len = guess_in lengths len
 
--- the guess in the first row with which the bytes begin
+-- the guess in the first row whose bytes these begin with
 abbrev pub guess_from : List (List ℕ × Guess) → List ℕ → Option Guess
 guess_from [] bytes = None
 guess_from (row ∷ rows) bytes = if starts_with nat_eq bytes row.0 then Some row.1 else guess_from rows bytes
 
--- what a file seems to be, by the bytes that it begins with
+-- what a file seems to be, by its first bytes
 abbrev pub guess_by_first_bytes : List ℕ → Option Guess
 guess_by_first_bytes bytes = guess_from first_bytes bytes
 
--- the image of which a file of this length seems to be the beginning: of 35 tracks where it reaches
--- beyond the directory's first block, and of 40 where it reaches beyond track 36
+-- the image whose beginning a file with this length seems to be: of 35 tracks if it reaches beyond
+-- the directory's first block, and of 40 if it reaches beyond track 36
 abbrev pub cut_short : ℕ → Option Guess
 cut_short len =
     if nat_le 91904 len && nat_lt len 174848 then Some Cut35
     else (if nat_lt 179900 len && nat_lt len 196608 then Some Cut40 else None)
 
--- the first guess, or else the second
+-- the first guess, or the second if there is none
 abbrev pub or_else : Option Guess → Option Guess → Option Guess
 or_else first second = option_map_or (λ guess. Some guess) first second
 
--- what a file seems to be: by its length, by the bytes that it begins with, or as the beginning of
--- an image
+-- what a file seems to be: by its length, by its first bytes, or as the beginning of an image
 abbrev pub guess_of : List ℕ → Option Guess
 guess_of bytes = or_else (guess_by_length (length bytes)) (or_else (guess_by_first_bytes bytes) (cut_short (length bytes)))
 

@@ -9,7 +9,7 @@ use Rattle.d64_survey.specs.declared.owner.Owner.TheVariants.{Map, Directory, Fi
 use Rattle.d64_names.specs.Names.{slot_name}
 use Rattle.out_messages.specs.Names.{quoted_name}
 
--- what stands before the name of a file, of which this part is meant
+-- what comes before the name of a file to name this part of it
 abbrev pub part_text : Part → List ℕ
 part_text Data = []
 part_text Side = codes "the side sectors of "
@@ -24,20 +24,20 @@ owner_text image Map = codes "the map"
 owner_text image Directory = codes "the directory"
 owner_text image (File slot part) = file_part image slot part
 
--- what stands before the one at a place in a list of so many
+-- what comes before the item at a place in a list of this length
 abbrev pub separator : ℕ → ℕ → List ℕ
 separator count place = if place == 0 then [] else (if place + 1 == count then codes " and " else codes ", ")
 
--- owners from a place on, in a list of so many
+-- owners from a place on, in a list of this length
 unfoldable pub owners_from : Disk → ℕ → ℕ → List Owner → List ℕ
 owners_from image count place [] = []
 owners_from image count place (owner ∷ owners) = separator count place ++ (owner_text image owner ++ owners_from image count (suc place) owners)
 
--- how many there are beside the eight that are named, where there are more
+-- how many owners there are beside the eight that are named, if there are more
 abbrev pub more_text : ℕ → List ℕ
 more_text count = if nat_lt 8 count then codes " and " ++ (decimal (count - 8) ++ codes " more") else []
 
--- owners, of whom at most eight are named
+-- owners, of which at most eight are named
 abbrev pub owner_list : Disk → List Owner → List ℕ
 owner_list image owners = owners_from image (length owners) 0 (take 8 owners) ++ more_text (length owners)
 

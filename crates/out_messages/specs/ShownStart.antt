@@ -7,7 +7,7 @@ use Rattle.host_names.specs.Shown.{shown_name}
 abbrev pub begins_character : ℕ → Bool
 begins_character byte = not (is_in_range 0x80 0xBF byte)
 
--- so many characters of a text, from its first on
+-- the first characters of a text, up to this count
 unfoldable pub first_characters : ℕ → List ℕ → List ℕ
 first_characters count [] = []
 first_characters count (byte ∷ rest) =

@@ -2,11 +2,11 @@
 use Rattle.std.specs.Prelude.{ℕ, ◌==◌, if◌then◌else◌, List, [], ◌++◌, codes, decimal}
 use Rattle.d64_image.specs.Block.{pair_at}
 
--- what a noun ends in, of which there are so many
+-- the ending of a noun after this number
 abbrev pub plural_of : ℕ → List ℕ
 plural_of count = if count == 1 then [] else codes "s"
 
--- so many of what a noun names: `1 file`, `2 files`
+-- a number and a noun: `1 file`, `2 files`
 unfoldable pub count_of : ℕ → List ℕ → List ℕ
 count_of count noun = decimal count ++ (codes " " ++ (noun ++ plural_of count))
 
@@ -18,6 +18,6 @@ pair_text pair = decimal pair.0 ++ (codes "/" ++ decimal pair.1)
 abbrev pub block_text : ℕ → List ℕ
 block_text block = pair_text (pair_at block)
 
--- a line of what is amiss, below the image's line
+-- a line about what is wrong, below the image's line
 unfoldable pub line_below : List ℕ → List ℕ
 line_below text = codes "  " ++ (text ++ codes "\n")

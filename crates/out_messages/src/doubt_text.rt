@@ -11,7 +11,7 @@ use d64_map::map_block;
 use d64_survey::{Doubt, Inspection, directory_block, is_blank};
 use std::alloc::AllocError;
 
-/// What is said of so many blocks that nothing owns.
+/// Returns the text for `count` blocks that nothing owns.
 fn unowned_words(count: usize) -> &'static [u8]
     ensures { result.now ≡ unowned_words_of count }
 {
@@ -22,7 +22,7 @@ fn unowned_words(count: usize) -> &'static [u8]
     }
 }
 
-/// Adds how many blocks are marked used and belong to no file.
+/// Appends how many blocks are marked used and belong to no file.
 #[tactic(auto, unfolding(crate::specs::DoubtText::unowned_text))]
 pub(crate) fn push_unowned_text(out: &mut Vec<u8>, count: usize) -> Result<(), AllocError>
     ensures { OnOk result (out.new.items ≡ out.old.items ++ unowned_text count) }
@@ -31,7 +31,7 @@ pub(crate) fn push_unowned_text(out: &mut Vec<u8>, count: usize) -> Result<(), A
     out.extend_from_slice(unowned_words(count))
 }
 
-/// Which of the blocks of map and directory are blank, of which one is.
+/// Returns which of the first blocks of map and directory is blank; one of them is.
 fn blank_text(image: &Image) -> &'static [u8]
     ensures { result.now ≡ blank_text_of (is_blank_in image.now map_block_of) (is_blank_in image.now directory_block_of) }
 {
@@ -46,7 +46,7 @@ fn blank_text(image: &Image) -> &'static [u8]
     }
 }
 
-/// Adds a doubt in words.
+/// Appends a doubt in words.
 #[tactic(auto, unfolding(crate::specs::DoubtText::doubt_text))]
 fn push_doubt(out: &mut Vec<u8>, all: &Inspection, doubt: Doubt) -> Result<(), AllocError>
     ensures { OnOk result (out.new.items ≡ out.old.items ++ doubt_text all.now.image doubt) }
@@ -63,7 +63,7 @@ fn push_doubt(out: &mut Vec<u8>, all: &Inspection, doubt: Doubt) -> Result<(), A
     }
 }
 
-/// Adds a doubt that is not the first.
+/// Appends a doubt that is not the first.
 #[tactic(auto, unfolding(crate::specs::DoubtText::next_doubt))]
 fn push_next(out: &mut Vec<u8>, all: &Inspection, doubt: Doubt) -> Result<(), AllocError>
     ensures { OnOk result (out.new.items ≡ out.old.items ++ next_doubt all.now.image doubt) }
@@ -72,7 +72,7 @@ fn push_next(out: &mut Vec<u8>, all: &Inspection, doubt: Doubt) -> Result<(), Al
     push_doubt(out, all, doubt)
 }
 
-/// Adds the doubts that are not the first.
+/// Appends the doubts that are not the first.
 fn push_rest(out: &mut Vec<u8>, all: &Inspection, doubts: &[Doubt]) -> Result<(), AllocError>
     ensures { OnOk result (out.new.items ≡ out.old.items ++ flat_map (next_doubt all.now.image) doubts.now) }
 {
@@ -82,7 +82,7 @@ fn push_rest(out: &mut Vec<u8>, all: &Inspection, doubts: &[Doubt]) -> Result<()
     Ok(())
 }
 
-/// What is before the first doubt.
+/// Returns what comes before the first doubt.
 fn doubtful_words(is_clean: bool) -> &'static [u8]
     ensures { result.now ≡ doubtful_words_of is_clean }
 {
@@ -93,7 +93,8 @@ fn doubtful_words(is_clean: bool) -> &'static [u8]
     }
 }
 
-/// Adds these doubts of an image, if there are some. It is clean if nothing else is amiss.
+/// Appends these doubts of an image, if there are some. The image is clean if nothing else is
+/// wrong.
 #[tactic(auto, unfolding(crate::specs::DoubtText::doubts_text))]
 fn push_list(
     out: &mut Vec<u8>,
@@ -113,7 +114,7 @@ fn push_list(
     }
 }
 
-/// Adds what makes an image doubtful, if anything does.
+/// Appends what makes an image doubtful, if anything does.
 pub(crate) fn push_doubts(
     out: &mut Vec<u8>,
     all: &Inspection,
@@ -134,7 +135,7 @@ fn is_of_unowned(doubt: Doubt) -> bool
     }
 }
 
-/// Whether one of doubts is that blocks belong to no file.
+/// Whether one of the doubts is that blocks belong to no file.
 pub(crate) fn any_of_unowned(doubts: &[Doubt]) -> bool
     ensures { result ≡ list_any is_of_unowned_in doubts.now }
 {

@@ -1,5 +1,5 @@
 //! The lines on standard error of files that cannot be read, have a wrong length or cannot be
-//! written, and what the catalogue says of a file that is no dump.
+//! written, and what the catalogue prints of a file that is not a dump.
 ghost use Rattle.std.specs.Prelude.{◌≡◌, ◌++◌, [], codes, OnOk};
 ghost use Rattle.std.specs.Option.{option_map_or};
 ghost use Rattle.host_names.specs.Shown.{shown_name};
@@ -13,7 +13,7 @@ use d64_g64::begins_as_g64;
 use host_names::push_shown;
 use std::alloc::AllocError;
 
-/// Adds what a line of the program about a file begins with.
+/// Appends what the program's lines about a file begin with.
 fn push_start(out: &mut Vec<u8>, name: &[u8]) -> Result<(), AllocError>
     ensures { OnOk result (out.new.items ≡ out.old.items ++ (codes "d64sh: " ++ (shown_name name.now ++ codes ": "))) }
 {
@@ -22,7 +22,7 @@ fn push_start(out: &mut Vec<u8>, name: &[u8]) -> Result<(), AllocError>
     out.extend_from_slice(b": ")
 }
 
-/// Adds a line of the program about a file.
+/// Appends a line about a file.
 #[tactic(auto, unfolding(crate::specs::FaultLines::line_about))]
 fn push_line(out: &mut Vec<u8>, name: &[u8], text: &[u8]) -> Result<(), AllocError>
     ensures { OnOk result (out.new.items ≡ out.old.items ++ line_about name.now text.now) }
@@ -32,42 +32,42 @@ fn push_line(out: &mut Vec<u8>, name: &[u8], text: &[u8]) -> Result<(), AllocErr
     out.extend_from_slice(b"\n")
 }
 
-/// Adds the line of a file that cannot be read.
+/// Appends the line of a file that cannot be read.
 pub fn unread_line(out: &mut Vec<u8>, name: &[u8]) -> Result<(), AllocError>
     ensures { OnOk result (out.new.items ≡ out.old.items ++ unread_line name.now) }
 {
     push_line(out, name, b"cannot be read")
 }
 
-/// Adds the line of a file that cannot be written.
+/// Appends the line of a file that cannot be written.
 pub fn unwritten_line(out: &mut Vec<u8>, name: &[u8]) -> Result<(), AllocError>
     ensures { OnOk result (out.new.items ≡ out.old.items ++ unwritten_line name.now) }
 {
     push_line(out, name, b"cannot be written")
 }
 
-/// Adds the line of a file or folder that is there before anything is written.
+/// Appends the line of a file or folder that exists before anything is written.
 pub fn present_line(out: &mut Vec<u8>, name: &[u8]) -> Result<(), AllocError>
     ensures { OnOk result (out.new.items ≡ out.old.items ++ present_line name.now) }
 {
     push_line(out, name, b"is there already")
 }
 
-/// Adds the line of a folder that is passed over since it is there.
+/// Appends the line of a folder that is skipped since it exists.
 pub fn skipped_line(out: &mut Vec<u8>, name: &[u8]) -> Result<(), AllocError>
     ensures { OnOk result (out.new.items ≡ out.old.items ++ skipped_line name.now) }
 {
     push_line(out, name, b"skipped")
 }
 
-/// Adds the line of an image of which not all files are written, since they have too many bytes.
+/// Appends the line of an image whose files have too many bytes to write all of them.
 pub fn too_much_line(out: &mut Vec<u8>, name: &[u8]) -> Result<(), AllocError>
     ensures { OnOk result (out.new.items ≡ out.old.items ++ too_much_line name.now) }
 {
     push_line(out, name, b"too much")
 }
 
-/// Adds what a file seems to be, in brackets, where that is known.
+/// Appends what a file seems to be, in brackets, if that is known.
 fn push_brackets(out: &mut Vec<u8>, bytes: &[u8]) -> Result<(), AllocError>
     ensures { OnOk result (out.new.items ≡ out.old.items ++ option_map_or in_brackets (guess_by_all bytes.now) []) }
 {
@@ -81,7 +81,7 @@ fn push_brackets(out: &mut Vec<u8>, bytes: &[u8]) -> Result<(), AllocError>
     }
 }
 
-/// Adds what a file that is no dump seems to be, where that is known.
+/// Appends what a file that is not a dump seems to be, if that is known.
 fn push_seeming(out: &mut Vec<u8>, bytes: &[u8]) -> Result<(), AllocError>
     ensures { OnOk result (out.new.items ≡ out.old.items ++ seeming_text bytes.now) }
 {
@@ -94,8 +94,8 @@ fn push_seeming(out: &mut Vec<u8>, bytes: &[u8]) -> Result<(), AllocError>
     }
 }
 
-/// Adds what people are shown of a file that is no dump: what it seems to be, and how many bytes it
-/// has.
+/// Appends what people are shown of a file that is not a dump: what it seems to be, and how many
+/// bytes it has.
 pub fn push_no_dump(out: &mut Vec<u8>, bytes: &[u8]) -> Result<(), AllocError>
     ensures { OnOk result (out.new.items ≡ out.old.items ++ no_dump_text bytes.now) }
 {
@@ -105,7 +105,7 @@ pub fn push_no_dump(out: &mut Vec<u8>, bytes: &[u8]) -> Result<(), AllocError>
     out.extend_from_slice(b")")
 }
 
-/// Adds the number of bytes of a file, which no dump has, and what the file seems to be, where that
+/// Appends the number of bytes of a file, which no dump has, and what the file seems to be, if that
 /// is known.
 fn push_wrong_length(out: &mut Vec<u8>, bytes: &[u8]) -> Result<(), AllocError>
     ensures { OnOk result (out.new.items ≡ out.old.items ++ wrong_length_text bytes.now) }
@@ -116,7 +116,7 @@ fn push_wrong_length(out: &mut Vec<u8>, bytes: &[u8]) -> Result<(), AllocError>
     Ok(())
 }
 
-/// Adds why a file is no dump: it is a bad G64, or it has as many bytes as no dump.
+/// Appends why a file is not a dump: it is a bad G64, or no dump has its length.
 fn push_no_dump_reason(out: &mut Vec<u8>, bytes: &[u8]) -> Result<(), AllocError>
     ensures { OnOk result (out.new.items ≡ out.old.items ++ no_dump_reason bytes.now) }
 {
@@ -127,7 +127,7 @@ fn push_no_dump_reason(out: &mut Vec<u8>, bytes: &[u8]) -> Result<(), AllocError
     }
 }
 
-/// Adds the line of a file with these bytes, which is no dump.
+/// Appends the line of a file with these bytes, which is not a dump.
 #[tactic(auto, unfolding(crate::specs::FaultLines::line_about))]
 pub fn wrong_length_line(out: &mut Vec<u8>, name: &[u8], bytes: &[u8]) -> Result<(), AllocError>
     ensures { OnOk result (out.new.items ≡ out.old.items ++ wrong_length_line name.now bytes.now) }

@@ -11,7 +11,7 @@ use d64_image::BlockNo;
 use d64_survey::{Fault, LastBlock, Part, ReadError, Survey, WayEnd, drive_status};
 use std::alloc::AllocError;
 
-/// Adds the last block of a chain, or where there is none what names its first block.
+/// Appends the last block of a chain, or what names its first block if the chain has none.
 #[tactic(auto, unfolding(crate::specs::FaultText::last_text))]
 fn push_last(out: &mut Vec<u8>, at: LastBlock) -> Result<(), AllocError>
     ensures { OnOk result (out.new.items ≡ out.old.items ++ last_text at) }
@@ -22,7 +22,7 @@ fn push_last(out: &mut Vec<u8>, at: LastBlock) -> Result<(), AllocError>
     }
 }
 
-/// Whether the words for a part of a file are a plural.
+/// Whether the name for a part of a file is a plural.
 fn are_many(part: Part) -> bool
     ensures { result ≡ are_many part }
 {
@@ -32,7 +32,7 @@ fn are_many(part: Part) -> bool
     }
 }
 
-/// The verb of chains that lead off the disk, or of one.
+/// Returns the verb for a chain that leads off the disk, or for several.
 fn breaks_text(many: bool) -> &'static [u8]
     ensures { result.now ≡ breaks_text many }
 {
@@ -43,21 +43,21 @@ fn breaks_text(many: bool) -> &'static [u8]
     }
 }
 
-/// The verb of chains that lead back, or of one.
+/// Returns the verb for a chain that leads back, or for several.
 fn loops_text(many: bool) -> &'static [u8]
     ensures { result.now ≡ loops_text many }
 {
     if many { b" loop: " } else { b" loops: " }
 }
 
-/// The verb of chains that are whole, or of one.
+/// Returns the verb for a chain that is whole, or for several.
 fn ends_text(many: bool) -> &'static [u8]
     ensures { result.now ≡ ends_text many }
 {
     if many { b" are whole" } else { b" is whole" }
 }
 
-/// Adds that a chain leads off the disk, or that chains do.
+/// Appends that a chain leads off the disk, or that chains do.
 #[tactic(auto, unfolding(crate::specs::FaultText::off_text))]
 fn push_off(
     out: &mut Vec<u8>,
@@ -76,7 +76,7 @@ fn push_off(
     Ok(())
 }
 
-/// Adds that a chain leads back to a block of its own, or that chains do.
+/// Appends that a chain leads back to a block of its own, or that chains do.
 #[tactic(auto, unfolding(crate::specs::FaultText::loop_text))]
 fn push_loop(
     out: &mut Vec<u8>,
@@ -94,7 +94,7 @@ fn push_loop(
     Ok(())
 }
 
-/// Adds how a chain ends that isn't whole, or how chains do.
+/// Appends how a chain ends that is not whole, or how several do.
 fn push_end(out: &mut Vec<u8>, many: bool, at: LastBlock, end: WayEnd) -> Result<(), AllocError>
     ensures { OnOk result (out.new.items ≡ out.old.items ++ end_text many at end) }
 {
@@ -105,7 +105,7 @@ fn push_end(out: &mut Vec<u8>, many: bool, at: LastBlock, end: WayEnd) -> Result
     }
 }
 
-/// Adds the map's count of a track, and what it marks there.
+/// Appends the map's count of a track, and what it marks there.
 #[tactic(auto, unfolding(crate::specs::FaultText::count_text))]
 fn push_track_counts(out: &mut Vec<u8>, track: u8, count: u8, marked: u8) -> Result<(), AllocError>
     ensures { OnOk result (out.new.items ≡ out.old.items ++ count_text track count marked) }
@@ -119,7 +119,7 @@ fn push_track_counts(out: &mut Vec<u8>, track: u8, count: u8, marked: u8) -> Res
     Ok(())
 }
 
-/// Adds that a type byte has no kind.
+/// Appends that a type byte has no kind.
 #[tactic(auto, unfolding(crate::specs::FaultText::kind_text))]
 fn push_type(
     out: &mut Vec<u8>,
@@ -136,7 +136,7 @@ fn push_type(
     Ok(())
 }
 
-/// Adds a block, words, and the owners of the block.
+/// Appends a block, a text, and the owners of the block.
 fn push_owned(
     out: &mut Vec<u8>,
     survey: &Survey,
@@ -150,7 +150,7 @@ fn push_owned(
     push_owners(out, survey, block)
 }
 
-/// Adds how the directory ends.
+/// Appends how the directory ends.
 fn push_directory(out: &mut Vec<u8>, at: LastBlock, end: WayEnd) -> Result<(), AllocError>
     ensures { OnOk result (out.new.items ≡ out.old.items ++ (codes "the directory" ++ end_text false at end)) }
 {
@@ -158,7 +158,7 @@ fn push_directory(out: &mut Vec<u8>, at: LastBlock, end: WayEnd) -> Result<(), A
     push_end(out, false, at, end)
 }
 
-/// Adds how a part of a file ends.
+/// Appends how a part of a file ends.
 fn push_file(
     out: &mut Vec<u8>,
     survey: &Survey,
@@ -172,7 +172,7 @@ fn push_file(
     push_end(out, are_many(file.1), at, end)
 }
 
-/// Adds a fault in words.
+/// Appends a fault in words.
 #[tactic(auto, unfolding(crate::specs::FaultText::fault_text))]
 pub fn push_fault(out: &mut Vec<u8>, survey: &Survey, fault: Fault) -> Result<(), AllocError>
     ensures { OnOk result (out.new.items ≡ out.old.items ++ fault_text survey.now fault) }
@@ -192,7 +192,7 @@ pub fn push_fault(out: &mut Vec<u8>, survey: &Survey, fault: Fault) -> Result<()
     }
 }
 
-/// Adds the drive's status of a read code, where it has one.
+/// Appends the drive's status for a read code, if it has one.
 #[tactic(auto, unfolding(crate::specs::FaultText::status_text))]
 pub fn push_status(out: &mut Vec<u8>, status: Option<u8>) -> Result<(), AllocError>
     ensures { OnOk result (out.new.items ≡ out.old.items ++ status_text status) }
@@ -206,7 +206,7 @@ pub fn push_status(out: &mut Vec<u8>, status: Option<u8>) -> Result<(), AllocErr
     }
 }
 
-/// Adds to whom a block belongs, if to anyone.
+/// Appends the owners of a block, if it has some.
 #[tactic(auto, unfolding(crate::specs::FaultText::belonging_text))]
 fn push_belonging(out: &mut Vec<u8>, survey: &Survey, block: BlockNo) -> Result<(), AllocError>
     ensures { OnOk result (out.new.items ≡ out.old.items ++ belonging_text survey.now block) }
@@ -219,7 +219,7 @@ fn push_belonging(out: &mut Vec<u8>, survey: &Survey, block: BlockNo) -> Result<
     Ok(())
 }
 
-/// Adds a read error in words.
+/// Appends a read error in words.
 #[tactic(auto, unfolding(crate::specs::FaultText::read_error_text))]
 pub fn push_read_error(
     out: &mut Vec<u8>,

@@ -13,7 +13,7 @@ use d64_image::Image;
 use d64_survey::{Flaw, Inspection, Survey, data_pair, side_pair, walk, wholeness};
 use std::alloc::AllocError;
 
-/// The three letters of a kind.
+/// Returns the three letters of a kind.
 pub fn kind_letters(kind: Kind) -> &'static str
     ensures { result.now ≡ kind_letters kind }
 {
@@ -26,7 +26,7 @@ pub fn kind_letters(kind: Kind) -> &'static str
     }
 }
 
-/// Those of a slot's file.
+/// Returns the letters of a slot's file.
 fn letters_of(entry: &Entry) -> &'static [u8]
     ensures { result.now ≡ letters_of entry.now.bytes }
 {
@@ -37,7 +37,7 @@ fn letters_of(entry: &Entry) -> &'static [u8]
     }
 }
 
-/// How many blocks the way from a pair has, where there is one.
+/// Returns how many blocks the chain from a pair has; 0 if there is no pair.
 fn way_length(image: &Image, pair: Option<(u8, u8)>) -> usize
     ensures value { result ≡ length (blocks_from image.now pair) }
     ensures few { result ≤ 768 }
@@ -52,14 +52,14 @@ fn way_length(image: &Image, pair: Option<(u8, u8)>) -> usize
     }
 }
 
-/// How many blocks the ways of a slot's file have.
+/// Returns how many blocks the chains of a slot's file have.
 pub fn blocks_there(image: &Image, entry: &Entry) -> usize
     ensures { result ≡ length (slot_blocks image.now entry.now.bytes) }
 {
     way_length(image, data_pair(entry)) + way_length(image, side_pair(entry))
 }
 
-/// The verb of so many blocks that are there.
+/// Returns the verb after `there` blocks.
 fn is_there(there: usize) -> &'static [u8]
     ensures { result.now ≡ (if there == 1 then codes " is there" else codes " are there") }
 {
@@ -70,7 +70,7 @@ fn is_there(there: usize) -> &'static [u8]
     }
 }
 
-/// Adds the size that the directory shows, and how many blocks there are.
+/// Appends the size that the directory has, and how many blocks there are.
 #[tactic(auto, unfolding(crate::specs::FileText::size_text))]
 fn push_size(out: &mut Vec<u8>, shown: usize, there: usize) -> Result<(), AllocError>
     ensures { OnOk result (out.new.items ≡ out.old.items ++ size_text shown there) }
@@ -83,7 +83,7 @@ fn push_size(out: &mut Vec<u8>, shown: usize, there: usize) -> Result<(), AllocE
     Ok(())
 }
 
-/// Adds a reason why a file isn't whole, of which the directory shows a size, and so many blocks
+/// Appends a reason why a file is not whole; the directory has the size `shown`, and `there` blocks
 /// are there.
 #[tactic(auto, unfolding(crate::specs::FileText::flaw_text))]
 fn push_flaw(out: &mut Vec<u8>, shown: usize, there: usize, flaw: Flaw) -> Result<(), AllocError>
@@ -100,15 +100,15 @@ fn push_flaw(out: &mut Vec<u8>, shown: usize, there: usize, flaw: Flaw) -> Resul
     }
 }
 
-/// What stands before the reason at a place.
+/// Returns what comes before the reason at a place.
 fn comma(place: usize) -> &'static [u8]
     ensures { result.now ≡ comma place }
 {
     if place == 0 { b"" } else { b", " }
 }
 
-/// Adds the reasons why a file isn't whole, with commas between them: a file of which the directory
-/// shows a size in blocks, and of which so many are there.
+/// Appends the reasons why a file is not whole, with commas between them; the directory has the
+/// size `shown`, in blocks, and `there` blocks are there.
 pub fn push_flaws(
     out: &mut Vec<u8>,
     shown: usize,
@@ -127,7 +127,7 @@ pub fn push_flaws(
     Ok(())
 }
 
-/// Adds a file that isn't whole, for these reasons.
+/// Appends a file that is not whole, for these reasons.
 #[tactic(auto, unfolding(crate::specs::FileText::file_text))]
 fn push_file(
     out: &mut Vec<u8>,
@@ -150,7 +150,7 @@ fn push_file(
     )
 }
 
-/// Adds the line of a slot, where its file isn't whole.
+/// Appends the line of a slot, if its file is not whole.
 #[tactic(auto, unfolding(crate::specs::FileText::file_line, crate::specs::Words::line_below))]
 fn push_file_line(
     out: &mut Vec<u8>,
@@ -174,7 +174,7 @@ fn push_file_line(
     }
 }
 
-/// Adds a line each file that isn't whole.
+/// Appends a line for each file that is not whole.
 #[tactic(auto, unfolding(crate::specs::FileText::file_lines))]
 pub(crate) fn push_file_lines(out: &mut Vec<u8>, inspection: &Inspection) -> Result<(), AllocError>
     ensures { OnOk result (out.new.items ≡ out.old.items ++ file_lines inspection.now (way_slots inspection.now.image)) }

@@ -11,7 +11,7 @@ const MOST_CHARACTERS: usize = 200;
 /// The most bytes that they have.
 const MOST_BYTES: usize = 800;
 
-/// The first 200 characters of a line as it is shown.
+/// Returns the first 200 characters of a line as it is shown.
 pub fn shown_start(alloc: Global, text: &[u8]) -> Result<Vec<u8>, AllocError>
     ensures { IfOk result (λ shown. shown.items ≡ shown_start text.now) }
 {
@@ -22,7 +22,7 @@ pub fn shown_start(alloc: Global, text: &[u8]) -> Result<Vec<u8>, AllocError>
     Ok(start)
 }
 
-/// The first so many characters of a text.
+/// Returns the first characters of a text, `most` at most.
 fn first_characters(text: &[u8], most: usize) -> &[u8]
     ensures { result.now ≡ first_characters most text.now }
 {

@@ -1,11 +1,11 @@
-//! What a file that is no image seems to be.
+//! What a file that is not an image seems to be.
 ghost use Rattle.std.specs.Prelude.{◌≡◌, length};
 ghost use Rattle.out_messages.specs.Guesses.{guess_by_length, guess_by_first_bytes, cut_short, guess_of as guess_by_all, guess_text};
 
 /// What a file whose length no image has seems to be.
 #[derive(Clone, Copy, Debug, PartialEq, Eq)]
 pub enum Guess {
-    /// A file of no bytes.
+    /// An empty file.
     Empty,
     /// An image of 36 tracks, with read codes or without them.
     Tracks36,
@@ -29,9 +29,9 @@ pub enum Guess {
     D80,
     /// An image of an 8250 disk.
     D82,
-    /// An image of the bits of a 1541 disk.
+    /// A low-level image of a 1541 disk (GCR).
     G64,
-    /// An image of the bits of a 1541 disk as nibtools reads it.
+    /// A low-level image of a 1541 disk, as nibtools writes it.
     Nib,
     /// A tape archive of the emulator C64S.
     T64,
@@ -47,7 +47,7 @@ pub enum Guess {
     Cut40,
 }
 
-/// What a file of this length seems to be, by that alone.
+/// Returns what a file with this length seems to be, by that alone.
 #[tactic(auto, unfolding(crate::specs::Guesses::lengths))]
 fn guess_by_length(len: usize) -> Option<Guess>
     ensures { result ≡ guess_by_length len }
@@ -69,7 +69,7 @@ fn guess_by_length(len: usize) -> Option<Guess>
     }
 }
 
-/// What a file seems to be, by the bytes that it begins with.
+/// Returns what a file seems to be, by its first bytes.
 #[tactic(auto, unfolding(crate::specs::Guesses::first_bytes))]
 fn guess_by_first_bytes(bytes: &[u8]) -> Option<Guess>
     ensures { result ≡ guess_by_first_bytes bytes.now }
@@ -95,7 +95,7 @@ fn guess_by_first_bytes(bytes: &[u8]) -> Option<Guess>
     None
 }
 
-/// The image of which a file of this length seems to be the beginning.
+/// Returns the image whose beginning a file with this length seems to be.
 fn cut_short(len: usize) -> Option<Guess>
     ensures { result ≡ cut_short len }
 {
@@ -106,8 +106,8 @@ fn cut_short(len: usize) -> Option<Guess>
     }
 }
 
-/// What a file whose length no image has seems to be; None where it looks like nothing that is
-/// known here.
+/// Returns what a file whose length no image has seems to be, or None if it looks like nothing that
+/// is known here.
 pub fn guess_of(bytes: &[u8]) -> Option<Guess>
     ensures { result ≡ guess_by_all bytes.now }
 {
@@ -120,7 +120,7 @@ pub fn guess_of(bytes: &[u8]) -> Option<Guess>
     }
 }
 
-/// A guess in words.
+/// Returns a guess in words.
 pub fn guess_text(guess: Guess) -> &'static [u8]
     ensures { result.now ≡ guess_text guess }
 {

@@ -20,10 +20,10 @@ use std::alloc::AllocError;
 /// The conditions of a sound image are numbered from 1 up to this.
 const CONDITIONS: u8 = 6;
 
-/// How many faults of one number have a line each.
+/// How many faults with the same number have a line each.
 const MOST_LINES: usize = 10;
 
-/// Adds the disk's name and its id.
+/// Appends the disk's name and its id.
 #[tactic(auto, unfolding(crate::specs::CheckText::label_text))]
 pub fn push_label(out: &mut Vec<u8>, image: &Image) -> Result<(), AllocError>
     ensures { OnOk result (out.new.items ≡ out.old.items ++ label_text image.now) }
@@ -33,7 +33,7 @@ pub fn push_label(out: &mut Vec<u8>, image: &Image) -> Result<(), AllocError>
     push_spelling(out, disk_id(image))
 }
 
-/// Adds how many files and free blocks there are.
+/// Appends how many files and free blocks there are.
 #[tactic(auto, unfolding(crate::specs::CheckText::contents_text))]
 pub fn push_contents(out: &mut Vec<u8>, inspection: &Inspection) -> Result<(), AllocError>
     ensures { OnOk result (out.new.items ≡ out.old.items ++ contents_text inspection.now.image) }
@@ -45,7 +45,7 @@ pub fn push_contents(out: &mut Vec<u8>, inspection: &Inspection) -> Result<(), A
     Ok(())
 }
 
-/// Adds how many faults there are.
+/// Appends how many faults there are.
 fn push_faults(out: &mut Vec<u8>, count: usize) -> Result<(), AllocError>
     ensures { OnOk result (out.new.items ≡ out.old.items ++ faults_text count) }
 {
@@ -55,14 +55,14 @@ fn push_faults(out: &mut Vec<u8>, count: usize) -> Result<(), AllocError>
     push_count(out, count, b"fault")
 }
 
-/// What comes before what else is amiss: right behind `sound` it is a contrast.
+/// Returns what joins the next item to the line: after `sound` it is a contrast.
 fn joining(is_contrast: bool) -> &'static [u8]
     ensures { result.now ≡ joining is_contrast }
 {
     if is_contrast { b", but " } else { b", " }
 }
 
-/// Adds how many more things are amiss, where there are some.
+/// Appends how many more things are wrong, if there are some.
 #[tactic(auto, unfolding(crate::specs::CheckText::and_so_many))]
 fn push_and(
     out: &mut Vec<u8>,
@@ -93,7 +93,7 @@ fn is_clean(inspection: &Inspection) -> bool
     is_read_sound(inspection) && inspection.unwhole() == 0
 }
 
-/// Adds the state of a dump.
+/// Appends the state of a dump.
 #[tactic(auto, unfolding(crate::specs::CheckText::state_text))]
 pub fn push_state(out: &mut Vec<u8>, inspection: &Inspection) -> Result<(), AllocError>
     ensures { OnOk result (out.new.items ≡ out.old.items ++ state_text inspection.now) }
@@ -114,7 +114,7 @@ pub fn push_state(out: &mut Vec<u8>, inspection: &Inspection) -> Result<(), Allo
     push_doubts(out, inspection, is_clean(inspection))
 }
 
-/// Adds the image's line.
+/// Appends the image's line.
 #[tactic(auto, unfolding(crate::specs::CheckText::image_line))]
 fn push_image_line(
     name: &[u8],
@@ -134,7 +134,7 @@ fn push_image_line(
     Ok(())
 }
 
-/// Adds the line of a fault.
+/// Appends the line of a fault.
 #[tactic(auto, unfolding(crate::specs::Words::line_below))]
 fn push_fault_line(out: &mut Vec<u8>, survey: &Survey, fault: &Fault) -> Result<(), AllocError>
     ensures { OnOk result (out.new.items ≡ out.old.items ++ fault_line survey.now fault.now) }
@@ -144,7 +144,7 @@ fn push_fault_line(out: &mut Vec<u8>, survey: &Survey, fault: &Fault) -> Result<
     out.extend_from_slice(LINE_END)
 }
 
-/// Adds the line of a fault before which there are so many of its number, unless it is one too many.
+/// Appends the line of a fault, with `place` faults of its number before it, unless these are ten.
 fn push_first_line(
     out: &mut Vec<u8>,
     survey: &Survey,
@@ -159,7 +159,7 @@ fn push_first_line(
     Ok(())
 }
 
-/// Adds how many more faults of a number there are.
+/// Appends how many more faults with a number there are.
 #[tactic(auto, unfolding(crate::specs::CheckText::more_text))]
 fn push_more(out: &mut Vec<u8>, count: usize) -> Result<(), AllocError>
     ensures { OnOk result (out.new.items ≡ out.old.items ++ more_text count) }
@@ -170,8 +170,7 @@ fn push_more(out: &mut Vec<u8>, count: usize) -> Result<(), AllocError>
     Ok(())
 }
 
-/// Adds a line of how many more faults of a number there are than have one each, where there are
-/// more.
+/// Appends the line for the faults beyond those that have a line each, if there are some.
 #[tactic(auto, unfolding(crate::specs::CheckText::more_line, crate::specs::Words::line_below))]
 fn push_more_line(out: &mut Vec<u8>, count: usize) -> Result<(), AllocError>
     ensures { OnOk result (out.new.items ≡ out.old.items ++ more_line count) }
@@ -184,7 +183,7 @@ fn push_more_line(out: &mut Vec<u8>, count: usize) -> Result<(), AllocError>
     out.extend_from_slice(LINE_END)
 }
 
-/// Adds a line each of the first ten faults of a number, and one of the others.
+/// Appends a line for each of the first ten faults with a number, and one for the others.
 fn push_lines_of(
     out: &mut Vec<u8>,
     survey: &Survey,
@@ -203,7 +202,7 @@ fn push_lines_of(
     push_more_line(out, count)
 }
 
-/// Adds the lines of faults, by their numbers.
+/// Appends the lines of faults, by their numbers.
 #[tactic(auto, unfolding(crate::specs::CheckText::fault_lines))]
 fn push_fault_lines(out: &mut Vec<u8>, survey: &Survey, list: &[Fault]) -> Result<(), AllocError>
     ensures { OnOk result (out.new.items ≡ out.old.items ++ fault_lines survey.now list.now) }
@@ -214,7 +213,7 @@ fn push_fault_lines(out: &mut Vec<u8>, survey: &Survey, list: &[Fault]) -> Resul
     Ok(())
 }
 
-/// Adds the line of a read error.
+/// Appends the line of a read error.
 #[tactic(auto, unfolding(crate::specs::Words::line_below))]
 fn push_error_line(out: &mut Vec<u8>, survey: &Survey, error: &ReadError) -> Result<(), AllocError>
     ensures { OnOk result (out.new.items ≡ out.old.items ++ line_below (read_error_text survey.now error.now)) }
@@ -224,7 +223,7 @@ fn push_error_line(out: &mut Vec<u8>, survey: &Survey, error: &ReadError) -> Res
     out.extend_from_slice(LINE_END)
 }
 
-/// Adds a line each read error.
+/// Appends a line for each read error.
 #[tactic(auto, unfolding(crate::specs::CheckText::read_error_lines))]
 fn push_error_lines(
     out: &mut Vec<u8>,
@@ -239,7 +238,7 @@ fn push_error_lines(
     Ok(())
 }
 
-/// Adds the line of so many blocks that nothing owns, where there are some.
+/// Appends the line for `count` blocks that nothing owns, if there are some.
 #[tactic(auto, unfolding(crate::specs::CheckText::unowned_by, crate::specs::Words::line_below))]
 fn push_unowned(out: &mut Vec<u8>, count: usize) -> Result<(), AllocError>
     ensures { OnOk result (out.new.items ≡ out.old.items ++ unowned_by count) }
@@ -252,8 +251,8 @@ fn push_unowned(out: &mut Vec<u8>, count: usize) -> Result<(), AllocError>
     out.extend_from_slice(LINE_END)
 }
 
-/// Adds the line of the blocks that nothing owns, where there are some and something is amiss. Where
-/// they are a doubt the image's line says it.
+/// Appends the line for the blocks that nothing owns, if there are some and something is wrong. If
+/// they are a doubt, the image's line names them.
 #[tactic(auto, unfolding(crate::specs::CheckText::unowned_line))]
 fn push_unowned_line(out: &mut Vec<u8>, inspection: &Inspection) -> Result<(), AllocError>
     ensures { OnOk result (out.new.items ≡ out.old.items ++ unowned_line inspection.now) }
@@ -267,10 +266,10 @@ fn push_unowned_line(out: &mut Vec<u8>, inspection: &Inspection) -> Result<(), A
     push_unowned(out, inspection.unowned())
 }
 
-/// Adds the text of an image for people: its line, a line each fault, read error and file that
-/// isn't whole, and one of the blocks that are marked used and belong to no file, where something
-/// is amiss and the image's line doesn't say it. Of more than ten faults of one number one line
-/// says how many more there are.
+/// Appends the text of an image for people: its line; a line for each fault, read error and file
+/// that is not whole; and one for the blocks that are marked used and belong to no file, if
+/// something is wrong and the image's line does not name them. Of more than ten faults with the
+/// same number one line says how many more there are.
 #[tactic(auto, unfolding(crate::specs::CheckText::check_text))]
 pub fn check_text(name: &[u8], inspection: &Inspection, out: &mut Vec<u8>) -> Result<(), AllocError>
     ensures { OnOk result (out.new.items ≡ out.old.items ++ check_text_of name.now inspection.now) }

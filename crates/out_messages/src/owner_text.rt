@@ -10,7 +10,7 @@ use d64_names::slot_name;
 use d64_survey::{Owner, Part, SHOWN_OWNERS, Survey};
 use std::alloc::AllocError;
 
-/// What stands before the name of a file, of which this part is meant.
+/// Returns what comes before the name of a file to name this part of it.
 fn part_text(part: Part) -> &'static [u8]
     ensures { result.now ≡ part_text part }
 {
@@ -20,7 +20,7 @@ fn part_text(part: Part) -> &'static [u8]
     }
 }
 
-/// Adds a part of the file of a slot.
+/// Appends a part of the file of a slot.
 #[tactic(auto, unfolding(crate::specs::OwnerText::file_part))]
 pub(crate) fn push_part(
     out: &mut Vec<u8>,
@@ -34,7 +34,7 @@ pub(crate) fn push_part(
     push_quoted(out, slot_name(survey, slot))
 }
 
-/// Adds an owner.
+/// Appends an owner.
 fn push_owner(out: &mut Vec<u8>, survey: &Survey, owner: Owner) -> Result<(), AllocError>
     ensures { OnOk result (out.new.items ≡ out.old.items ++ owner_text survey.now owner) }
 {
@@ -45,7 +45,7 @@ fn push_owner(out: &mut Vec<u8>, survey: &Survey, owner: Owner) -> Result<(), Al
     }
 }
 
-/// What stands before the one at a place in a list of so many.
+/// Returns what comes before the item at a place in a list of `count`.
 fn separator(count: usize, place: usize) -> &'static [u8]
     requires { place < 100000000 }
     ensures { result.now ≡ separator count place }
@@ -56,7 +56,7 @@ fn separator(count: usize, place: usize) -> &'static [u8]
     if place + 1 == count { b" and " } else { b", " }
 }
 
-/// Adds the owners that are named, in a list of so many.
+/// Appends the owners that are named, in a list of `count`.
 fn push_shown_owners(
     out: &mut Vec<u8>,
     survey: &Survey,
@@ -75,7 +75,7 @@ fn push_shown_owners(
     Ok(())
 }
 
-/// Adds how many there are beside those that are named, where there are more.
+/// Appends how many owners there are beside those that are named, if there are more.
 fn push_more(out: &mut Vec<u8>, count: usize) -> Result<(), AllocError>
     ensures { OnOk result (out.new.items ≡ out.old.items ++ more_text count) }
 {
@@ -87,7 +87,7 @@ fn push_more(out: &mut Vec<u8>, count: usize) -> Result<(), AllocError>
     out.extend_from_slice(b" more")
 }
 
-/// Adds the owners of a block, at most eight of them by name.
+/// Appends the owners of a block, at most eight of them by name.
 #[tactic(auto, unfolding(crate::specs::OwnerText::block_owners))]
 pub fn push_owners(out: &mut Vec<u8>, survey: &Survey, block: BlockNo) -> Result<(), AllocError>
     ensures { OnOk result (out.new.items ≡ out.old.items ++ block_owners survey.now block) }

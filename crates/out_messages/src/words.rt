@@ -9,12 +9,12 @@ use d64_image::BlockNo;
 use petscii::push_spelling;
 use std::alloc::AllocError;
 
-/// What a line below that of the image begins with, and what it ends with.
+/// How a line below that of the image begins, and how it ends.
 pub(crate) const LINE_START: &[u8] = b"  ";
 
 pub(crate) const LINE_END: &[u8] = b"\n";
 
-/// Adds a name of the disk in text form, between quotes.
+/// Appends a name of the disk in text form, between quotes.
 #[tactic(auto, unfolding(crate::specs::Names::quoted_name))]
 pub fn push_quoted(out: &mut Vec<u8>, name: &[u8]) -> Result<(), AllocError>
     ensures { OnOk result (out.new.items ≡ out.old.items ++ quoted_name name.now) }
@@ -24,14 +24,14 @@ pub fn push_quoted(out: &mut Vec<u8>, name: &[u8]) -> Result<(), AllocError>
     out.extend_from_slice(b"\"")
 }
 
-/// What a noun ends in, of which there are so many.
+/// Returns the ending of a noun after this number.
 fn plural_of(count: usize) -> &'static [u8]
     ensures { result.now ≡ plural_of count }
 {
     if count == 1 { b"" } else { b"s" }
 }
 
-/// Adds so many of what a noun names.
+/// Appends a number and a noun.
 #[tactic(auto, unfolding(crate::specs::Words::count_of))]
 pub fn push_count(out: &mut Vec<u8>, count: usize, noun: &[u8]) -> Result<(), AllocError>
     ensures { OnOk result (out.new.items ≡ out.old.items ++ count_of count noun.now) }
@@ -42,7 +42,7 @@ pub fn push_count(out: &mut Vec<u8>, count: usize, noun: &[u8]) -> Result<(), Al
     out.extend_from_slice(plural_of(count))
 }
 
-/// Adds a track and a sector.
+/// Appends a track and a sector.
 #[tactic(auto, unfolding(crate::specs::Words::pair_text))]
 pub(crate) fn push_pair(out: &mut Vec<u8>, track: u8, sector: u8) -> Result<(), AllocError>
     ensures { OnOk result (out.new.items ≡ out.old.items ++ pair_text (track, sector)) }
@@ -52,7 +52,7 @@ pub(crate) fn push_pair(out: &mut Vec<u8>, track: u8, sector: u8) -> Result<(), 
     push_number(out, usize::from(sector))
 }
 
-/// Adds the track and the sector of a block.
+/// Appends the track and the sector of a block.
 pub fn push_block(out: &mut Vec<u8>, block: BlockNo) -> Result<(), AllocError>
     ensures { OnOk result (out.new.items ≡ out.old.items ++ block_text block) }
 {
