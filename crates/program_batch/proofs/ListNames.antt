@@ -54,24 +54,24 @@ names_in-ended separator ended more (inr last) =
     ∙ ap (λ l. l ++ names_in separator more)
     (sym (ap (names_in separator) last.1 ∙ names_in-append separator last.0 [] ∙ ap (λ l. names_in separator last.0 ++ l) (names_in-nil separator) ∙ append-nil (names_in separator last.0)))
 
--- a piece is a name where what is kept of it is one
+-- a piece is a name if and only if what is kept of it is one
 is_name-kept_name : (piece : List ℕ) → is_name (kept_name piece) ≡ is_name piece
 is_name-kept_name [] = refl
 is_name-kept_name (x ∷ xs) =
     lt-ltb 0 (length (kept_name (x ∷ xs))) (omega (arith, length-take 4097 (x ∷ xs))) ∙ sym (lt-ltb 0 (length (x ∷ xs)) (omega arith))
 
--- none of the bytes of a piece is found to be the separator
+-- no byte of a piece is the separator
 others : (separator : ℕ) (piece : List ℕ) → All (λ byte. byte ≢ separator) piece → All (λ byte. nat_eq separator byte ≡ false) piece
 others separator piece none = λ k d within. false_from_ne_true (nat_eq separator (get_or piece k d)) (λ same. none k d within (sym (eqb-true separator (get_or piece k d) same)))
 
--- of one piece the kept bytes ask, where it is a name
+-- one piece is one request if it is a name, and no request if not
 one_piece : (piece : List ℕ) (test : Bool) → is_name piece ≡ test → map listed_name (map kept_name (filter is_name (piece ∷ []))) ≡ asked_by (kept_name piece)
 one_piece piece true is =
     ap (λ t. map listed_name (map kept_name (if t then piece ∷ [] else []))) is ∙ sym (ap (λ t. if t then listed_name (kept_name piece) ∷ [] else []) (is_name-kept_name piece ∙ is))
 one_piece piece false is =
     ap (λ t. map listed_name (map kept_name (if t then piece ∷ [] else []))) is ∙ sym (ap (λ t. if t then listed_name (kept_name piece) ∷ [] else []) (is_name-kept_name piece ∙ is))
 
--- a piece without a separator asks for what its kept bytes ask for
+-- a piece without a separator gives the same requests as its kept bytes
 pub asked_by-piece : (separator : ℕ) (piece : List ℕ) → All (λ byte. byte ≢ separator) piece → map listed_name (names_in separator piece) ≡ asked_by (kept_name piece)
 unfolding names_in
 asked_by-piece separator piece none =

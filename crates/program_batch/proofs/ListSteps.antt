@@ -20,7 +20,7 @@ no_element k within = omega (arith, within)
 one_other : (separator byte : ℕ) → byte ≢ separator → All (λ y. y ≢ separator) (byte ∷ [])
 one_other separator byte other = All-cons (λ y. y ≢ separator) byte [] other (λ k d within. absurd (no_element k within))
 
--- what the ended names ask for, and then the piece at the end
+-- the requests of the ended names, and then that of the piece at the end
 asks_last : (separator : ℕ) (ended raw : List ℕ) → IsEnded separator ended → All (λ byte. byte ≢ separator) raw
     → map listed_name (names_in separator (ended ++ raw)) ≡ map listed_name (names_in separator ended) ++ asked_by (kept_name raw)
 asks_last separator ended raw is_ended none =
@@ -28,7 +28,7 @@ asks_last separator ended raw is_ended none =
     ∙ map-append listed_name (names_in separator ended) (names_in separator raw)
     ∙ ap (λ (l : List Asked). map listed_name (names_in separator ended) ++ l) (asked_by-piece separator raw none)
 
--- a separator ends the piece: what came until then asks for the same, and what comes after it for
+-- a separator ends the piece: the bytes before it give the same requests, and those after it give
 -- more
 asks_ended : (separator : ℕ) (came more : List ℕ)
     → map listed_name (names_in separator (came ++ separator ∷ more)) ≡ map listed_name (names_in separator came) ++ map listed_name (names_in separator more)
@@ -60,7 +60,7 @@ HasCome-byte conduct separator byte a b held new came come other pushed = record
   answered = come.answered;
 }
 
--- all that has come asks for what was answered, and for what is held
+-- the bytes that have come give the requests of the names done, and of the name that is held
 asks_came : (conduct : Conduct) (separator : ℕ) (a b : Stand) (held came : List ℕ) (come : HasCome conduct separator a b held came)
     → map listed_name (names_in separator came) ≡ map listed_name (names_in separator come.ended) ++ asked_by held
 asks_came conduct separator a b held came come =
@@ -68,7 +68,7 @@ asks_came conduct separator a b held came come =
     ∙ asks_last separator come.ended come.raw come.is_ended come.unended
     ∙ ap (λ (l : List ℕ). map listed_name (names_in separator come.ended) ++ asked_by l) (sym come.keeps)
 
--- what is held is answered too
+-- the held name is processed too
 pub Runs-came : {A : Type 0} (conduct same : Conduct) (separator : ℕ) (a b c : Stand) (held came : List ℕ) (result : Result A RunFault)
     → HasCome conduct separator a b held came → same ≡ conduct → Runs same (asked_by held) b c result → Runs conduct (map listed_name (names_in separator came)) a c result
 Runs-came {A} conduct same separator a b c held came result come is_same ran =
@@ -76,7 +76,7 @@ Runs-came {A} conduct same separator a b c held came result come is_same ran =
     (Runs-append conduct (map listed_name (names_in separator come.ended)) (asked_by held) a b c result come.answered
     (subst (λ (r : Conduct). Runs r (asked_by held) b c result) is_same ran))
 
--- a separator has come, and the name before it is answered
+-- a separator has come, and the name before it is processed
 pub HasCome-separator : {A : Type 0} (conduct : Conduct) (separator byte : ℕ) (a b c : Stand) (held new came : List ℕ) (result : Result A RunFault) (done : A)
     → HasCome conduct separator a b held came → byte ≡ separator → Runs conduct (asked_by held) b c result → result ≡ Ok done → new ≡ []
     → HasCome conduct separator a c new (came ++ byte ∷ [])
@@ -109,22 +109,22 @@ Stops-separator {A} {B} conduct separator byte a b c held came result answer fau
     (sym (ap (λ (l : List ℕ). map listed_name (names_in separator l)) (append_assoc came (byte ∷ []) more ∙ ap (λ (y : ℕ). came ++ y ∷ more) is) ∙ asks_ended separator came more))
     (StopsIn-more conduct (map listed_name (names_in separator came)) (map listed_name (names_in separator more)) fault a c stops))
 
--- what is no name asks for nothing
+-- an empty name gives no request
 pub Runs-no_name : (conduct : Conduct) (a : Stand) (held : List ℕ) → is_name held ≡ false → Steps conduct (asked_by held) a a
 Runs-no_name conduct a held none = subst (λ (t : Bool). Steps conduct (if t then listed_name held ∷ [] else []) a a) (sym none) (Steps-none conduct a)
 
--- a name asks for one file
+-- a name gives one request
 pub Runs-name : {A : Type 0} (conduct : Conduct) (asked : Asked) (a b : Stand) (held : List ℕ) (result : Result A RunFault)
     → is_name held ≡ true → listed_name held ≡ asked → EndsAt conduct asked a b result → Runs conduct (asked_by held) a b result
 Runs-name conduct asked a b held result named is ends =
     subst (λ (l : List Asked). Runs conduct l a b result) (sym (ap (λ (t : Bool). if t then listed_name held ∷ [] else []) named ∙ ap (λ (y : Asked). y ∷ []) is))
     (Runs-one conduct asked a b result ends)
 
--- what a name asks for that can be a file's
+-- the request for a name that can be a file's
 pub listed_name-file : (held name : List ℕ) → is_file_name held ≡ true → name ≡ held → listed_name held ≡ File name
 listed_name-file held name can is = ap (λ (t : Bool). if t then File held else NoFile (shortened_name held) (name_reason held)) can ∙ ap File (sym is)
 
--- and what another one asks for
+-- the request for a name that cannot
 pub listed_name-no_file : (held name : List ℕ) (reason : Reason) → is_file_name held ≡ false → name ≡ shortened_name held → reason ≡ name_reason held → listed_name held ≡ NoFile name reason
 listed_name-no_file held name reason cannot is why =
     ap (λ (t : Bool). if t then File held else NoFile (shortened_name held) (name_reason held)) cannot

@@ -76,7 +76,7 @@ LosesStream-past conduct separator reader middle left has_failed a c held bytes 
   has_come = come;
 }
 
--- what has come, by the same conduct and separator
+-- what has come, by equal effects and separators
 pub HasCome-same : (conduct same : Conduct) (separator other : ℕ) (a b : Stand) (held came : List ℕ) → same ≡ conduct → other ≡ separator
     → HasCome conduct separator a b held came → HasCome same other a b held came
 HasCome-same conduct same separator other a b held came is_same is_other come =

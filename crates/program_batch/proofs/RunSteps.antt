@@ -7,7 +7,7 @@ use Rattle.program_batch.specs.Runs.{Stand, Steps, Answers, StopsAt, StopsIn, Ru
 use Rattle.program_batch.specs.declared.desk.RunFault.{RunFault}
 use Rattle.program_batch.specs.declared.desk.RunFault.TheVariants as faults
 
--- no file
+-- no files
 pub Steps-none : (conduct : Conduct) (a : Stand) → Steps conduct [] a a
 unfolding Steps
 Steps-none conduct a = refl
@@ -23,7 +23,7 @@ unfolding Steps
 Steps-append conduct [] ys a b c first others = subst (λ s. Steps conduct ys s c) first others
 Steps-append conduct (x ∷ xs) ys a b c first others = (first.0, first.1, Steps-append conduct xs ys first.0 b c first.2 others)
 
--- how the answer to one file ends is how a run over it ends
+-- a run over one file ends as that file ends
 pub Runs-one : {A : Type 0} (conduct : Conduct) (asked : Asked) (a b : Stand) (result : Result A RunFault) → EndsAt conduct asked a b result → Runs conduct (asked ∷ []) a b result
 Runs-one conduct asked a b (Ok done) ends = Steps-one conduct asked a b ends
 Runs-one conduct asked a b (Err fault) ends =
@@ -61,7 +61,7 @@ taken_next : {X : Type 0} (f : X → Asked) (xs : List X) (i : ℕ) (x : X) → 
 taken_next f xs i x within is =
     ap (map f) (take_more xs i x within) ∙ map-append f (take i xs) (get_or xs i x ∷ []) ∙ ap (λ y. map f (take i xs) ++ f y ∷ []) (sym is)
 
--- one file more of some is answered, by the same conduct
+-- one more file is processed, with the same effects
 pub Steps-next : {X : Type 0} (conduct same : Conduct) (f : X → Asked) (xs : List X) (i : ℕ) (x : X) (asked : Asked) (a b c : Stand)
     → i < length xs → x ≡ get_or xs i x → Steps conduct (map f (take i xs)) a b → same ≡ conduct → asked ≡ f x → Answers same asked b c → Steps conduct (map f (take (i + 1) xs)) a c
 Steps-next conduct same f xs i x asked a b c within is first is_same is_asked answers =
@@ -87,11 +87,11 @@ Runs-stopped {A} {X} conduct same f xs i x asked fault result a b c within is fi
     } in
     subst (λ (r : Result A RunFault). Runs conduct (map f xs) a c r) (sym is_err) stopped
 
--- all files are answered
+-- all files are processed
 pub Steps-all : {X : Type 0} (conduct : Conduct) (f : X → Asked) (xs : List X) (i : ℕ) (a b : Stand)
     → length xs ≤ i → Steps conduct (map f (take i xs)) a b → Steps conduct (map f xs) a b
 Steps-all {X} conduct f xs i a b all steps = subst (λ (l : List X). Steps conduct (map f l) a b) (take_all i xs all) steps
 
--- the answer to a file never stops for want of a list
+-- processing a file never stops by a fault of the list
 pub EndsAt-never : {A : Type 0} (conduct : Conduct) (asked : Asked) (a b : Stand) (result : Result A RunFault) → EndsAt conduct asked a b result → result ≢ Err faults.List
 EndsAt-never {A} conduct asked a b result ends is = subst (λ (r : Result A RunFault). EndsAt conduct asked a b r) is ends

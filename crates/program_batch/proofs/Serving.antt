@@ -1,4 +1,4 @@
--- Files that are read and answered, and those that cannot be read.
+-- Files that are read and processed, and those that cannot be read.
 use Rattle.std.proofs.Common.{◌≡◌, ℕ, List, Option, Some, None, Result, Ok, Err, refl, inl}
 use Rattle.host_storage.specs.Files.{HostState}
 use Rattle.host_storage.specs.declared.host.HostFault.{HostFault}
@@ -11,7 +11,7 @@ use Rattle.program_batch.specs.declared.report.Verdict.{Verdict}
 use Rattle.program_batch.specs.declared.desk.RunFault.{RunFault}
 use Rattle.program_batch.specs.declared.desk.RunFault.TheVariants as faults
 
--- a file was read, and answered
+-- a file was read and processed
 pub serves_read : (conduct : Conduct) (name bytes : List ℕ) (old host new : HostState) (answer : Answer)
     → IsRead (File name) old (Some bytes) host → conduct.does name (Some bytes) host answer new → Serves conduct (File name) old answer new
 serves_read conduct name bytes old host new answer read done = record {
@@ -25,12 +25,12 @@ serves_read conduct name bytes old host new answer read done = record {
   is = refl;
 }
 
--- or there was no memory for that
+-- or memory ran out while it was
 pub halts_read : (conduct : Conduct) (name bytes : List ℕ) (old host new : HostState)
     → IsRead (File name) old (Some bytes) host → conduct.halts name (Some bytes) host new → Halts conduct (File name) old new
 halts_read conduct name bytes old host new read halted = record { bytes = Some bytes; host = host; read = read; halted = halted }
 
--- a file could not be read, and how answering that ends is how serving it ends
+-- a file that could not be read ends as its task ends
 pub ends_unread : (conduct : Conduct) (name : List ℕ) (fault : HostFault) (reason : Option Reason) (old host new : HostState) (answer : Verdict → Answer) (result : Result Verdict RunFault)
     → IsFetched name old (Err fault) host → given_by (Err fault) ≡ Some None → IsReason host.files name fault reason
     → EndsUnread conduct name reason host new answer result → EndsServing conduct (File name) old new answer result
@@ -49,7 +49,7 @@ ends_unread conduct name fault reason old host new answer (Err faults.Memory) fe
 ends_unread conduct name fault reason old host new answer (Err faults.Write) fetched given is_reason ends = absurd ends
 ends_unread conduct name fault reason old host new answer (Err faults.List) fetched given is_reason ends = absurd ends
 
--- a name that can be no file's was answered
+-- a name that cannot be a file's was processed
 pub serves_no_file : (conduct : Conduct) (name : List ℕ) (reason : Reason) (old new : HostState) (answer : Verdict → Answer) (verdict : Verdict)
     → EndsUnread conduct name (Some reason) old new answer (Ok verdict) → Serves conduct (NoFile name reason) old (answer verdict) new
 serves_no_file conduct name reason old new answer verdict ends = record {
@@ -63,7 +63,7 @@ serves_no_file conduct name reason old new answer verdict ends = record {
   is = ends.2;
 }
 
--- or there was no memory for that
+-- or memory ran out while it was
 pub halts_no_file : (conduct : Conduct) (name : List ℕ) (reason : Reason) (old new : HostState) (answer : Verdict → Answer)
     → EndsUnread conduct name (Some reason) old new answer (Err faults.Memory) → Halts conduct (NoFile name reason) old new
 halts_no_file conduct name reason old new answer ends = record { bytes = None; host = old; read = (refl, refl); halted = ends }

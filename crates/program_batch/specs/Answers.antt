@@ -1,11 +1,11 @@
--- What is answered of a file, and what a report promises.
+-- The result of a file, and what a report promises.
 use Rattle.std.specs.Prelude.{◌≡◌, ℕ, List, [], Option}
 use Rattle.host_storage.specs.Files.{HostState}
 use Rattle.program_batch.specs.declared.report.Verdict.{Verdict}
 use Rattle.program_batch.specs.declared.report.Verdict.TheVariants.{Clean, Amiss, Failed}
 
--- what is answered of a file: what goes to the output, what goes to the standard error, and the
--- verdict
+-- the result of one file: what goes to the standard output, what goes to the standard error, and
+-- the verdict
 pub record Answer : Type 0 where
   pub printed : List ℕ
   pub complaint : List ℕ
@@ -14,30 +14,30 @@ pub record Answer : Type 0 where
 abbrev pub answer_of : List ℕ → List ℕ → Verdict → Answer
 answer_of printed complaint verdict = record { printed = printed; complaint = complaint; verdict = verdict }
 
--- what is answered of a file of this name, with these bytes, or with none where it cannot be read
+-- the result of a file with this name and these bytes (None if it cannot be read)
 abbrev pub Rule : Type 0
 Rule = List ℕ → Option (List ℕ) → Answer
 
--- what is done where a file of this name is answered, with these bytes, or with none where it
--- cannot be read: what may be answered, and what the host shows before and then; and what it may
--- show where memory was wanting
+-- the effects of a task on a file with this name and these bytes (None if it cannot be read): which
+-- results it may have with which state of the host before and after, and which states if memory
+-- runs out
 pub record Conduct : Type 1 where
   pub does : List ℕ → Option (List ℕ) → HostState → Answer → HostState → Type 0
   pub halts : List ℕ → Option (List ℕ) → HostState → HostState → Type 0
 
--- what answers by a rule does nothing to the host
+-- a task that follows a rule leaves the host as it was
 abbrev pub by_rule : Rule → Conduct
 by_rule rule = record {
   does = λ name bytes old answer new. (answer ≡ rule name bytes) × (new ≡ old);
   halts = λ name bytes old new. new ≡ old;
 }
 
--- nothing goes to the standard error of a file on which the verdict is clean
+-- a file with a clean verdict puts nothing on the standard error
 abbrev pub KeepsQuiet : Conduct → Type 0
 KeepsQuiet conduct = (name : List ℕ) (bytes : Option (List ℕ)) (old : HostState) (answer : Answer) (new : HostState)
     → conduct.does name bytes old answer new → answer.verdict ≡ Clean → answer.complaint ≡ []
 
--- a rule is quiet: of a file on which its verdict is clean, nothing goes to the standard error
+-- by this rule a file with a clean verdict puts nothing on the standard error
 abbrev pub IsQuiet : Rule → Type 0
 IsQuiet rule = (name : List ℕ) (bytes : Option (List ℕ)) → (rule name bytes).verdict ≡ Clean → (rule name bytes).complaint ≡ []
 
@@ -49,7 +49,7 @@ worse_verdict Amiss Amiss = Amiss
 worse_verdict Amiss Clean = Amiss
 worse_verdict Clean verdict = verdict
 
--- the exit status that a verdict means
+-- the exit status of a verdict
 abbrev pub status_of : Verdict → ℕ
 status_of Clean = 0
 status_of Amiss = 1

@@ -8,7 +8,7 @@ use Rattle.program_batch.specs.Runs.{Stand, Steps, StopsIn}
 use Rattle.program_batch.specs.declared.desk.RunFault.{RunFault}
 use Rattle.program_batch.specs.declared.desk.RunFault.TheVariants as faults
 
--- the names in these bytes of a list are answered
+-- the names in these bytes of a list are processed
 abbrev pub AnswersList : Conduct → ℕ → List ℕ → Stand → Stand → Type 0
 AnswersList conduct separator bytes old new = Steps conduct (map listed_name (names_in separator bytes)) old new
 
@@ -16,12 +16,12 @@ AnswersList conduct separator bytes old new = Steps conduct (map listed_name (na
 abbrev pub StopsInList : Conduct → ℕ → List ℕ → RunFault → Stand → Stand → Type 0
 StopsInList conduct separator bytes fault old new = StopsIn conduct (map listed_name (names_in separator bytes)) fault old new
 
--- the bytes end with a separator, or there are none
+-- there are no bytes, or they end with a separator
 abbrev pub IsEnded : ℕ → List ℕ → Type 0
 IsEnded separator bytes = (bytes ≡ []) ⊎ ((before : List ℕ) × (bytes ≡ before ++ separator ∷ []))
 
--- how far a list has come with these bytes: the names that are ended are answered, and of the one
--- that is not this is kept
+-- how far a list has come with these bytes: the names that are ended are processed, and this is
+-- kept of the one that is not
 pub record HasCome (conduct : Conduct) (separator : ℕ) (first now : Stand) (held came : List ℕ) : Type 0 where
   pub ended : List ℕ
   pub raw : List ℕ
@@ -35,23 +35,23 @@ pub record HasCome (conduct : Conduct) (separator : ℕ) (first now : Stand) (he
 abbrev pub list_limit : ℕ
 list_limit = 16777216
 
--- the most reads that are made of a list, of which each gives a byte at least
+-- the most reads of a list, each of which gives at least one byte
 abbrev pub reads_limit : ℕ
 reads_limit = 1000000
 
--- why a list cannot be read to its end, of which so many bytes came: a read of it failed, or it is
--- longer than as many reads may find
+-- why a list of which this many bytes came cannot be read to its end: a read failed, or the list is
+-- longer than the most reads can give
 abbrev pub IsCutShort : Bool → ℕ → Type 0
 IsCutShort has_failed came = (has_failed ≡ true) ⊎ (reads_limit ≤ came)
 
--- the whole of a list was read, and all of its names are answered
+-- the whole list was read, and all of its names are processed
 pub record AnswersStream (conduct : Conduct) (separator : ℕ) (reader : Option (List ℕ)) (old new : Stand) : Type 0 where
   pub list : List ℕ
   pub all : IfSome reader (λ bytes. list ≡ bytes)
   pub answered : AnswersList conduct separator list old new
 
--- a list cannot be read to its end: all names that were ended before are answered; of the bytes of
--- the one read that passes the limit nothing is looked at
+-- a list cannot be read to its end: all names that were ended before are processed, and the bytes
+-- of a read that passes the limit are ignored
 pub record LosesStream (conduct : Conduct) (separator : ℕ) (reader left : Option (List ℕ)) (has_failed : Bool) (old new : Stand) : Type 0 where
   pub consumed : List ℕ
   pub lost : Consumes reader left consumed
@@ -69,7 +69,7 @@ pub record StopsInStream (conduct : Conduct) (separator : ℕ) (reader : Option 
   pub all : IfSome reader (λ bytes. list ≡ bytes)
   pub stopped : StopsInList conduct separator list fault old new
 
--- how a run over a list that is read as it comes ends, of which a read has failed or not
+-- how a run over a list that is read as it comes ends; the flag says whether a read failed
 abbrev pub RunsStream : {A : Type 0} → Conduct → ℕ → Option (List ℕ) → Option (List ℕ) → Bool → Stand → Stand → Result A RunFault → Type 0
 RunsStream conduct separator reader left has_failed old new (Ok done) = AnswersStream conduct separator reader old new
 RunsStream conduct separator reader left has_failed old new (Err faults.List) = LosesStream conduct separator reader left has_failed old new

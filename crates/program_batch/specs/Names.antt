@@ -9,8 +9,7 @@ use Rattle.program_batch.specs.declared.reason.Reason.TheVariants.{NotUtf8, Long
 abbrev pub name_limit : ℕ
 name_limit = 4096
 
--- what is kept of a name in a list: all of it, or the first bytes of one that is too long, one more
--- than a name has
+-- what is kept of a name in a list: all of it, or its first 4097 bytes
 abbrev pub kept_name : List ℕ → List ℕ
 kept_name name = take 4097 name
 
@@ -18,34 +17,34 @@ kept_name name = take 4097 name
 abbrev pub is_name : List ℕ → Bool
 is_name piece = nat_lt 0 (length piece)
 
--- the names of a list, as far as they are kept: its pieces between separators, but for the empty
+-- the names of a list, as far as they are kept: its pieces between separators, without the empty
 -- ones
 unfoldable pub names_in : ℕ → List ℕ → List (List ℕ)
 names_in separator list = map kept_name (filter is_name (slice_split (nat_eq separator) list))
 
--- what is asked of a host: a file of this name; or no file, of a name that is shown so and can be
--- no file's for this reason
+-- what a run is given: a file with this name, or a name that cannot be a file's, with what is shown
+-- of it and the reason
 pub data Asked : Type 0 where
   File : List ℕ → Asked
   NoFile : List ℕ → Reason → Asked
 
--- a name of a list can be a file's: it is UTF-8, and isn't too long
+-- a name of a list can be a file's: it is UTF-8 and not too long
 abbrev pub is_file_name : List ℕ → Bool
 is_file_name name = is_utf8 name && nat_le (length name) name_limit
 
--- what is shown of a name of a list: all of it, or the first 64 bytes of one that is too long, and
--- two full stops
+-- what is shown of a name of a list: all of it, or the first 64 bytes and two full stops if it is
+-- too long
 abbrev pub shortened_name : List ℕ → List ℕ
 shortened_name name = if nat_le (length name) name_limit then name else take 64 name ++ codes ".."
 
--- why a name of a list can be no file's
+-- why a name of a list cannot be a file's
 abbrev pub name_reason : List ℕ → Reason
 name_reason name = if nat_le (length name) name_limit then NotUtf8 else LongName
 
--- what a name of a list asks for
+-- the request for a name of a list
 abbrev pub listed_name : List ℕ → Asked
 listed_name name = if is_file_name name then File name else NoFile (shortened_name name) (name_reason name)
 
--- what a piece of a list asks for, of which this is kept: nothing where it is empty
+-- the requests for a piece of a list of which this is kept: none if it is empty
 abbrev pub asked_by : List ℕ → List Asked
 asked_by piece = if is_name piece then listed_name piece ∷ [] else []

@@ -26,19 +26,19 @@ reason_text NameTooLong = codes "its name is too long"
 reason_text ReadOnly = codes "the disk is read-only"
 reason_text Full = codes "the disk is full"
 
--- what can be done, where that is not plain from the reason
+-- what can be done, if the reason does not make it plain
 abbrev pub hint_of : Reason → List ℕ
 hint_of Folder = codes "; of the images in it: find FOLDER -name '*.d64' | d64sh check --files-from -"
 hint_of reason = []
 
--- the reason that a look at a path shows
+-- the reason for an obstacle at a path
 abbrev pub reason_of_obstacle : Obstacle → Reason
 reason_of_obstacle obstacles.Nothing = NoSuchFile
 reason_of_obstacle obstacles.Folder = Folder
 reason_of_obstacle obstacles.NoPermission = NoPermission
 
--- why a file of this name was refused with a fault, as far as a host of these files can say: by the
--- fault, and where that is the device's, by what a look at the path shows
+-- why a file with this name was refused with this fault, as far as a host with these files can say:
+-- by the fault itself, or by what is at the path if the fault is the device's
 abbrev pub IsReason : Option Files → List ℕ → HostFault → Option Reason → Type 0
 IsReason files name faults.Missing reason = reason ≡ Some NoSuchFile
 IsReason files name faults.TooLong reason = reason ≡ Some TooLong
@@ -46,7 +46,7 @@ IsReason files name faults.Device reason =
     (seen : Option Obstacle) × LooksFor files name seen × (reason ≡ option_map reason_of_obstacle seen)
 IsReason files name (faults.Memory error) reason = reason ≡ None
 
--- the reason that a host gives for what keeps a path from being written
+-- the reason for an obstacle that keeps a path from being written
 abbrev pub reason_of_write_obstacle : WriteObstacle → Reason
 reason_of_write_obstacle write_obstacles.NoFolder = NoFolder
 reason_of_write_obstacle write_obstacles.NotFolder = NotFolder
@@ -56,18 +56,18 @@ reason_of_write_obstacle write_obstacles.LongName = NameTooLong
 reason_of_write_obstacle write_obstacles.ReadOnly = ReadOnly
 reason_of_write_obstacle write_obstacles.Full = Full
 
--- why a write was refused, as far as a host of these files can say
+-- why a write was refused, as far as a host with these files can say
 abbrev pub IsWriteReason : Option Files → Option Reason → Type 0
 IsWriteReason files reason =
     (seen : Option WriteObstacle) × LooksToWrite files seen × (reason ≡ option_map reason_of_write_obstacle seen)
 
--- a line with a reason in brackets before its line feed; no line stays none
+-- a line with the reason in brackets before its line feed; an empty line stays empty
 abbrev pub with_reason : Reason → List ℕ → List ℕ
 with_reason reason line =
     if length line == 0 then line
     else take (length line - 1) line ++ (codes " (" ++ (reason_text reason ++ (hint_of reason ++ codes ")\n")))
 
--- the same if a reason is known
+-- the same if the reason is known
 abbrev pub with_known_reason : Option Reason → List ℕ → List ℕ
 with_known_reason None line = line
 with_known_reason (Some reason) line = with_reason reason line

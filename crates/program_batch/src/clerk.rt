@@ -1,4 +1,4 @@
-//! `Clerk`: what is done with a file of a run where the host may change, and what is printed of it.
+//! `Clerk`: what is done with each file of a run, if the host may change, and what is printed.
 ghost use Rattle.std.specs.Prelude.{◌≡◌, IfOk, OnErr, OnOk, List, ℕ, option_map};
 ghost use Rattle.program_batch.specs.Answers.{Conduct, Rule, answer_of, by_rule};
 
@@ -6,28 +6,28 @@ use crate::report::{AnswerRoom, Report, Verdict};
 use host_storage::Host;
 use std::alloc::AllocError;
 
-/// Who answers files one after another, and may change the host as it does: it may make files, and
-/// look at what is there. A report is one that leaves the host as it is.
+/// A task that is done for one file after another. It may change the host: make files, and look at
+/// what is there. A `Report` is a task that leaves the host as it is.
 pub trait Clerk {
-    // What its words asked it to do, which stays as it is.
+    // The options that it was given, which never change.
     ghost Manner: { Type 0 };
 
     ghost manner: { Self → Manner };
 
-    // What may be done with a file, and answered.
+    // What may be done with a file, and with which result.
     ghost conduct: { Manner → Conduct };
 
-    // What stands before all answers.
+    // What is printed before the first result.
     ghost heading: { Self → List ℕ };
 
-    /// Puts into the room what is printed before all answers.
+    /// Writes the heading, which is printed before the first result, into the buffer.
     fn head(&mut self, room: &mut AnswerRoom) -> Result<(), AllocError>
         ensures same { manner self.new ≡ manner self.old }
         ensures heading { OnOk result (room.new.printed.items ≡ heading self.old) };
 
-    /// Does what is to be done with the file of this name, shown so, with these bytes, or with none
-    /// where it cannot be read; and puts into the room, in the place of what that had, what is told
-    /// of it. Where memory is wanting, the host may have changed.
+    /// Does the task for the file shown by `name`, with these bytes (None if it cannot be read),
+    /// and replaces the buffer's contents by what is printed of it. If memory runs out, the host
+    /// may have changed.
     fn answer<H: Host>(
         &mut self,
         name: &[u8],

@@ -1,4 +1,4 @@
-//! `Desk`: files are read, reported and flushed, one after another.
+//! `Desk`: files are read, processed and flushed, one after another.
 ghost use Rattle.std.specs.Prelude.{◌≡◌, [], true, map, string_bytes, IfOk, OnErr, OnOk};
 ghost use Rattle.program_batch.specs.Names.{File, NoFile as no_file};
 ghost use Rattle.program_batch.specs.Answers.{KeepsQuiet, answer_of};
@@ -19,7 +19,7 @@ pub const FILE_BYTES: usize = 16_777_216;
 /// Why a run stopped before its last file.
 #[derive(Clone, Copy, Debug, PartialEq, Eq, Error)]
 pub enum RunFault {
-    /// The list of names cannot be read to its end. All names that were ended before are answered.
+    /// The list of names cannot be read to its end. All names that were ended before are processed.
     #[error("the list of names cannot be read")]
     List,
     /// The output takes no more bytes.
@@ -51,24 +51,24 @@ impl From<WriteFault> for RunFault {
     }
 }
 
-/// A name that can be no file's: how it is shown, and why it is none.
+/// A name that cannot be a file's: how it is shown, and why.
 #[derive(Clone, Copy, Debug)]
 pub(crate) struct NoFile<'n> {
     pub(crate) shown: &'n [u8],
     pub(crate) reason: Reason,
 }
 
-/// The memory of a run, which is kept from file to file, and its worst verdict so far.
+/// The buffers of a run, which are used for one file after another, and its worst verdict so far.
 #[derive(Drop)]
 pub struct Desk {
     bytes: Vec<u8>,
-    /// The answer that `tell` tells.
+    /// The result that `tell` writes.
     pub room: AnswerRoom,
     worst: Verdict,
 }
 
 impl Desk {
-    /// A desk at which nothing was answered, which has no memory yet.
+    /// Returns an empty batch: no file is processed, and its buffers have no memory yet.
     pub fn new(alloc: Global) -> Desk
         ensures { result.worst ≡ Verdict.Clean }
     {
@@ -79,14 +79,14 @@ impl Desk {
         }
     }
 
-    /// The worst verdict on the files that were answered.
+    /// Returns the worst verdict on the files that were processed.
     pub fn worst(&self) -> Verdict
         ensures { result ≡ self.now.worst }
     {
         self.worst
     }
 
-    /// Prints what stands before all answers.
+    /// Prints the heading and flushes the output.
     pub fn begin<C: Clerk, W: Write>(
         &mut self,
         clerk: &mut C,
@@ -105,7 +105,7 @@ impl Desk {
         Ok(())
     }
 
-    /// Answers a file of the host.
+    /// Processes a file of the host.
     pub(crate) fn answer_file<H: Host, C: Clerk, W: Write, F: Write>(
         &mut self,
         name: &str,
@@ -129,7 +129,7 @@ impl Desk {
         Ok(())
     }
 
-    /// Reads a file of the host, and lets the clerk put the answer into the room.
+    /// Reads a file of the host, and lets the task put the result into the buffer.
     #[tactic(auto, using(crate::proofs::Serving::serves_read, crate::proofs::Serving::halts_read, crate::proofs::Serving::ends_unread))]
     fn serve<H: Host, C: Clerk>(
         &mut self,
@@ -156,8 +156,8 @@ impl Desk {
         }
     }
 
-    /// Puts into the room what is printed of a file that could not be read, and the reason behind
-    /// it, if one is known.
+    /// Puts the result of a file that could not be read into the buffer, with the reason if one is
+    /// known.
     fn serve_unread<H: Host, C: Clerk>(
         &mut self,
         name: &[u8],
@@ -176,7 +176,7 @@ impl Desk {
         Ok(verdict)
     }
 
-    /// Answers a name that can be no file's.
+    /// Processes a name that cannot be a file's.
     #[tactic(auto, using(crate::proofs::Serving::serves_no_file, crate::proofs::Serving::halts_no_file))]
     pub(crate) fn answer_no_file<H: Host, C: Clerk, W: Write, F: Write>(
         &mut self,
@@ -201,9 +201,8 @@ impl Desk {
         Ok(())
     }
 
-    /// Answers files of the host, one after another, and returns the worst verdict. `Write` comes
-    /// where the output fails, and nothing is answered after that; a file that cannot be read stops
-    /// nothing.
+    /// Processes files of the host, one after another. `Write` comes if the output fails, and no
+    /// file is processed after that; a file that cannot be read stops nothing.
     pub fn answer_files<H: Host, C: Clerk, W: Write, F: Write>(
         &mut self,
         names: &[String],
@@ -228,9 +227,9 @@ impl Desk {
         Ok(())
     }
 
-    /// Writes and delivers what is in the room, and counts the verdict. Where there is no
-    /// complaint, the standard error is left alone; where that fails, the rest of a complaint is
-    /// dropped.
+    /// Writes what is in the buffer, flushes the output, and counts the verdict. If the buffer has
+    /// no complaint, the standard error is left alone; if the standard error fails, the rest of the
+    /// complaint is dropped.
     pub fn tell<W: Write, F: Write>(
         &mut self,
         verdict: Verdict,

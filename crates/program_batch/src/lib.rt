@@ -1,8 +1,8 @@
 //! A run over many files, given or listed: each is read, reported and flushed before the next one,
 //! and the worst verdict counts; and why a file of the host cannot be read or written.
 //!
-//! The memory of a report is kept from file to file. Nothing here knows what the files hold: a
-//! `Report` prints what there is to say of one.
+//! The buffers of a report are used for one file after another. Nothing here knows what the files
+//! hold: a `Report` prints what there is to say of one.
 #![tactic(auto)]
 
 mod clerk;

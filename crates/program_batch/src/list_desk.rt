@@ -16,8 +16,8 @@ use script_text::output::OutputStream;
 use script_text::script::{READ_BYTES, SCRIPT_BYTES, SCRIPT_READS};
 use std::io::{Read, Write};
 
-/// A desk, and the name of a list that has not come to its end. Names stand between separators; an
-/// empty one is none.
+/// A batch, and the name of a list that has not come to its end. A separator ends each name; empty
+/// names are skipped.
 #[derive(Drop)]
 pub struct ListDesk {
     separator: u8,
@@ -26,7 +26,7 @@ pub struct ListDesk {
 }
 
 impl ListDesk {
-    /// A desk for a list with this byte between its names, of which nothing has come.
+    /// Returns a batch for a list whose names end with this byte, of which no byte has come.
     pub fn new(desk: Desk, separator: u8) -> ListDesk
         ensures separator { result.separator ≡ separator }
         ensures fresh { result.name ≡ [] }
@@ -39,14 +39,14 @@ impl ListDesk {
         }
     }
 
-    /// The worst verdict on the files that were answered.
+    /// Returns the worst verdict on the files that were processed.
     pub fn worst(&self) -> Verdict
         ensures { result ≡ self.now.desk.worst }
     {
         self.desk.worst()
     }
 
-    /// Answers the files that an input names, each once its name is ended. `List` comes where the
+    /// Processes the files that an input names, each once its name is ended. `List` comes if the
     /// input cannot be read to its end: a read failed, or it has more than 16,777,216 bytes, or
     /// takes more than 1,000,000 reads.
     pub fn answer_stream<R: Read, H: Host, C: Clerk, W: Write, F: Write>(
@@ -89,7 +89,7 @@ impl ListDesk {
         Err(RunFault::List)
     }
 
-    /// Takes the next bytes of the list, and answers the files whose names end in them.
+    /// Takes the next bytes of the list, and processes the files whose names end in them.
     fn take<H: Host, C: Clerk, W: Write, F: Write>(
         &mut self,
         bytes: &[u8],
@@ -126,7 +126,7 @@ impl ListDesk {
         Ok(())
     }
 
-    /// Takes the next byte of the list, and answers the file whose name it ends.
+    /// Takes the next byte of the list, and processes the file whose name it ends.
     fn take_byte<H: Host, C: Clerk, W: Write, F: Write>(
         &mut self,
         byte: u8,
@@ -166,7 +166,7 @@ impl ListDesk {
         Ok(())
     }
 
-    /// Answers the file whose name is ended, if it has a byte.
+    /// Processes the file whose name is ended, if the name has a byte.
     fn end<H: Host, C: Clerk, W: Write, F: Write>(
         &mut self,
         host: &mut H,

@@ -9,10 +9,10 @@ use std::marker::Model;
 /// The most bytes of a name.
 const NAME_BYTES: usize = 4096;
 
-/// One byte more than a name has, so that one that is too long is known.
+/// One byte more than a name has, so that a name that is too long is recognised.
 const KEPT_BYTES: usize = 4097;
 
-/// How many bytes are shown of a name that is too long.
+/// The bytes that are shown of a name that is too long.
 const SHOWN_BYTES: usize = 64;
 
 /// The bytes of a name as far as they have come, or the first 4,097 of more.
@@ -32,7 +32,7 @@ impl Model for OpenName {
 }
 
 impl OpenName {
-    /// A name of which nothing has come.
+    /// Returns a name of which no byte has come.
     pub(crate) fn new() -> OpenName
         ensures { result ≡ [] }
     {
@@ -41,7 +41,7 @@ impl OpenName {
         }
     }
 
-    /// Forgets the name for the next one.
+    /// Forgets the name, for the next one.
     pub(crate) fn clear(&mut self)
         ensures { self.new ≡ [] }
     {
@@ -57,15 +57,15 @@ impl OpenName {
         }
     }
 
-    /// Whether something has come.
+    /// Whether a byte has come.
     pub(crate) fn is_name(&self) -> bool
         ensures { result ≡ is_name self.now }
     {
         !self.bytes.is_empty()
     }
 
-    /// The name as a file's, or None where it can be no file's: it is no UTF-8, or has more than
-    /// 4,096 bytes.
+    /// Returns the name as a file's, or None if it cannot be a file's: it is not UTF-8, or has more
+    /// than 4,096 bytes.
     pub(crate) fn file_name(&self) -> Option<&str>
         ensures { MatchOption result (is_file_name self.now ≡ false) (λ name. (is_file_name self.now ≡ true) × (name.now ≡ self.now)) }
     {
@@ -78,7 +78,7 @@ impl OpenName {
         }
     }
 
-    /// Why the name can be no file's, where it can be none.
+    /// Returns why the name cannot be a file's; only meant for such a name.
     pub(crate) fn reason(&self) -> Reason
         ensures { result ≡ name_reason self.now }
     {
@@ -89,8 +89,8 @@ impl OpenName {
         }
     }
 
-    /// Keeps what is shown of a name: all of it, or the first 64 bytes of one that is too long, and
-    /// two full stops.
+    /// Keeps only what is shown of the name: all of it, or the first 64 bytes and two full stops if
+    /// it is too long.
     pub(crate) fn shorten(&mut self)
         ensures { self.new ≡ shortened_name self.old }
     {
@@ -100,7 +100,7 @@ impl OpenName {
         }
     }
 
-    /// The bytes of the name.
+    /// Returns the bytes of the name.
     pub(crate) fn as_bytes(&self) -> &[u8]
         ensures { result.now ≡ self.now }
     {

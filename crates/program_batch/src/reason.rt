@@ -8,34 +8,34 @@ use std::alloc::AllocError;
 /// Why a file could not be read or written.
 #[derive(Clone, Copy, Debug, PartialEq, Eq)]
 pub enum Reason {
-    /// Nothing is at its path.
+    /// There is nothing at its path.
     NoSuchFile,
-    /// A folder is at its path.
+    /// There is a folder at its path.
     Folder,
     /// The system does not let this process read what is there, or write there.
     NoPermission,
     /// It has more bytes than any file that is read here.
     TooLong,
-    /// Its name is none of UTF-8, which alone can be asked for.
+    /// Its name is not UTF-8, and no other can be opened.
     NotUtf8,
     /// Its name in a list has more than 4,096 bytes.
     LongName,
-    /// The folder that it is to be written to is not there.
+    /// The folder that it is to be written to does not exist.
     NoFolder,
-    /// What it is to be written to is no folder.
+    /// The path that it is to be written to is not a folder.
     NotFolder,
-    /// A folder is there where it is to be written.
+    /// There is a folder at the path that it is to be written to.
     FolderThere,
-    /// Its name is longer than the system lets one be.
+    /// Its name is longer than the system allows.
     NameTooLong,
-    /// The disk can only be read.
+    /// The disk is read-only.
     ReadOnly,
-    /// The disk has no room left.
+    /// The disk is full.
     Full,
 }
 
 impl Reason {
-    /// The reason in plain words.
+    /// Returns the reason in plain words.
     pub fn text(self) -> &'static [u8]
         ensures { result.now ≡ reason_text self }
     {
@@ -55,7 +55,7 @@ impl Reason {
         }
     }
 
-    /// What can be done, where that is not plain from the reason.
+    /// Returns what can be done, if the reason does not make it plain.
     fn hint(self) -> &'static [u8]
         ensures { result.now ≡ hint_of self }
     {
@@ -67,7 +67,7 @@ impl Reason {
         }
     }
 
-    /// Puts the reason, and what can be done, in brackets behind a line, before its line feed.
+    /// Appends the reason, and what can be done, in brackets to a line, before its line feed.
     pub(crate) fn add_to(self, line: &mut Vec<u8>) -> Result<(), AllocError>
         ensures { OnOk result (line.new.items ≡ with_reason self line.old.items) }
     {
@@ -94,7 +94,7 @@ impl From<Obstacle> for Reason {
     }
 }
 
-/// Why a read of a file was refused with this fault, as far as its host can say.
+/// Returns why a read of a file was refused with this fault, as far as its host can say.
 pub fn reason_of<H: Host>(host: &H, name: &str, fault: HostFault) -> Option<Reason>
     ensures { IsReason (H.state host.now).files name.now fault result }
 {
@@ -125,8 +125,8 @@ impl From<WriteObstacle> for Reason {
     }
 }
 
-/// Why the last write, which was refused, could not be done at this path, as far as its host can
-/// say.
+/// Returns why the last write, which was refused, could not be done at this path, as far as its
+/// host can say.
 pub fn reason_unwritten<H: Host>(host: &H, path: &str) -> Option<Reason>
     ensures { IsWriteReason (H.state host.now).files result }
 {
@@ -136,7 +136,7 @@ pub fn reason_unwritten<H: Host>(host: &H, path: &str) -> Option<Reason>
     }
 }
 
-/// Puts a reason, if one is known, and what can be done in brackets behind a line, before its line
+/// Appends a reason, if one is known, and what can be done, in brackets to a line, before its line
 /// feed.
 pub fn push_known_reason(line: &mut Vec<u8>, reason: Option<Reason>) -> Result<(), AllocError>
     ensures { OnOk result (line.new.items ≡ with_known_reason reason line.old.items) }

@@ -4,19 +4,19 @@ ghost use Rattle.program_batch.specs.Answers.{Answer, IsQuiet, worse_verdict, st
 
 use std::alloc::{AllocError, Global};
 
-/// How it stands with a file, or with all of a run.
+/// How good a file is, or the worst file of a run.
 #[derive(Clone, Copy, Debug, PartialEq, Eq)]
 pub enum Verdict {
-    /// Nothing is amiss.
+    /// The file is good.
     Clean,
-    /// Something is amiss, by the command's own rule.
+    /// Something is wrong with the file, by the command's own rule.
     Amiss,
-    /// It was not answered.
+    /// The file could not be processed.
     Failed,
 }
 
 impl Verdict {
-    /// The worse of two verdicts.
+    /// Returns the worse of two verdicts.
     pub fn worse(self, other: Verdict) -> Verdict
         ensures { result ≡ worse_verdict self other }
     {
@@ -27,7 +27,7 @@ impl Verdict {
         }
     }
 
-    /// The exit status that the verdict means: 0, 1 or 2.
+    /// Returns the exit status of the verdict: 0, 1 or 2.
     pub fn exit_status(self) -> u8
         ensures { result ≡ status_of self }
     {
@@ -39,17 +39,17 @@ impl Verdict {
     }
 }
 
-/// The answer of one file, in memory that is kept from file to file.
+/// The result of one file, in buffers that are used for one file after another.
 #[derive(Debug, Drop)]
 pub struct AnswerRoom {
-    /// What goes to the output.
+    /// What goes to the standard output.
     pub printed: Vec<u8>,
     /// What goes to the standard error.
     pub complaint: Vec<u8>,
 }
 
 impl AnswerRoom {
-    /// Room for answers, which has no memory yet.
+    /// Returns empty buffers, which have no memory yet.
     pub fn new(alloc: Global) -> AnswerRoom
         ensures printed { result.printed.items ≡ [] }
         ensures complaint { result.complaint.items ≡ [] }
@@ -60,7 +60,7 @@ impl AnswerRoom {
         }
     }
 
-    /// Forgets the answer, and keeps its memory.
+    /// Empties the buffers, and keeps their memory.
     pub fn clear(&mut self)
         ensures printed { self.new.printed.items ≡ [] }
         ensures complaint { self.new.complaint.items ≡ [] }
@@ -70,22 +70,22 @@ impl AnswerRoom {
     }
 }
 
-/// What a command tells of a file, by its name and its bytes. The answer is the same whatever was
-/// answered before.
+/// What a command prints of a file, by its name and its bytes. It is the same whatever was printed
+/// before.
 pub trait Report {
-    // The rule by which it answers.
+    // The rule that it follows.
     ghost rule: { Self → List ℕ → Option (List ℕ) → Answer };
 
-    // What stands before all answers.
+    // What is printed before the first result.
     ghost heading: { Self → List ℕ };
 
-    /// Puts into the room what is printed before all answers.
+    /// Writes the heading, which is printed before the first result, into the buffer.
     fn head(&mut self, room: &mut AnswerRoom) -> Result<(), AllocError>
         ensures same { rule self.new ≡ rule self.old }
         ensures heading { OnOk result (room.new.printed.items ≡ heading self.old) };
 
-    /// Puts into the room, in the place of what that had, what is told of the file of this name,
-    /// shown so, with these bytes, or with none where it cannot be read.
+    /// Replaces the buffer's contents by what is printed of the file shown by `name`, with these
+    /// bytes (None if it cannot be read).
     fn answer(
         &mut self,
         name: &[u8],
@@ -96,6 +96,6 @@ pub trait Report {
         ensures answered { IfOk result (λ verdict. record { printed = room.new.printed.items; complaint = room.new.complaint.items; verdict = verdict }
             ≡ rule self.old name.now (option_map (λ bytes. bytes.now) bytes.entry)) };
 
-    // A clean answer has no complaint.
+    // A clean result has no complaint.
     ghost quiet: { (report : Self) → IsQuiet (rule report) };
 }

@@ -5,7 +5,7 @@ use Rattle.program_batch.specs.declared.report.Verdict.TheVariants.{Clean}
 use Rattle.program_batch.specs.Runs.{Steps, stand_at}
 use Rattle.program_batch.proofs.desk.Desk.answer_files.Given as goal
 
--- the files before this one are answered
+-- the files before this one are processed
 abbrev pub invariant-loop-name : goal.invariant-loop-name
 invariant-loop-name g l = record {
   output : l.output.writer.ghost_name ≡ l.initial.output.writer.ghost_name;
