@@ -1,4 +1,4 @@
--- What stops the program, and how that is told.
+-- What stops the program, and how that is reported.
 use Rattle.std.specs.Prelude.{◌≡◌, ℕ, List, [], ◌++◌, length, codes}
 use Rattle.std.specs.Fmt.{decimal}
 use Rattle.script_text.specs.Output.{Account, Writes}
@@ -14,29 +14,28 @@ use Rattle.script_run.specs.declared.runner.ShellFault.TheVariants as runs
 use Rattle.program_exit.specs.declared.program_fault.ProgramFault.{ProgramFault}
 use Rattle.program_exit.specs.declared.program_fault.ProgramFault.TheVariants.{UnreadableWords, WrongLength, UnreadableImage, UnreadableSession, NoSession, Read, Write, Memory}
 
--- how the fault of a file that cannot be fetched is told: the file is unreadable, or there is no
--- memory
+-- the fault for a file that cannot be fetched: the file is unreadable, or memory ran out
 abbrev pub fault_of_file : ProgramFault → HostFault → ProgramFault
 fault_of_file unreadable (files.Memory error) = Memory
 fault_of_file unreadable fault = unreadable
 
--- how the fault of the bytes of a session file is told: by its number
+-- the fault for the bytes of a session file, with the number of what is wrong with them
 abbrev pub fault_of_resume : ResumeFault → ProgramFault
 fault_of_resume (resumes.Memory error) = Memory
 fault_of_resume fault = NoSession (fault_number fault)
 
--- how the fault of the bytes of an image file is told
+-- the fault for the bytes of an image file
 abbrev pub fault_of_image : ImageFault → ProgramFault
 fault_of_image (images.WrongLength length) = WrongLength length
 fault_of_image (images.Memory error) = Memory
 
--- how the fault of a run is told
+-- the fault for a fault of the shell
 abbrev pub fault_of_run : ShellFault → ProgramFault
 fault_of_run runs.Read = Read
 fault_of_run runs.Write = Write
 fault_of_run (runs.Memory error) = Memory
 
--- the text that tells a fault, up to its number where it has one
+-- the text of a fault, without its number if it has one
 abbrev pub fault_words : ProgramFault → List ℕ
 fault_words UnreadableWords = codes "usage: an argument is not UTF-8"
 fault_words (WrongLength length) = codes "image: wrong length "
@@ -47,25 +46,24 @@ fault_words Read = codes "read fault"
 fault_words Write = codes "write fault"
 fault_words Memory = codes "out of memory"
 
--- the number that ends it
+-- the number at the end of the text
 abbrev pub fault_digits : ProgramFault → List ℕ
 fault_digits (WrongLength length) = decimal length
 fault_digits (NoSession fault) = decimal fault
 fault_digits other = []
 
--- the text that tells a fault
+-- the whole text of a fault
 unfoldable pub fault_text : ProgramFault → List ℕ
 fault_text fault = fault_words fault ++ fault_digits fault
 
--- the line of a fault that is told by this text, with the line feed at its end
+-- the line with this text and a line feed
 unfoldable pub told_line : List ℕ → List ℕ
 told_line text = codes "d64sh: " ++ text ++ codes "\n"
 
--- the program answered with a fault that is told by this text: status 2, and its line, whole unless
--- writing it failed
+-- a fault with this text was reported: exit status 2, and its line, whole unless writing it failed
 abbrev pub ReportsText : List ℕ → Account → Account → ℕ → Type 0
 ReportsText text faults told status = (status ≡ 2) × Writes faults told (told_line text)
 
--- the program answered with this fault
+-- this fault was reported
 abbrev pub Reports : ProgramFault → Account → Account → ℕ → Type 0
 Reports fault faults told status = ReportsText (fault_text fault) faults told status

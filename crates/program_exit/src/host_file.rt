@@ -8,8 +8,8 @@ use program_batch::FILE_BYTES;
 use script_commands::host_file::fetch;
 use std::alloc::Global;
 
-/// The bytes of a host file that is an image, a program or a text: `TooLong` where it has more than
-/// 16,777,216.
+/// Returns the bytes of a host file that is an image, a program or a text: `TooLong` if it has more
+/// than 16,777,216.
 pub fn fetch_file<H: Host>(alloc: Global, host: &mut H, name: &str) -> Result<Vec<u8>, HostFault>
     ensures { FetchesFile
         (H.state host.old)

@@ -1,7 +1,7 @@
 //! The exit statuses of `d64sh`, the faults that stop it, with their lines on standard error, and
 //! the reading of its host files.
 //!
-//! A crate below those that run the subcommands, which share it.
+//! The crates that run the subcommands share it.
 #![tactic(auto)]
 
 mod exit_status;

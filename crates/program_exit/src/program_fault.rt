@@ -1,4 +1,4 @@
-//! `ProgramFault`: what stops the program, and the lines that say so.
+//! `ProgramFault`: what stops the program, and the lines that report it.
 ghost use Rattle.std.specs.Prelude.{◌≡◌, ◌≤◌, ◌+◌, ◌++◌, Bool, false, length};
 ghost use Rattle.arrayvec.specs.ArrayVec.{array_vec_len};
 ghost use Rattle.program_batch.specs.Runs.{account_at};
@@ -18,27 +18,27 @@ use std::alloc::AllocError;
 use std::io::Write;
 use thiserror::Error;
 
-/// The room for the line that tells a fault, in bytes.
+/// The most bytes of the line that reports a fault.
 const MAX_FAULT_LINE: usize = 64;
 
-/// Why the program ends with status 2, beside a fault of its words. Each is told by one line on the
-/// standard error.
+/// Why the program ends with status 2, beside faults of its arguments. Each is reported by one line
+/// on the standard error.
 #[derive(Clone, Copy, Debug, PartialEq, Eq, Error)]
 #[error("{}", self.text())]
 pub enum ProgramFault {
-    /// The words of the process are no text.
+    /// The arguments of the process are not UTF-8.
     UnreadableWords,
-    /// The image file has this many bytes, and an image 174,848 or 196,608.
+    /// The image file has this many bytes; an image has 174,848 or 196,608.
     #[error("{}{}", self.text(), .0)]
     WrongLength(usize),
     /// The image file is missing, cannot be read, or has more than 16,777,216 bytes.
     UnreadableImage,
     /// The session file is missing, cannot be read, or has more than 67,108,864 bytes.
     UnreadableSession,
-    /// The bytes of the session file are none of one, for the fault of this number in reading them.
+    /// The bytes of the session file are not a session; the number says what is wrong with them.
     #[error("{}{}", self.text(), .0)]
     NoSession(u8),
-    /// The input cannot be read to its end, or a tool's file cannot be read. Of a script, the lines
+    /// The input cannot be read to its end, or a tool's file cannot be read. The lines of a script
     /// that were ended before have run.
     Read,
     /// The output takes no more bytes.
@@ -47,9 +47,9 @@ pub enum ProgramFault {
 }
 
 impl ProgramFault {
-    /// Writes the line that tells the fault, and returns the exit status. Where a write fails or
-    /// takes nothing, the rest of the line is dropped. Of a plain writer no contract can say
-    /// whether one has: `report_on` is for a stream that can.
+    /// Writes the line that reports the fault, and returns the exit status. If a write fails or
+    /// takes nothing, the rest of the line is dropped. A contract cannot say of a plain writer
+    /// whether one has: `report_on` is for a stream, of which it can.
     pub fn report<F: Write>(self, faults: &mut F) -> u8
         ensures { (failed : Bool) × Reports self (account_of (F.contents faults.old) false) (account_of (F.contents faults.new) failed) result }
     {
@@ -57,7 +57,7 @@ impl ProgramFault {
         self.report_on(&mut stream)
     }
 
-    /// Writes the line that tells the fault, whole unless writing it fails, and returns the exit
+    /// Writes the line that reports the fault, whole unless writing it fails, and returns the exit
     /// status.
     pub fn report_on<F: Write>(self, faults: &mut OutputStream<'_, F>) -> u8
         ensures faults { faults.new.writer.ghost_name ≡ faults.old.writer.ghost_name }
@@ -68,7 +68,7 @@ impl ProgramFault {
         NOT_RUN
     }
 
-    /// The line that tells the fault, with its line feed. It takes no memory.
+    /// Returns the line that reports the fault, with its line feed. It takes no memory.
     #[tactic(auto, unfolding(crate::specs::Faults::fault_text))]
     fn line(self) -> ArrayVec<u8, MAX_FAULT_LINE>
         ensures { result.items ≡ told_line (fault_text self) }
@@ -82,7 +82,7 @@ impl ProgramFault {
         }
     }
 
-    /// The text that tells the fault, up to its number where it has one.
+    /// Returns the text of the fault, without its number if it has one.
     fn text(self) -> &'static str
         ensures text { result.now ≡ fault_words self }
         ensures fits { length result.now ≤ 36 }
@@ -99,7 +99,7 @@ impl ProgramFault {
         }
     }
 
-    /// The fault of a file that cannot be fetched, where this one tells that it is unreadable.
+    /// Returns the fault for a file that cannot be fetched: `unreadable`, or that memory ran out.
     pub fn of_file(fault: HostFault, unreadable: ProgramFault) -> ProgramFault
         ensures { result ≡ fault_of_file unreadable fault }
     {
@@ -110,8 +110,7 @@ impl ProgramFault {
     }
 }
 
-/// Writes the line that tells a fault by this text, whole unless writing it fails, and returns the
-/// exit status.
+/// Writes the line with this text, whole unless writing it fails, and returns the exit status.
 pub(crate) fn report_text<F: Write>(text: &str, faults: &mut OutputStream<'_, F>) -> u8
     requires { length text.now ≤ 56 }
     ensures faults { faults.new.writer.ghost_name ≡ faults.old.writer.ghost_name }
@@ -122,7 +121,7 @@ pub(crate) fn report_text<F: Write>(text: &str, faults: &mut OutputStream<'_, F>
     NOT_RUN
 }
 
-/// The line of a fault's text and of the number after it.
+/// Returns the line of a fault's text and the number after it.
 fn line_of(text: &str, number: &str) -> ArrayVec<u8, MAX_FAULT_LINE>
     requires { length text.now + length number.now ≤ 56 }
     ensures { result.items ≡ told_line (text.now ++ number.now) }
@@ -135,7 +134,7 @@ fn line_of(text: &str, number: &str) -> ArrayVec<u8, MAX_FAULT_LINE>
     line
 }
 
-/// Appends bytes for which there is room.
+/// Appends bytes that the line has space for.
 fn push_bytes(line: &mut ArrayVec<u8, MAX_FAULT_LINE>, bytes: &[u8])
     requires { array_vec_len line.old + length bytes.now ≤ 64 }
     ensures bytes { line.new.items ≡ line.old.items ++ bytes.now }

@@ -34,7 +34,7 @@ pub fn report_no_job<W: Write, F: Write>(
     }
 }
 
-/// Shows the help or the version.
+/// Prints the help or the version.
 fn show<W: Write, F: Write>(
     alloc: Global,
     fault: &JobFault,
@@ -69,7 +69,7 @@ fn write_whole<W: Write>(output: &mut OutputStream<'_, W>, text: &[u8]) -> Resul
     output.flush()
 }
 
-/// Tells what is wrong with the words. Where a write fails, the rest of the text is dropped.
+/// Reports what is wrong with the arguments. If a write fails, the rest of the text is dropped.
 fn tell<F: Write>(alloc: Global, fault: &JobFault, faults: &mut OutputStream<'_, F>) -> u8
     ensures faults { faults.new.writer.ghost_name ≡ faults.old.writer.ghost_name }
     ensures told { HasTold (account_at F.contents faults.old) (account_at F.contents faults.new) result }
