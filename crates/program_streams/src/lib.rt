@@ -1,8 +1,8 @@
 //! The streams of the process as the program uses them: the line that shows progress at a terminal,
-//! output that nobody reads any more, and files that may not grow.
+//! output whose reader has gone, and files that may not grow.
 //!
-//! The check of the program itself comes at the end of all others; this is a library so that it can
-//! be checked before.
+//! The program itself is proved after all other crates; this is a library so that it can be proved
+//! before.
 #![tactic(auto)]
 
 mod progress;

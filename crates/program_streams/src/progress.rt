@@ -1,5 +1,5 @@
-//! How many files of a long run are done, on one line of a terminal that is written over and wiped
-//! at the end.
+//! The number of files that are done of a long run, on one line of a terminal that is written over
+//! and wiped at the end.
 
 ghost use Rattle.std.specs.Prelude.{◌≡◌};
 ghost use Rattle.std.specs.Io.{WritesAtMost};
@@ -12,11 +12,11 @@ use std::io::{self, Eprint, Write};
 use std::rt::Clock;
 use std::time::Instant;
 
-/// The milliseconds between two lines: at most ten come in a second.
+/// The milliseconds between two updates: at most ten a second.
 const PAUSE: u128 = 100;
 
-/// The line of a terminal, where one is wanted. It is written over, and wiped before anything else
-/// is written there.
+/// The progress line of a terminal, if one is wanted. It is written over, and wiped before anything
+/// else is written there.
 #[derive(Drop)]
 pub struct ProgressLine<'a, R> {
     rt: &'a R,
@@ -26,7 +26,7 @@ pub struct ProgressLine<'a, R> {
 }
 
 impl<'a, R: Clock + Eprint> ProgressLine<'a, R> {
-    /// A line on which nothing is shown yet.
+    /// Returns a line that shows nothing yet.
     pub fn new(rt: &'a R, is_wanted: bool) -> ProgressLine<'a, R>
         ensures { result.is_wanted ≡ is_wanted }
     {
@@ -38,8 +38,8 @@ impl<'a, R: Clock + Eprint> ProgressLine<'a, R> {
         }
     }
 
-    /// Shows how many files are done, where the last line is old enough; the first one comes that
-    /// long after the first call.
+    /// Shows the number of files that are done, if the last update is old enough; the first one
+    /// comes that long after the first call.
     fn show(&self, done: u64) {
         if !self.is_wanted || !self.is_due() {
             return;
@@ -52,7 +52,7 @@ impl<'a, R: Clock + Eprint> ProgressLine<'a, R> {
         self.told.set(Instant::now(self.rt).ok());
     }
 
-    /// Whether the last line is old enough, or there was none.
+    /// Whether the last update is old enough, or there was none.
     fn is_due(&self) -> bool {
         match self.told.get() {
             Some(told) => match told.elapsed(self.rt) {
@@ -63,7 +63,7 @@ impl<'a, R: Clock + Eprint> ProgressLine<'a, R> {
         }
     }
 
-    /// Wipes the line where it is shown.
+    /// Wipes the line if it is shown.
     pub fn wipe(&self) {
         if self.is_shown.get() {
             let _ = eprint!(self.rt; "\r\x1b[K");
@@ -72,7 +72,7 @@ impl<'a, R: Clock + Eprint> ProgressLine<'a, R> {
     }
 }
 
-/// A host of which each file that is read for a survey counts as one that is shown on the line.
+/// A host that counts each file that is read for a survey, and shows the count on the line.
 #[derive(Drop)]
 pub struct WatchedHost<'a, R, H> {
     line: &'a ProgressLine<'a, R>,
@@ -81,7 +81,7 @@ pub struct WatchedHost<'a, R, H> {
 }
 
 impl<'a, R, H> WatchedHost<'a, R, H> {
-    /// A host of which no file was read.
+    /// Returns a host of which no file was read.
     pub fn new(line: &'a ProgressLine<'a, R>, host: H) -> WatchedHost<'a, R, H>
         ensures { result.host ≡ host }
     {
@@ -154,7 +154,7 @@ impl<'a, R: Clock + Eprint, H: Host> Host for WatchedHost<'a, R, H> {
     }
 }
 
-/// A writer to the terminal, on which the line is wiped first.
+/// A writer to the terminal, which wipes the line first.
 #[derive(Drop)]
 pub struct WipingWriter<'a, R, W> {
     line: &'a ProgressLine<'a, R>,
@@ -162,7 +162,7 @@ pub struct WipingWriter<'a, R, W> {
 }
 
 impl<'a, R, W> WipingWriter<'a, R, W> {
-    /// A writer that wipes this line.
+    /// Returns a writer that wipes this line.
     pub fn new(line: &'a ProgressLine<'a, R>, writer: W) -> WipingWriter<'a, R, W>
         ensures { result.writer ≡ writer }
     {

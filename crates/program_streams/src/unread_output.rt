@@ -1,4 +1,4 @@
-//! Output that nobody reads any more, as behind `| head`.
+//! Output whose reader has gone, as before `| head`.
 
 ghost use Rattle.std.specs.Prelude.{◌≡◌};
 ghost use Rattle.std.specs.Io.{WritesAtMost};
@@ -7,7 +7,7 @@ ghost use Rattle.std.specs.Io.KnownBytes.{WriteAppends, Keeps};
 use std::cell::Cell;
 use std::io::{self, ErrorKind, Write};
 
-/// The output, of which it is marked, if that is wanted, once nobody reads it any more.
+/// The output. If that is wanted, a flag is set once its reader has gone.
 #[derive(Drop)]
 pub struct MarkingWriter<'a, W> {
     is_unread: &'a Cell<bool>,
@@ -16,7 +16,7 @@ pub struct MarkingWriter<'a, W> {
 }
 
 impl<'a, W> MarkingWriter<'a, W> {
-    /// A writer to the output.
+    /// Returns a writer to the output.
     pub fn new(is_unread: &'a Cell<bool>, is_marking: bool, writer: W) -> MarkingWriter<'a, W>
         ensures marking { result.is_marking ≡ is_marking }
         ensures writer { result.writer ≡ writer }
@@ -52,7 +52,7 @@ impl<'a, W: Write> Write for MarkingWriter<'a, W> {
     }
 }
 
-/// A writer that takes nothing once nobody reads the output.
+/// A writer that drops everything once the output's reader has gone.
 #[derive(Drop)]
 pub struct QuietWriter<'a, W> {
     is_unread: &'a Cell<bool>,
@@ -60,7 +60,7 @@ pub struct QuietWriter<'a, W> {
 }
 
 impl<'a, W> QuietWriter<'a, W> {
-    /// A writer beside the output.
+    /// Returns a writer that shares the output's flag.
     pub fn new(is_unread: &'a Cell<bool>, writer: W) -> QuietWriter<'a, W>
         ensures { result.writer ≡ writer }
     {

@@ -8,8 +8,8 @@ use host_storage::{SizeLimit, StandardStream};
 use std::io::{self, ErrorKind, Write};
 use std::rt::Files;
 
-/// A writer to a standard stream, which fails where that goes to a file that may not grow: the
-/// system would end the process there by a signal.
+/// A writer to a standard stream, which fails if that is a file that may not grow further: the
+/// system would end the process by a signal.
 #[derive(Drop)]
 pub struct WithinLimit<'a, R, W> {
     rt: &'a R,
@@ -19,7 +19,7 @@ pub struct WithinLimit<'a, R, W> {
 }
 
 impl<'a, R, W> WithinLimit<'a, R, W> {
-    /// What writes to this stream by this writer, under the process's limit.
+    /// Returns a writer to this stream, under the limit of the process.
     pub fn new(
         rt: &'a R,
         limit: &'a SizeLimit,
