@@ -1,15 +1,15 @@
-//! The program's arguments: what is asked for by which, and the texts of those that are refused and
+//! The program's arguments: the jobs that they ask for, and the texts of those that are refused and
 //! of help.
 //!
 //! The rows are text, since that is proved and compiled once for all of them: the arguments after
-//! the program's name, parted by `|`, then ` => ` and what must come of them.
+//! the program's name, with `|` between them, then ` => ` and the expected result.
 
 use program_arguments::{JobFault, job};
 use script_text::output::WriteFault;
 use std::alloc::Global;
 use std::test::Fail;
 
-/// Arguments, and the job that they ask for as `Debug` shows it.
+/// Arguments, and their job as `Debug` prints it.
 const JOBS: &str = "\
 shell => Shell { image: None, tracks: 35, resume: None, lines: [], stops_at_refusal: false }
 shell|my disk => Shell { image: Some(\"my disk\"), tracks: 35, resume: None, lines: [], stops_at_refusal: false }
@@ -192,8 +192,7 @@ diff|--help => Example: d64sh diff before.d64 after.d64
 catalogue|--help => Example: d64sh catalogue --maps *.d64 >disks.html
 -V => d64sh 0.2.0";
 
-/// The program's name and the arguments that stand before ` => ` in a row, and what stands after
-/// it.
+/// Returns the program's name and the arguments before ` => ` in a row, and the text after it.
 fn parted<'a>(alloc: Global, row: &'a str) -> Result<(Vec<&'a str>, &'a str), Fail> {
     let (arguments, wanted) = row.split_once(" => ").ok_or("a row without an end")?;
     let mut words = Vec::new(alloc);
@@ -215,7 +214,7 @@ fn takes_arguments_for_jobs(rt: HostRuntime) -> Result<(), Fail> {
     Ok(())
 }
 
-/// Whether the words get a text that has this line, and whether they asked for it.
+/// Whether the text for these arguments has this line, and whether the arguments asked for it.
 fn is_told(alloc: Global, words: &[&str], line: &str, was_asked_for: bool) -> Result<bool, Fail> {
     let Err(fault) = job(alloc, words) else {
         return Ok(false);
@@ -225,7 +224,7 @@ fn is_told(alloc: Global, words: &[&str], line: &str, was_asked_for: bool) -> Re
     Ok(has_line && fault.was_asked_for() == was_asked_for)
 }
 
-/// The first row of which this is not told.
+/// Returns the first row whose text does not have its line.
 fn first_untold<'a>(
     alloc: Global,
     rows: &'a str,

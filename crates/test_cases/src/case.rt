@@ -1,19 +1,19 @@
-//! Cases: what is done, step by step, and what must come of it.
+//! Cases: what is done, step by step, and the expected results.
 
 use crate::script::Script;
 use std::alloc::Global;
 
-/// Where a stream fails.
+/// The place in a stream at which it fails.
 #[derive(Clone, Copy, Debug, PartialEq, Eq)]
 pub enum Place {
     Nowhere,
-    /// After so many bytes.
+    /// After this many bytes.
     After(usize),
-    /// After any number of bytes below those that there are, one number after another.
+    /// After each number of bytes below the number that there are, one after another.
     Anywhere,
 }
 
-/// What a writer does once it has no room left.
+/// What a writer does once it is full.
 #[derive(Clone, Copy, Debug, PartialEq, Eq)]
 pub enum WhenFull {
     Fails,
@@ -23,9 +23,9 @@ pub enum WhenFull {
 /// How a script is run, and how the run must end.
 #[derive(Drop)]
 pub struct Manner {
-    /// The words after the program's name; none where the script is run without the program.
+    /// The arguments after the program's name; None if the script is run without the program.
     pub words: Option<Vec<String>>,
-    /// The most bytes that a read gives; 1, 7 and 4,096 in turn where none is said.
+    /// The most bytes that a read gives; None stands for 1, 7 and 4,096 in turn.
     pub at_most: Option<usize>,
     pub reader_fails: Place,
     pub writer_stops: Place,
@@ -35,14 +35,14 @@ pub struct Manner {
     pub faults_room: Option<usize>,
     /// Whether the script must end with a read fault although its reader does not fail.
     pub is_past_limits: bool,
-    /// The program's exit status.
+    /// The exit status of the program.
     pub status: u8,
     /// What the program writes to the standard error.
     pub faults: String,
 }
 
 impl Manner {
-    /// On streams that do not fail, and to its end.
+    /// Returns a run to the end, on streams that do not fail.
     pub fn plain(alloc: Global) -> Manner {
         Manner {
             words: None,
@@ -66,7 +66,7 @@ pub struct Run {
     pub script: Script,
 }
 
-/// What a step of a case does or looks at.
+/// What a step of a case does or checks.
 #[derive(Drop)]
 pub enum Deed {
     /// From here on, files are those of the current folder.
@@ -86,34 +86,34 @@ pub enum Deed {
         place: usize,
         bytes: Vec<u8>,
     },
-    /// The so-many-th call of the host from here on fails.
+    /// The call of the host with this number, counted from here, fails.
     FailAt {
         call: usize,
     },
     Run {
         run: Run,
     },
-    /// Looks whether a host file has these bytes.
+    /// Checks whether a host file has these bytes.
     File {
         name: String,
         bytes: Vec<u8>,
     },
-    /// Looks whether a host file has the bytes of the session's image.
+    /// Checks whether a host file has the bytes of the session's image.
     FileIsImage {
         name: String,
     },
-    /// Looks whether there is no host file of this name.
+    /// Checks whether there is no host file with this name.
     NoFile {
         name: String,
     },
-    /// Looks whether a block has these bytes from a place on.
+    /// Checks whether a block has these bytes from a place on.
     Block {
         track: u8,
         sector: u8,
         place: usize,
         bytes: Vec<u8>,
     },
-    /// Looks at how many records are before and after the cursor.
+    /// Checks how many records are before and after the cursor.
     Records {
         done: usize,
         undone: usize,

@@ -1,4 +1,4 @@
-//! The lines of a case that do something or look at something.
+//! The lines of a case that do or check something.
 
 use crate::case::Deed;
 use crate::fault::CaseFault;
@@ -6,7 +6,7 @@ use crate::notation::{bytes_of, number_of, offset_of};
 use std::alloc::{AllocError, Global};
 use std::rt::Files;
 
-/// What a line does, by its first word and what comes after it.
+/// Returns what a line does, by its first word and the text after it.
 pub fn deed_of<R: Files + AllocGlobal>(rt: &R, word: &str, rest: &str) -> Result<Deed, CaseFault> {
     match word {
         "on" => on(rt.alloc(), rest),
@@ -25,7 +25,7 @@ fn unreadable(alloc: Global, text: &str) -> Result<CaseFault, AllocError> {
     Ok(CaseFault::Unreadable(String::from_str(alloc, text)?))
 }
 
-/// `the folder`
+/// Reads `the folder`.
 fn on(alloc: Global, text: &str) -> Result<Deed, CaseFault> {
     match text {
         "the folder" => Ok(Deed::OnTheFolder),
@@ -33,7 +33,7 @@ fn on(alloc: Global, text: &str) -> Result<Deed, CaseFault> {
     }
 }
 
-/// `= BYTES`
+/// Reads `= BYTES`.
 fn image<R: Files + AllocGlobal>(rt: &R, text: &str) -> Result<Deed, CaseFault> {
     match text.strip_prefix("= ") {
         Some(bytes) => Ok(Deed::Image {
@@ -43,7 +43,7 @@ fn image<R: Files + AllocGlobal>(rt: &R, text: &str) -> Result<Deed, CaseFault> 
     }
 }
 
-/// `NAME = BYTES` or `NAME at $22 = BYTES`
+/// Reads `NAME = BYTES` or `NAME at $22 = BYTES`.
 fn host<R: Files + AllocGlobal>(rt: &R, text: &str) -> Result<Deed, CaseFault> {
     let Some((what, bytes)) = text.split_once(" = ") else {
         return Err(unreadable(rt.alloc(), text)?);
@@ -62,7 +62,7 @@ fn host<R: Files + AllocGlobal>(rt: &R, text: &str) -> Result<Deed, CaseFault> {
     }
 }
 
-/// `3 of the host fails`
+/// Reads `3 of the host fails`.
 fn fail_at(alloc: Global, text: &str) -> Result<Deed, CaseFault> {
     match text.strip_suffix(" of the host fails") {
         Some(call) => Ok(Deed::FailAt {
@@ -72,7 +72,7 @@ fn fail_at(alloc: Global, text: &str) -> Result<Deed, CaseFault> {
     }
 }
 
-/// `NAME = BYTES` or `NAME is the image`
+/// Reads `NAME = BYTES` or `NAME is the image`.
 fn file<R: Files + AllocGlobal>(rt: &R, text: &str) -> Result<Deed, CaseFault> {
     if let Some(name) = text.strip_suffix(" is the image") {
         return Ok(Deed::FileIsImage {
@@ -88,7 +88,7 @@ fn file<R: Files + AllocGlobal>(rt: &R, text: &str) -> Result<Deed, CaseFault> {
     }
 }
 
-/// `file NAME`
+/// Reads `file NAME`.
 fn no_file(alloc: Global, text: &str) -> Result<Deed, CaseFault> {
     match text.strip_prefix("file ") {
         Some(name) => Ok(Deed::NoFile {
@@ -98,7 +98,7 @@ fn no_file(alloc: Global, text: &str) -> Result<Deed, CaseFault> {
     }
 }
 
-/// `17/0 = BYTES` or `17/0 at $22 = BYTES`
+/// Reads `17/0 = BYTES` or `17/0 at $22 = BYTES`.
 fn block<R: Files + AllocGlobal>(rt: &R, text: &str) -> Result<Deed, CaseFault> {
     let Some((what, bytes)) = text.split_once(" = ") else {
         return Err(unreadable(rt.alloc(), text)?);
@@ -118,13 +118,13 @@ fn block<R: Files + AllocGlobal>(rt: &R, text: &str) -> Result<Deed, CaseFault> 
     })
 }
 
-/// The track and the sector of `17/0`.
+/// Returns the track and the sector of `17/0`.
 fn pair_of(text: &str) -> Option<(u8, u8)> {
     let (track, sector) = text.split_once('/')?;
     Some((track.parse().ok()?, sector.parse().ok()?))
 }
 
-/// `1 done, 2 undone`
+/// Reads `1 done, 2 undone`.
 fn records(alloc: Global, text: &str) -> Result<Deed, CaseFault> {
     match text
         .strip_suffix(" undone")

@@ -4,12 +4,12 @@ use std::alloc::{AllocError, AllocFailed};
 use std::io;
 use thiserror::Error;
 
-/// Why a case cannot be read or played. Each says what is wrong with the line that it is told of.
+/// Why a case cannot be read or played: what is wrong with a line.
 #[derive(Debug, Drop, Error)]
 pub enum CaseFault {
     #[error("unknown word: {0}")]
     UnknownWord(String),
-    /// What comes after the first word of the line is not what that word takes.
+    /// The text after the first word of the line is not one that this word takes.
     #[error("cannot be read: {0}")]
     Unreadable(String),
     #[error("no bytes: {0}")]

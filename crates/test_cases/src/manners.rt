@@ -5,7 +5,7 @@ use crate::fault::CaseFault;
 use crate::notation::number_of;
 use std::alloc::Global;
 
-/// Takes a line that says how the next script is run; false where its first word is of none.
+/// Takes a line that says how the next script is run; returns false if it is another line.
 pub fn take_manner(
     alloc: Global,
     manner: &mut Manner,
@@ -26,7 +26,7 @@ pub fn take_manner(
     Ok(true)
 }
 
-/// The fault of a line of which this cannot be read.
+/// Returns the fault of a line in which this text cannot be read.
 fn unreadable(alloc: Global, text: &str) -> CaseFault {
     match String::from_str(alloc, text) {
         Ok(text) => CaseFault::Unreadable(text),
@@ -34,7 +34,7 @@ fn unreadable(alloc: Global, text: &str) -> CaseFault {
     }
 }
 
-/// Words with single spaces between; `""` is one without bytes.
+/// Returns the words of a text, with single spaces between them; `""` is an empty one.
 fn words_of(alloc: Global, text: &str) -> Result<Vec<String>, CaseFault> {
     let mut words = Vec::new(alloc);
     for word in text.split_whitespace() {
@@ -51,12 +51,12 @@ fn status_of(alloc: Global, text: &str) -> Result<u8, CaseFault> {
     }
 }
 
-/// The line of a text.
+/// Returns the text as a line.
 fn faults_of(alloc: Global, text: &str) -> Result<String, CaseFault> {
     Ok(format!(in alloc; "{text}\n")?)
 }
 
-/// The number after these words.
+/// Returns the number after these words.
 fn number_after(alloc: Global, before: &str, text: &str) -> Result<usize, CaseFault> {
     match text.strip_prefix(before) {
         Some(number) => number_of(alloc, number),
@@ -64,7 +64,7 @@ fn number_after(alloc: Global, before: &str, text: &str) -> Result<usize, CaseFa
     }
 }
 
-/// The place after these words: `after 30` or `anywhere`.
+/// Returns the place after these words: `after 30` or `anywhere`.
 fn place_after(alloc: Global, before: &str, text: &str) -> Result<Place, CaseFault> {
     match text.strip_prefix(before) {
         Some("anywhere") => Ok(Place::Anywhere),
@@ -87,7 +87,7 @@ fn take_writer(alloc: Global, manner: &mut Manner, text: &str) -> Result<(), Cas
     Ok(())
 }
 
-/// `the limits`
+/// Reads `the limits`.
 fn past_of(alloc: Global, text: &str) -> Result<bool, CaseFault> {
     match text {
         "the limits" => Ok(true),

@@ -5,9 +5,9 @@ use std::alloc::Global;
 use std::fs;
 use std::rt::Files;
 
-/// The bytes that words spell, one after another: `0A` is a byte, `"abc"` are the bytes of a text
-/// without spaces, `<NAME>` those of a file, `nothing` is none; and after any of these `x256` says
-/// how often it stands there.
+/// Returns the bytes that words spell, one after another: `0A` is a byte, `"abc"` are the bytes of
+/// a text without spaces, `<NAME>` those of a file, `nothing` are no bytes; and `x256` after any of
+/// these says how often it is repeated.
 pub fn bytes_of<R: Files + AllocGlobal>(rt: &R, text: &str) -> Result<Vec<u8>, CaseFault> {
     let mut bytes = Vec::new(rt.alloc());
     let mut last = Vec::new(rt.alloc());
@@ -23,7 +23,7 @@ pub fn bytes_of<R: Files + AllocGlobal>(rt: &R, text: &str) -> Result<Vec<u8>, C
     Ok(bytes)
 }
 
-/// Appends an item that stands there once so that it stands there so many times.
+/// Repeats the last item, which was appended once, so that it is there `times` times.
 fn repeat(bytes: &mut Vec<u8>, item: &[u8], times: usize) -> Result<(), CaseFault> {
     for _ in 1..times {
         bytes.extend_from_slice(item)?;
@@ -31,7 +31,7 @@ fn repeat(bytes: &mut Vec<u8>, item: &[u8], times: usize) -> Result<(), CaseFaul
     Ok(())
 }
 
-/// The bytes that one word spells.
+/// Returns the bytes that one word spells.
 fn word_bytes<R: Files + AllocGlobal>(rt: &R, word: &str) -> Result<Vec<u8>, CaseFault> {
     if word == "nothing" {
         return Ok(Vec::new(rt.alloc()));
@@ -48,12 +48,12 @@ fn word_bytes<R: Files + AllocGlobal>(rt: &R, word: &str) -> Result<Vec<u8>, Cas
     }
 }
 
-/// What stands between these two signs.
+/// Returns the text between these two characters.
 fn between(word: &str, first: char, last: char) -> Option<&str> {
     word.strip_prefix(first)?.strip_suffix(last)
 }
 
-/// The bytes of a file beside the cases.
+/// Returns the bytes of a file beside the cases.
 fn file_bytes<R: Files + AllocGlobal>(rt: &R, name: &str) -> Result<Vec<u8>, CaseFault> {
     match fs::read(rt, name) {
         Ok(bytes) => Ok(bytes),
@@ -61,7 +61,7 @@ fn file_bytes<R: Files + AllocGlobal>(rt: &R, name: &str) -> Result<Vec<u8>, Cas
     }
 }
 
-/// A decimal number.
+/// Returns a decimal number.
 pub fn number_of(alloc: Global, text: &str) -> Result<usize, CaseFault> {
     match text.parse() {
         Ok(number) => Ok(number),
@@ -69,7 +69,7 @@ pub fn number_of(alloc: Global, text: &str) -> Result<usize, CaseFault> {
     }
 }
 
-/// A number in two or more hexadecimal digits after `$`, as `$0A`.
+/// Returns a number in two or more hexadecimal digits after `$`, as `$0A`.
 pub fn offset_of(alloc: Global, text: &str) -> Result<usize, CaseFault> {
     let digits = text.strip_prefix('$').unwrap_or("");
     match usize::from_str_radix(digits, 16) {

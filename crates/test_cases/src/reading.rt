@@ -26,7 +26,7 @@ impl From<AllocError> for Unread {
     }
 }
 
-/// The steps of a case.
+/// Returns the steps of a case.
 pub fn steps_of<R: Files + AllocGlobal>(rt: &R, text: &str) -> Result<Vec<Step>, Unread> {
     let mut reading = Reading::new(rt);
     for line in text.lines() {
@@ -49,7 +49,7 @@ struct Reading<'r, R> {
     steps: Vec<Step>,
     /// How the next script is run.
     manner: Manner,
-    /// The lines of the script that is read, and where it begins.
+    /// The lines of the script that is being read, and where it begins.
     exchanges: Vec<Exchange>,
     begins: usize,
 }
@@ -66,7 +66,7 @@ impl<'r, R: Files + AllocGlobal> Reading<'r, R> {
         }
     }
 
-    /// The fault of the line that was taken last.
+    /// Returns the fault of the line that was taken last.
     fn unread(self, fault: CaseFault) -> Unread {
         Unread {
             line: self.line,
@@ -74,7 +74,7 @@ impl<'r, R: Files + AllocGlobal> Reading<'r, R> {
         }
     }
 
-    /// Takes a line: of a script where one begins with `>`, an answer where a script was begun, and
+    /// Takes a line: of a script if it begins with `>`, of its output if a script was begun, and
     /// else a step.
     fn take(&mut self, line: &str) -> Result<(), CaseFault> {
         self.line = self.line.saturating_add(1);
@@ -106,7 +106,7 @@ impl<'r, R: Files + AllocGlobal> Reading<'r, R> {
         Ok(())
     }
 
-    /// Takes a line outside a script: a remark, how the next script is run, or what a step does.
+    /// Takes a line that is not of a script: a remark, how the next script is run, or a step.
     fn take_step(&mut self, line: &str) -> Result<(), CaseFault> {
         if line.starts_with('#') {
             return Ok(());
@@ -144,7 +144,7 @@ impl<'r, R: Files + AllocGlobal> Reading<'r, R> {
     }
 }
 
-/// What is printed where an output has this line: `|` stands for an empty one.
+/// Returns the printed line that a line of an output means: `|` is an empty one.
 fn printed_line(line: &str) -> &str {
     match line {
         "|" => "",
@@ -152,7 +152,8 @@ fn printed_line(line: &str) -> &str {
     }
 }
 
-/// What a line that begins with `>` says, from the text after it: ` LINE`, `> BYTES` or `144 LINE`.
+/// Returns what a line that begins with `>` says, from the text after it: ` LINE`, `> BYTES` or
+/// `144 LINE`.
 fn said_of<R: Files + AllocGlobal>(rt: &R, text: &str) -> Result<Said, CaseFault> {
     if text.is_empty() {
         return Ok(Said::Line(String::new(rt.alloc())));

@@ -1,4 +1,4 @@
-//! Scripts with the answers that they must get.
+//! Scripts with their expected output.
 
 use std::alloc::{AllocError, Global};
 
@@ -7,21 +7,21 @@ use std::alloc::{AllocError, Global};
 pub enum Said {
     /// A line, without its line feed.
     Line(String),
-    /// A line that comes so many times; in the first `#` stands for 1, in the next for 2, and so
-    /// on.
+    /// A line that is repeated this many times; in the first `#` is replaced by 1, in the next by
+    /// 2, and so on.
     Numbered(usize, String),
-    /// Bytes, which need be no whole line.
+    /// Bytes, which need not be a whole line.
     Bytes(Vec<u8>),
 }
 
-/// A part of a script, and the answer to it.
+/// A part of a script, and its output.
 #[derive(Drop)]
 pub struct Exchange {
     pub said: Said,
     pub answer: String,
 }
 
-/// Where a line of a script ends, and where its answer does.
+/// Where a line of a script ends, and where its output does.
 #[derive(Clone, Copy, Debug, PartialEq, Eq)]
 pub struct Mark {
     pub script: usize,
@@ -31,7 +31,7 @@ pub struct Mark {
 }
 
 impl Mark {
-    /// Before the first line.
+    /// The mark before the first line.
     pub const START: Mark = Mark {
         script: 0,
         answers: 0,
@@ -39,7 +39,7 @@ impl Mark {
     };
 }
 
-/// A script, and the answers to all of it.
+/// A script, and its whole output.
 #[derive(Drop)]
 pub struct Script {
     alloc: Global,
@@ -58,7 +58,7 @@ impl Script {
         }
     }
 
-    /// Adds a part with its answer.
+    /// Adds a part with its output.
     pub fn add(&mut self, exchange: &Exchange) -> Result<(), AllocError> {
         let answer = exchange.answer.as_str();
         match &exchange.said {
@@ -71,13 +71,13 @@ impl Script {
         }
     }
 
-    /// The last line that is ended where so many bytes of the script came.
+    /// Returns the last line that is ended in the first `came` bytes of the script.
     pub fn ended_by(&self, came: usize) -> Mark {
         let ended = self.marks.iter().filter(|mark| mark.script <= came);
         ended.last().copied().unwrap_or(Mark::START)
     }
 
-    /// The line to whose answer the byte belongs that comes after so many.
+    /// Returns the line to whose output the byte after the first `room` bytes belongs.
     pub fn answered_at(&self, room: usize) -> Mark {
         let mut answered = self.marks.iter().filter(|mark| mark.answers > room);
         answered.next().copied().unwrap_or(Mark::START)
@@ -115,7 +115,7 @@ impl Script {
     }
 }
 
-/// The line in which a number stands for each `#`.
+/// Returns the line with each `#` replaced by a number.
 fn with_number(alloc: Global, line: &str, number: usize) -> Result<String, AllocError> {
     let mut numbered = String::new(alloc);
     for part in line.split_inclusive('#') {

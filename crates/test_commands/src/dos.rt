@@ -15,7 +15,7 @@ const DATA: usize = 336;
 /// The place of track 18, sector 0.
 const MAP: usize = 357;
 
-/// The command that makes an empty disk.
+/// Returns the command that makes an empty disk.
 fn format() -> Result<Command, Fail>
     ensures { IfOk result (λ command. (image : List (List ℕ)) → IsWithin image (change_of command)) }
 {
@@ -25,7 +25,7 @@ fn format() -> Result<Command, Fail>
     })
 }
 
-/// Applies a command, and answers what was there before.
+/// Applies a command, and returns what was there before.
 fn run(rt: &HostRuntime, image: &mut Image, command: &Command) -> Result<Patch, Fail>
     requires { IsWithin image.old (change_of command.now) }
     ensures { IfOk result (λ patch. IsPatchOf image.new patch) }
@@ -35,7 +35,7 @@ fn run(rt: &HostRuntime, image: &mut Image, command: &Command) -> Result<Patch, 
     Ok(patch)
 }
 
-/// An empty disk.
+/// Returns an empty disk.
 fn fresh(rt: &HostRuntime) -> Result<Image, Fail> {
     let mut image = Image::zeroed(rt.alloc())?;
     let command = format()?;
@@ -54,7 +54,7 @@ fn a_command_that_changes_nothing_leaves_an_empty_patch(rt: HostRuntime) -> Resu
     Ok(())
 }
 
-/// The command that writes a file of one byte as `X`.
+/// Returns the command that writes a file of one byte as `X`.
 fn write_x(rt: &HostRuntime) -> Result<Command, Fail>
     ensures { IfOk result (λ command. (image : List (List ℕ)) → IsWithin image (change_of command)) }
 {

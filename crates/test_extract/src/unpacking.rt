@@ -15,7 +15,7 @@ use std::test::Fail;
 /// The name of the image's file.
 const NAME: &[u8] = b"../disks//a/side1.d64";
 
-/// A command that makes an empty disk.
+/// Returns a command that makes an empty disk.
 fn format() -> Result<Command, Fail>
     ensures { IfOk result (λ command. (image : List (List ℕ)) → IsWithin image (change_of command)) }
 {
@@ -25,7 +25,7 @@ fn format() -> Result<Command, Fail>
     })
 }
 
-/// A command that writes a file of so many bytes.
+/// Returns a command that writes a file of `len` bytes.
 fn write(rt: &HostRuntime, name: &[u8], len: usize) -> Result<Command, Fail>
     ensures { IfOk result (λ command. (image : List (List ℕ)) → IsWithin image (change_of command)) }
 {
@@ -45,7 +45,7 @@ fn run(rt: &HostRuntime, image: &mut Image, command: &Command) -> Result<(), Fai
     Ok(())
 }
 
-/// A disk with a file of 3 bytes and one of 300.
+/// Returns a disk with a file of 3 bytes and one of 300.
 fn disk(rt: &HostRuntime) -> Result<Image, Fail> {
     let mut image = Image::zeroed(rt.alloc())?;
     run(rt, &mut image, &format()?)?;
@@ -54,7 +54,7 @@ fn disk(rt: &HostRuntime) -> Result<Image, Fail> {
     Ok(image)
 }
 
-/// One that unpacks below `out`.
+/// Returns an unpacker into the folder `out`.
 fn unpacker(rt: &HostRuntime, skips: bool) -> Result<Unpacker, Fail> {
     let setup = Setup {
         into: String::from_str(rt.alloc(), "out")?,

@@ -1,10 +1,10 @@
-//! How tests write bytes into images past any command.
+//! Writing bytes into images without a command.
 ghost use Rattle.std.specs.Prelude.{◌<◌, length, IfOk};
 
 use d64_image::{BlockNo, Image, Patch};
 use std::test::Fail;
 
-/// An error where the image has no such block.
+/// Returns an error if the image has no such block.
 pub(crate) fn held(image: &Image, block: BlockNo) -> Result<(), Fail>
     ensures { IfOk result (λ _. block < length image.now) }
 {

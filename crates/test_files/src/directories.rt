@@ -20,14 +20,14 @@ const EXAMPLE: [(u8, u8, usize, &[u8]); 4] = [
     (18, 4, 0, b"\x00\xFF\x01\x11\x01AB\xA0"),
 ];
 
-/// An image with a directory of two blocks and three entries.
+/// Returns an image with a directory of two blocks and three entries.
 fn example(rt: &HostRuntime) -> Result<Image, Fail> {
     let mut image = Image::zeroed(rt.alloc())?;
     put_parts(rt, &mut image, &EXAMPLE)?;
     Ok(image)
 }
 
-/// All slots of an image.
+/// Returns all slots of an image.
 fn walk(image: &Image) -> Result<Slots<'_>, Fail> {
     Ok(Slots::of(image).map_err(|_| "no directory")?)
 }
@@ -120,7 +120,7 @@ fn refuses_damaged_directories(rt: HostRuntime) -> Result<(), Fail> {
     Ok(())
 }
 
-/// So many neighbouring tracks with the same entry in the map.
+/// The zones of the disk: the number of tracks, and their entry in the map.
 const ZONES: [(usize, [u8; 4]); 5] = [
     (17, [0x15, 0xFF, 0xFF, 0x1F]),
     (1, [0x11, 0xFC, 0xFF, 0x07]),
@@ -129,7 +129,7 @@ const ZONES: [(usize, [u8; 4]); 5] = [
     (5, [0x11, 0xFF, 0xFF, 0x01]),
 ];
 
-/// The map that marks all blocks free but the map's and the directory's first.
+/// Returns the map that marks all blocks free except the map's and the directory's first.
 fn fresh_map(rt: &HostRuntime) -> Result<Vec<u8>, Fail> {
     let mut map = Vec::new(rt.alloc());
     for (tracks, entry) in ZONES {
@@ -155,7 +155,7 @@ const REL_FILE: [(u8, u8, usize, &[u8]); 5] = [
     (18, 1, 0x1E, b"\x02"),
 ];
 
-/// A disk with a REL file. The map marks all blocks free but those of track 18, sectors 0 and 1.
+/// Returns a disk with a REL file. The map marks all blocks free except track 18, sectors 0 and 1.
 fn rel_disk(rt: &HostRuntime) -> Result<Image, Fail> {
     let mut image = Image::zeroed(rt.alloc())?;
     let map = fresh_map(rt)?;

@@ -11,12 +11,12 @@ use d64_files::{
 use d64_image::{BlockNo, Image, Patch};
 use std::test::Fail;
 
-/// The block of a track and a sector.
+/// Returns the block of a track and a sector.
 fn block(track: u8, sector: u8) -> Result<BlockNo, Fail> {
     Ok(BlockNo::of(track, sector).ok_or("no such block")?)
 }
 
-/// An image with an empty directory in 18/1.
+/// Returns an image with an empty directory in 18/1.
 fn disk(rt: &HostRuntime) -> Result<Image, Fail> {
     let mut image = Image::zeroed(rt.alloc())?;
     let directory = block(18, 1)?;
@@ -25,7 +25,7 @@ fn disk(rt: &HostRuntime) -> Result<Image, Fail> {
     Ok(image)
 }
 
-/// The first slot of an image that isn't used.
+/// Returns the first slot of an image that is not used.
 fn empty_slot(image: &Image) -> Result<SlotNo, Fail>
     ensures directory { IfOk result (λ _. directory image.now ≢ []) }
     ensures slot { IfOk result (λ slot. slot < length (slots image.now)) }
@@ -45,7 +45,7 @@ fn counts_the_blocks_of_a_file(rt: HostRuntime) {
     );
 }
 
-/// The bytes of a block.
+/// Returns the bytes of a block.
 fn bytes_of(image: &Image, block: BlockNo) -> Result<&[u8; 256], Fail> {
     held(image, block)?;
     Ok(image.sector(block))
@@ -63,7 +63,7 @@ fn all_held(image: &Image, blocks: &[BlockNo]) -> bool
     true
 }
 
-/// Puts so many bytes of 7 as a file into these blocks.
+/// Writes a file of `len` bytes of 7 into these blocks.
 fn put_sevens(
     rt: &HostRuntime,
     image: &mut Image,
@@ -146,7 +146,7 @@ fn grows_the_directory(rt: HostRuntime) -> Result<(), Fail> {
     Ok(())
 }
 
-/// The first used slot of an image.
+/// Returns the first used slot of an image.
 fn used_slot(image: &Image) -> Result<SlotNo, Fail>
     ensures { IfOk result (λ slot. slot < length (slots image.now)) }
 {
@@ -158,7 +158,7 @@ fn used_slot(image: &Image) -> Result<SlotNo, Fail>
     }
 }
 
-/// An image with one file, in the second slot of 18/1.
+/// Returns an image with one file, in the second slot of 18/1.
 fn one_file(rt: &HostRuntime) -> Result<Image, Fail> {
     let mut image = Image::zeroed(rt.alloc())?;
     let parts: [(u8, u8, usize, &[u8]); 2] = [

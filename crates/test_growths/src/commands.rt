@@ -1,4 +1,4 @@
-//! Calls that change an image as a command asks, or read from it.
+//! Calls that change an image by a command, or read from it.
 
 use crate::disk::{block, changed_blocks, disk, format, same, ten_blocks, within, write};
 use crate::end::{Bench, End};
@@ -8,7 +8,7 @@ use d64_image::{Image, Patch};
 use std::alloc::Global;
 use std::test::Fail;
 
-/// The command that writes the block of a track and a sector.
+/// Returns the command that writes the block of a track and a sector.
 pub fn block_write(track: u8, sector: u8) -> Result<Command, Fail> {
     Ok(Command::BlockWrite {
         at: block(track, sector)?,
@@ -16,7 +16,7 @@ pub fn block_write(track: u8, sector: u8) -> Result<Command, Fail> {
     })
 }
 
-/// The command of that name, which the disk accepts.
+/// Returns the command with this name, which the disk accepts.
 pub fn command_of(alloc: Global, name: &str) -> Result<Command, Fail> {
     match name {
         "Format" => format(),
@@ -49,7 +49,7 @@ pub fn apply(bench: &Bench, command: &str) -> Result<End, Fail> {
     Ok(end_of(answer, &image, &patch, &before))
 }
 
-/// How a command ended, by its answer, what it was lent, and the image from before.
+/// Returns how a command ended, by its result, what it was lent, and the image before.
 fn end_of(answer: Result<Reply, Refusal>, image: &Image, patch: &Patch, before: &Image) -> End {
     match answer {
         Ok(_) => End::Changed(changed_blocks(image, before)),

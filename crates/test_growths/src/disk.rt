@@ -13,7 +13,7 @@ use std::test::Fail;
 /// The program file `10 print"hello"`.
 pub const PROGRAM: &[u8; 17] = b"\x01\x08\x0E\x08\x0A\x00\x99\"HELLO\"\x00\x00\x00";
 
-/// How many blocks of an image are others than those of the image from before.
+/// Returns how many blocks of an image differ from those of the image before.
 pub fn changed_blocks(image: &Image, before: &Image) -> usize {
     image
         .bytes()
@@ -23,12 +23,12 @@ pub fn changed_blocks(image: &Image, before: &Image) -> usize {
         .count()
 }
 
-/// The block of a track and a sector.
+/// Returns the block of a track and a sector.
 pub fn block(track: u8, sector: u8) -> Result<BlockNo, Fail> {
     Ok(BlockNo::of(track, sector).ok_or("no such block")?)
 }
 
-/// The block of a track and a sector, which the image has.
+/// Returns the block of a track and a sector, which the image has.
 pub fn block_in(image: &Image, track: u8, sector: u8) -> Result<BlockNo, Fail>
     ensures { IfOk result (λ block. block < length image.now) }
 {
@@ -40,7 +40,7 @@ pub fn block_in(image: &Image, track: u8, sector: u8) -> Result<BlockNo, Fail>
     }
 }
 
-/// An error where the image doesn't have the block that a command names.
+/// Returns an error if the image does not have the block that a command names.
 pub fn within(image: &Image, command: &Command) -> Result<(), Fail>
     ensures { IfOk result (λ _. IsWithin image.now (change_of command.now)) }
 {
@@ -52,7 +52,7 @@ pub fn within(image: &Image, command: &Command) -> Result<(), Fail>
     }
 }
 
-/// The patch of an image that keeps nothing.
+/// Returns an empty patch for an image.
 pub fn fresh(alloc: Global, _image: &Image) -> Patch
     ensures patch { IsPatchOf _image.now result }
     ensures empty { result ≡ [] }
@@ -60,14 +60,14 @@ pub fn fresh(alloc: Global, _image: &Image) -> Patch
     Patch::new(alloc)
 }
 
-/// Changes the image as a command asks, and forgets what was there before.
+/// Changes the image by a command, and forgets what was there before.
 fn make(alloc: Global, image: &mut Image, command: &Command) -> Result<(), Fail> {
     within(image, command)?;
     apply(image, &mut Patch::new(alloc), command)?;
     Ok(())
 }
 
-/// The command that makes an empty disk.
+/// Returns the command that makes an empty disk.
 pub fn format() -> Result<Command, Fail> {
     Ok(Command::Format {
         name: Name::new(b"D")?,
@@ -75,7 +75,7 @@ pub fn format() -> Result<Command, Fail> {
     })
 }
 
-/// The command that writes a file.
+/// Returns the command that writes a file.
 pub fn write(alloc: Global, name: &[u8], bytes: &[u8]) -> Result<Command, Fail> {
     Ok(Command::Write {
         name: Name::new(name)?,
@@ -89,8 +89,8 @@ pub fn ten_blocks(alloc: Global) -> Result<Vec<u8>, Fail> {
     Ok(vec![in alloc; 7; 2540]?)
 }
 
-/// A sound disk with the file `A` of ten blocks from 17/0 on, and the file `B` of one, which was
-/// never closed.
+/// Returns a sound disk with the file `A` of ten blocks from 17/0 on, and the file `B` of one
+/// block, which was never closed.
 pub fn disk(alloc: Global) -> Result<Image, Fail> {
     let mut image = Image::zeroed(alloc)?;
     make(alloc, &mut image, &format()?)?;

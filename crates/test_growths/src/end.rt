@@ -1,9 +1,9 @@
-//! Where a call is made, and how it ends.
+//! The bench on which a call is made, and how the call ends.
 
 use std::alloc::Global;
 use std::{fmt, io};
 
-/// Where a call is made: the runtime, and the name of the call.
+/// The bench on which a call is made: the runtime, and the name of the call.
 #[derive(Drop)]
 pub struct Bench<'a> {
     rt: &'a HostRuntime,
@@ -23,7 +23,7 @@ impl<'a> Bench<'a> {
         self.rt.alloc()
     }
 
-    /// The call, and what it is given.
+    /// Returns the call's name, and what it is given.
     pub fn words(&self) -> (&'a str, &'a str) {
         match self.name.split_once(' ') {
             Some(words) => words,
@@ -41,24 +41,24 @@ impl<'a> Bench<'a> {
 /// How a call ended.
 #[derive(Drop)]
 pub enum End {
-    /// It takes no memory, and answered what it should.
+    /// It takes no memory, and returned what it should.
     Answered,
     /// It was accepted.
     Accepted,
-    /// It made so many bytes.
+    /// It made this many bytes.
     Made(usize),
-    /// It changed so many blocks of an image.
+    /// It changed this many blocks of an image.
     Changed(usize),
-    /// It answered want of memory, and left all that it was lent as it should.
+    /// It returned that memory ran out, and left all that it was lent as it should.
     WantOfMemory,
-    /// It was refused for what it was given.
+    /// It refused what it was given.
     Refused,
-    /// Something is not as it should be after it.
+    /// Something is wrong after it.
     Wrong(&'static str),
 }
 
 impl End {
-    /// The end of a call that takes no memory, by whether it answered what it should.
+    /// Returns the end of a call that takes no memory, by whether it returned what it should.
     pub fn answered(is_right: bool) -> End {
         if is_right {
             End::Answered
@@ -67,7 +67,7 @@ impl End {
         }
     }
 
-    /// The end of a call that answered want of memory, by whether all is left as it should be.
+    /// Returns the end of a call that ran out of memory, by whether all is left as it should be.
     pub fn want_of_memory(is_left: bool, what: &'static str) -> End {
         if is_left {
             End::WantOfMemory

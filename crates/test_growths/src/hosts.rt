@@ -9,7 +9,7 @@ use std::test::Fail;
 /// The bytes of the host file `block`.
 const BLOCK: &[u8; 256] = &[1; 256];
 
-/// A host with the files `one`, `block` and `text`.
+/// Returns a host with the files `one`, `block` and `text`.
 pub fn host(alloc: Global) -> Result<MemoryHost, Fail> {
     let mut host = MemoryHost::new(alloc);
     host.put("one", &[51])?;
@@ -18,7 +18,7 @@ pub fn host(alloc: Global) -> Result<MemoryHost, Fail> {
     Ok(host)
 }
 
-/// Whether the host has the files that it was made with, and none of the name `new`.
+/// Whether the host has the files that it was made with, and none named `new`.
 pub fn is_as_it_was(host: &MemoryHost) -> bool {
     host.file("one") == Some([51].as_slice())
         && host.file("block") == Some(BLOCK.as_slice())
@@ -26,12 +26,12 @@ pub fn is_as_it_was(host: &MemoryHost) -> bool {
         && host.file("new").is_none()
 }
 
-/// The end of a call that answered want of memory.
+/// Returns the end of a call that ran out of memory.
 fn want_of_memory(host: &MemoryHost) -> End {
     End::want_of_memory(is_as_it_was(host), "the files are not as they were")
 }
 
-/// The first file of a host.
+/// Puts the first file on a host.
 pub fn put(bench: &Bench) -> Result<End, Fail> {
     let mut host = MemoryHost::new(bench.alloc());
     bench.begin()?;
@@ -51,7 +51,7 @@ pub fn fetch(bench: &Bench) -> Result<End, Fail> {
     })
 }
 
-/// The opening of a file, whose reader has a copy of its bytes.
+/// Opens a file, whose reader has a copy of its bytes.
 pub fn open(bench: &Bench) -> Result<End, Fail> {
     let mut host = host(bench.alloc())?;
     bench.begin()?;
@@ -62,7 +62,7 @@ pub fn open(bench: &Bench) -> Result<End, Fail> {
     })
 }
 
-/// The storing of a file in place of another.
+/// Stores a file in place of another.
 pub fn store(bench: &Bench) -> Result<End, Fail> {
     let mut host = host(bench.alloc())?;
     bench.begin()?;

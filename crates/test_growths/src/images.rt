@@ -40,7 +40,7 @@ pub fn try_clone(bench: &Bench) -> Result<End, Fail> {
     })
 }
 
-/// Where a patch that keeps two blocks is given a third.
+/// Writes a third block through a patch that keeps two.
 pub fn patch_write(bench: &Bench) -> Result<End, Fail> {
     let mut image = disk(bench.alloc())?;
     let mut patch = Patch::new(bench.alloc());

@@ -1,9 +1,9 @@
 //! A program that makes each call of the libraries by its name, so that each growth of memory in it
 //! can be refused.
 //!
-//! Each argument of the program names a call, with what it is given behind a space. First all that
-//! the call is lent is made; then the name is printed, the call is made, and how it ended is
-//! printed behind the name. So what asks for memory between the two prints is the call alone, and
+//! Each argument of the program names a call, with its input after a space. First all that the call
+//! is lent is made; then the name is printed, the call is made, and how it ended is printed after
+//! the name. So only the call itself asks for memory between the two prints, and
 //! `scripts/sweep-calls` refuses each such growth in turn. The file `args` has all calls that are
 //! swept.
 #![tactic(auto)]
@@ -32,7 +32,7 @@ fn main(rt: HostRuntime) -> Result<(), Fail> {
     Ok(())
 }
 
-/// Makes the call that the bench names, and tells how it ended.
+/// Makes the call that the bench names, and returns how it ended.
 fn end_of_call(bench: &Bench) -> Result<End, Fail> {
     let (call, given) = bench.words();
     match call {

@@ -10,13 +10,13 @@ use d64_shell::{JobFault, Outcome, ProgramFault, ShellFault, ToolFault};
 use std::alloc::{AllocError, Global};
 use std::test::Fail;
 
-/// Room for all that a call writes, so that its writer asks for no memory.
+/// The bytes of a buffer for all that a call writes, so that its writer asks for no memory.
 const ROOM: usize = 16_384;
 
-/// What a line is answered that is refused memory.
+/// The output of a line that is refused memory.
 const OUT_OF_MEMORY: &[u8; 23] = b"90,OUT OF MEMORY,00,00\n";
 
-/// A script of one line.
+/// Runs a script of one line.
 pub fn run(bench: &Bench, line: &str) -> Result<End, Fail> {
     let mut beside = Beside::new(bench.alloc())?;
     let mut host = host(bench.alloc())?;
@@ -35,8 +35,8 @@ pub fn run(bench: &Bench, line: &str) -> Result<End, Fail> {
     Ok(end_of(answer, written.as_slice(), is_kept))
 }
 
-/// How a script of one line ended, by its answer, what it wrote, and whether host and session are
-/// as they were.
+/// Returns how a script of one line ended, by its result, what it wrote, and whether host and
+/// session are as they were.
 fn end_of(answer: Result<Outcome, ShellFault>, written: &[u8], is_kept: bool) -> End {
     match answer {
         Ok(
@@ -72,7 +72,7 @@ pub fn crunch_run(bench: &Bench) -> Result<End, Fail> {
     Ok(end_of_tool(answer, written.as_slice()))
 }
 
-/// How a tool ended, by its answer and what it wrote.
+/// Returns how a tool ended, by its result and what it wrote.
 fn end_of_tool(answer: Result<(), ToolFault>, written: &[u8]) -> End {
     match answer {
         Ok(()) => End::Made(written.len()),
@@ -83,7 +83,7 @@ fn end_of_tool(answer: Result<(), ToolFault>, written: &[u8]) -> End {
     }
 }
 
-/// The texts of faults, one a line.
+/// The texts of faults, one on each line.
 const FAULT_TEXTS: &str = "the script cannot be read to its end
 the answers cannot be written
 out of memory
@@ -105,7 +105,7 @@ write fault
 out of memory
 ";
 
-/// The texts of the faults of scripts, tools, words and the program, one a line.
+/// Returns the texts of the faults of scripts, tools, arguments and the program, one on each line.
 fn shown_faults(alloc: Global) -> Result<String, AllocError> {
     let mut text = String::new(alloc);
     for fault in [

@@ -27,8 +27,8 @@ fn make(session: &mut Session, command: &Command) -> Result<(), Fail> {
 }
 
 impl Beside {
-    /// The session begins with the disk; two blocks were written, then `P`, a BASIC program, and
-    /// then `X`, which was undone. For a fifth record its list has to grow.
+    /// Begins the session with the disk; two blocks are written, then `P`, a BASIC program, and
+    /// then `X`, which is undone. For a fifth record its list has to grow.
     pub fn new(alloc: Global) -> Result<Beside, Fail> {
         let mut session = Session::new(alloc, disk(alloc)?);
         make(&mut session, &block_write(35, 0)?)?;
@@ -47,8 +47,8 @@ impl Beside {
         })
     }
 
-    /// Whether cursor, image and history are as they were at first. It goes one record back, and
-    /// then to the end.
+    /// Whether cursor, image and history are as they were at first. Goes one record back, and then
+    /// to the end.
     pub fn is_as_it_was(&mut self) -> bool {
         (self.session.done(), self.session.undone()) == (3, 1)
             && same(self.session.image(), &self.present)
@@ -59,12 +59,12 @@ impl Beside {
             && same(self.session.image(), &self.last)
     }
 
-    /// Whether one more record is done, and none is left that was undone.
+    /// Whether one more record is done, and no undone one is left.
     pub fn has_one_more(&self) -> bool {
         (self.session.done(), self.session.undone()) == (4, 0)
     }
 
-    /// How many blocks of the image are others than at first.
+    /// Returns how many blocks of the image differ from those at first.
     pub fn changed(&self) -> usize {
         changed_blocks(self.session.image(), &self.present)
     }
@@ -85,7 +85,7 @@ pub fn run(bench: &Bench, command: &str) -> Result<End, Fail> {
     })
 }
 
-/// The file of a session of which three records are done and one is undone.
+/// Makes the file of a session of which three records are done and one is undone.
 pub fn keep(bench: &Bench) -> Result<End, Fail> {
     let mut beside = Beside::new(bench.alloc())?;
     bench.begin()?;
@@ -95,7 +95,7 @@ pub fn keep(bench: &Bench) -> Result<End, Fail> {
     })
 }
 
-/// How a call ended that resumes that file.
+/// Returns how a call ended that resumes that file.
 fn end_of_resumed(mut beside: Beside, resumed: Result<Session, ResumeFault>) -> End {
     match resumed {
         Ok(session) => {
@@ -111,7 +111,7 @@ fn end_of_resumed(mut beside: Beside, resumed: Result<Session, ResumeFault>) -> 
     }
 }
 
-/// The session of that file.
+/// Resumes the session of that file.
 pub fn resume(bench: &Bench) -> Result<End, Fail> {
     let beside = Beside::new(bench.alloc())?;
     let file = beside.session.keep(bench.alloc())?;
@@ -120,7 +120,7 @@ pub fn resume(bench: &Bench) -> Result<End, Fail> {
     Ok(end_of_resumed(beside, resumed))
 }
 
-/// The session of that file, as a reader gives it.
+/// Resumes the session of that file, as a reader gives it.
 pub fn resume_from(bench: &Bench) -> Result<End, Fail> {
     let beside = Beside::new(bench.alloc())?;
     let file = beside.session.keep(bench.alloc())?;
@@ -133,7 +133,7 @@ pub fn resume_from(bench: &Bench) -> Result<End, Fail> {
     }
 }
 
-/// A block write on a session that was just made from a blank image.
+/// Writes a block on a session that was just made from a blank image.
 pub fn first_block_write(bench: &Bench) -> Result<End, Fail> {
     let blank = Image::zeroed(bench.alloc())?;
     let mut session = Session::new(bench.alloc(), blank.try_clone(bench.alloc())?);

@@ -14,7 +14,7 @@ use d64_undo::Session;
 use host_storage::{FolderHost, Host, MemoryHost};
 use std::test::Fail;
 
-/// Makes the calls that the bench names, and tells whether they answered what they should.
+/// Makes the calls that the bench names, and returns whether they returned what they should.
 pub fn end_of_call(bench: &Bench) -> Result<End, Fail> {
     match bench.words() {
         ("BlockNo", _) => block_numbers(bench),
@@ -36,7 +36,7 @@ pub fn end_of_call(bench: &Bench) -> Result<End, Fail> {
     }
 }
 
-/// `of`, `at`, `index`, `track` and `sector`.
+/// Calls `of`, `at`, `index`, `track` and `sector`.
 fn block_numbers(bench: &Bench) -> Result<End, Fail> {
     bench.begin()?;
     let last = BlockNo::of(40, 16).ok_or("no 40/16")?;
@@ -48,7 +48,7 @@ fn block_numbers(bench: &Bench) -> Result<End, Fail> {
     ))
 }
 
-/// `empty`, `has`, `add`, `remove` and `count`.
+/// Calls `empty`, `has`, `add`, `remove` and `count`.
 fn block_sets(bench: &Bench) -> Result<End, Fail> {
     let (first, second) = (block(1, 0)?, block(35, 16)?);
     bench.begin()?;
@@ -73,7 +73,7 @@ fn images(bench: &Bench) -> Result<End, Fail> {
     ))
 }
 
-/// `new`, `swap`, `trim`, `clear`, `len` and `blocks`.
+/// Calls `new`, `swap`, `trim`, `clear`, `len` and `blocks`.
 fn patches(bench: &Bench) -> Result<End, Fail> {
     let mut image = disk(bench.alloc())?;
     let mut patch = fresh(bench.alloc(), &image);
@@ -90,7 +90,7 @@ fn patches(bench: &Bench) -> Result<End, Fail> {
     Ok(End::answered(counts == (0, 2) && left == 1 && patch.len() == 0))
 }
 
-/// A write to a block that the patch keeps already.
+/// Writes a block that the patch keeps already.
 fn kept_block(bench: &Bench) -> Result<End, Fail> {
     let mut image = disk(bench.alloc())?;
     let mut patch = Patch::new(bench.alloc());
@@ -129,7 +129,7 @@ fn picks(bench: &Bench) -> Result<End, Fail> {
     ))
 }
 
-/// `Name::new` and `bytes`, `Pattern::new`, and `matches`.
+/// Calls `Name::new` and `bytes`, `Pattern::new`, and `matches`.
 fn names(bench: &Bench) -> Result<End, Fail> {
     bench.begin()?;
     let name = Name::new(b"SIXTEEN LETTERS!")?;
@@ -159,7 +159,7 @@ fn directory(bench: &Bench) -> Result<End, Fail> {
     Ok(End::answered((found.place(), empty.place()) == (0, 2) && dir_last(&image) == Ok(last)))
 }
 
-/// The walk, and all calls of an entry.
+/// Calls the walk, and all functions of an entry.
 fn entries(bench: &Bench) -> Result<End, Fail> {
     let image = disk(bench.alloc())?;
     bench.begin()?;
@@ -190,7 +190,7 @@ fn new_session(bench: &Bench) -> Result<End, Fail> {
     Ok(End::answered((session.done(), session.undone()) == (0, 0)))
 }
 
-/// `image`, `undo`, `redo`, `done`, `undone`, `record_len` and `record_at`.
+/// Calls `image`, `undo`, `redo`, `done`, `undone`, `record_len` and `record_at`.
 fn sessions(bench: &Bench) -> Result<End, Fail> {
     let mut beside = Beside::new(bench.alloc())?;
     bench.begin()?;
@@ -202,7 +202,7 @@ fn sessions(bench: &Bench) -> Result<End, Fail> {
     ))
 }
 
-/// `new`, `file`, `fail_at` and `failures`.
+/// Calls `new`, `file`, `fail_at` and `failures`.
 fn memory_hosts(bench: &Bench) -> Result<End, Fail> {
     let mut host = host(bench.alloc())?;
     bench.begin()?;
@@ -216,7 +216,7 @@ fn memory_hosts(bench: &Bench) -> Result<End, Fail> {
     ))
 }
 
-/// `new` and `failures`.
+/// Calls `new` and `failures`.
 fn folder_hosts(bench: &Bench) -> Result<End, Fail> {
     bench.begin()?;
     Ok(End::answered(FolderHost::new(bench.rt()).failures() == 0))

@@ -1,10 +1,10 @@
-//! Calls on the program's words.
+//! Calls on the program's arguments.
 
 use crate::end::{Bench, End};
 use program_arguments::JobFault;
 use std::test::Fail;
 
-/// The job that some words ask for, of which the first is the program's name.
+/// Reads the job of some arguments, the first of which is the program's name.
 pub fn job(bench: &Bench, words: &str) -> Result<End, Fail> {
     let words: Vec<&str> = words.split(' ').collect(bench.alloc())?;
     bench.begin()?;

@@ -1,6 +1,6 @@
 //! Calls of the writers of files and of the map.
 //!
-//! After want of memory some blocks may be written; the image with the patch put back is the one
+//! After memory ran out some blocks may be written; with the patch put back the image is the one
 //! from before in any case.
 ghost use Rattle.std.specs.Prelude.{◌≢◌, ◌<◌, [], length, IfOk};
 ghost use Rattle.d64_files.specs.Directory.{directory, slots};
@@ -16,7 +16,7 @@ use d64_map::put_map;
 use std::alloc::AllocError;
 use std::test::Fail;
 
-/// How a writer ended, by its answer, what it was lent, and the image from before.
+/// Returns how a writer ended, by its result, what it was lent, and the image before.
 fn end_of(
     answer: Result<(), AllocError>,
     image: &mut Image,
@@ -36,7 +36,7 @@ fn end_of(
     }
 }
 
-/// The slot of the file `A`.
+/// Returns the slot of the file `A`.
 fn slot_of_a(image: &Image) -> Result<SlotNo, Fail>
     ensures directory { IfOk result (λ _. directory image.now ≢ []) }
     ensures slot { IfOk result (λ slot. slot < length (slots image.now)) }
@@ -91,7 +91,7 @@ pub fn name(bench: &Bench) -> Result<End, Fail> {
     Ok(end_of(answer, &mut image, &mut patch, &before))
 }
 
-/// The writing of a file of five blocks.
+/// Writes a file of five blocks.
 pub fn chain(bench: &Bench) -> Result<End, Fail> {
     let mut image = disk(bench.alloc())?;
     let before = image.try_clone(bench.alloc())?;

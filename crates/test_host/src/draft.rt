@@ -12,8 +12,8 @@ enum Step {
     Publish,
 }
 
-/// A file in memory and the new one beside it. It tells both, and one of its steps can be made to
-/// fail.
+/// A file in memory and the new one beside it, both of which can be looked at; one of its steps can
+/// be made to fail.
 #[derive(Drop)]
 struct Sketch {
     alloc: Global,

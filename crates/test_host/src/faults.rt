@@ -1,4 +1,4 @@
-//! What the faults of a host say.
+//! The texts of a host's faults.
 
 use host_storage::{FolderFault, HostFault};
 use std::alloc::AllocError;

@@ -1,4 +1,4 @@
-//! Reading and writing on where a signal interrupts.
+//! Reading and writing that goes on after a signal interrupts it.
 
 use host_storage::Retrying;
 use std::io::{self, ErrorKind, Read, Write};
@@ -75,7 +75,7 @@ fn writes_on_after_an_interrupt_alone(rt: HostRuntime) -> Result<(), Fail> {
     Ok(())
 }
 
-/// A reader of some bytes, one a read, of which each read is interrupted once.
+/// A reader that gives one byte a read, and each of whose reads is interrupted once.
 #[derive(Drop)]
 struct Stutter {
     left: u8,

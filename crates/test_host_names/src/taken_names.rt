@@ -4,7 +4,7 @@ use host_names::Ending::{Del, Prg, Rel, Seq, Usr};
 use host_names::TakenNames;
 use std::test::Fail;
 
-/// One name of each rule, alone on its host; the host names are worked out by hand from the rules.
+/// One name for each rule, alone on its host.
 #[test]
 fn names_follow_the_rules(rt: HostRuntime) -> Result<(), Fail> {
     let mut taken = TakenNames::new(rt.alloc());
@@ -58,7 +58,7 @@ fn names_follow_the_rules(rt: HostRuntime) -> Result<(), Fail> {
     Ok(())
 }
 
-/// The names of files on one host, one after another; worked out by hand from the rules.
+/// The names of files on one host, one after another.
 #[test]
 fn no_name_is_given_twice(rt: HostRuntime) -> Result<(), Fail> {
     let mut taken = TakenNames::new(rt.alloc());

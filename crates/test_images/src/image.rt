@@ -77,8 +77,8 @@ fn bytes_become_an_image_and_stay(rt: HostRuntime) -> Result<(), AllocError> {
     Ok(())
 }
 
-/// How many sectors each track has, from the first on, as the 1541 User's Guide tells them, and as
-/// many on tracks 36 to 40 as on those before them.
+/// Returns how many sectors a track has, as the 1541 User's Guide lists them; tracks 36 to 40 have
+/// as many as the last ones before them.
 fn sectors_of_a_track(track: usize) -> usize {
     match track {
         1..=17 => 21,
@@ -134,20 +134,20 @@ fn a_set_of_blocks(rt: HostRuntime) {
     assert!(rt; set == copy);
 }
 
-/// Whether a patch keeps one block, with all its bytes alike.
+/// Whether a patch keeps only this block, with all its bytes alike.
 fn keeps_alone(patch: &Patch, block: BlockNo, byte: u8) -> bool {
     let mut entries = patch.blocks().iter();
     patch.len() == 1 && entries.all(|entry| entry.0 == block && entry.1 == [byte; 256])
 }
 
-/// The patch that keeps nothing: no block that an image lacks.
+/// Returns an empty patch.
 fn empty_patch(alloc: Global, _image: &Image) -> Patch
     ensures { IsPatchOf _image.now result }
 {
     Patch::new(alloc)
 }
 
-/// Writes a block through a patch. An error where the image has no such block.
+/// Writes a block through a patch, or returns an error if the image has no such block.
 fn write(
     image: &mut Image,
     patch: &mut Patch,
@@ -185,7 +185,7 @@ fn a_patch_keeps_what_stood_there_first(rt: HostRuntime) -> Result<(), Fail> {
     Ok(())
 }
 
-/// Writes the block of a place with zeros and a last byte of 1.
+/// Writes the block at a place with zeros and a last byte of 1.
 fn write_last_byte(image: &mut Image, patch: &mut Patch, place: usize) -> Result<(), Fail>
     requires { IsPatchOf image.old patch.old }
     ensures { IsPatchOf image.new patch.new }

@@ -13,7 +13,7 @@ use std::test::Fail;
 /// How many blocks a disk of 35 tracks has.
 const BLOCKS_OF_35: usize = 683;
 
-/// The blocks from one place up to another.
+/// Returns the blocks from one place up to another.
 fn blocks_between(start: usize, end: usize) -> BlockSet {
     let mut blocks = BlockSet::empty();
     for index in start..end {
@@ -24,18 +24,18 @@ fn blocks_between(start: usize, end: usize) -> BlockSet {
     blocks
 }
 
-/// All blocks of a disk of 35 tracks.
+/// Returns all blocks of a disk of 35 tracks.
 fn all_blocks() -> BlockSet {
     blocks_between(0, BLOCKS_OF_35)
 }
 
-/// The track and the sector at a place of the order of search on 35 tracks after a block: what is
-/// picked once all before it are taken.
+/// Returns the track and the sector at a place in the order of search on 35 tracks after a block:
+/// the one that is picked once all before it are taken.
 fn next_at(track: u8, sector: u8, place: usize) -> Option<(u8, u8)> {
     next_of(all_blocks(), track, sector, place)
 }
 
-/// The same among these blocks.
+/// Returns the same among these blocks.
 fn next_of(all: BlockSet, track: u8, sector: u8, place: usize) -> Option<(u8, u8)> {
     let last = BlockNo::of(track, sector)?;
     let mut free = all;
@@ -47,7 +47,7 @@ fn next_of(all: BlockSet, track: u8, sector: u8, place: usize) -> Option<(u8, u8
     pick_next(&free, last).map(|block| (block.track(), block.sector()))
 }
 
-/// The same on 35 tracks for the directory.
+/// Returns the same on 35 tracks for the directory.
 fn dir_at(track: u8, sector: u8, place: usize) -> Option<(u8, u8)> {
     let last = BlockNo::of(track, sector)?;
     let mut free = all_blocks();
@@ -72,7 +72,7 @@ impl Noise {
     }
 }
 
-/// Adds the block of a place to others, where the image has it.
+/// Adds the block at a place to a set, if the image has it.
 fn add_held(free: &mut BlockSet, image: &Image, index: usize)
     requires { MembersAreBelow (length image.now) free.old }
     ensures { MembersAreBelow (length image.now) free.new }
@@ -87,7 +87,7 @@ fn add_held(free: &mut BlockSet, image: &Image, index: usize)
     }
 }
 
-/// All blocks of the image.
+/// Returns all blocks of the image.
 fn all_held(image: &Image) -> BlockSet
     ensures { MembersAreBelow (length image.now) result }
 {
@@ -98,7 +98,7 @@ fn all_held(image: &Image) -> BlockSet
     free
 }
 
-/// All blocks of the image but those of the map and of the directory.
+/// Returns all blocks of the image except those of the map and of the directory.
 fn free_when_fresh(image: &Image) -> Result<BlockSet, Fail>
     ensures { IfOk result (λ free. MembersAreBelow (length image.now) free) }
 {
@@ -108,7 +108,7 @@ fn free_when_fresh(image: &Image) -> Result<BlockSet, Fail>
     Ok(free)
 }
 
-/// Writes the map of a fresh disk, and answers its block.
+/// Writes the map of a fresh disk, and returns its block.
 fn with_fresh_map(rt: &HostRuntime, image: &mut Image) -> Result<[u8; 256], Fail> {
     let free = free_when_fresh(image)?;
     put_map(image, &mut Patch::new(rt.alloc()), &free)?;
@@ -166,7 +166,7 @@ fn a_fresh_disk_of_40_tracks_has_five_entries_beyond_the_name(rt: HostRuntime) -
     Ok(())
 }
 
-/// The blocks that the map marks free. The image has each.
+/// Returns the blocks that the map marks free, each of which the image has.
 fn free_of(image: &Image) -> BlockSet
     ensures value { result ≡ free_blocks image.now }
     ensures held { MembersAreBelow (length image.now) result }

@@ -17,7 +17,7 @@ const FILES: [(&[u8], Kind, usize); 4] = [
     (b"SCORES", Kind::Seq, 700),
 ];
 
-/// The command that makes an empty disk.
+/// Returns the command that makes an empty disk.
 fn format() -> Result<Command, Fail>
     ensures { IfOk result (λ command. (image : List (List ℕ)) → IsWithin image (change_of command)) }
 {
@@ -27,7 +27,7 @@ fn format() -> Result<Command, Fail>
     })
 }
 
-/// The command that writes a file of so many bytes.
+/// Returns the command that writes a file of `len` bytes.
 fn write(rt: &HostRuntime, name: &[u8], kind: Kind, len: usize) -> Result<Command, Fail>
     ensures { IfOk result (λ command. (image : List (List ℕ)) → IsWithin image (change_of command)) }
 {
@@ -47,7 +47,7 @@ fn run(rt: &HostRuntime, image: &mut Image, command: &Command) -> Result<(), Fai
     Ok(())
 }
 
-/// The dump of a disk with the four files.
+/// Returns the dump of a disk with the four files.
 pub(crate) fn holiday(rt: &HostRuntime) -> Result<Dump, Fail> {
     let mut image = Image::zeroed(rt.alloc())?;
     run(rt, &mut image, &format()?)?;
@@ -57,15 +57,15 @@ pub(crate) fn holiday(rt: &HostRuntime) -> Result<Dump, Fail> {
     Ok(Dump::from_bytes(rt.alloc(), image.bytes()).map_err(|_| "no dump")?)
 }
 
-/// Writes bytes over others, from a place on.
+/// Overwrites bytes from a place on.
 fn put(bytes: &mut [u8], start: usize, part: &[u8]) {
     for (at, byte) in bytes.iter_mut().skip(start).zip(part.iter()) {
         *at = *byte;
     }
 }
 
-/// The dump of 35 tracks of zeros, and codes of zero, with these parts, each of them a place in the
-/// dump's bytes, and bytes.
+/// Returns the dump of 35 tracks of zeros, and codes of zero, with these parts, each of them a
+/// place in the dump's bytes, and bytes.
 pub(crate) fn dump_of(rt: &HostRuntime, parts: &[(usize, &[u8])]) -> Result<Dump, Fail> {
     let mut bytes = vec![in rt.alloc(); 0u8; 175_531]?;
     for (start, part) in parts {

@@ -7,8 +7,8 @@ use out_json_csv::{IS_THERE, Scratch};
 use program_arguments::Format;
 use std::test::Fail;
 
-/// Whether this is printed in a form: the heading, a file with a path or without one, an image for
-/// whose folder there is no place, and one of a wrong length.
+/// Whether this is printed in a form: the heading, a file with a path or without one, an image
+/// whose folder cannot be made, and an image of a wrong length.
 fn prints(
     rt: &HostRuntime,
     form: Format,

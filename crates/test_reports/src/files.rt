@@ -8,7 +8,7 @@ use d64_survey::Flaw;
 use out_json_csv::Scratch;
 use std::test::Fail;
 
-/// A whole file of one block.
+/// Returns a whole file of one block.
 pub(crate) fn hello() -> FileRow {
     FileRow {
         slot: 0,
@@ -33,7 +33,8 @@ pub(crate) fn hello() -> FileRow {
     }
 }
 
-/// A locked REL file whose chain is broken, with a read error, and a control code in its name.
+/// Returns a locked REL file whose chain is broken, with a read error, and a control code in its
+/// name.
 pub(crate) fn broken() -> FileRow {
     let mut why = ArrayVec::new();
     why.push(Flaw::Broken);
@@ -61,7 +62,7 @@ pub(crate) fn broken() -> FileRow {
     }
 }
 
-/// A GEOS file, of which it isn't known whether it is whole.
+/// Returns a GEOS file of which it is not known whether it is whole.
 fn geos() -> FileRow {
     let mut why = ArrayVec::new();
     why.push(Flaw::Geos);

@@ -1,4 +1,4 @@
-//! Tests of what is printed of a dump as JSON and as CSV: examples as they must come out, byte by
+//! Tests of what is printed of a dump as JSON and as CSV: examples of the exact output, byte by
 //! byte.
 //!
 //! They are in a crate of their own, since a crate with tests is proved twice.

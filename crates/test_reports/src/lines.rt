@@ -29,7 +29,7 @@ a.d64,35,false,holiday 1984,84,2a,4,4,637,0,true,false,0,0,,
     Ok(())
 }
 
-/// Where these blocks begin, and the codes of 17/3 and 17/4.
+/// The offset of block 17/3 and of its code, and that of 17/4.
 const BLOCK_17_3: usize = 86_784;
 
 const BLOCK_18_0: usize = 91_392;
@@ -49,7 +49,7 @@ const MAP: [(usize, &[u8]); 5] = [
     (BLOCK_18_4, b"\x12\x01"),
 ];
 
-/// Two files in 17/3, which leads off the disk; it and 17/4 were read badly.
+/// Two files in 17/3, which leads off the disk; it and 17/4 were read with errors.
 const SHARED: [(usize, &[u8]); 5] = [
     (BLOCK_18_0 + 144, b"SHARED\xA0"),
     (BLOCK_18_1 + 66, b"\x82\x11\x03X\xA0"),

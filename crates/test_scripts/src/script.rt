@@ -1,4 +1,4 @@
-//! The text of scripts and of their answers.
+//! The text of scripts and of their output.
 
 use script_text::dump::dump;
 use script_text::number::number;

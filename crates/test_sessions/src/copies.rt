@@ -15,7 +15,7 @@ struct Beside {
     cursor: usize,
 }
 
-/// The bytes of an image with one block replaced.
+/// Returns the bytes of an image with one block replaced.
 fn with_block(
     alloc: Global,
     bytes: &[u8],
@@ -30,7 +30,7 @@ fn with_block(
     Ok(next)
 }
 
-/// Writes one of four blocks, which differs from what stood there or not.
+/// Writes one of four blocks, with the bytes that it has or with others.
 fn write(alloc: Global, beside: &mut Beside, random: u32) -> Result<(), Fail> {
     let at = BlockNo::at((random >> 16) as usize % 4 * 227).ok_or("no block")?;
     let mut block = [0; 256];
@@ -68,7 +68,7 @@ fn step(rt: &impl Abort, alloc: Global, beside: &mut Beside, random: u32) -> Res
     Ok(())
 }
 
-/// A record lends what one copy has in the blocks in which it differs from another.
+/// Checks that a record lends what one copy has in the blocks in which it differs from another.
 fn lends(
     rt: &impl Abort,
     record: &[(BlockNo, [u8; 256])],
@@ -87,7 +87,7 @@ fn lends(
     Ok(())
 }
 
-/// Each record against the copies before and after it.
+/// Checks each record against the copies before and after it.
 fn records_agree(rt: &impl Abort, beside: &Beside) -> Result<(), Fail> {
     let pairs = beside.copies.iter().zip(beside.copies.iter().skip(1));
     for (number, (before, after)) in pairs.enumerate() {
@@ -102,7 +102,7 @@ fn records_agree(rt: &impl Abort, beside: &Beside) -> Result<(), Fail> {
     Ok(())
 }
 
-/// A session on a blank image, beside a copy of it.
+/// Returns a session on a blank image, beside a copy of it.
 fn blank(alloc: Global) -> Result<Beside, Fail> {
     let session = Session::new(alloc, Image::zeroed(alloc)?);
     let copy = Vec::from_slice(alloc, session.image().bytes())?;
@@ -113,7 +113,7 @@ fn blank(alloc: Global) -> Result<Beside, Fail> {
     })
 }
 
-/// A thousand writes, undos and redos.
+/// Makes a thousand writes, undos and redos.
 fn thousand_steps(rt: &impl Abort, alloc: Global, beside: &mut Beside) -> Result<(), Fail> {
     let mut random = 1u32;
     for _ in 0..1000 {
@@ -123,7 +123,7 @@ fn thousand_steps(rt: &impl Abort, alloc: Global, beside: &mut Beside) -> Result
     records_agree(rt, beside)
 }
 
-/// A hundred undos.
+/// Makes a hundred undos.
 fn hundred_undos(rt: &impl Abort, alloc: Global, beside: &mut Beside) -> Result<(), Fail> {
     for _ in 0..100 {
         step(rt, alloc, beside, 0x6000_0000)?;

@@ -8,7 +8,7 @@ use std::alloc::Global;
 use std::io::{self, ErrorKind, Read};
 use std::test::Fail;
 
-/// A reader that gives bytes, at most so many at a time, and then fails or is at its end.
+/// A reader that gives bytes in pieces of limited size, and then fails or is at its end.
 #[derive(Drop)]
 struct Pieces<'a> {
     left: &'a [u8],
@@ -53,8 +53,8 @@ fn delete(session: &mut Session, alloc: Global) -> Result<(), Fail> {
     Ok(())
 }
 
-/// The file of a session that is long enough for its parts to be read before its end: a long file
-/// was written, deleted and replaced by another, and the last write is undone.
+/// Returns the file of a session that is long enough for its parts to be read before its end: a
+/// long file was written, deleted and replaced by another, and the last write is undone.
 fn long_file(alloc: Global) -> Result<Vec<u8>, Fail> {
     let mut session = Session::new(alloc, Image::zeroed40(alloc)?);
     format(&mut session)?;
@@ -65,7 +65,7 @@ fn long_file(alloc: Global) -> Result<Vec<u8>, Fail> {
     Ok(session.keep(alloc)?)
 }
 
-/// What comes of reading these bytes, where reading fails behind them or not.
+/// Returns the result of reading these bytes, after which reading fails or ends.
 fn fault_of(alloc: Global, bytes: &[u8], fails: bool, limit: u32) -> Option<ReadFault> {
     let mut reader = Pieces {
         left: bytes,

@@ -8,13 +8,13 @@ use std::alloc::{AllocError, Global};
 use std::process::Abort;
 use std::test::Fail;
 
-/// Where the block of `x`, 17/0, lies in the image of a file.
+/// The offset of the block of `x`, 17/0, in the image of a file.
 const IMAGE_BLOCK: usize = 5 + 336 * 256;
 
-/// Where the first block of the second record lies in the file of a format and a write.
+/// The offset of the first block of the second record in the file of a format and a write.
 const RECORD_BLOCK: usize = 175_391;
 
-/// A session on a blank image after a format and a write of the byte $51 as `x`.
+/// Returns a session on a blank image after a format and a write of the byte $51 as `x`.
 fn with_x(rt: &HostRuntime) -> Result<Session, Fail> {
     let alloc = rt.alloc();
     let mut session = Session::new(alloc, Image::zeroed(alloc)?);
@@ -30,7 +30,7 @@ fn with_x(rt: &HostRuntime) -> Result<Session, Fail> {
     Ok(session)
 }
 
-/// A file has these bytes, each row from its place on.
+/// Checks that a file has these bytes, each row from its place on.
 fn has_rows(rt: &impl Abort, file: &[u8], rows: &[(usize, &[u8])]) -> Result<(), Fail> {
     for (place, bytes) in rows {
         let (_, rest) = file
@@ -62,7 +62,7 @@ fn file_of_a_format_and_a_write(rt: HostRuntime) -> Result<(), Fail> {
             (174_861, &[2, 0, 0, 0, 0, 0, 0, 0]),
             (174_869, &[0x02, 0x00, 0x65, 0x01]),
             (175_387, &[0x03, 0x00, 0x50, 0x01]),
-            // The block of `x`, 17/0, is written in the image, and in the record where the write is
+            // The block of `x`, 17/0, is written in the image, and in the record if the write is
             // undone.
             (IMAGE_BLOCK, &[0x00, 0x02, 0x51]),
             (RECORD_BLOCK, &[0x00, 0x00, 0x00]),
@@ -70,7 +70,7 @@ fn file_of_a_format_and_a_write(rt: HostRuntime) -> Result<(), Fail> {
     )
 }
 
-/// A session after a format and a write of `x`, which is undone.
+/// Returns a session after a format and a write of `x`, which is undone.
 fn with_x_undone(rt: &HostRuntime) -> Result<Session, Fail> {
     let mut session = with_x(rt)?;
     session.undo()?;
@@ -93,19 +93,19 @@ fn file_of_an_undone_write(rt: HostRuntime) -> Result<(), Fail> {
     )
 }
 
-/// The session files of a blank image, and of a format and a write.
+/// Returns the session files of a blank image, and of a format and a write.
 fn two_files(rt: &HostRuntime) -> Result<[Vec<u8>; 2], Fail> {
     let alloc = rt.alloc();
     let blank = Session::new(alloc, Image::zeroed(alloc)?).keep(alloc)?;
     Ok([blank, with_x(rt)?.keep(alloc)?])
 }
 
-/// Why bytes are no session file.
+/// Returns why bytes are not a session file.
 fn fault_of(rt: &HostRuntime, bytes: &[u8]) -> Option<ResumeFault> {
     resume(rt.alloc(), bytes).err()
 }
 
-/// A file with other bytes from a place on.
+/// Returns a file with other bytes from a place on.
 fn with_bytes_at(
     rt: &HostRuntime,
     file: &[u8],
@@ -140,8 +140,8 @@ fn an_undone_write_is_resumed(rt: HostRuntime) -> Result<(), Fail> {
     Ok(())
 }
 
-/// An undone write is redone once, and then the session has the image and the file of one that was
-/// never undone.
+/// Checks that an undone write can be redone once, and that the session then has the image and the
+/// file of one that was never undone.
 fn is_redone(
     rt: &impl Abort,
     alloc: Global,

@@ -29,7 +29,7 @@ fn is_filled(session: &Session, at: BlockNo, byte: u8) -> bool {
             .all(|found| *found == byte)
 }
 
-/// A write of a block is undone and redone, and at last undone.
+/// Writes a block, which is undone and redone, and at last undone.
 fn write_and_undo(rt: &impl Abort, session: &mut Session, at: BlockNo) -> Result<(), Fail> {
     assert_eq!(rt; fill(session, at)?, Reply::Done);
     session.undo()?;
@@ -68,7 +68,7 @@ fn write_x(alloc: Global, session: &mut Session) -> Result<Reply, Fail> {
     })?)
 }
 
-/// A session on a blank image after a format and a write of one byte as `x`, and the image from
+/// Returns a session on a blank image after a format and a write of one byte as `x`, and the image
 /// before the write.
 fn with_x(alloc: Global) -> Result<(Session, Image), Fail> {
     let mut session = Session::new(alloc, Image::zeroed(alloc)?);
@@ -78,8 +78,8 @@ fn with_x(alloc: Global) -> Result<(Session, Image), Fail> {
     Ok((session, before))
 }
 
-/// The record of the write of `x` lends the file's block, the map's and the directory's as they are
-/// in an image.
+/// Checks that the record of the write of `x` lends the blocks of the file, the map and the
+/// directory as they are in an image.
 fn lends_x(rt: &impl Abort, session: &Session, image: &Image) -> Result<(), Fail> {
     let mut record = session.record_at(1).ok_or("no record")?.iter();
     for (track, sector) in [(17, 0), (18, 0), (18, 1)] {

@@ -4,24 +4,24 @@ use d64_image::BlockNo;
 use d64_survey::Dump;
 use std::test::Fail;
 
-/// How many bytes the image of a dump of 35 tracks has; the codes follow them.
+/// The number of bytes of the image in a dump of 35 tracks; the codes follow them.
 const IMAGE_BYTES: usize = 174_848;
 
-/// Writes bytes over others, from a place on.
+/// Overwrites bytes from a place on.
 fn put(bytes: &mut [u8], start: usize, part: &[u8]) {
     for (at, byte) in bytes.iter_mut().skip(start).zip(part.iter()) {
         *at = *byte;
     }
 }
 
-/// The block of a track and a sector.
+/// Returns the block of a track and a sector.
 pub(crate) fn block(track: u8, sector: u8) -> Result<BlockNo, Fail> {
     Ok(BlockNo::of(track, sector).ok_or("no such block")?)
 }
 
-/// The dump of 35 tracks of zeros with these parts, each of them a track and a sector, a place in
-/// that block, and bytes; and with these read codes, each of them a track and a sector, and the
-/// code.
+/// Returns the dump of 35 tracks of zeros with these parts, each of them a track and a sector, a
+/// place in that block, and bytes; and with these read codes, each of them a track and a sector,
+/// and the code.
 pub(crate) fn dump_of(
     rt: &HostRuntime,
     parts: &[(u8, u8, u8, &[u8])],

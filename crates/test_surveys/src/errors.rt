@@ -19,8 +19,8 @@ fn a_block_was_read_badly(rt: HostRuntime) -> Result<(), Fail> {
     Ok(())
 }
 
-/// Ends the test where a dump's first file is not whole for other reasons than these, or where its
-/// wholeness is another.
+/// Ends the test unless a dump's first file is not whole for these reasons, and its wholeness is
+/// this.
 fn expect_flaws(
     rt: &impl Abort,
     dump: &Dump,

@@ -15,8 +15,8 @@ const FILES: [(u8, u8, u8, &[u8]); 5] = [
     (18, 1, 66, b"\x02\x11\x03THESIS\xA0"),
 ];
 
-/// The numbers of read errors, entries, whole files, files that are not whole, and blocks without
-/// an owner.
+/// Returns the numbers of read errors, entries, whole files, files that are not whole, and blocks
+/// without an owner.
 fn counts(all: &Inspection) -> [usize; 5] {
     [
         all.read_errors().len(),
@@ -40,7 +40,7 @@ fn all_is_told_of_a_dump(rt: HostRuntime) -> Result<(), Fail> {
     Ok(())
 }
 
-/// The name in the entry of this slot, if there is such a slot.
+/// Returns the name in the entry of this slot, if there is such a slot.
 fn name_at(dump: &Dump, slot: SlotNo) -> Option<&[u8]> {
     match Survey::of(dump.image()).entry(slot) {
         Some(entry) => Some(entry.name()),
@@ -56,7 +56,7 @@ fn entries_are_found_by_their_slots(rt: HostRuntime) -> Result<(), Fail> {
     Ok(())
 }
 
-/// Whether something is amiss in a dump.
+/// Whether something is wrong with a dump.
 fn is_amiss(rt: &HostRuntime, dump: &Dump) -> Result<bool, Fail> {
     let mut faults = Vec::new(rt.alloc());
     let mut errors = Vec::new(rt.alloc());
@@ -75,7 +75,7 @@ fn one_dump_follows_another(rt: HostRuntime) -> Result<(), Fail> {
     Ok(())
 }
 
-/// The doubts of a dump that is sound, or None where it isn't or nothing is amiss.
+/// Returns the doubts of a dump that is sound, or None if it is not, or if nothing is wrong.
 fn doubts_of(rt: &HostRuntime, dump: &Dump) -> Result<Option<Vec<Doubt>>, Fail> {
     let mut faults = Vec::new(rt.alloc());
     let mut errors = Vec::new(rt.alloc());
@@ -98,7 +98,7 @@ fn a_disk_of_zeros_is_sound_and_doubtful(rt: HostRuntime) -> Result<(), Fail> {
     Ok(())
 }
 
-/// A disk of GEOS by its text, whose directory is empty, with a block that a copier filled.
+/// A GEOS disk, as its text says, whose directory is empty, with a block that a copier filled.
 const FILLED: [(u8, u8, u8, &[u8]); 4] = [
     (18, 0, 0x02, b"A"),
     (18, 0, 0xAD, b"GEOS format"),
@@ -106,7 +106,7 @@ const FILLED: [(u8, u8, u8, &[u8]); 4] = [
     (17, 3, 0, FILLER),
 ];
 
-/// Sixteen times one text.
+/// One text, sixteen times.
 const FILLER: &[u8] = b"-=[BAD SECTOR]=--=[BAD SECTOR]=--=[BAD SECTOR]=--=[BAD SECTOR]=-\
     -=[BAD SECTOR]=--=[BAD SECTOR]=--=[BAD SECTOR]=--=[BAD SECTOR]=-\
     -=[BAD SECTOR]=--=[BAD SECTOR]=--=[BAD SECTOR]=--=[BAD SECTOR]=-\

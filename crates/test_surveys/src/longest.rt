@@ -1,5 +1,5 @@
-//! The image that takes longest: a directory over all blocks, each of whose entries leads along all
-//! blocks twice.
+//! The image that takes longest: its directory has all blocks, and each of its entries leads along
+//! all blocks twice.
 
 use d64_files::SlotNo;
 use d64_image::BlockNo;
@@ -11,10 +11,10 @@ use std::test::Fail;
 /// An entry without its first two bytes: a closed REL file with both parts from 18/1.
 const ENTRY: &[u8; 30] = b"\x84\x12\x01\0\0\0\0\0\0\0\0\0\0\0\0\0\0\0\0\x12\x01\0\0\0\0\0\0\0\0\0";
 
-/// A scratched one, which leads to 18/1 too.
+/// A scratched entry, which leads to 18/1 too.
 const SCRATCHED: &[u8; 30] = b"\x00\x12\x01\0\0\0\0\0\0\0\0\0\0\0\0\0\0\0\0\0\0\0\0\0\0\0\0\0\0\0";
 
-/// The link of a block of a directory that goes on at the next block and comes to its end at 18/0.
+/// Returns the link of a block of the directory: to the next block, and at 18/0 its end.
 fn link_of(block: BlockNo) -> [u8; 2] {
     match BlockNo::at((block.index() + 1) % 768) {
         Some(next) if (block.track(), block.sector()) != (18, 0) => [next.track(), next.sector()],
@@ -22,7 +22,7 @@ fn link_of(block: BlockNo) -> [u8; 2] {
     }
 }
 
-/// The image of 40 tracks whose blocks are all of the directory and full of such entries.
+/// Returns the image of 40 tracks whose blocks are all of the directory and full of such entries.
 fn full_directory(rt: &HostRuntime, entry: &[u8; 30]) -> Result<Vec<u8>, Fail> {
     let mut bytes = Vec::new(rt.alloc());
     for block in BlockNo::all() {
@@ -36,15 +36,15 @@ fn full_directory(rt: &HostRuntime, entry: &[u8; 30]) -> Result<Vec<u8>, Fail> {
     Ok(bytes)
 }
 
-/// Ends the test where a block has no more owners than the two parts of each file.
+/// Ends the test unless each block has only the two parts of each file as owners.
 fn expect_shared(rt: &impl Abort, all: &Inspection) {
     for block in BlockNo::all() {
         assert!(rt; all.survey().owners(block).count() > 12_288);
     }
 }
 
-/// Ends the test where the last file doesn't have all blocks as its side blocks, or is not whole
-/// for other reasons than two.
+/// Ends the test unless the last file has all blocks as its side blocks, and is not whole for two
+/// reasons.
 fn expect_last(rt: &impl Abort, all: &Inspection) -> Result<(), Fail> {
     let entry = all.survey().entry(SlotNo::at(6_143)).ok_or("no slot")?;
     assert_eq!(rt; all.way_length(&entry, Part::Side), Some(768));

@@ -19,7 +19,7 @@ const HELLO: [(u8, u8, u8, &[u8]); 4] = [
     (17, 0, 0, b"\x00\x06hello"),
 ];
 
-/// The digest that `sha256sum` tells of the word.
+/// The digest that `sha256sum` prints for the word.
 const DIGEST: [u8; 32] =
     *b"\x2c\xf2\x4d\xba\x5f\xb0\xa3\x0e\x26\xe8\x3b\x2a\xc5\xb9\xe2\x9e\x1b\x16\x1e\x5c\x1f\xa7\x42\x5e\x73\x04\x33\x62\x93\x8b\x98\x24";
 

@@ -8,7 +8,7 @@ use std::test::Fail;
 /// A part of a dump: a track and a sector, a place in that block, and bytes.
 type Part = (u8, u8, u8, &'static [u8]);
 
-/// A scratched slot, the first one, whose file is the block 17/3, and the other blocks of track 17
+/// A scratched slot, the first one, whose file is the block 17/3; the other blocks of track 17 are
 /// free, too.
 const NOTES: [Part; 3] = [
     (18, 1, 0, b"\x00\xFF\x00\x11\x03NOTES\xA0"),
@@ -16,8 +16,8 @@ const NOTES: [Part; 3] = [
     (18, 0, 0x44, b"\x15\xFF\xFF\x1F"),
 ];
 
-/// Fails if a slot of a dump of these parts is not scratched, or its file not whole for
-/// other reasons.
+/// Fails if a slot of a dump with these parts is not scratched, or its file is not whole for other
+/// reasons.
 fn expect_losses(
     rt: &HostRuntime,
     parts: &[Part],
@@ -41,7 +41,7 @@ fn expect_losses(
     Ok(())
 }
 
-/// The same of a dump of the scratched slot with one part more.
+/// Does the same for a dump of the scratched slot with one more part.
 fn expect_with(
     rt: &HostRuntime,
     part: Part,

@@ -1,4 +1,4 @@
-//! What a survey says of sound and of damaged images.
+//! What a survey finds on sound and on damaged images.
 
 use crate::damage::{block, dump_of};
 use d64_files::SlotNo;
@@ -8,7 +8,7 @@ use std::alloc::Global;
 use std::process::Abort;
 use std::test::Fail;
 
-/// Ends the test where a dump's image has other faults than these.
+/// Ends the test unless a dump's image has these faults.
 fn expect_faults(
     rt: &impl Abort,
     alloc: Global,
@@ -21,7 +21,7 @@ fn expect_faults(
     Ok(())
 }
 
-/// Ends the test where a block of a dump's image has other owners than these.
+/// Ends the test unless a block of a dump's image has these owners.
 fn expect_owners(rt: &impl Abort, dump: &Dump, block: BlockNo, expected: &[Owner]) {
     let owners = Survey::of(dump.image()).owners(block);
     assert_eq!(rt; owners.shown(), expected);

@@ -18,7 +18,7 @@ fn names_are_shown_without_controls(rt: HostRuntime) -> Result<(), Fail> {
     Ok(())
 }
 
-/// What is told of files of so many bytes that are 0.
+/// What is printed of files with this many bytes of 0.
 const LENGTHS: [(usize, &[u8]); 9] = [
     (
         174_000,

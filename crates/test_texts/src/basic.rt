@@ -9,7 +9,7 @@ use std::test::Fail;
 const KEYWORDS: &str =
     "end for next data input# input dim read let goto run if restore gosub return rem stop on wait load save verify def poke print# print cont list clr cmd sys open close get new tab( to fn spc( then not step + - * / ^ and or > = < sgn int abs usr fre pos sqr rnd log exp cos sin tan atn peek len str$ val asc chr$ left$ right$ mid$ go";
 
-/// The bytes that a program loaded at $0801 crunches to, and its text again.
+/// Checks the bytes that a program loaded at $0801 crunches to, and its text again.
 fn crunches_and_lists(alloc: Global, text: &str, file: &[u8], listing: &str) -> Result<bool, Fail> {
     let crunched = crunch(alloc, 0x0801, text.as_bytes())?;
     let listed = list(alloc, file)?;

@@ -13,25 +13,25 @@ const MOST_PARTS: u32 = 4;
 
 const MOST_LINES: u32 = 2;
 
-/// Numbers that look random: a linear congruential generator, of which the upper half is used.
+/// Numbers that look random: the upper half of a linear congruential generator's state.
 #[derive(Drop)]
 struct Dice(u32);
 
 impl Dice {
-    /// A number below 65536.
+    /// Returns a number below 65536.
     fn roll(&mut self) -> u16 {
         self.0 = self.0.wrapping_mul(1_664_525).wrapping_add(1_013_904_223);
         (self.0 / 65536) as u16
     }
 
-    /// A number up to this one.
+    /// Returns a number up to this one.
     fn up_to(&mut self, most: u32) -> u32 {
         u32::from(self.roll()) % most.saturating_add(1)
     }
 }
 
-/// A part of a line: its text, and the bytes that it crunches to. No keyword reaches from one part
-/// into the next.
+/// Returns a part of a line: its text, and the bytes that it crunches to. No keyword reaches from
+/// one part into the next.
 fn part(choice: u32) -> (&'static [u8], &'static [u8]) {
     match choice {
         0 => (b"print ", b"\x99 "),
@@ -53,7 +53,7 @@ fn part(choice: u32) -> (&'static [u8], &'static [u8]) {
     }
 }
 
-/// What only the last part of a line can be.
+/// Returns a part that only a line's end can have.
 fn last_part(choice: u32) -> (&'static [u8], &'static [u8]) {
     match choice {
         0 => (b"rem print:\"{$8f}{rvon}", b"\x8f PRINT:\"\x8f\x12"),

@@ -1,4 +1,4 @@
-//! Calls of the shell: what they are given, and what must come of them.
+//! Calls of the shell: what they are given, and the expected results.
 
 use d64_shell::{Outcome, ShellFault};
 use test_cases::{Manner, Mark, Place, Run, Script, WhenFull};
@@ -25,7 +25,7 @@ impl From<Result<Outcome, ShellFault>> for Ending {
     }
 }
 
-/// A call of `run`, or of `program` where it has words.
+/// A call of `run`, or of `program` if it has arguments.
 #[derive(Clone, Copy)]
 pub struct Call<'a> {
     pub words: Option<&'a [String]>,
@@ -33,19 +33,19 @@ pub struct Call<'a> {
     pub given: &'a [u8],
     pub at_most: usize,
     pub reader_fails: bool,
-    /// How many bytes the writer takes, and what it does then.
+    /// The number of bytes that the writer takes, and what it does then.
     pub room: usize,
     pub when_full: WhenFull,
     pub fails_at_flush: bool,
     pub faults_room: usize,
-    /// What must come of it.
+    /// The expected output.
     pub answers: &'a [u8],
     pub faults: &'a [u8],
     pub ending: Ending,
 }
 
 impl<'a> Call<'a> {
-    /// The first call of a run. A stream that fails anywhere fails after `place` bytes.
+    /// Returns the first call of a run. A stream that fails anywhere fails after `place` bytes.
     pub fn first(run: &'a Run, at_most: usize, place: usize) -> Call<'a> {
         let call = Call::whole(run, at_most);
         if let Some(came) = bytes_before(run.manner.reader_fails, place) {
@@ -57,7 +57,7 @@ impl<'a> Call<'a> {
         }
     }
 
-    /// The call on what a first call left of the script, where it left some.
+    /// Returns the call on what a first call left of the script, if it left some.
     pub fn second(run: &'a Run, at_most: usize, place: usize) -> Option<Call<'a>> {
         let mark = stopped_at(run, place)?;
         if run.manner.words.is_some() || run.script.is_closed(mark) {
@@ -73,7 +73,7 @@ impl<'a> Call<'a> {
         })
     }
 
-    /// The call on a whole script, on streams that do not fail.
+    /// Returns the call on a whole script, on streams that do not fail.
     fn whole(run: &'a Run, at_most: usize) -> Call<'a> {
         let manner = &run.manner;
         let answers = run.script.answers.as_bytes();
@@ -92,8 +92,8 @@ impl<'a> Call<'a> {
         }
     }
 
-    /// This call, whose reader gives so many bytes and then fails: the lines that are ended by then
-    /// are answered.
+    /// Returns this call with a reader that gives `came` bytes and then fails: the lines that are
+    /// ended by then are run.
     fn with_failing_reader(self, script: &Script, came: usize) -> Call<'a> {
         let mark = script.ended_by(came);
         let answers = up_to(self.answers, mark.answers);
@@ -111,7 +111,7 @@ impl<'a> Call<'a> {
         }
     }
 
-    /// This call, whose writer takes so many bytes: where there are more, that part of the answers
+    /// Returns this call with a writer that takes `room` bytes: only that part of a longer output
     /// is written.
     fn with_full_writer(self, room: usize) -> Call<'a> {
         let ending = match self.ending {
@@ -127,7 +127,7 @@ impl<'a> Call<'a> {
     }
 }
 
-/// After how many bytes a stream stops, where it does.
+/// Returns after how many bytes a stream stops, if it does.
 fn bytes_before(stops: Place, place: usize) -> Option<usize> {
     match stops {
         Place::Nowhere => None,
@@ -136,7 +136,7 @@ fn bytes_before(stops: Place, place: usize) -> Option<usize> {
     }
 }
 
-/// The last line that the first call of a run has answered, or was answering, where a stream stops.
+/// Returns the last line that the first call of a run has run, or was running, if a stream stops.
 fn stopped_at(run: &Run, place: usize) -> Option<Mark> {
     if let Some(came) = bytes_before(run.manner.reader_fails, place) {
         return Some(run.script.ended_by(came));
@@ -145,7 +145,7 @@ fn stopped_at(run: &Run, place: usize) -> Option<Mark> {
     Some(run.script.answered_at(room))
 }
 
-/// How many places a run is tried with, one after another.
+/// Returns the number of places that a run is tried with, one after another.
 pub fn place_count(run: &Run) -> usize {
     if run.manner.reader_fails == Place::Anywhere {
         run.script.bytes.len().saturating_add(1)
@@ -164,7 +164,7 @@ fn from(bytes: &[u8], count: usize) -> &[u8] {
     bytes.get(count..).unwrap_or(&[])
 }
 
-/// How a script ends whose reader and writer do not fail.
+/// Returns how a script ends whose reader and writer do not fail.
 fn ending_of(manner: &Manner, answers: &[u8]) -> Ending {
     if manner.words.is_some() {
         Ending::Status(manner.status)
@@ -175,8 +175,8 @@ fn ending_of(manner: &Manner, answers: &[u8]) -> Ending {
     }
 }
 
-/// How many lines these answers accept and refuse: a status line begins with two digits and a
-/// comma, and accepts where they are 00 or 01.
+/// Returns how many lines are accepted and refused in this output: a status line begins with two
+/// digits and a comma, and accepts if they are 00 or 01.
 fn counts_of(answers: &[u8]) -> Outcome {
     let mut outcome = Outcome {
         accepted: 0,

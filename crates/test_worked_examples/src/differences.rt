@@ -1,9 +1,9 @@
-//! What a case found otherwise than it says.
+//! The differences between a case and what it expects.
 
 use std::alloc::{AllocError, Global};
 use std::fmt::Debug;
 
-/// The differences of a case, a line each.
+/// The differences of a case, one on each line.
 #[derive(Drop)]
 pub struct Differences {
     alloc: Global,
@@ -26,7 +26,7 @@ impl Differences {
         self.lines.as_slice()
     }
 
-    /// Adds what is found in place of what is wanted at this line of the case.
+    /// Adds what is found instead of what is expected at this line of the case.
     pub fn add(
         &mut self,
         line: usize,
@@ -39,7 +39,7 @@ impl Differences {
         Ok(())
     }
 
-    /// Adds a value that is otherwise than it is wanted.
+    /// Adds a value that is not as expected.
     pub fn look_at_values<T: Debug + PartialEq>(
         &mut self,
         line: usize,
@@ -55,7 +55,7 @@ impl Differences {
         Ok(())
     }
 
-    /// Adds the first line of a text that is otherwise.
+    /// Adds the first line of a text that is not as expected.
     pub fn look_at_lines(
         &mut self,
         line: usize,
@@ -76,7 +76,7 @@ impl Differences {
         self.add(line, what, text_of(None), text_of(wanted_lines.next()))
     }
 
-    /// Adds the first byte that is otherwise, or other numbers of bytes.
+    /// Adds the first byte that is not as expected, or the numbers of bytes if they differ.
     pub fn look_at_bytes(
         &mut self,
         line: usize,
@@ -98,7 +98,7 @@ impl Differences {
     }
 }
 
-/// A line as it is told.
+/// Returns a line as it is printed.
 fn text_of(line: Option<&[u8]>) -> &str {
     match line {
         None | Some([]) => "no line",

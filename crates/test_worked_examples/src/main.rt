@@ -17,7 +17,7 @@ use std::rt::Files;
 use std::{fs, io};
 use test_cases::{Unread, steps_of};
 
-/// How many cases were played, found differences, and cannot be read.
+/// How many cases were played, found differences, and could not be read.
 #[derive(Clone, Copy, Debug, PartialEq, Eq)]
 struct Tally {
     played: u64,
@@ -42,7 +42,7 @@ fn main(rt: HostRuntime) -> io::Result<()> {
     println!(rt; "{played} cases played, {differ} with differences; {unread} more not read")
 }
 
-/// The names of the cases in the current folder, in the order of their bytes.
+/// Returns the names of the cases in the current folder, in the order of their bytes.
 fn case_names<R: Files + AllocGlobal + Clone + Drop>(rt: &R) -> io::Result<Vec<String>> {
     let mut names = Vec::new(rt.alloc());
     for entry in fs::read_dir(rt, ".")? {
@@ -84,7 +84,7 @@ where
     }
 }
 
-/// Prints the differences of a case, a line each.
+/// Prints the differences of a case, one on each line.
 fn print_all<R: Print>(rt: &R, name: &str, differences: &[String]) -> io::Result<()> {
     for difference in differences {
         println!(rt; "{name}: {difference}")?;

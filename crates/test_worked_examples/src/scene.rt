@@ -16,7 +16,7 @@ const READ_BYTES: usize = 4096;
 
 const READS: u64 = 1_000_000;
 
-/// What came of a call.
+/// The result of a call.
 #[derive(Drop)]
 struct Came {
     output: Bounded,
@@ -25,7 +25,7 @@ struct Came {
     asked: Asked,
 }
 
-/// Where a case is played: a session, and a host in memory or over the current folder.
+/// The place of a case: a session, and a host in memory or over the current folder.
 #[derive(Drop)]
 pub struct Scene<'r, R> {
     rt: &'r R,
@@ -38,7 +38,7 @@ impl<'r, R: Files + AllocGlobal> Scene<'r, R>
 where
     R::File: AsFd,
 {
-    /// A blank image, and a host in memory without files.
+    /// Returns a blank image, and a host in memory without files.
     fn new(rt: &'r R) -> Result<Scene<'r, R>, AllocError> {
         Ok(Scene {
             rt,
@@ -48,7 +48,7 @@ where
         })
     }
 
-    /// Plays a step, with so many bytes a read, and a stream that fails anywhere failing after
+    /// Plays a step, with `at_most` bytes a read, and a stream that fails anywhere failing after
     /// `place` bytes.
     fn play(
         &mut self,
@@ -109,7 +109,7 @@ where
         Ok(self.host.put(name, new.as_slice())?)
     }
 
-    /// The bytes of a host file, where there is one.
+    /// Returns the bytes of a host file, if there is one.
     fn file(&self, name: &str) -> Result<Option<Vec<u8>>, AllocError> {
         if self.in_folder {
             return Ok(fs::read(self.rt, name).ok());
@@ -120,7 +120,7 @@ where
         }
     }
 
-    /// Looks at a host file, at a block or at the records.
+    /// Checks a host file, a block or the records.
     fn look(&self, step: &Step, differences: &mut Differences) -> Result<(), CaseFault> {
         match &step.deed {
             Deed::File { name, bytes } => {
@@ -165,7 +165,7 @@ where
         }
     }
 
-    /// Looks whether a host file has these bytes, or whether there is none.
+    /// Checks whether a host file has these bytes, or whether there is no such file.
     fn look_at_file(
         &self,
         line: usize,
@@ -185,7 +185,7 @@ where
         Ok(())
     }
 
-    /// Looks at how many records are before and after the cursor.
+    /// Checks how many records are before and after the cursor.
     fn look_at_records(
         &self,
         line: usize,
@@ -197,7 +197,7 @@ where
         Ok(differences.look_at_values(line, "records", &found, &(done, undone))?)
     }
 
-    /// Makes a call, and looks at what came of it.
+    /// Makes a call, and checks its result.
     fn make_call(
         &mut self,
         line: usize,
@@ -214,7 +214,7 @@ where
     }
 }
 
-/// Makes a call on these host and session.
+/// Makes a call on this host and this session.
 fn came_of<H: Host>(
     alloc: Global,
     call: &Call<'_>,
@@ -241,7 +241,7 @@ fn came_of<H: Host>(
 }
 
 impl Came {
-    /// Looks at the answers, the faults, the ending, and at how the reader was asked.
+    /// Checks the output, the faults, the ending, and how the reader was used.
     fn look(
         &self,
         line: usize,
@@ -261,7 +261,7 @@ impl Came {
     }
 }
 
-/// Plays a case, with reads of so many bytes, and a stream that fails anywhere failing after
+/// Plays a case, with `at_most` bytes a read, and a stream that fails anywhere failing after
 /// `place` bytes.
 fn play_once<R: Files + AllocGlobal>(
     rt: &R,
@@ -288,8 +288,8 @@ where
     Ok(differences)
 }
 
-/// Plays a case with reads of so many bytes, once for each place where a stream is to fail, up to
-/// the first that finds differences.
+/// Plays a case with `at_most` bytes a read, once for each place at which a stream is to fail, up
+/// to the first that finds differences.
 fn play_places<R: Files + AllocGlobal>(
     rt: &R,
     steps: &[Step],
@@ -308,7 +308,7 @@ where
 }
 
 /// Plays a case with reads of 1, of 7 and of 4,096 bytes, or of as many as it says, up to the first
-/// that find differences.
+/// that finds differences.
 pub fn play<R: Files + AllocGlobal>(rt: &R, steps: &[Step]) -> Result<Differences, Unread>
 where
     R::File: AsFd,
@@ -327,7 +327,7 @@ where
     Ok(Differences::none(rt.alloc()))
 }
 
-/// The run of a step, where it is one.
+/// Returns the run of a step, if it is one.
 fn run_of(step: &Step) -> Option<&Run> {
     match &step.deed {
         Deed::Run { run } => Some(run),
@@ -340,7 +340,7 @@ fn says_reads(steps: &[Step]) -> bool {
     steps.iter().any(|step| run_of(step).is_some_and(|run| run.manner.at_most.is_some()))
 }
 
-/// How often a case is played, once for each place where a stream is to fail.
+/// Returns how often a case is played, once for each place at which a stream is to fail.
 fn places_of(steps: &[Step]) -> usize {
     let mut count = 1;
     for step in steps {

@@ -4,12 +4,12 @@ use std::alloc::Global;
 use std::io::{self, ErrorKind, Read, Write};
 use test_cases::WhenFull;
 
-/// The error of a stream that fails.
+/// Returns the error of a stream that fails.
 fn broken() -> io::Error {
     io::Error::from(ErrorKind::BrokenPipe)
 }
 
-/// How a reader was asked for bytes.
+/// How a reader was called.
 #[derive(Clone, Copy, Debug, PartialEq, Eq)]
 pub struct Asked {
     pub reads: u64,
@@ -30,7 +30,7 @@ pub struct Pieces<'a> {
 }
 
 impl<'a> Pieces<'a> {
-    /// Gives at most so many bytes a read, and then fails or ends.
+    /// Returns a reader that gives at most this many bytes a read, and then fails or ends.
     pub fn of(bytes: &'a [u8], at_most: usize, fails: bool) -> Pieces<'a> {
         Pieces {
             left: bytes,
@@ -66,7 +66,7 @@ impl<'a> Read for Pieces<'a> {
     }
 }
 
-/// A writer with room for some bytes.
+/// A writer that takes a limited number of bytes.
 #[derive(Drop)]
 pub struct Bounded {
     written: Vec<u8>,
@@ -76,7 +76,7 @@ pub struct Bounded {
 }
 
 impl Bounded {
-    /// Takes so many bytes, and then fails or takes nothing.
+    /// Returns a writer that takes this many bytes, and then fails or takes nothing.
     pub fn with_room(
         alloc: Global,
         room: usize,

@@ -2,7 +2,7 @@ use Rattle.std.proofs.Common.{◌≡◌, List, [], ℕ, sym, subst}
 use Rattle.d64_image.specs.Patch.{Kept, IsPatchOf, RisesBetween}
 use Rattle.test_growths.proofs.disk.fresh.Goals as goal
 
--- a patch that keeps nothing keeps blocks of each image
+-- an empty patch keeps blocks of each image
 of_each : (image : List (List ℕ)) (patch : Kept) → patch ≡ [] → IsPatchOf image patch
 unfolding RisesBetween
 of_each image patch empty = subst (IsPatchOf image) (sym empty) tt
