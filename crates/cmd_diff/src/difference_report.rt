@@ -133,7 +133,7 @@ impl DifferenceReport {
     }
 
     /// Replaces the buffer's contents by the result for an old file and a new one with these names
-    /// and these bytes, or with the reason, if it is known, if one cannot be read. The result is
+    /// and these bytes, or with the reason (None if unknown) why one cannot be read. The result is
     /// the same whatever was compared before.
     pub fn answer(
         &mut self,
