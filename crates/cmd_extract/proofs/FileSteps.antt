@@ -21,7 +21,7 @@ use Rattle.cmd_extract.specs.Work.{Work, NewFile, SaysFile, LeadsTo}
 use Rattle.cmd_extract.specs.Unpacking.{closed_progress, after_writing, write_work, file_work, wait_work, files_work, list_work}
 use Rattle.cmd_extract.proofs.Steps.{asked, explained, nothing_yet}
 
--- a test of whether none is there
+-- a test of whether there is no value
 is_some_by : (t : Bool) (over : Bool) → over ≡ not t → over ≡ true → t ≡ false
 is_some_by true over e f = absurd (let g : true ≡ false = sym f ∙ e in cc)
 is_some_by false over e f = refl
@@ -66,7 +66,7 @@ was_not task row file p rest host said reason is says =
     subst (λ (s : Bool). LeadsTo (after_writing task row file p rest s) host (rest (unwritten_progress task row file reason p)) host) (sym is)
     (explained (λ (r : Option Reason). rest (unwritten_progress task row file r p)) host reason says)
 
--- nothing was written of a file, and that was told
+-- no file was written, and its line was added
 pub told_none : {A E : Type 0} (result : Result A E) (task : TaskView) (row : FileRowView) (p : Progress) (left : Option ℕ) (printed lines complaint : List ℕ) (list : ListState) (failed : Bool)
     → left ≡ left_after p.left (portion_of task row) → OnOk result (printed ≡ p.printed ++ printed_file task.setup.form task.name row None)
     → OnOk result (lines ≡ p.lines ++ printed_file Json task.name row None) → complaint ≡ p.complaint → list ≡ p.list → failed ≡ p.has_failed
@@ -76,7 +76,7 @@ told_none (Ok done) task row p left printed lines complaint list failed l pr li 
     λ i. record { left = l i; taken = p.taken; printed = pr i; lines = li i; list = st i; complaint = co i; has_failed = fa i }
 told_none (Err fault) task row p left printed lines complaint list failed l pr li co st fa = tt
 
--- what there is to write is what is written, where this is found of it
+-- if this is found of the file, what there is to write is what is written
 pub file_none : (task : TaskView) (row : FileRowView) (p : Progress) (portion : Option Portion) (rest : Progress → Work) → None ≡ portion
     → rest (told_progress task row None p) ≡ file_work task row p portion rest
 unfolding file_work
@@ -91,7 +91,7 @@ file_some task row p q bytes file extent portion rest is file_is q_is =
     ∙ ap (λ (f : List ℕ). write_work task row f bytes (named_progress f p) rest) file_is
     ∙ ap (λ (o : Option Portion). file_work task row p o rest) is
 
--- what there is to write of the file of a row, by what the code asks for
+-- what there is to write of the file of a row, by the code's condition
 pub portion_same : (task : TaskView) (row : FileRowView) (with_parts : Bool) (image : List (List ℕ)) (slot : ℕ) → with_parts ≡ task.setup.with_parts → image ≡ task.dump.image → slot ≡ row.slot
     → portion_at with_parts image slot ≡ portion_of task row
 portion_same task row with_parts image slot is_parts is_image is_slot =

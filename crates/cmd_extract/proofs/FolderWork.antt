@@ -11,7 +11,7 @@ use Rattle.cmd_extract.specs.Work.{Work, Done, Then, Why, Look, NewFolder, Renam
 use Rattle.cmd_extract.specs.Unpacking.{unfinished_answer, finished_answer, unnamed_answer, unmade_answer, present_answer, skipped_answer, after_naming, name_work, unmade_work, files_work, folder_work, folders_work, folder_after, present_work, task_work_with}
 use Rattle.cmd_extract.proofs.Steps.{asked, explained, further, nothing_yet}
 
--- something wasn't written, and nothing more is done
+-- a write failed, and nothing more is done
 pub not_named : (task : TaskView) (p : Progress) → p.has_failed ≡ true → Done (unfinished_answer p) ≡ name_work task p
 unfolding name_work
 not_named task p failed = sym (ap (λ (t : Bool). cond t (Done (unfinished_answer p)) (Then (Rename task.partial task.done) (after_naming task p))) failed)
@@ -40,7 +40,7 @@ unnamed task p host said reason is says =
 abbrev named_folder : TaskView → List ℕ → Bool → List ℕ
 named_folder task path is_there = cond is_there path task.setup.into
 
--- a folder cannot be made, and it was asked why
+-- a folder cannot be made, and the host gave the reason
 unmade : (task : TaskView) (path into : List ℕ) (host : HostState) (said : Bool) (reason : Option Reason) → into ≡ task.setup.into → Says (Look into) host said host → IsWriteReason host.files reason
     → LeadsTo (unmade_work task path) host (Done (unmade_answer task (named_folder task path said) reason)) host
 unfolding unmade_work

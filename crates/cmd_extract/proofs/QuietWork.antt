@@ -1,4 +1,4 @@
--- Nothing is complained of an image on which the verdict is clean.
+-- An image with a clean verdict has no line on the standard error.
 use Rattle.std.proofs.Common.{◌≡◌, ℕ, Bool, true, false, cond, List, [], ◌∷◌, ◌++◌, Option, Some, None, refl, sym, ap, ◌∙◌, subst, inl, inr, append-nil}
 use Rattle.std.specs.Prelude.{is_some, nat_lt, length}
 use Rattle.std.specs.Str.{is_utf8}
@@ -23,13 +23,13 @@ use Rattle.program_batch.specs.declared.reason.Reason.{Reason}
 use Rattle.cmd_extract.specs.Unpacking.{unread_answer, skipped_answer, present_answer, unfinished_answer, verdict_on, closed_progress, after_naming, name_work, after_putting, put_work, wait_work, list_work, after_writing, file_work, files_work, unmade_work, folder_work, folders_work, folder_after, present_work, task_work_with, task_of, dump_work, unpacking}
 use Rattle.cmd_extract.specs.UnpackLaws.{CleanIsQuiet}
 
--- whatever the host says, nothing is complained of where the verdict is clean
+-- whatever the host returns, a clean result has no complaint
 unfoldable IsQuietWork : Work → Type 0
 IsQuietWork (Done answer) = answer.verdict ≡ Clean → answer.complaint ≡ []
 IsQuietWork (Then call next) = (said : Bool) → IsQuietWork (next said)
 IsQuietWork (Why next) = (reason : Option Reason) → IsQuietWork (next reason)
 
--- then nothing is
+-- then a clean result has none
 does_quietly : (work : Work) (old new : HostState) (answer : Answer) → IsQuietWork work → Does work old (Some answer) new → answer.verdict ≡ Clean → answer.complaint ≡ []
 unfolding Does IsQuietWork
 does_quietly (Done told) old new answer quiet (same, inl is) clean =
@@ -41,11 +41,11 @@ does_quietly (Then call next) old new answer quiet (inr (same, is)) clean = absu
 does_quietly (Why next) old new answer quiet (inl (reason, says, done)) clean = does_quietly (next reason) old new answer (quiet reason) done clean
 does_quietly (Why next) old new answer quiet (inr (same, is)) clean = absurd (let e : Some answer ≡ None = is in cc)
 
--- nothing is complained of unless a write failed
+-- there is no complaint unless a write failed
 abbrev IsQuietSoFar : Progress → Type 0
 IsQuietSoFar p = p.has_failed ≡ false → p.complaint ≡ []
 
--- nor then, once all files have come, where the verdict is clean
+-- nor at the end of all files, if the verdict is clean
 abbrev IsQuietEnd : TaskView → Progress → Type 0
 IsQuietEnd task p = p.has_failed ≡ false → verdict_on task p ≡ Clean → p.complaint ≡ []
 

@@ -10,14 +10,14 @@ use Rattle.program_batch.specs.declared.report.AnswerRoom.{AnswerRoom}
 use Rattle.cmd_extract.specs.Work.{Work, Done, Then, Why, HostCall, Says, Does, LeadsTo, Comes, Ends, answer_in}
 use Rattle.cmd_extract.specs.Progress.{Progress}
 
--- memory may be wanting before all
+-- memory may run out before anything is done
 pub stops : (work : Work) (host : HostState) → Does work host None host
 unfolding Does
 stops (Done answer) host = (refl, inr refl)
 stops (Then call next) host = inr (refl, refl)
 stops (Why next) host = inr (refl, refl)
 
--- what is done comes to its answer
+-- work that is done has its result
 pub answers : (answer : Answer) (host : HostState) → Does (Done answer) host (Some answer) host
 unfolding Does
 answers answer host = (refl, inl refl)
@@ -27,7 +27,7 @@ pub asked : (call : HostCall) (next : Bool → Work) (old now : HostState) (said
 unfolding Does
 asked call next old now said says = λ given new done. inl (said, now, says, done)
 
--- it was asked why a call was refused
+-- the host gave the reason why a call was refused
 pub explained : (next : Option Reason → Work) (host : HostState) (reason : Option Reason) → IsWriteReason host.files reason → LeadsTo (Why next) host (next reason) host
 unfolding Does
 explained next host reason says = λ given new done. inl (reason, says, done)
@@ -46,22 +46,22 @@ pub comes_here : {A E : Type 0} (result : Result A E) (work rest : Work) (old no
 comes_here (Ok done) work rest old now leads = leads
 comes_here (Err fault) work rest old now leads = leads None now (stops rest now)
 
--- what has come so far, where that is as it should be
+-- what has come so far, if it is as it should be
 pub comes_to : {A E : Type 0} (result : Result A E) (work : Work) (rest : Progress → Work) (old now : HostState) (reached wanted : Progress) → OnOk result (reached ≡ wanted)
     → LeadsTo work old (rest wanted) now → Comes result work old (rest reached) now
 comes_to (Ok done) work rest old now reached wanted is leads = subst (λ (p : Progress). LeadsTo work old (rest p) now) (sym is) leads
 comes_to (Err fault) work rest old now reached wanted is leads = leads None now (stops (rest wanted) now)
 
--- nothing was done yet
+-- no work was done yet
 pub nothing_yet : (work : Work) (host : HostState) → LeadsTo work host work host
 nothing_yet work host = λ given new done. done
 
--- memory was wanting
+-- memory ran out
 pub comes_not : {A E : Type 0} (result : Result A E) (work rest : Work) (old now : HostState) → IsErr result → Does work old None now → Comes result work old rest now
 comes_not (Ok done) work rest old now is stopped = absurd (let f : false ≡ true = is in cc)
 comes_not (Err fault) work rest old now is stopped = stopped
 
--- what holds where memory was wanting
+-- what holds if memory ran out
 pub match_not : {A E : Type 0} (result : Result A E) (P : A → Type 0) (Q : Type 0) → IsErr result → Q → MatchResult result P (λ fault. Q)
 match_not (Ok done) P Q is holds = absurd (let f : false ≡ true = is in cc)
 match_not (Err fault) P Q is holds = holds
@@ -72,14 +72,14 @@ pub ends_after : {E : Type 0} (result : Result Verdict E) (room : AnswerRoom) (w
 ends_after (Ok verdict) room work middle old reached now first second = first (Some (answer_in room verdict)) now second
 ends_after (Err fault) room work middle old reached now first second = first None now second
 
--- the end with an answer
+-- the end with a result
 pub ends_with : {E : Type 0} (result : Result Verdict E) (room : AnswerRoom) (answer : Answer) (host : HostState) → IfOk result (λ verdict. answer_in room verdict ≡ answer)
     → Ends result room (Done answer) host host
 unfolding Does
 ends_with (Ok verdict) room answer host is = (refl, inl (ap (λ (a : Answer). Some a) is))
 ends_with (Err fault) room answer host is = (refl, inr refl)
 
--- the end for want of memory
+-- the end as memory ran out
 pub ends_not : {E : Type 0} (result : Result Verdict E) (room : AnswerRoom) (work : Work) (old now : HostState) → IsErr result → Does work old None now → Ends result room work old now
 ends_not (Ok verdict) room work old now is stopped = absurd (let f : false ≡ true = is in cc)
 ends_not (Err fault) room work old now is stopped = stopped

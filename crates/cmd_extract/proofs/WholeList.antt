@@ -69,7 +69,7 @@ other_path task taken row extent =
 abbrev into_list : TaskView → Work → List ℕ
 into_list task work = all_into (list_path task) work
 
--- giving the folder its name puts nothing into it
+-- renaming the folder puts nothing into the list
 naming_none : (task : TaskView) (p : Progress) → into_list task (name_work task p) ≡ []
 unfolding name_work all_into
 naming_none task p = by_failure p.has_failed

@@ -2,7 +2,7 @@
 use Rattle.cmd_extract.specs.Progress.{Progress}
 use Rattle.cmd_extract.specs.declared.files.Files.{Files}
 
--- how far it has come, by what the code holds
+-- how far it has come, by the fields of `Files`
 abbrev pub progress_of : Files → Progress
 progress_of files = record {
   left = files.extraction;

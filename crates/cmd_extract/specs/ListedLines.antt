@@ -1,4 +1,4 @@
--- What the list of an image's files has, where each call is accepted.
+-- The list of an image's files, if every call is accepted.
 use Rattle.std.specs.Prelude.{ℕ, bytes_eq, if◌then◌else◌, List, [], ◌∷◌, ◌++◌, Option, Some, None, true}
 use Rattle.d64_inventory.specs.Rows.{FileRowView}
 use Rattle.cmd_extract_contents.specs.Portions.{Portion}
@@ -19,7 +19,7 @@ bytes_into path (Folder place) = []
 bytes_into path (NewFolder place) = []
 bytes_into path (Rename from to) = []
 
--- the bytes that a work puts into it, one call after another, where each call is accepted
+-- the bytes that work puts into it, one call after another, if every call is accepted
 unfoldable pub all_into : List ℕ → Work → List ℕ
 all_into path (Done answer) = []
 all_into path (Then call next) = bytes_into path call ++ all_into path (next true)
@@ -30,12 +30,12 @@ abbrev pub path_of : TaskView → FileRowView → List (List ℕ) → Option Por
 path_of task row taken None = None
 path_of task row taken (Some portion) = Some (path_in task.done (host_name taken row portion.extent))
 
--- the host names that are taken then
+-- the host names that are taken after the file of a row
 abbrev pub taken_after : FileRowView → List (List ℕ) → Option Portion → List (List ℕ)
 taken_after row taken None = taken
 taken_after row taken (Some portion) = taken ++ host_name taken row portion.extent ∷ []
 
--- the lines of rows, one after another, where later files may have so many bytes, and these names
+-- the lines of rows, one after another, if later files may have this many bytes, and these names
 -- are taken
 unfoldable pub lines_of : TaskView → List FileRowView → Option ℕ → List (List ℕ) → List ℕ
 lines_of task [] left taken = []

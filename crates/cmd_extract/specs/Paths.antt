@@ -4,7 +4,7 @@ use Rattle.host_names.specs.HostName.{slash}
 use Rattle.host_names.specs.ImagePlace.{folders_of, image_name, partial_name}
 use Rattle.cmd_extract.specs.Setup.{TaskView}
 
--- a path that ends in a `/`
+-- a path with a `/` at its end
 abbrev pub with_slash : List ℕ → List ℕ
 with_slash path = path ++ codes "/"
 
@@ -12,21 +12,21 @@ with_slash path = path ++ codes "/"
 abbrev pub ends_in_slash : List ℕ → Bool
 ends_in_slash path = slice_index path (length path - 1) == slash
 
--- what the paths in a folder begin with: the folder's, and a `/`, unless it ends in one
+-- what the paths in a folder begin with: the folder's path, and a `/`, unless it ends in one
 abbrev pub path_inside : List ℕ → List ℕ
 path_inside folder = if ends_in_slash folder then folder else with_slash folder
 
--- what the paths in the last of some folders begin with, each of which lies in the one before it,
--- and the first at this place
+-- what the paths in the last of some folders begin with; each folder lies in the one before it, and
+-- the first one here
 unfoldable pub place_below : List ℕ → List (List ℕ) → List ℕ
 place_below place [] = place
 place_below place (folder ∷ folders) = place_below (with_slash (place ++ folder)) folders
 
--- the same for the folder of an image, by what is asked for and the name of its file
+-- the same for the folder of an image, below the chosen folder, by the name of the image's file
 abbrev pub place_of : List ℕ → List ℕ → List ℕ
 place_of into name = place_below (path_inside into) (folders_of name)
 
--- the path of that folder when all is in it, and before
+-- the path of that folder once it is complete, and before
 abbrev pub done_path : List ℕ → List ℕ → List ℕ
 done_path into name = place_of into name ++ image_name name
 
@@ -41,6 +41,6 @@ path_in folder file = with_slash folder ++ file
 abbrev pub list_in : List ℕ → List ℕ
 list_in folder = path_in folder (codes "files.jsonl")
 
--- the path of the list while the image is unpacked
+-- the path of the list while the image is being unpacked
 abbrev pub list_path : TaskView → List ℕ
 list_path task = list_in task.partial

@@ -1,4 +1,4 @@
--- How far it has come with the files of an image.
+-- How far the files of an image are unpacked.
 use Rattle.std.specs.Prelude.{ℕ, Bool, true, false, List, [], ◌∷◌, ◌++◌, Option, Some, None}
 use Rattle.std.specs.Option.{option_map_or}
 use Rattle.petscii.specs.Spelling.{spelling}
@@ -24,13 +24,13 @@ use Rattle.cmd_extract.specs.Paths.{path_in, list_path}
 use Rattle.cmd_extract.specs.declared.list_state.ListState.{ListState}
 use Rattle.cmd_extract.specs.declared.list_state.ListState.TheVariants.{New, Begun, GivenUp}
 
--- the most bytes of lines of the list of the files that wait to be written
+-- the most bytes of lines that wait to be written to the list of the files
 abbrev pub waiting_limit : ℕ
 waiting_limit = 65536
 
--- how far it has come: how many bytes later files may have, the host names that are taken, what is
--- printed, the lines of the list of the files that wait to be written, in JSON, how far that list is
--- written, what is complained of, and whether a write failed
+-- how far an image is unpacked: how many bytes later files may have, the host names that are taken,
+-- what is printed, the lines (in JSON) that wait to be written to the list of the files, how far
+-- that list is written, what goes to the standard error, and whether a write failed
 pub record Progress : Type 0 where
   pub left : Option ℕ
   pub taken : List (List ℕ)
@@ -40,7 +40,7 @@ pub record Progress : Type 0 where
   pub complaint : List ℕ
   pub has_failed : Bool
 
--- no file has come
+-- no file has come yet
 abbrev pub first_progress : TaskView → Progress
 first_progress task = record {
   left = Some limit;
@@ -60,16 +60,16 @@ ending_of kinds.Prg = endings.Prg
 ending_of kinds.Usr = endings.Usr
 ending_of kinds.Rel = endings.Rel
 
--- the same where there may be no kind: then there is nothing to write
+-- the same if there may be no kind: then there is nothing to write
 abbrev pub ending_by : Option Kind → Ending
 ending_by kind = option_map_or ending_of kind endings.Del
 
--- a file is written in part
+-- only a part of a file is written
 abbrev pub is_part : Extent → Bool
 is_part extents.Content = false
 is_part extents.Part = true
 
--- the host name of the file of a row, where these are taken
+-- the host name of the file of a row, if these are taken
 unfoldable pub host_name : List (List ℕ) → FileRowView → Extent → List ℕ
 host_name taken row extent = next_name taken (spelling (name_in row.field)) (ending_by row.kind) (is_part extent)
 
@@ -77,14 +77,14 @@ host_name taken row extent = next_name taken (spelling (name_in row.field)) (end
 abbrev pub portion_of : TaskView → FileRowView → Option Portion
 portion_of task row = portion_at task.setup.with_parts task.dump.image row.slot
 
--- a file was told of, with the path of its host file, or that none was written
+-- the line of a file was added, with the path of its host file, or None if no file was written
 unfoldable pub told_progress : TaskView → FileRowView → Option (List ℕ) → Progress → Progress
 told_progress task row path progress = record progress {
   printed = progress.printed ++ printed_file task.setup.form task.name row path;
   lines = progress.lines ++ printed_file Json task.name row path;
 }
 
--- of the files that may come after one, fewer bytes are left
+-- after this file fewer bytes are left for later ones
 abbrev pub spent_progress : TaskView → FileRowView → Progress → Progress
 spent_progress task row progress = record progress { left = left_after progress.left (portion_of task row) }
 
@@ -101,7 +101,7 @@ failed_at path reason progress =
 abbrev pub written_progress : TaskView → FileRowView → List ℕ → Progress → Progress
 written_progress task row file progress = told_progress task row (Some (path_in task.done file)) progress
 
--- or it could not be
+-- the file of a row could not be written
 abbrev pub unwritten_progress : TaskView → FileRowView → List ℕ → Option Reason → Progress → Progress
 unwritten_progress task row file reason progress = told_progress task row None (failed_at (path_in task.partial file) reason progress)
 
@@ -109,10 +109,10 @@ unwritten_progress task row file reason progress = told_progress task row None (
 abbrev pub put_progress : Progress → Progress
 put_progress progress = record progress { lines = []; list = Begun }
 
--- or they could not be put there, and no more of the list is tried
+-- the lines could not be written, and the rest of the list is given up
 abbrev pub unput_progress : TaskView → Option Reason → Progress → Progress
 unput_progress task reason progress = record (failed_at (list_path task) reason progress) { lines = []; list = GivenUp }
 
--- the lines that waited are dropped, since no more of the list is tried
+-- the lines that waited are dropped, since the list is given up
 abbrev pub dropped_progress : Progress → Progress
 dropped_progress progress = record progress { lines = [] }

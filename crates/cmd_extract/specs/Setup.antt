@@ -1,18 +1,18 @@
--- What an extraction is asked for, and an image that is unpacked.
+-- The options of an extraction, and an image that is unpacked.
 use Rattle.std.specs.Prelude.{ℕ, Bool, List}
 use Rattle.d64_survey.specs.Dump.{DumpView}
 use Rattle.program_arguments.specs.declared.asked.Format.{Format}
 
--- what is asked for: the folder below which all goes, whether parts are written too, whether what
--- is complete is passed over, and the form of the output
+-- the options: the folder below which all is written, whether parts are written too, whether
+-- complete images are skipped, and the form of the output
 pub record SetupView : Type 0 where
   pub into : List ℕ
   pub with_parts : Bool
   pub skips : Bool
   pub form : Format
 
--- an image that is unpacked: what is asked for, the name of its file on the host, the dump that was
--- read of it, and the paths of its folder, when all is in it and before
+-- an image that is unpacked: the options, the name of its file on the host, the dump that was read
+-- of it, and the paths of its folder once it is complete, and before
 pub record TaskView : Type 0 where
   pub setup : SetupView
   pub name : List ℕ

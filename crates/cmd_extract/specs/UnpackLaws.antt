@@ -9,11 +9,11 @@ use Rattle.cmd_extract.specs.Unpacking.{folder_work}
 use Rattle.cmd_extract.specs.ListedLines.{all_into, lines_of}
 use Rattle.cmd_extract.specs.Conduct.{unpacks}
 
--- nothing is complained of an image on which the verdict is clean, unless those that are complete
--- are passed over
+-- an image with a clean verdict has no line on the standard error, unless complete images are
+-- skipped
 abbrev pub CleanIsQuiet : Type 0
 CleanIsQuiet = (setup : SetupView) → setup.skips ≡ false → KeepsQuiet (unpacks setup)
 
--- where each call is accepted, the list of an image's files has the lines of all rows
+-- if every call is accepted, the list of an image's files has the lines of all rows
 abbrev pub ListIsWhole : Type 0
 ListIsWhole = (task : TaskView) → all_into (list_path task) (folder_work task) ≡ lines_of task (rows task.dump) (Some limit) []

@@ -24,99 +24,100 @@ use Rattle.cmd_extract.specs.Progress.{Progress, waiting_limit, first_progress, 
 use Rattle.cmd_extract.specs.declared.list_state.ListState.{ListState}
 use Rattle.cmd_extract.specs.declared.list_state.ListState.TheVariants.{New, Begun, GivenUp}
 
--- an image that is not answered otherwise: its error is printed, and this is complained of
+-- the result of an image that is refused: its error is printed, and this goes to the standard error
 abbrev pub refused_answer : SetupView → List ℕ → List ℕ → List ℕ → Answer
 refused_answer setup name error complaint = record { printed = printed_error setup.form name error; complaint = complaint; verdict = Failed }
 
--- it cannot be read
+-- the result of a file that cannot be read
 abbrev pub unread_answer : SetupView → List ℕ → Answer
 unread_answer setup name = refused_answer setup name (codes "cannot be read") (unread_line name)
 
--- it is no dump
+-- the result of a file that is not a dump
 abbrev pub wrong_length : SetupView → List ℕ → Bytes → Answer
 wrong_length setup name bytes =
     record { printed = printed_length setup.form name bytes; complaint = wrong_length_line name bytes; verdict = Failed }
 
--- its folder, or what it was before, is there already at this path
+-- the result of an image whose folder, or its unfinished form, exists already at this path
 abbrev pub present_answer : TaskView → List ℕ → Answer
 present_answer task path = refused_answer task.setup task.name (codes "is there already") (present_line path)
 
--- its folder is there, and is passed over
+-- the result of an image whose folder exists, and is skipped
 abbrev pub skipped_answer : TaskView → Answer
 skipped_answer task = record { printed = []; complaint = skipped_line task.done; verdict = Clean }
 
--- a folder cannot be made at this path, for this reason, if one is known
+-- the result if a folder cannot be made at this path, with the reason, if one is known
 abbrev pub unmade_answer : TaskView → List ℕ → Option Reason → Answer
 unmade_answer task path reason =
     refused_answer task.setup task.name (codes "cannot be written") (with_known_reason reason (unwritten_line path))
 
--- the verdict on an image whose files are all written that could be
+-- the verdict on an image, if no write failed
 abbrev pub verdict_on : TaskView → Progress → Verdict
 verdict_on task progress =
     if is_some progress.left then (if is_listing_amiss task.dump then Amiss else Clean) else Failed
 
--- all is written, and the folder has its name
+-- the result if all is written, and the folder has its name
 abbrev pub finished_answer : TaskView → Progress → Answer
 finished_answer task progress = record { printed = progress.printed; complaint = progress.complaint; verdict = verdict_on task progress }
 
--- all is written, and the folder doesn't get its name, for this reason, if one is known
+-- the result if all is written, but the folder does not get its name, with the reason, if one is
+-- known
 abbrev pub unnamed_answer : TaskView → Progress → Option Reason → Answer
 unnamed_answer task progress reason =
     refused_answer task.setup task.name (codes "cannot be written") (with_known_reason reason (progress.complaint ++ unwritten_line task.done))
 
--- something wasn't written, and the folder keeps the name that it has
+-- the result if a write failed, and the folder keeps its name
 abbrev pub unfinished_answer : Progress → Answer
 unfinished_answer progress = record { printed = progress.printed; complaint = progress.complaint; verdict = Failed }
 
--- all files have come: what stands after them is printed, and it is complained of too many bytes
+-- all files have come: what comes after them is printed, and too many bytes are reported
 unfoldable pub closed_progress : TaskView → Progress → Progress
 closed_progress task progress = record progress {
   printed = progress.printed ++ after_rows task.setup.form task.dump;
   complaint = progress.complaint ++ (if is_some progress.left then [] else too_much_line task.name);
 }
 
--- the folder has its name, or doesn't get it
+-- the folder has its name, or does not get it
 abbrev pub after_naming : TaskView → Progress → Bool → Work
 after_naming task progress true = Done (finished_answer task progress)
 after_naming task progress false = Why (λ reason. Done (unnamed_answer task progress reason))
 
--- the folder gets its name, where all was written
+-- the folder gets its name, if all was written
 unfoldable pub name_work : TaskView → Progress → Work
 name_work task progress =
     if progress.has_failed then Done (unfinished_answer progress)
     else Then (Rename task.partial task.done) (after_naming task progress)
 
--- the lines that waited are in the list of the files, or aren't, and then comes the rest
+-- the lines that waited are in the list of the files, or could not be written; then comes the rest
 abbrev pub after_putting : TaskView → Progress → (Progress → Work) → Bool → Work
 after_putting task progress rest true = rest (put_progress progress)
 after_putting task progress rest false = Why (λ reason. rest (unput_progress task reason progress))
 
--- the lines that wait are put into the list, so far as it is written: it is made for the first of
--- them, and has the later ones at its end; and then comes the rest
+-- the lines that wait are written to the list: it is made with the first of them, and later ones
+-- are appended; then comes the rest
 unfoldable pub put_work : ListState → TaskView → Progress → (Progress → Work) → Work
 put_work New task progress rest = Then (NewFile (list_path task) progress.lines) (after_putting task progress rest)
 put_work Begun task progress rest = Then (MoreOfFile (list_path task) progress.lines) (after_putting task progress rest)
 put_work GivenUp task progress rest = rest (dropped_progress progress)
 
--- the lines that wait are put into the list once they pass the limit, and then comes the rest
+-- the lines that wait are written to the list once they pass the limit; then comes the rest
 unfoldable pub wait_work : TaskView → Progress → (Progress → Work) → Work
 wait_work task progress rest =
     if nat_lt waiting_limit (length progress.lines) then put_work progress.list task progress rest else rest progress
 
--- the last lines are put into the list, and the folder gets its name
+-- the last lines are written to the list, and the folder gets its name
 abbrev pub list_work : TaskView → Progress → Work
 list_work task progress = put_work progress.list task progress (name_work task)
 
--- a file was written, or wasn't, and then comes the rest
+-- a file was written, or could not be; then comes the rest
 abbrev pub after_writing : TaskView → FileRowView → List ℕ → Progress → (Progress → Work) → Bool → Work
 after_writing task row file progress rest true = rest (written_progress task row file progress)
 after_writing task row file progress rest false = Why (λ reason. rest (unwritten_progress task row file reason progress))
 
--- a file is written under a host name that is taken, and then comes the rest
+-- a file is written under a host name that is taken; then comes the rest
 abbrev pub write_work : TaskView → FileRowView → List ℕ → Bytes → Progress → (Progress → Work) → Work
 write_work task row file bytes progress rest = Then (NewFile (path_in task.partial file) bytes) (after_writing task row file progress rest)
 
--- the file of a row is written, if there is something to write, and then comes the rest
+-- the file of a row is written, if there is something to write; then comes the rest
 unfoldable pub file_work : TaskView → FileRowView → Progress → Option Portion → (Progress → Work) → Work
 file_work task row progress None rest = rest (told_progress task row None progress)
 file_work task row progress (Some portion) rest =
@@ -130,39 +131,38 @@ files_work task (row ∷ rows) progress =
     file_work task row (spent_progress task row progress) (portion_within progress.left (portion_of task row))
     (λ after. wait_work task after (files_work task rows))
 
--- a folder cannot be made at this path: it is asked why, and the folder below which all goes is
--- named in its place where that isn't there
+-- a folder cannot be made at this path: the host gives the reason, and the error names the chosen
+-- folder instead if that does not exist
 unfoldable pub unmade_work : TaskView → List ℕ → Work
 unmade_work task path =
     Then (Look task.setup.into) (λ is_there. Why (λ reason. Done (unmade_answer task (if is_there then path else task.setup.into) reason)))
 
--- the image's folder is made, and then come its files
+-- the image's folder is made, and then its files
 unfoldable pub folder_work : TaskView → Work
 folder_work task =
     Then (NewFolder task.partial) (λ is_made. if is_made then files_work task (rows task.dump) (first_progress task) else unmade_work task task.partial)
 
--- folders are made where they aren't there, each in the one before it, and then comes the rest,
--- which is told of a folder that can't be made
+-- folders are made unless they exist, each in the one before it; then comes the rest, which gets
+-- the path of a folder that cannot be made
 unfoldable pub folders_work : (Option (List ℕ) → Work) → List ℕ → List (List ℕ) → Work
 folders_work rest place [] = rest None
 folders_work rest place (folder ∷ folders) =
     Then (Folder (place ++ folder)) (λ is_had. if is_had then folders_work rest (with_slash (place ++ folder)) folders else rest (Some (place ++ folder)))
 
--- the folder of the image is made, unless one before it can't be made
+-- the folder of the image is made, unless a folder above it cannot be made
 abbrev pub folder_after : TaskView → Option (List ℕ) → Work
 folder_after task None = folder_work task
 folder_after task (Some path) = unmade_work task path
 
--- something has the path of the image's folder: it is passed over if that is asked for and the list
--- of the files is in it, since then it is complete
+-- the path of the image's folder exists: it is skipped if the options ask for that and it has the
+-- list of the files, since then it is complete
 unfoldable pub present_work : TaskView → Work
 present_work task =
     if task.setup.skips
     then Then (Look (list_in task.done)) (λ is_complete. Done (if is_complete then skipped_answer task else present_answer task task.done))
     else Done (present_answer task task.done)
 
--- it is looked whether the image's folder is there, and what it is before all is in it, and else it
--- is made, in these folders
+-- unless the image's folder exists, complete or unfinished, it is made in these folders
 unfoldable pub task_work_with : TaskView → List (List ℕ) → Work
 task_work_with task folders =
     Then (Look task.done) (λ is_done. if is_done then present_work task
@@ -173,19 +173,18 @@ task_work_with task folders =
 abbrev pub task_work : TaskView → Work
 task_work task = task_work_with task (folders_of task.name)
 
--- the task that is made of a dump
+-- the image of a dump, with these options
 abbrev pub task_of : SetupView → List ℕ → DumpView → TaskView
 task_of setup name dump =
     record { setup = setup; name = name; dump = dump; done = done_path setup.into name; partial = partial_path setup.into name }
 
--- what is done with bytes: a dump is unpacked, and of other bytes it is told that they have a wrong
--- length
+-- what is done with bytes: a dump is unpacked, and for other bytes the wrong length is reported
 abbrev pub dump_work : SetupView → List ℕ → Bytes → Option DumpView → Work
 dump_work setup name bytes None = Done (wrong_length setup name bytes)
 dump_work setup name bytes (Some dump) = task_work (task_of setup name dump)
 
--- what is done with a file: with its bytes, or where it cannot be read. A name that is no text is
--- no file's
+-- what is done with a file: with its bytes, or if it cannot be read. A name that is not UTF-8 is no
+-- file's
 unfoldable pub unpacking : SetupView → List ℕ → Option Bytes → Work
 unpacking setup name None = Done (unread_answer setup name)
 unpacking setup name (Some bytes) = if is_utf8 name then dump_work setup name bytes (dump_of bytes) else Done (unread_answer setup name)

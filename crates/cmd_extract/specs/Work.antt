@@ -1,4 +1,4 @@
--- What is done to unpack an image, call by call of the host, and how it is done.
+-- What is done to unpack an image, call by call of the host, and how the host responds.
 use Rattle.std.specs.Prelude.{◌≡◌, ◌⊎◌, ℕ, Bool, true, false, List, Option, Some, None, IfSome, is_ok, OnOk, Result, Ok, Err}
 use Rattle.std.specs.FinMap.{contains_key}
 use Rattle.std.specs.Str.{is_utf8}
@@ -12,29 +12,30 @@ use Rattle.program_batch.specs.declared.reason.Reason.{Reason}
 use Rattle.program_batch.specs.declared.report.Verdict.{Verdict}
 use Rattle.program_batch.specs.declared.report.AnswerRoom.{AnswerRoom}
 
--- a call of the host, which says yes or no
+-- a call of the host, which returns true or false
 pub data HostCall : Type 0 where
-  -- whether something is there at a path
+  -- look whether a path exists
   Look : List ℕ → HostCall
-  -- a folder, which may be there already
+  -- make a folder, which may exist already
   Folder : List ℕ → HostCall
-  -- a folder that is new
+  -- make a new folder
   NewFolder : List ℕ → HostCall
-  -- a file that is new, with these bytes
+  -- make a new file, with these bytes
   NewFile : List ℕ → List ℕ → HostCall
-  -- these bytes at the end of a file that is there
+  -- append these bytes to a file
   MoreOfFile : List ℕ → List ℕ → HostCall
-  -- another path for a folder
+  -- give a folder another path
   Rename : List ℕ → List ℕ → HostCall
 
--- what is done: nothing more, and this is answered; or a call comes first, and the rest goes by
--- what it says; or it is asked why the last call was refused, and the rest goes by the reason
+-- what is done: nothing more, with this result; or a call comes first, and the rest depends on what
+-- it returns; or the host gives the reason why the last call was refused, and the rest depends on
+-- that
 pub data Work : Type 0 where
   Done : Answer → Work
   Then : HostCall → (Bool → Work) → Work
   Why : (Option Reason → Work) → Work
 
--- a call that makes something new at a path was answered so
+-- a call that makes something new at a path had this result
 abbrev pub IsTried : (Files → Files) → HostState → List ℕ → Result (Unit {0}) FolderFault → HostState → Type 0
 IsTried change old path answer new = Makes change old.files path answer new.files × CountsMaking old.failures new.failures answer
 
@@ -42,27 +43,26 @@ IsTried change old path answer new = Makes change old.files path answer new.file
 abbrev pub WasFolder : HostState → List ℕ → Result (Unit {0}) FolderFault → Type 0
 WasFolder old path answer = OnOk answer (IfSome old.files (λ all. contains_key all (folder_name path) ≡ true))
 
--- a folder was made, or was there
+-- a folder was made, or existed
 abbrev pub is_had : Result (Unit {0}) FolderFault → Bool
 is_had (Ok made) = true
 is_had (Err Exists) = true
 is_had (Err Device) = false
 
--- what is said of a file at a path that is text or isn't: one that isn't is none of the host's, and
--- no file is made there
+-- what the call for a new file returns, by whether its path is UTF-8: if not, no file is made
 abbrev pub SaysFile : Bool → List ℕ → List ℕ → HostState → Bool → HostState → Type 0
 SaysFile true path bytes old said new =
     (answer : Result (Unit {0}) FolderFault) × IsTried (with_file path bytes) old path answer new × (said ≡ is_ok answer)
 SaysFile false path bytes old said new = (said ≡ false) × (new ≡ old)
 
--- what is said of more bytes of such a file
+-- what the call that appends to such a file returns
 abbrev pub SaysMore : Bool → List ℕ → List ℕ → HostState → Bool → HostState → Type 0
 SaysMore true path bytes old said new =
     (answer : Result (Unit {0}) FolderFault)
     × Extends path bytes old.files answer new.files × CountsMaking old.failures new.failures answer × (said ≡ is_ok answer)
 SaysMore false path bytes old said new = (said ≡ false) × (new ≡ old)
 
--- what a call may say, and what the host shows then
+-- what a call may return, and the state of the host then
 abbrev pub Says : HostCall → HostState → Bool → HostState → Type 0
 Says (Look path) old said new = Looks old.files path said × (new ≡ old)
 Says (Folder path) old said new =
@@ -74,8 +74,8 @@ Says (MoreOfFile path bytes) old said new = SaysMore (is_utf8 path) path bytes o
 Says (Rename from to) old said new =
     (answer : Result (Unit {0}) FolderFault) × IsTried (with_moved from to) old to answer new × WasFolder old from answer × (said ≡ is_ok answer)
 
--- a work is done: from what the host shows, with an answer, or none where memory is wanting, to
--- what the host shows then. Memory may be wanting before each call, and before the answer
+-- work is done, from one state of the host to another, with a result, or None if memory ran out:
+-- that may happen before each call, and before the result
 unfoldable pub Does : Work → HostState → Option Answer → HostState → Type 0
 Does (Done answer) old given new = (new ≡ old) × ((given ≡ Some answer) ⊎ (given ≡ None))
 Does (Then call next) old given new =
@@ -85,21 +85,21 @@ Does (Why next) old given new =
     ((reason : Option Reason) × IsWriteReason old.files reason × Does (next reason) old given new)
     ⊎ ((new ≡ old) × (given ≡ None))
 
--- it has come from the begin of one work to that of another: whatever comes of that one from here
--- comes of the first
+-- the beginning of one piece of work leads to another piece: whatever that one does from here, the
+-- first one may do
 abbrev pub LeadsTo : Work → HostState → Work → HostState → Type 0
 LeadsTo work old rest now = (given : Option Answer) (new : HostState) → Does rest now given new → Does work old given new
 
--- how a part of a work ends: it has come to the rest, or memory was wanting
+-- how a part of the work ends: with the rest to be done, or as memory ran out
 abbrev pub Comes : {A E : Type 0} → Result A E → Work → HostState → Work → HostState → Type 0
 Comes (Ok done) work old rest now = LeadsTo work old rest now
 Comes (Err fault) work old rest now = Does work old None now
 
--- the answer in a room, with this verdict
+-- the result in the buffer, with this verdict
 abbrev pub answer_in : AnswerRoom → Verdict → Answer
 answer_in room verdict = record { printed = room.printed.items; complaint = room.complaint.items; verdict = verdict }
 
--- how a work ends: with the answer in a room, or memory was wanting
+-- how work ends: with the result in the buffer, or as memory ran out
 abbrev pub Ends : {E : Type 0} → Result Verdict E → AnswerRoom → Work → HostState → HostState → Type 0
 Ends (Ok verdict) room work old new = Does work old (Some (answer_in room verdict)) new
 Ends (Err fault) room work old new = Does work old None new

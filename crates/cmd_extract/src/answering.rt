@@ -18,7 +18,7 @@ use program_batch::{AnswerRoom, Reason, Verdict, push_known_reason};
 use std::alloc::AllocError;
 use std::mem;
 
-/// Takes what is printed out of a room, and nothing of it.
+/// Takes the printed text out of the buffer, and returns it empty.
 fn emptied(scratch: &Scratch, room: &mut AnswerRoom) -> Vec<u8>
     ensures text { result.items ≡ [] }
     ensures complaint { room.new.complaint.items ≡ room.old.complaint.items }
@@ -28,7 +28,7 @@ fn emptied(scratch: &Scratch, room: &mut AnswerRoom) -> Vec<u8>
     printed
 }
 
-/// Answers that an image has an error, of which the room has the complaint.
+/// Puts the error of an image into the buffer, which has the complaint.
 fn refuse(
     setup: &Setup,
     scratch: &mut Scratch,
@@ -43,7 +43,7 @@ fn refuse(
     Ok(Verdict::Failed)
 }
 
-/// Answers that a file cannot be read.
+/// Puts that a file cannot be read into the buffer.
 pub(crate) fn tell_unread(
     setup: &Setup,
     scratch: &mut Scratch,
@@ -57,7 +57,7 @@ pub(crate) fn tell_unread(
     refuse(setup, scratch, name, UNREAD, room)
 }
 
-/// Reports that a file with these bytes is no dump.
+/// Puts that a file with these bytes is not a dump into the buffer.
 pub(crate) fn tell_wrong_length(
     setup: &Setup,
     scratch: &mut Scratch,
@@ -74,7 +74,7 @@ pub(crate) fn tell_wrong_length(
     Ok(Verdict::Failed)
 }
 
-/// Answers that something is there already at a path.
+/// Puts that a path exists already into the buffer.
 pub(crate) fn tell_present(
     task: &Task,
     scratch: &mut Scratch,
@@ -88,7 +88,7 @@ pub(crate) fn tell_present(
     refuse(task.setup, scratch, task.name.as_bytes(), IS_THERE, room)
 }
 
-/// Answers that the folder of an image is complete, and is passed over.
+/// Puts that the folder of an image is complete, and is skipped, into the buffer.
 pub(crate) fn tell_skipped(task: &Task, room: &mut AnswerRoom) -> Result<Verdict, AllocError>
     ensures { IfOk result (λ verdict. answer_in room.new verdict ≡ skipped_answer task.now) }
 {
@@ -97,7 +97,7 @@ pub(crate) fn tell_skipped(task: &Task, room: &mut AnswerRoom) -> Result<Verdict
     Ok(Verdict::Clean)
 }
 
-/// Adds the line of a path that cannot be written, with the reason behind it, if one is known.
+/// Appends the line of a path that cannot be written, with the reason, if one is known.
 pub(crate) fn add_unwritten(
     complaint: &mut Vec<u8>,
     path: &[u8],
@@ -109,7 +109,7 @@ pub(crate) fn add_unwritten(
     push_known_reason(complaint, reason)
 }
 
-/// Answers that a folder cannot be made at a path, for this reason, if one is known.
+/// Puts that a folder cannot be made at a path into the buffer, with the reason, if one is known.
 pub(crate) fn tell_unmade(
     task: &Task,
     scratch: &mut Scratch,
@@ -124,8 +124,8 @@ pub(crate) fn tell_unmade(
     refuse(task.setup, scratch, task.name.as_bytes(), UNWRITTEN, room)
 }
 
-/// Answers that the folder of an image doesn't get its name, for this reason, if one is known, after
-/// what was complained of its files.
+/// Puts that the folder of an image does not get its name into the buffer, with the reason, if one
+/// is known, after the complaints about its files.
 pub(crate) fn tell_unnamed(
     task: &Task,
     reason: Option<Reason>,
@@ -145,7 +145,7 @@ pub(crate) fn tell_unnamed(
     )
 }
 
-/// Answers with all that was told of the files of an image.
+/// Puts all that was printed of the files of an image into the buffer.
 fn tell_files(files: &mut Files, room: &mut AnswerRoom)
     ensures printed { room.new.printed.items ≡ files.old.told.printed.items }
     ensures complaint { room.new.complaint.items ≡ files.old.told.complaint.items }
@@ -154,7 +154,7 @@ fn tell_files(files: &mut Files, room: &mut AnswerRoom)
     mem::swap(&mut room.complaint, &mut files.told.complaint);
 }
 
-/// The verdict on an image whose files are all written that could be.
+/// Returns the verdict on an image, if no write failed.
 fn verdict_on(task: &Task, extraction: &ContentExtraction) -> Verdict
     ensures { result ≡ (if is_some extraction.now then (if is_listing_amiss task.now.dump then Verdict.Amiss else Verdict.Clean) else Verdict.Failed) }
 {
@@ -168,7 +168,7 @@ fn verdict_on(task: &Task, extraction: &ContentExtraction) -> Verdict
     }
 }
 
-/// Answers that the folder of an image has its name.
+/// Puts the result of an image whose folder has its name into the buffer.
 pub(crate) fn tell_finished(task: &Task, files: &mut Files, room: &mut AnswerRoom) -> Verdict
     ensures { answer_in room.new result ≡ finished_answer task.now (progress_of files.old) }
 {
@@ -177,8 +177,7 @@ pub(crate) fn tell_finished(task: &Task, files: &mut Files, room: &mut AnswerRoo
     verdict
 }
 
-/// Answers that the folder of an image keeps the name that it has, since something wasn't written:
-/// the list of its files, or a file.
+/// Puts the result of an image whose folder keeps its name, since a write failed, into the buffer.
 pub(crate) fn tell_unfinished(files: &mut Files, room: &mut AnswerRoom) -> Verdict
     ensures { answer_in room.new result ≡ unfinished_answer (progress_of files.old) }
 {

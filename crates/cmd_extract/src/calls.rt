@@ -6,14 +6,14 @@ ghost use Rattle.cmd_extract.specs.Work.{Says, Look, Folder, NewFolder, NewFile,
 use host_storage::{FolderFault, Host};
 use program_batch::{Reason, reason_unwritten};
 
-/// Whether something is there at a path.
+/// Whether a path exists.
 pub(crate) fn is_there<H: Host>(host: &H, path: &str) -> bool
     ensures { Says (Look path.now) (H.state host.now) result (H.state host.now) }
 {
     host.is_there(path)
 }
 
-/// Makes a folder, where it isn't there, and says whether it is then.
+/// Makes a folder unless it exists, and returns whether it does then.
 pub(crate) fn have_folder<H: Host>(host: &mut H, path: &str) -> bool
     ensures { Says (Folder path.now) (H.state host.old) result (H.state host.new) }
 {
@@ -24,14 +24,14 @@ pub(crate) fn have_folder<H: Host>(host: &mut H, path: &str) -> bool
     }
 }
 
-/// Makes a folder that is new, and says whether it could be made.
+/// Makes a new folder, and returns whether it could be made.
 pub(crate) fn make_folder<H: Host>(host: &mut H, path: &str) -> bool
     ensures { Says (NewFolder path.now) (H.state host.old) result (H.state host.new) }
 {
     host.make_folder(path).is_ok()
 }
 
-/// Makes a file that is new, with these bytes, and says whether it could be made.
+/// Makes a new file, with these bytes, and returns whether it could be made.
 pub(crate) fn make_file<H: Host>(host: &mut H, path: &[u8], bytes: &[u8]) -> bool
     ensures { Says (NewFile path.now bytes.now) (H.state host.old) result (H.state host.new) }
 {
@@ -41,7 +41,7 @@ pub(crate) fn make_file<H: Host>(host: &mut H, path: &[u8], bytes: &[u8]) -> boo
     }
 }
 
-/// Adds these bytes at the end of a file that is there, and says whether they could be added.
+/// Appends these bytes to a file, and returns whether they could be appended.
 pub(crate) fn extend_file<H: Host>(host: &mut H, path: &[u8], bytes: &[u8]) -> bool
     ensures { Says (MoreOfFile path.now bytes.now) (H.state host.old) result (H.state host.new) }
 {
@@ -51,7 +51,8 @@ pub(crate) fn extend_file<H: Host>(host: &mut H, path: &[u8], bytes: &[u8]) -> b
     }
 }
 
-/// Why the last call, which was refused, could not be done at this path, as far as the host can say.
+/// Returns why the last call, which was refused, could not be done at this path, as far as the host
+/// can say.
 pub(crate) fn reason_at<H: Host>(host: &H, path: &[u8]) -> Option<Reason>
     ensures { IsWriteReason (H.state host.now).files result }
 {
@@ -61,7 +62,7 @@ pub(crate) fn reason_at<H: Host>(host: &H, path: &[u8]) -> Option<Reason>
     }
 }
 
-/// Gives a folder another path, and says whether it has that then.
+/// Gives a folder another path, and returns whether it has that then.
 pub(crate) fn rename<H: Host>(host: &mut H, from: &str, to: &str) -> bool
     ensures { Says (Rename from.now to.now) (H.state host.old) result (H.state host.new) }
 {

@@ -6,7 +6,7 @@ use cmd_extract_contents::Extent;
 use d64_files::Kind;
 use host_names::Ending;
 
-/// The ending of the host name by the kind of a file. One that has no kind isn't written.
+/// Returns the ending of the host name by the kind of a file. A file without a kind is not written.
 pub fn ending_by(kind: Option<Kind>) -> Ending
     ensures { result ≡ ending_by kind }
 {
@@ -19,7 +19,7 @@ pub fn ending_by(kind: Option<Kind>) -> Ending
     }
 }
 
-/// Whether a file is written in part.
+/// Whether only a part of a file is written.
 pub(crate) fn is_part(extent: Extent) -> bool
     ensures { result ≡ is_part extent }
 {

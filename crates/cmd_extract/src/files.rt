@@ -30,11 +30,11 @@ use std::alloc::{AllocError, Global};
 /// The name of the list of an image's files, in its folder.
 const LIST_NAME: &[u8] = b"files.jsonl";
 
-/// The most bytes of lines of the list that wait to be written.
+/// The most bytes of lines that wait to be written to the list.
 const WAITING_BYTES: usize = 65_536;
 
-/// The files of an image that is unpacked, and what is told of them, in memory that is kept from
-/// image to image.
+/// The files of an image that is unpacked, and what is printed of them, in buffers that are used
+/// for one image after another.
 #[derive(Drop)]
 pub(crate) struct Files {
     pub(crate) extraction: ContentExtraction,
@@ -44,9 +44,9 @@ pub(crate) struct Files {
     pub(crate) bytes: Vec<u8>,
     /// The name of a file in text form.
     pub(crate) text: Vec<u8>,
-    /// Its name on the host.
+    /// The file's name on the host.
     pub(crate) name: Vec<u8>,
-    /// Its path there.
+    /// The file's path on the host.
     pub(crate) path: Vec<u8>,
 }
 
@@ -67,7 +67,7 @@ fn name_file(
 }
 
 impl Files {
-    /// No files, and no memory yet.
+    /// Returns a value without files, whose buffers have no memory yet.
     pub(crate) fn new(alloc: Global) -> Files {
         Files {
             extraction: ContentExtraction::new(),
@@ -89,7 +89,7 @@ impl Files {
         self.told.begin(task)
     }
 
-    /// Tells of a file that was written under the host name that it got.
+    /// Adds the line of a file that was written under its host name.
     fn tell_written(&mut self, task: &Task, row: &FileRow) -> Result<(), AllocError>
         ensures { OnOk result (progress_of self.new ≡ written_progress task.now row.now self.old.name.items (progress_of self.old)) }
     {
@@ -97,7 +97,8 @@ impl Files {
         self.told.tell(task, row, Some(&self.path))
     }
 
-    /// Tells of a file that could not be written under that name, for this reason, if one is known.
+    /// Adds the line of a file that could not be written under that name, with the reason, if one
+    /// is known.
     fn tell_unwritten(
         &mut self,
         task: &Task,
@@ -157,7 +158,7 @@ impl Files {
         }
     }
 
-    /// Ends a piece of the list that was to be written at the path, and was or wasn't.
+    /// Ends a piece of the list that was to be written at the path, and was or was not.
     fn end_piece<H: Host>(&mut self, is_put: bool, host: &H) -> Result<(), AllocError>
         ensures { (task : TaskView) (rest : Progress → Work) → self.old.path.items ≡ list_path task → Comes result
             (after_putting task (progress_of self.old) rest is_put) (H.state host.now)
@@ -173,7 +174,7 @@ impl Files {
         self.told.tell_failure(&self.path, reason)
     }
 
-    /// Puts the lines that wait into the list of the files, which is made for the first of them.
+    /// Writes the lines that wait to the list of the files, which is made with the first of them.
     pub(crate) fn put_lines<H: Host>(&mut self, task: &Task, host: &mut H) -> Result<(), AllocError>
         ensures { (rest : Progress → Work) → Comes result
             (put_work self.old.told.list task.now (progress_of self.old) rest) (H.state host.old)
@@ -196,7 +197,7 @@ impl Files {
         }
     }
 
-    /// Puts the lines that wait into the list, once they pass the limit.
+    /// Writes the lines that wait to the list, once they pass the limit.
     fn put_long_lines<H: Host>(&mut self, task: &Task, host: &mut H) -> Result<(), AllocError>
         ensures { (rest : Progress → Work) → Comes result
             (wait_work task.now (progress_of self.old) rest) (H.state host.old)
@@ -208,7 +209,7 @@ impl Files {
         Ok(())
     }
 
-    /// Writes the file of a row, and its line, once enough of them wait.
+    /// Writes the file of a row, and the lines that wait, once they pass the limit.
     fn unpack_row<H: Host>(
         &mut self,
         task: &Task,
@@ -240,7 +241,7 @@ impl Files {
         Ok(())
     }
 
-    /// Ends with the files of an image: tells what stands after them, and of too many bytes.
+    /// Ends the files of an image: prints what comes after them, and reports too many bytes.
     pub(crate) fn close(&mut self, task: &Task) -> Result<(), AllocError>
         ensures { OnOk result (progress_of self.new ≡ closed_progress task.now (progress_of self.old)) }
     {

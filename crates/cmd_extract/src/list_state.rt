@@ -7,6 +7,6 @@ pub(crate) enum ListState {
     New,
     /// A first part of it is there.
     Begun,
-    /// A part of it could not be written, and no more of it is tried.
+    /// A part of it could not be written, and the rest is given up.
     GivenUp,
 }

@@ -16,7 +16,8 @@ fn ends_in_slash(path: &[u8]) -> bool
     }
 }
 
-/// What the paths in a folder begin with: the folder's, and a `/`, unless it ends in one.
+/// Returns what the paths in a folder begin with: the folder's path, and a `/`, unless it ends in
+/// one.
 pub(crate) fn inside(alloc: Global, folder: &str) -> Result<String, AllocError>
     ensures { IfOk result (λ path. string_bytes path ≡ path_inside folder.now) }
 {
@@ -27,8 +28,7 @@ pub(crate) fn inside(alloc: Global, folder: &str) -> Result<String, AllocError>
     Ok(path)
 }
 
-/// Goes on to what the paths in the last of some folders begin with, each of which lies in the one
-/// before it.
+/// Extends the beginning of a path by folders, each of which lies in the one before it.
 fn go_below(place: &mut String, folders: &[&str]) -> Result<(), AllocError>
     ensures { OnOk result (string_bytes place.new ≡ place_below (string_bytes place.old) (map (λ folder. folder.now) folders.now)) }
 {
@@ -39,8 +39,8 @@ fn go_below(place: &mut String, folders: &[&str]) -> Result<(), AllocError>
     Ok(())
 }
 
-/// What the paths in the last folder of an image's path begin with, below the folder that is asked
-/// for.
+/// Returns what the paths in the last folder of an image's path begin with, below the chosen
+/// folder.
 fn place_of(alloc: Global, into: &str, place: &ImagePlace) -> Result<String, AllocError>
     ensures { IfOk result (λ path. string_bytes path ≡ place_below (path_inside into.now) (map (λ folder. folder.now) place.now.folders.items)) }
 {
@@ -49,7 +49,7 @@ fn place_of(alloc: Global, into: &str, place: &ImagePlace) -> Result<String, All
     Ok(path)
 }
 
-/// The path of the folder of the image in this place when all is in it.
+/// Returns the path of the folder of the image in this place once it is complete.
 pub fn done_path(alloc: Global, into: &str, place: &ImagePlace) -> Result<String, AllocError>
     ensures { IfOk result (λ path. string_bytes path ≡ place_below (path_inside into.now) (map (λ folder. folder.now) place.now.folders.items) ++ finished_name place.now.last.now) }
 {
@@ -58,7 +58,7 @@ pub fn done_path(alloc: Global, into: &str, place: &ImagePlace) -> Result<String
     Ok(path)
 }
 
-/// The path of that folder before.
+/// Returns the path of that folder before.
 pub(crate) fn partial_path(
     alloc: Global,
     into: &str,
@@ -71,7 +71,7 @@ pub(crate) fn partial_path(
     Ok(path)
 }
 
-/// The path of the list of an image's files in this folder.
+/// Returns the path of the list of an image's files in this folder.
 pub(crate) fn list_in(alloc: Global, folder: &str) -> Result<String, AllocError>
     ensures { IfOk result (λ path. string_bytes path ≡ list_in folder.now) }
 {
@@ -81,7 +81,7 @@ pub(crate) fn list_in(alloc: Global, folder: &str) -> Result<String, AllocError>
     Ok(path)
 }
 
-/// Puts the path of a file in a folder in the place of what a list had.
+/// Replaces a list's contents by the path of a file in a folder.
 pub fn put_path(path: &mut Vec<u8>, folder: &str, file: &[u8]) -> Result<(), AllocError>
     ensures { OnOk result (path.new.items ≡ path_in folder.now file.now) }
 {

@@ -1,19 +1,18 @@
-//! `Setup`: what the arguments of `extract` ask for; and `Task`: an image whose folder is to be
-//! made.
+//! `Setup`: the options of `extract`; and `Task`: an image whose folder is to be made.
 
 use d64_survey::Inspection;
 use program_arguments::Format;
 use std::alloc::Global;
 use std::marker::Model;
 
-/// What an extraction is asked for.
+/// The options of an extraction.
 #[derive(Drop)]
 pub struct Setup {
-    /// The folder below which all goes. It must be there.
+    /// The folder below which all is written. It must exist.
     pub into: String,
-    /// Whether parts are written too of files that have no content.
+    /// Whether parts of files without content are written too.
     pub with_parts: bool,
-    /// Whether an image whose folder is complete is passed over.
+    /// Whether an image whose folder is complete is skipped.
     pub skips: bool,
     /// The form of what is printed.
     pub form: Format,
@@ -36,7 +35,7 @@ pub(crate) struct Task<'a, 'd> {
     /// The name of its file on the host.
     pub(crate) name: &'a str,
     pub(crate) all: &'a Inspection<'d>,
-    /// The path of its folder when all is in it.
+    /// The path of its folder once it is complete.
     pub(crate) done: String,
     /// The path of its folder before that.
     pub(crate) partial: String,

@@ -19,7 +19,7 @@ use program_batch::{AnswerRoom, Verdict};
 use std::alloc::AllocError;
 
 impl<'a, 'd> Task<'a, 'd> {
-    /// Gives the image's folder its name, where all was written, and answers.
+    /// Gives the image's folder its name, if all was written, and returns the verdict.
     fn name_folder<H: Host>(
         &self,
         files: &mut Files,
@@ -39,8 +39,8 @@ impl<'a, 'd> Task<'a, 'd> {
         }
     }
 
-    /// Answers that a folder cannot be made at a path, or that the one is missing below which all
-    /// goes, and why.
+    /// Reports that a folder cannot be made at a path, or that the chosen folder is missing, and
+    /// why.
     fn end_unmade<H: Host>(
         &self,
         path: &str,
@@ -79,7 +79,7 @@ impl<'a, 'd> Task<'a, 'd> {
         self.name_folder(files, host, room)
     }
 
-    /// Makes the folders in which the image's folder lies, and then that.
+    /// Makes the folders in which the image's folder lies, and then that folder.
     fn unpack_below<H: Host>(
         &self,
         folders: &[&str],
@@ -97,7 +97,7 @@ impl<'a, 'd> Task<'a, 'd> {
         }
     }
 
-    /// Ends where something has the path of the image's folder.
+    /// Ends if the path of the image's folder exists.
     fn end_present<H: Host>(
         &self,
         files: &mut Files,
@@ -118,7 +118,7 @@ impl<'a, 'd> Task<'a, 'd> {
         }
     }
 
-    /// Unpacks the image, which lies in these folders, unless its folder is there.
+    /// Unpacks the image, which lies in these folders, unless its folder exists.
     pub(crate) fn unpack<H: Host>(
         &self,
         folders: &[&str],

@@ -18,15 +18,15 @@ use program_batch::Reason;
 use std::alloc::{AllocError, Global};
 use std::mem;
 
-/// What is told of the files of an image, in memory that is kept from image to image.
+/// What is printed of the files of an image, in buffers that are used for one image after another.
 #[derive(Drop)]
 pub(crate) struct Told {
     alloc: Global,
-    /// Memory for the parts of lines.
+    /// Buffers for the parts of lines.
     pub(crate) scratch: Scratch,
-    /// What is printed, in the form that is asked for.
+    /// What is printed, in the form of the options.
     pub(crate) printed: Vec<u8>,
-    /// The lines of the list of the files that wait to be written, in JSON.
+    /// The lines (in JSON) that wait to be written to the list of the files.
     pub(crate) lines: Vec<u8>,
     /// How far the list is written.
     pub(crate) list: ListState,
@@ -37,7 +37,7 @@ pub(crate) struct Told {
 }
 
 impl Told {
-    /// Nothing is told, and there is no memory yet.
+    /// Returns empty buffers, which have no memory yet.
     pub(crate) fn new(alloc: Global) -> Told {
         Told {
             alloc,
@@ -50,7 +50,7 @@ impl Told {
         }
     }
 
-    /// Begins to tell of the files of an image, and forgets what was told before.
+    /// Begins with the files of an image, and forgets those before.
     pub(crate) fn begin(&mut self, task: &Task) -> Result<(), AllocError>
         ensures printed { OnOk result (self.new.printed.items ≡ before_rows task.now.setup.form task.now.name task.now.dump.image) }
         ensures lines { OnOk result (self.new.lines.items ≡ []) }
@@ -72,7 +72,7 @@ impl Told {
         )
     }
 
-    /// Tells of a file, with the path of its host file, or None where none was written.
+    /// Adds the line of a file, with the path of its host file, or None if no file was written.
     pub(crate) fn tell(
         &mut self,
         task: &Task,
@@ -95,7 +95,7 @@ impl Told {
         Ok(())
     }
 
-    /// Tells that a write at a path failed, for this reason, if one is known.
+    /// Adds that a write at a path failed, with the reason, if one is known.
     pub(crate) fn tell_failure(
         &mut self,
         path: &[u8],

@@ -3,13 +3,13 @@
 //! A caller whose proof needs a law calls the function.
 ghost use Rattle.cmd_extract.specs.UnpackLaws.{CleanIsQuiet, ListIsWhole};
 
-/// Nothing is complained of an image on which the verdict is clean, unless those whose folder is
-/// complete are passed over.
+/// An image with a clean verdict has no line on the standard error, unless complete images are
+/// skipped.
 pub fn clean_images_are_quiet()
     ensures { CleanIsQuiet }
 {}
 
-/// Where each call is accepted, what is put into the list of an image's files, piece by piece, is
+/// If every call is accepted, what is written to the list of an image's files, piece by piece, are
 /// the lines of all rows.
 pub fn the_list_is_whole()
     ensures { ListIsWhole }

@@ -18,7 +18,7 @@ use program_batch::{AnswerRoom, Clerk, Verdict};
 use std::alloc::{AllocError, Global};
 use std::mem;
 
-/// Unpacks images, one after another, with the memory that is kept from one to the next.
+/// Unpacks images, one after another, with buffers that are used for each.
 #[derive(Drop)]
 pub struct Unpacker {
     alloc: Global,
@@ -30,7 +30,7 @@ pub struct Unpacker {
 }
 
 impl Unpacker {
-    /// One that unpacks as is asked for.
+    /// Returns an unpacker with these options.
     pub fn new(alloc: Global, setup: Setup) -> Result<Unpacker, AllocError>
         ensures { IfOk result (λ unpacker. unpacker.setup ≡ setup) }
     {
@@ -44,7 +44,7 @@ impl Unpacker {
         })
     }
 
-    /// Unpacks the dump that was read of the file of this name.
+    /// Unpacks the dump that was read of the file with this name.
     fn unpack_dump<H: Host>(
         &mut self,
         name: &str,
@@ -69,7 +69,7 @@ impl Unpacker {
         task.unpack(place.folders.as_slice(), &mut self.files, host, room)
     }
 
-    /// Unpacks the file of this name with these bytes, or tells that it cannot be read where there
+    /// Unpacks the file with this name and these bytes, or reports that it cannot be read if there
     /// are none.
     fn unpack<H: Host>(
         &mut self,

@@ -5,7 +5,7 @@ use Rattle.cmd_extract.proofs.Steps.{stops, further, match_not}
 use Rattle.cmd_extract.proofs.FolderSteps.{texts, next_folder, no_folder, had_folder, lacked_folder, had_all}
 use Rattle.cmd_extract.proofs.folders.have_folders.Goals as goal
 
--- a folder that stands nowhere
+-- a folder with an empty path
 abbrev nowhere : Bor (List ℕ)
 nowhere = record { ref_ptr = (0, 0); now = [] }
 
