@@ -7,7 +7,7 @@ use Rattle.cmd_extract_contents.specs.Portions.{Portion, portion}
 use Rattle.cmd_extract_contents.specs.Limits.{left_after, portion_within, written_portions, byte_count}
 use Rattle.cmd_extract_contents.specs.ExtractLaws.{WrittenFits}
 
--- a file in what is left, where that is tested
+-- whether a file fits into what is left, by the test of the code
 by_test : (fits : Bool) (left : ℕ) (file : Portion) → (fits ≡ true → length file.bytes ≤ left)
     → byte_count (cond (is_some (cond fits (Some (left - length file.bytes)) None)) (Some file) None) + unwrap_or (cond fits (Some (left - length file.bytes)) None) 0 ≤ left
 by_test true left file fit = let f = fit refl in omega (arith, f)

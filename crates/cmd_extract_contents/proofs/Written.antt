@@ -13,7 +13,7 @@ use Rattle.cmd_extract_contents.specs.Portions.{Portion, written_as, part_of, po
 use Rattle.cmd_extract_contents.specs.ExtractLaws.{WrittenIsWhatIsRead, NothingOfUnclosed, PartsChangeNoContent}
 use Rattle.cmd_extract_contents.specs.declared.extent.Extent.TheVariants.{Content, Part}
 
--- where parts aren't wanted, what is written is the content
+-- if parts are not wanted, what is written is the content
 pub content_alone : (image : List (List ℕ)) (cell : List ℕ) → portion false image cell ≡ written_as Content (content_of image cell)
 unfolding portion
 content_alone image cell = nothing_more (written_as Content (content_of image cell))
@@ -22,7 +22,7 @@ content_alone image cell = nothing_more (written_as Content (content_of image ce
     nothing_more None = refl
     nothing_more (Some file) = refl
 
--- a content, where reading isn't refused, is written as such
+-- a content whose reading is not refused is written as such
 by_refusal : (refused : Bool) (bytes : List ℕ) → written_as Content (cond refused None (Some bytes)) ≡ cond refused None (Some (record { bytes = bytes; extent = Content }))
 by_refusal true bytes = refl
 by_refusal false bytes = refl
@@ -36,7 +36,7 @@ nothing_of_unclosed image cell open_still =
     content_alone image cell
     ∙ ap (λ (closed : Bool). written_as Content (option_and_then (λ pair. content_along image (way image pair)) (slice_get (cond closed (roots_of (kind_of cell) cell) []) 0))) open_still
 
--- what is written where parts aren't wanted is there before parts are looked for
+-- what is written without parts is found before parts are looked for
 pub parts_change_nothing : PartsChangeNoContent
 unfolding portion
 parts_change_nothing image cell = by_content (written_as Content (content_of image cell)) (written_as Part (part_of image cell))

@@ -7,22 +7,22 @@ use Rattle.cmd_extract_contents.specs.Portions.{Portion, portion}
 use Rattle.cmd_extract_contents.specs.Limits.{written_portions, byte_counts}
 use Rattle.cmd_extract_contents.specs.declared.extent.Extent.TheVariants.{Content}
 
--- where parts aren't wanted, the file of a used slot is written exactly where reading it isn't
+-- if parts are not wanted, the file of a used slot is written if and only if reading it is not
 -- refused, with what is read
 abbrev pub WrittenIsWhatIsRead : Type 0
 WrittenIsWhatIsRead =
     (image : Disk) (cell : Bytes) → is_used cell ≡ true
     → portion false image cell ≡ (if is_some (file_refusal image cell) then None else Some (record { bytes = file_content image cell; extent = Content }))
 
--- of a file that wasn't closed nothing is written then
+-- then nothing is written of a file that was not closed
 abbrev pub NothingOfUnclosed : Type 0
 NothingOfUnclosed = (image : Disk) (cell : Bytes) → is_closed cell ≡ false → portion false image cell ≡ None
 
--- what is written where parts aren't wanted is written where they are, and as it is
+-- what is written without parts is written, and stays the same, with parts
 abbrev pub PartsChangeNoContent : Type 0
 PartsChangeNoContent = (image : Disk) (cell : Bytes) → IfSome (portion false image cell) (λ (file : Portion). portion true image cell ≡ Some file)
 
--- the files that are written have together at most as many bytes as they may have
+-- the files that are written have together no more bytes than they may
 abbrev pub WrittenFits : Type 0
 WrittenFits =
     (with_parts : Bool) (image : Disk) (left : Option ℕ) (cells : List Bytes) → byte_counts (written_portions with_parts image left cells) ≤ unwrap_or left 0

@@ -8,8 +8,8 @@ use Rattle.cmd_extract_contents.specs.Portions.{Portion, portion}
 abbrev pub limit : ℕ
 limit = 16777216
 
--- how many bytes later files may have after one of so many; none where with this one there are too
--- many, or were before
+-- how many bytes later files may have after one with this many; None if this one is too much, or an
+-- earlier one was
 abbrev pub remaining_bytes : Option ℕ → ℕ → Option ℕ
 remaining_bytes None count = None
 remaining_bytes (Some left) count = if nat_le count left then Some (left - count) else None
@@ -19,11 +19,11 @@ abbrev pub left_after : Option ℕ → Option Portion → Option ℕ
 left_after left None = left
 left_after left (Some portion) = remaining_bytes left (length portion.bytes)
 
--- what is written, of what there is to write of a slot: nothing where that is too much
+-- what is written, of what there is to write of a slot: nothing if that is too much
 abbrev pub portion_within : Option ℕ → Option Portion → Option Portion
 portion_within left portion = if is_some (left_after left portion) then portion else None
 
--- what is written of slots, one after another, where their files may have so many bytes
+-- what is written of slots, one after another, if their files may have this many bytes
 unfoldable pub written_portions : Bool → Disk → Option ℕ → List Bytes → List (Option Portion)
 written_portions with_parts image left [] = []
 written_portions with_parts image left (cell ∷ cells) =
@@ -33,6 +33,6 @@ written_portions with_parts image left (cell ∷ cells) =
 abbrev pub byte_count : Option Portion → ℕ
 byte_count portion = option_map_or (λ (portion : Portion). length portion.bytes) portion 0
 
--- how many are written of slots
+-- how many bytes are written of each of some slots
 abbrev pub byte_counts : List (Option Portion) → ℕ
 byte_counts portions = sum_by byte_count portions

@@ -18,32 +18,32 @@ pub record Portion : Type 0 where
   pub bytes : Bytes
   pub extent : Extent
 
--- these bytes, where there are some, as what is written of a file
+-- these bytes, if there are some, as what is written of a file
 abbrev pub written_as : Extent → Option Bytes → Option Portion
 written_as extent bytes = option_map (λ bytes. record { bytes = bytes; extent = extent }) bytes
 
--- what stands in blocks behind their links, one after another: bytes 2 to 255 of each
+-- the contents of blocks after their links, one after another: bytes 2 to 255 of each
 abbrev pub all_along : Disk → Blocks → Bytes
 all_along image blocks = flat_map (λ block. slice_range (sector_at image block) 2 256) blocks
 
--- what is there along a way: the data of its blocks, where it is a whole chain, and else all that
--- stands in them; nothing where it has none
+-- what is there along a chain: the data of its blocks if it is whole, and otherwise their contents
+-- after the links; None if it has no blocks
 abbrev pub found_along : Disk → Blocks × WayEnd → Option Bytes
 found_along image way =
     if length way.0 == 0 then None
     else (if is_whole way.1 then Some (data_along image way.0) else Some (all_along image way.0))
 
--- what is there of the file of a slot, whether or not it was closed: that along the way from its
--- first block. A slot that isn't used or has no kind has no file
+-- what is there of the file of a slot, whether or not it was closed: along the chain from its first
+-- block. A slot that is not used or has no kind has no file
 abbrev pub part_of : Disk → Bytes → Option Bytes
 part_of image cell = if is_used cell && has_kind cell then found_along image (way image (first_pair cell)) else None
 
--- what is written of the file of a slot: its content, and where it has none, if parts are wanted
--- too, what is there of it
+-- what is written of the file of a slot: its content; or, if it has none and parts are wanted, what
+-- is there of it
 unfoldable pub portion : Bool → Disk → Bytes → Option Portion
 portion with_parts image cell =
     option_or (written_as Content (content_of image cell)) (if with_parts then written_as Part (part_of image cell) else None)
 
--- the same for the slot of a number; nothing where the directory's way has no such slot
+-- the same for the slot with this number; None if the directory has no such slot
 abbrev pub portion_at : Bool → Disk → ℕ → Option Portion
 portion_at with_parts image slot = option_and_then (portion with_parts image) (slot_cell image slot)

@@ -23,7 +23,7 @@ pub(crate) fn push_data(
     Ok(())
 }
 
-/// Appends what stands in blocks of the image behind their links, one after another: bytes 2 to 255
+/// Appends the contents of blocks of the image after their links, one after another: bytes 2 to 255
 /// of each.
 pub(crate) fn push_all(
     bytes: &mut Vec<u8>,

@@ -6,7 +6,7 @@ ghost use Rattle.std.specs.Prelude.{◌≡◌};
 pub enum Extent {
     /// Its content.
     Content,
-    /// What is there of a file that has no content: it wasn't closed, its chain of blocks is
+    /// What is there of a file that has no content: it was not closed, its chain of blocks is
     /// broken, or it is a DEL entry.
     Part,
 }

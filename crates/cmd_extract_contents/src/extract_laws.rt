@@ -5,8 +5,8 @@ ghost use Rattle.cmd_extract_contents.specs.ExtractLaws.{WrittenIsWhatIsRead, No
 
 use d64_inventory::content_laws::contents_are_what_is_read;
 
-/// Where parts aren't wanted, exactly the files are written whose reading isn't refused, with what
-/// is read, and so none that wasn't closed.
+/// If parts are not wanted, a file is written if and only if reading it is not refused, with what
+/// is read; so no file that was not closed is written.
 pub fn contents_are_written()
     ensures read { WrittenIsWhatIsRead }
     ensures unclosed { NothingOfUnclosed }
@@ -14,12 +14,12 @@ pub fn contents_are_written()
     contents_are_what_is_read();
 }
 
-/// Who wants parts too gets the same contents.
+/// The same contents are written with parts.
 pub fn parts_change_no_content()
     ensures { PartsChangeNoContent }
 {}
 
-/// The files that are written have together at most as many bytes as they may have.
+/// The files that are written have together no more bytes than they may.
 pub fn written_files_fit()
     ensures { WrittenFits }
 {}

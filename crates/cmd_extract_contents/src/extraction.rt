@@ -14,8 +14,8 @@ use std::marker::Model;
 /// slots that share blocks may have many times as many.
 pub const LIMIT: usize = 16_777_216;
 
-/// The extraction of the files of an image, one after another: what is written of each, as long as
-/// they don't have too many bytes together.
+/// The extraction of the files of an image, one after another: what is written of each, until they
+/// have too many bytes together.
 #[derive(Drop)]
 pub struct ContentExtraction {
     /// How many bytes later files may have; None once there were too many.
@@ -30,7 +30,8 @@ impl Model for ContentExtraction {
     ghost view = { λ extraction. extraction.left };
 }
 
-/// How many bytes later files may have after one of so many, or None where there are too many.
+/// Returns how many bytes later files may have after one with `count` bytes, or None if there are
+/// too many.
 fn less(left: Option<usize>, count: usize) -> Option<usize>
     ensures { result ≡ remaining_bytes left count }
 {
@@ -41,18 +42,17 @@ fn less(left: Option<usize>, count: usize) -> Option<usize>
 }
 
 impl ContentExtraction {
-    /// The extraction of an image of which nothing is written yet.
+    /// Returns the extraction of an image of which nothing is written yet.
     pub fn new() -> ContentExtraction
         ensures { result ≡ Some 16777216 }
     {
         ContentExtraction { left: Some(LIMIT) }
     }
 
-    /// Puts what is written of the file of the next slot into a list, in the place of what that
-    /// had, and says how much of the file that is: its content, or a part, where parts are wanted
-    /// too. None, and the list has nothing that is told, where nothing is written: there is no such
-    /// slot or nothing to write of it, or with this file, or with one before it, there are too many
-    /// bytes.
+    /// Replaces a list's contents by what is written of the file of the next slot, and returns how
+    /// much of the file that is: its content, or a part if parts are wanted too. Returns None, and
+    /// leaves the list with unspecified contents, if nothing is written: there is no such slot or
+    /// nothing to write of it, or with this file, or with an earlier one, there are too many bytes.
     pub fn next(
         &mut self,
         survey: &Survey,
@@ -80,7 +80,8 @@ impl ContentExtraction {
         }
     }
 
-    /// Whether the files had too many bytes, so that one of them wasn't written, nor any later one.
+    /// Whether the files had too many bytes, so that one of them was not written, nor any later
+    /// one.
     pub fn is_over(&self) -> bool
         ensures { result ≡ not (is_some self.now) }
     {

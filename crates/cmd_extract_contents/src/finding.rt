@@ -12,8 +12,8 @@ use d64_image::Image;
 use d64_survey::{data_pair, walk};
 use std::alloc::AllocError;
 
-/// Puts the content along the way from a track and a sector into an empty list, and says whether
-/// there is one: whether the way is a whole chain.
+/// Puts the content along the chain from a track and a sector into an empty list, and returns
+/// whether there is one: whether the chain is whole.
 fn put_content_from(
     bytes: &mut Vec<u8>,
     image: &Image,
@@ -32,8 +32,8 @@ fn put_content_from(
     Ok(true)
 }
 
-/// Puts the content of the file of an entry into a list, in the place of what that had, and says
-/// whether there is one.
+/// Replaces a list's contents by the content of the file of an entry, and returns whether there is
+/// one.
 fn put_content(bytes: &mut Vec<u8>, image: &Image, entry: &Entry) -> Result<bool, AllocError>
     ensures { IfOk result (λ is_there. (if is_there then Some bytes.new.items else None) ≡ content_of image.now entry.now.bytes) }
 {
@@ -43,8 +43,8 @@ fn put_content(bytes: &mut Vec<u8>, image: &Image, entry: &Entry) -> Result<bool
     }
 }
 
-/// Puts what is there along the way from a track and a sector into a list, in the place of what
-/// that had, and says whether there is something: whether the way has a block.
+/// Replaces a list's contents by what is there along the chain from a track and a sector, and
+/// returns whether there is anything: whether the chain has a block.
 fn put_found_from(
     bytes: &mut Vec<u8>,
     image: &Image,
@@ -68,8 +68,8 @@ fn put_found_from(
     Ok(true)
 }
 
-/// Puts what is there of the file of an entry into a list, in the place of what that had, and says
-/// whether there is something.
+/// Replaces a list's contents by what is there of the file of an entry, and returns whether there
+/// is anything.
 fn put_part(bytes: &mut Vec<u8>, image: &Image, entry: &Entry) -> Result<bool, AllocError>
     ensures { IfOk result (λ is_there. (if is_there then Some bytes.new.items else None) ≡ part_of image.now entry.now.bytes) }
 {
@@ -83,9 +83,9 @@ fn put_part(bytes: &mut Vec<u8>, image: &Image, entry: &Entry) -> Result<bool, A
     put_found_from(bytes, image, track, sector)
 }
 
-/// Puts what there is to write of the file of an entry into a list, in the place of what that had,
-/// and says how much of the file that is, or None where there is nothing: its content, and where it
-/// has none, if parts are wanted too, what is there of it.
+/// Replaces a list's contents by what there is to write of the file of an entry, and returns how
+/// much of the file that is, or None if there is nothing: its content, or, if it has none and parts
+/// are wanted, what is there of it.
 pub(crate) fn put_portion(
     bytes: &mut Vec<u8>,
     image: &Image,
