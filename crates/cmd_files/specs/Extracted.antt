@@ -12,7 +12,7 @@ use Rattle.cmd_files.specs.FileObject.{file_members, place_members}
 use Rattle.cmd_files.specs.FileRow.{columns, name_alone, row_fields, row_with}
 use Rattle.cmd_files.specs.FileTable.{file_text}
 
--- the member with the path of the host file; null where none was written
+-- the member with the path of the host file; null if no file was written
 abbrev pub path_member : Option Bytes → Field
 path_member path = (codes "file", option_map_or host_value path null)
 
@@ -20,20 +20,20 @@ path_member path = (codes "file", option_map_or host_value path null)
 unfoldable pub extracted_object : Bytes → FileRowView → Option Bytes → Json
 extracted_object name row path = object_of (place_members name row ++ (file_members row ++ path_member path ∷ []))
 
--- the field with the path of the host file; empty where none was written
+-- the field with the path of the host file; empty if no file was written
 abbrev pub path_field : Option Bytes → List ℕ
 path_field path = option_map_or host_field path []
 
--- the row of it: the path stands before the error, which it has not
+-- the row of such a slot: the path comes before the error, which is empty
 unfoldable pub extracted_row : Bytes → FileRowView → Option Bytes → List ℕ
 extracted_row name row path = row_with (row_fields name row ++ path_field path ∷ []) []
 
--- where it was written, at the end of a line for people
+-- the path of the host file, at the end of a line for people
 abbrev pub path_text : Option Bytes → List ℕ
 path_text None = codes ", not written"
 path_text (Some path) = codes " -> " ++ shown_name path
 
--- the line of it
+-- the line of such a slot
 unfoldable pub extracted_line : FileRowView → Option Bytes → List ℕ
 extracted_line row path = file_text row ++ (path_text path ++ codes "\n")
 
@@ -41,6 +41,6 @@ extracted_line row path = file_text row ++ (path_text path ++ codes "\n")
 unfoldable pub extracted_header : List ℕ
 extracted_header = row_with (columns ++ codes "file" ∷ []) (codes "error")
 
--- a row with a name and an error alone
+-- a row with only a name and an error
 unfoldable pub unextracted_row : Bytes → List ℕ → List ℕ
 unextracted_row name error = row_with (name_alone name ++ [] ∷ []) error

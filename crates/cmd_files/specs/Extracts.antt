@@ -14,19 +14,19 @@ printed_file Text name row path = extracted_line row path
 printed_file Json name row path = line_of (extracted_object name row path)
 printed_file Csv name row path = extracted_row name row path
 
--- what is printed of an image that isn't answered, for this error
+-- what is printed of an image that is not extracted, for this error
 abbrev pub printed_error : Format → Bytes → List ℕ → List ℕ
 printed_error Text name error = []
 printed_error Json name error = line_of (unanswered_object name error)
 printed_error Csv name error = unextracted_row name error
 
--- and of a file with these bytes, which is no dump
+-- what is printed of a file with these bytes, which is not a dump
 abbrev pub printed_length : Format → Bytes → Bytes → List ℕ
 printed_length Text name bytes = []
 printed_length Json name bytes = line_of (no_dump_object name bytes)
 printed_length Csv name bytes = unextracted_row name (no_dump_error bytes)
 
--- what stands before all answers: the header row of CSV
+-- what is printed before the first result: the header row of CSV
 abbrev pub extract_heading : Format → List ℕ
 extract_heading Text = []
 extract_heading Json = []

@@ -16,41 +16,41 @@ use Rattle.out_json_csv.specs.Unanswered.{image_member}
 use Rattle.out_messages.specs.FileText.{kind_letters}
 use Rattle.cmd_files.specs.FlawWords.{flaw_word}
 
--- the three letters of a kind; null where there is none
+-- the three letters of a kind; null if there is none
 abbrev pub kind_value : Option Kind → Json
 kind_value kind = option_map_or (λ kind. string (kind_letters kind)) kind null
 
--- true or false; null where it isn't known
+-- true or false; null if it is not known
 abbrev pub boolean_or_null : Option Bool → Json
 boolean_or_null answer = option_map_or (λ answer. boolean answer) answer null
 
--- how many bytes a content has; null where there is none
+-- how many bytes a content has; null if there is no content
 abbrev pub bytes_value : Option Content → Json
 bytes_value content = option_map_or (λ content. numeral content.bytes) content null
 
--- the digest of a content in hexadecimal digits; null where there is none
+-- the digest of a content in hexadecimal digits; null if there is no content
 abbrev pub digest_value : Option Content → Json
 digest_value content = option_map_or (λ content. string (encode_lower content.digest)) content null
 
--- a reason why a file isn't whole
+-- a reason why a file is not whole
 abbrev pub flaw_value : Flaw → Json
 flaw_value flaw = string (flaw_word flaw)
 
--- the name, and the field that it stands in
+-- the name, and the field in which it is
 abbrev pub name_members : FileRowView → List Field
 name_members row = (codes "name", name_value (name_in row.field)) ∷ (codes "field", string (encode_lower row.field)) ∷ []
 
--- the kind, and the type byte with what it says of the file
+-- the kind, and the type byte with its bits
 abbrev pub type_members : FileRowView → List Field
 type_members row =
     (codes "kind", kind_value row.kind) ∷ (codes "type", numeral row.type_byte) ∷ (codes "closed", boolean row.closed) ∷ (codes "locked", boolean row.locked) ∷ []
 
--- the shown size, the pair of the first block, and the length of a record
+-- the size that the directory has, the pair of the first block, and the length of a record
 abbrev pub entry_members : FileRowView → List Field
 entry_members row =
     (codes "size", numeral row.size) ∷ (codes "first", string (pair_text row.first)) ∷ (codes "record", numeral_or_null row.record_length) ∷ []
 
--- how many blocks the data way and the side way have
+-- how many blocks the data chain and the side chain have
 abbrev pub way_members : FileRowView → List Field
 way_members row = (codes "blocks", numeral_or_null row.blocks) ∷ (codes "side", numeral_or_null row.side) ∷ []
 
@@ -65,11 +65,11 @@ state_members row =
     (codes "whole", boolean_or_null row.whole) ∷ (codes "why", array_of (map flaw_value row.why)) ∷ (codes "conditions", array_of (map numeral row.conditions))
     ∷ (codes "read_errors", numeral row.read_errors) ∷ []
 
--- what is told of a file, but for the image and the slot
+-- the members of a file, without the image and the slot
 unfoldable pub file_members : FileRowView → List Field
 file_members row = name_members row ++ (type_members row ++ (entry_members row ++ (way_members row ++ (content_members row ++ state_members row))))
 
--- where a file is: the image with this host name, and the slot
+-- the place of a file: the image with this host name, and the slot
 abbrev pub place_members : Bytes → FileRowView → List Field
 place_members name row = image_member name ∷ (codes "slot", numeral row.slot) ∷ []
 

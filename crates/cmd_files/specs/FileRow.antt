@@ -20,11 +20,11 @@ columns =
     codes "image" ∷ codes "slot" ∷ codes "name" ∷ codes "field" ∷ codes "kind" ∷ codes "type" ∷ codes "closed" ∷ codes "locked" ∷ codes "size" ∷ codes "first" ∷ codes "record"
     ∷ codes "blocks" ∷ codes "side" ∷ codes "bytes" ∷ codes "sha256" ∷ codes "whole" ∷ codes "why" ∷ codes "conditions" ∷ codes "read_errors" ∷ []
 
--- a number in decimal; empty where there is none
+-- a number in decimal; empty if there is none
 abbrev pub decimal_or_empty : Option ℕ → List ℕ
 decimal_or_empty number = option_map_or decimal number []
 
--- `true` or `false`; empty where it isn't known
+-- `true` or `false`; empty if it is not known
 abbrev pub truth_or_empty : Option Bool → List ℕ
 truth_or_empty answer = option_map_or truth_text answer []
 
@@ -37,19 +37,19 @@ unfoldable pub spaced_texts : {X : Type 0} → (X → List ℕ) → List X → L
 spaced_texts text [] = []
 spaced_texts text (x ∷ xs) = text x ++ flat_map (λ y. after_space (text y)) xs
 
--- the name, and the field that it stands in
+-- the name, and the field in which it is
 abbrev pub name_fields : FileRowView → List (List ℕ)
 name_fields row = spelling (name_in row.field) ∷ encode_lower row.field ∷ []
 
--- the kind, and the type byte with what it says of the file
+-- the kind, and the type byte with its bits
 abbrev pub type_fields : FileRowView → List (List ℕ)
 type_fields row = option_map_or kind_letters row.kind [] ∷ decimal row.type_byte ∷ truth_text row.closed ∷ truth_text row.locked ∷ []
 
--- the shown size, the pair of the first block, and the length of a record
+-- the size that the directory has, the pair of the first block, and the length of a record
 abbrev pub entry_fields : FileRowView → List (List ℕ)
 entry_fields row = decimal row.size ∷ pair_text row.first ∷ decimal_or_empty row.record_length ∷ []
 
--- how many blocks the data way and the side way have
+-- how many blocks the data chain and the side chain have
 abbrev pub way_fields : FileRowView → List (List ℕ)
 way_fields row = decimal_or_empty row.blocks ∷ decimal_or_empty row.side ∷ []
 
@@ -63,7 +63,7 @@ content_fields row =
 abbrev pub state_fields : FileRowView → List (List ℕ)
 state_fields row = truth_or_empty row.whole ∷ spaced_texts flaw_word row.why ∷ spaced_texts decimal row.conditions ∷ decimal row.read_errors ∷ []
 
--- what is told of a file, but for the image and the slot
+-- the fields of a file, without the image and the slot
 unfoldable pub file_fields : FileRowView → List (List ℕ)
 file_fields row = name_fields row ++ (type_fields row ++ (entry_fields row ++ (way_fields row ++ (content_fields row ++ state_fields row))))
 
@@ -71,7 +71,7 @@ file_fields row = name_fields row ++ (type_fields row ++ (entry_fields row ++ (w
 abbrev pub row_with : List (List ℕ) → List ℕ → List ℕ
 row_with fields error = row_text default_writer (fields ++ error ∷ [])
 
--- what is told of a used slot of an image with this host name
+-- the fields of a used slot of an image with this host name
 abbrev pub row_fields : Bytes → FileRowView → List (List ℕ)
 row_fields name row = host_field name ∷ decimal row.slot ∷ file_fields row
 
@@ -83,10 +83,10 @@ file_row name row = row_with (row_fields name row) []
 unfoldable pub header_row : List ℕ
 header_row = row_with columns (codes "error")
 
--- a name, and nothing in each other column
+-- a name, with the other columns empty
 abbrev pub name_alone : Bytes → List (List ℕ)
 name_alone name = host_field name ∷ [] ∷ [] ∷ [] ∷ [] ∷ [] ∷ [] ∷ [] ∷ [] ∷ [] ∷ [] ∷ [] ∷ [] ∷ [] ∷ [] ∷ [] ∷ [] ∷ [] ∷ [] ∷ []
 
--- a row with a name and an error alone
+-- a row with only a name and an error
 unfoldable pub unanswered_row : Bytes → List ℕ → List ℕ
 unanswered_row name error = row_with (name_alone name) error

@@ -1,4 +1,4 @@
--- What is said of the files of an image.
+-- What is printed of the files of an image.
 use Rattle.std.specs.Prelude.{ℕ, List, [], ◌++◌, length, Option, Some, None, if◌then◌else◌, codes}
 use Rattle.std.specs.List.{flat_map}
 use Rattle.d64_image.specs.Disk.{Disk, Bytes}
@@ -29,7 +29,7 @@ before_rows Text name image = head_line name image
 before_rows Json name image = []
 before_rows Csv name image = []
 
--- and what after them
+-- what is printed of an image after its files
 abbrev pub after_rows : Format → DumpView → List ℕ
 after_rows Text dump = missing_lines dump
 after_rows Json dump = []
@@ -49,26 +49,26 @@ printed_unread Text name = []
 printed_unread Json name = line_of (unread_object name)
 printed_unread Csv name = unanswered_row name (codes "cannot be read")
 
--- and of one whose length no dump has
+-- what is printed of a file whose length no dump has
 abbrev pub printed_wrong_length : Format → Bytes → Bytes → List ℕ
 printed_wrong_length Text name bytes = []
 printed_wrong_length Json name bytes = line_of (no_dump_object name bytes)
 printed_wrong_length Csv name bytes = unanswered_row name (no_dump_error bytes)
 
--- what stands before all answers: the header row of CSV
+-- what is printed before the first result: the header row of CSV
 abbrev pub heading_of : Format → List ℕ
 heading_of Text = []
 heading_of Json = []
 heading_of Csv = header_row
 
--- what is answered of bytes: of a dump, its files, amiss where one isn't whole or some may be
--- missing; and else that they are of a wrong length
+-- the result for bytes: the files of a dump, amiss if a file is not whole or may be missing; and
+-- otherwise that their length is wrong
 abbrev pub answer_of : Format → Bytes → Bytes → Option DumpView → Answer
 answer_of form name bytes None = record { printed = printed_wrong_length form name bytes; complaint = wrong_length_line name bytes; verdict = Failed }
 answer_of form name bytes (Some dump) =
     record { printed = printed_of form name dump; complaint = []; verdict = if is_listing_amiss dump then Amiss else Clean }
 
--- what `files` answers of a file in a form: of its bytes, or that it cannot be read
+-- the rule of `files` in a form: the result for a file's bytes, or that it cannot be read
 abbrev pub files_rule : Format → Rule
 files_rule form name None = record { printed = printed_unread form name; complaint = unread_line name; verdict = Failed }
 files_rule form name (Some bytes) = answer_of form name bytes (dump_of bytes)

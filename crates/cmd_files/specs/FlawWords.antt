@@ -1,9 +1,9 @@
--- The words for why a file isn't whole.
+-- The names of the reasons why a file is not whole, as JSON and CSV have them.
 use Rattle.std.specs.Prelude.{ℕ, List, codes}
 use Rattle.d64_survey.specs.declared.flaw.Flaw.{Flaw}
 use Rattle.d64_survey.specs.declared.flaw.Flaw.TheVariants.{Unclosed, Kindless, Broken, Shared, Unreadable, Missized, Geos}
 
--- the word for a reason
+-- the name of a reason
 abbrev pub flaw_word : Flaw → List ℕ
 flaw_word Unclosed = codes "open"
 flaw_word Kindless = codes "kind"

@@ -1,4 +1,4 @@
--- Why `files` complains of no file that it calls clean.
+-- Why `files` writes nothing to the standard error about a file that it calls clean.
 use Rattle.std.specs.Prelude.{◌≡◌, List, ℕ, [], Option, Some, None, refl}
 use Rattle.d64_image.specs.Disk.{Bytes}
 use Rattle.d64_survey.specs.Dump.{DumpView}
@@ -8,7 +8,7 @@ use Rattle.program_batch.specs.declared.report.Verdict.TheVariants.{Clean}
 use Rattle.d64_g64.specs.DumpOf.{dump_of}
 use Rattle.cmd_files.specs.Files.{answer_of, files_rule}
 
--- the answer to a dump has no complaint, and one that has a complaint is a failure
+-- the result for a dump has no complaint, and a result with a complaint is a failure
 answer_of-is_quiet : (form : Format) (name : List ℕ) (bytes : Bytes) (dump : Option DumpView) → (answer_of form name bytes dump).verdict ≡ Clean
     → (answer_of form name bytes dump).complaint ≡ []
 answer_of-is_quiet form name bytes None clean = cc

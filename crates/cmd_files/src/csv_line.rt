@@ -17,7 +17,7 @@ use out_json_csv::{
 use out_messages::kind_letters;
 use std::alloc::AllocError;
 
-/// The columns that each row has, but for the error.
+/// The columns of each row, without the error.
 const COLUMNS: [&[u8]; 19] = [
     b"image",
     b"slot",
@@ -40,10 +40,10 @@ const COLUMNS: [&[u8]; 19] = [
     b"read_errors",
 ];
 
-/// The columns of a row between the name of the image and the error, with nothing in them.
+/// Empty fields for the columns between the name of the image and the error.
 const EMPTY: [&[u8]; 18] = [b""; 18];
 
-/// Adds the name, and the field that it stands in, to a row.
+/// Appends the name, and the field in which it is, to a row.
 fn push_names(scratch: &mut Vec<u8>, line: &mut ByteRecord, row: &FileRow) -> Result<(), AllocError>
     requires { partial_of line.old ≡ [] }
     ensures fields { OnOk result (fields_of line.new ≡ fields_of line.old ++ name_fields row.now) }
@@ -53,7 +53,7 @@ fn push_names(scratch: &mut Vec<u8>, line: &mut ByteRecord, row: &FileRow) -> Re
     push_hexadecimal(scratch, line, &row.field)
 }
 
-/// Adds the letters of a kind to a row, or nothing in their place.
+/// Appends the letters of a kind to a row, or an empty field.
 fn push_kind(line: &mut ByteRecord, kind: Option<Kind>) -> Result<(), AllocError>
     requires { partial_of line.old ≡ [] }
     ensures fields { OnOk result (fields_of line.new ≡ fields_of line.old ++ option_map_or kind_letters kind [] ∷ []) }
@@ -65,7 +65,7 @@ fn push_kind(line: &mut ByteRecord, kind: Option<Kind>) -> Result<(), AllocError
     }
 }
 
-/// Adds a number to a row, or nothing in its place.
+/// Appends a number to a row, or an empty field.
 fn push_count(line: &mut ByteRecord, count: Option<usize>) -> Result<(), AllocError>
     requires { partial_of line.old ≡ [] }
     ensures fields { OnOk result (fields_of line.new ≡ fields_of line.old ++ decimal_or_empty count ∷ []) }
@@ -77,7 +77,7 @@ fn push_count(line: &mut ByteRecord, count: Option<usize>) -> Result<(), AllocEr
     }
 }
 
-/// Adds the length of a record to a row, or nothing in its place.
+/// Appends the length of a record to a row, or an empty field.
 fn push_record(line: &mut ByteRecord, length: Option<u8>) -> Result<(), AllocError>
     requires { partial_of line.old ≡ [] }
     ensures fields { OnOk result (fields_of line.new ≡ fields_of line.old ++ decimal_or_empty length ∷ []) }
@@ -89,7 +89,7 @@ fn push_record(line: &mut ByteRecord, length: Option<u8>) -> Result<(), AllocErr
     }
 }
 
-/// Adds `true`, `false`, or nothing to a row.
+/// Appends `true`, `false`, or an empty field to a row.
 fn push_answer(line: &mut ByteRecord, answer: Option<bool>) -> Result<(), AllocError>
     requires { partial_of line.old ≡ [] }
     ensures fields { OnOk result (fields_of line.new ≡ fields_of line.old ++ truth_or_empty answer ∷ []) }
@@ -101,7 +101,7 @@ fn push_answer(line: &mut ByteRecord, answer: Option<bool>) -> Result<(), AllocE
     }
 }
 
-/// Adds the kind, and the type byte with what it says of the file, to a row.
+/// Appends the kind, and the type byte with its bits, to a row.
 fn push_type(line: &mut ByteRecord, row: &FileRow) -> Result<(), AllocError>
     requires { partial_of line.old ≡ [] }
     ensures fields { OnOk result (fields_of line.new ≡ fields_of line.old ++ type_fields row.now) }
@@ -113,7 +113,8 @@ fn push_type(line: &mut ByteRecord, row: &FileRow) -> Result<(), AllocError>
     push_boolean(line, row.locked)
 }
 
-/// Adds the shown size, the pair of the first block, and the length of a record, to a row.
+/// Appends the size that the directory has, the pair of the first block, and the length of a
+/// record, to a row.
 fn push_entry(line: &mut ByteRecord, row: &FileRow) -> Result<(), AllocError>
     requires { partial_of line.old ≡ [] }
     ensures fields { OnOk result (fields_of line.new ≡ fields_of line.old ++ entry_fields row.now) }
@@ -125,7 +126,7 @@ fn push_entry(line: &mut ByteRecord, row: &FileRow) -> Result<(), AllocError>
     push_record(line, row.record)
 }
 
-/// Adds how many blocks the data way and the side way have, to a row.
+/// Appends how many blocks the data chain and the side chain have, to a row.
 fn push_ways(line: &mut ByteRecord, row: &FileRow) -> Result<(), AllocError>
     requires { partial_of line.old ≡ [] }
     ensures fields { OnOk result (fields_of line.new ≡ fields_of line.old ++ way_fields row.now) }
@@ -135,7 +136,7 @@ fn push_ways(line: &mut ByteRecord, row: &FileRow) -> Result<(), AllocError>
     push_count(line, row.side)
 }
 
-/// Adds how many bytes the content has, and their digest, to a row.
+/// Appends how many bytes the content has, and their digest, to a row.
 fn push_content(
     scratch: &mut Vec<u8>,
     line: &mut ByteRecord,
@@ -157,7 +158,7 @@ fn push_content(
     }
 }
 
-/// Adds whether the file is whole, why not, the conditions that it breaks, and how many of its
+/// Appends whether the file is whole, why not, the conditions that it breaks, and how many of its
 /// blocks have a read error, to a row.
 fn push_state(scratch: &mut Vec<u8>, line: &mut ByteRecord, row: &FileRow) -> Result<(), AllocError>
     requires { partial_of line.old ≡ [] }
@@ -172,7 +173,7 @@ fn push_state(scratch: &mut Vec<u8>, line: &mut ByteRecord, row: &FileRow) -> Re
     push_number(line, row.read_errors as u64)
 }
 
-/// Adds what is told of a file, but for the image and the slot, to a row.
+/// Appends the fields of a file, without the image and the slot, to a row.
 pub fn push_file_fields(
     scratch: &mut Vec<u8>,
     line: &mut ByteRecord,
@@ -190,7 +191,7 @@ pub fn push_file_fields(
     push_state(scratch, line, row)
 }
 
-/// Begins the row of a file: the name of its image and all that is told of it.
+/// Begins the row of a file: the name of its image and the fields of the file.
 pub(crate) fn begin_file_row(
     scratch: &mut Scratch,
     name: &[u8],
@@ -205,7 +206,7 @@ pub(crate) fn begin_file_row(
     push_file_fields(&mut scratch.text, &mut scratch.row, row)
 }
 
-/// Adds the row of a file to a text.
+/// Appends the row of a file to a text.
 pub fn file_csv(
     scratch: &mut Scratch,
     name: &[u8],
@@ -218,7 +219,7 @@ pub fn file_csv(
     end_row(&mut scratch.row, b"", out)
 }
 
-/// Begins the header row: the columns but for the error.
+/// Begins the header row: the columns without the error.
 pub(crate) fn begin_header(scratch: &mut Scratch) -> Result<(), AllocError>
     ensures fields { OnOk result (fields_of scratch.new.row ≡ columns) }
     ensures whole { OnOk result (partial_of scratch.new.row ≡ []) }
@@ -227,7 +228,7 @@ pub(crate) fn begin_header(scratch: &mut Scratch) -> Result<(), AllocError>
     push_fields(&mut scratch.row, &COLUMNS)
 }
 
-/// Adds the header row to a text.
+/// Appends the header row to a text.
 #[tactic(auto, unfolding(crate::specs::FileRow::header_row))]
 pub fn files_header(scratch: &mut Scratch, out: Vec<u8>) -> Result<Vec<u8>, AllocError>
     ensures { IfOk result (λ text. text.items ≡ out.items ++ header_row) }
@@ -236,7 +237,7 @@ pub fn files_header(scratch: &mut Scratch, out: Vec<u8>) -> Result<Vec<u8>, Allo
     end_row(&mut scratch.row, b"error", out)
 }
 
-/// Begins a row with a name alone.
+/// Begins a row with only a name.
 pub(crate) fn begin_name_alone(scratch: &mut Scratch, name: &[u8]) -> Result<(), AllocError>
     ensures fields { OnOk result (fields_of scratch.new.row ≡ name_alone name.now) }
     ensures whole { OnOk result (partial_of scratch.new.row ≡ []) }
@@ -246,7 +247,7 @@ pub(crate) fn begin_name_alone(scratch: &mut Scratch, name: &[u8]) -> Result<(),
     push_fields(&mut scratch.row, &EMPTY)
 }
 
-/// Adds a row with a name and an error alone.
+/// Appends a row with only a name and an error.
 #[tactic(auto, unfolding(crate::specs::FileRow::unanswered_row))]
 fn push_unanswered(
     scratch: &mut Scratch,
@@ -260,7 +261,7 @@ fn push_unanswered(
     end_row(&mut scratch.row, error, out)
 }
 
-/// Adds the row of an image that cannot be read to a text.
+/// Appends the row of an image that cannot be read to a text.
 pub fn unread_file_csv(
     scratch: &mut Scratch,
     name: &[u8],
@@ -271,7 +272,7 @@ pub fn unread_file_csv(
     push_unanswered(scratch, name, UNREAD.as_bytes(), out)
 }
 
-/// Adds the row of a file with these bytes, which is no dump, to a text.
+/// Appends the row of a file with these bytes, which is not a dump, to a text.
 pub fn no_dump_file_csv(
     scratch: &mut Scratch,
     name: &[u8],

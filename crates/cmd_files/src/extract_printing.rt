@@ -10,7 +10,7 @@ use out_json_csv::{Scratch, no_dump_error, no_dump_json, unanswered_json};
 use program_arguments::Format;
 use std::alloc::AllocError;
 
-/// Appends what stands before all answers.
+/// Appends what is printed before the first result.
 pub fn print_extract_heading(
     form: Format,
     scratch: &mut Scratch,
@@ -25,7 +25,7 @@ pub fn print_extract_heading(
 }
 
 /// Appends what is printed of a file of the image with this name, and the path of the host file;
-/// None where none was written.
+/// None if no file was written.
 pub fn print_file(
     form: Format,
     scratch: &mut Scratch,
@@ -47,7 +47,7 @@ pub fn print_file(
     }
 }
 
-/// Appends what is printed of an image that isn't answered, for this error.
+/// Appends what is printed of an image that is not extracted, for this error.
 pub fn print_error(
     form: Format,
     scratch: &mut Scratch,
@@ -64,7 +64,7 @@ pub fn print_error(
     }
 }
 
-/// Appends what is printed of a file with these bytes, which is no dump.
+/// Appends what is printed of a file with these bytes, which is not a dump.
 pub fn print_length(
     form: Format,
     scratch: &mut Scratch,

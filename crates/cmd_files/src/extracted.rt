@@ -18,7 +18,7 @@ use out_json_csv::{
 };
 use std::alloc::AllocError;
 
-/// Prints the path of a host file, or null where none was written.
+/// Prints the path of a host file, or null if no file was written.
 fn put_path(
     scratch: &mut Vec<u8>,
     writer: &mut Writer,
@@ -33,8 +33,8 @@ fn put_path(
     }
 }
 
-/// Adds the line of a file to a text: an object of JSON with the name of its image, all that is
-/// told of it, and the path of the host file.
+/// Appends the line of a file to a text: an object of JSON with the name of its image, the members
+/// of the file, and the path of the host file.
 pub(crate) fn extracted_json(
     scratch: &mut Scratch,
     name: &[u8],
@@ -55,7 +55,7 @@ pub(crate) fn extracted_json(
     Ok(text)
 }
 
-/// Adds the path of a host file to a row, or nothing in its place.
+/// Appends the path of a host file to a row, or an empty field.
 fn push_path_field(
     scratch: &mut Vec<u8>,
     row: &mut ByteRecord,
@@ -71,7 +71,7 @@ fn push_path_field(
     }
 }
 
-/// Adds the row of a file to a text, with the path of the host file.
+/// Appends the row of a file to a text, with the path of the host file.
 pub(crate) fn extracted_csv(
     scratch: &mut Scratch,
     name: &[u8],
@@ -86,7 +86,7 @@ pub(crate) fn extracted_csv(
     end_row(&mut scratch.row, b"", out)
 }
 
-/// Adds where a file was written.
+/// Appends the path of the host file.
 fn push_path(out: &mut Vec<u8>, path: Option<&[u8]>) -> Result<(), AllocError>
     ensures { OnOk result (out.new.items ≡ out.old.items ++ path_text (option_map (λ p. p.now) path.entry)) }
 {
@@ -99,7 +99,7 @@ fn push_path(out: &mut Vec<u8>, path: Option<&[u8]>) -> Result<(), AllocError>
     }
 }
 
-/// Adds the line of a file for people, with the path of the host file.
+/// Appends the line of a file for people, with the path of the host file.
 #[tactic(auto, unfolding(crate::specs::Extracted::extracted_line))]
 pub(crate) fn push_extracted_line(
     scratch: &mut Vec<u8>,
@@ -114,7 +114,7 @@ pub(crate) fn push_extracted_line(
     out.extend_from_slice(b"\n")
 }
 
-/// Adds the header row to a text.
+/// Appends the header row to a text.
 #[tactic(auto, unfolding(crate::specs::Extracted::extracted_header))]
 pub(crate) fn extracted_header(scratch: &mut Scratch, out: Vec<u8>) -> Result<Vec<u8>, AllocError>
     ensures { IfOk result (λ text. text.items ≡ out.items ++ extracted_header) }
@@ -124,7 +124,7 @@ pub(crate) fn extracted_header(scratch: &mut Scratch, out: Vec<u8>) -> Result<Ve
     end_row(&mut scratch.row, b"error", out)
 }
 
-/// Adds the row of an image that isn't answered, for this error, to a text.
+/// Appends the row of an image that is not extracted, for this error, to a text.
 #[tactic(auto, unfolding(crate::specs::Extracted::unextracted_row))]
 pub(crate) fn unextracted_csv(
     scratch: &mut Scratch,

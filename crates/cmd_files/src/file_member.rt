@@ -16,7 +16,7 @@ use out_json_csv::{
 use out_messages::kind_letters;
 use std::alloc::AllocError;
 
-/// Prints the name, and the field that it stands in.
+/// Prints the name, and the field in which it is.
 fn put_names(scratch: &mut Vec<u8>, writer: &mut Writer, row: &FileRow) -> Result<(), AllocError>
     ensures before { writer.new.before ≡ writer.old.before }
     ensures tokens { OnOk result (writer.new.tokens ≡ writer.old.tokens ++ member_tokens (name_members row.now)) }
@@ -69,7 +69,7 @@ fn put_answer(writer: &mut Writer, key: &str, answer: Option<bool>) -> Result<()
     }
 }
 
-/// Prints the kind, and the type byte with what it says of the file.
+/// Prints the kind, and the type byte with its bits.
 fn put_type(writer: &mut Writer, row: &FileRow) -> Result<(), AllocError>
     ensures before { writer.new.before ≡ writer.old.before }
     ensures tokens { OnOk result (writer.new.tokens ≡ writer.old.tokens ++ member_tokens (type_members row.now)) }
@@ -80,7 +80,7 @@ fn put_type(writer: &mut Writer, row: &FileRow) -> Result<(), AllocError>
     put_boolean(writer, "locked", row.locked)
 }
 
-/// Prints the shown size, the pair of the first block, and the length of a record.
+/// Prints the size that the directory has, the pair of the first block, and the length of a record.
 fn put_entry(writer: &mut Writer, row: &FileRow) -> Result<(), AllocError>
     ensures before { writer.new.before ≡ writer.old.before }
     ensures tokens { OnOk result (writer.new.tokens ≡ writer.old.tokens ++ member_tokens (entry_members row.now)) }
@@ -91,7 +91,7 @@ fn put_entry(writer: &mut Writer, row: &FileRow) -> Result<(), AllocError>
     put_record(writer, "record", row.record)
 }
 
-/// Prints how many blocks the data way and the side way have.
+/// Prints how many blocks the data chain and the side chain have.
 fn put_ways(writer: &mut Writer, row: &FileRow) -> Result<(), AllocError>
     ensures before { writer.new.before ≡ writer.old.before }
     ensures tokens { OnOk result (writer.new.tokens ≡ writer.old.tokens ++ member_tokens (way_members row.now)) }
@@ -141,7 +141,7 @@ fn put_numbers(writer: &mut Writer, numbers: &[u8]) -> Result<(), AllocError>
     writer.end_array()
 }
 
-/// Prints why a file isn't whole.
+/// Prints why a file is not whole.
 fn put_why(writer: &mut Writer, flaws: &[Flaw]) -> Result<(), AllocError>
     ensures before { writer.new.before ≡ writer.old.before }
     ensures tokens { OnOk result (writer.new.tokens ≡ writer.old.tokens ++ member_tokens ((codes "why", array_of (map flaw_value flaws.now)) ∷ [])) }
@@ -171,8 +171,8 @@ fn put_state(writer: &mut Writer, row: &FileRow) -> Result<(), AllocError>
     put_number(writer, "read_errors", row.read_errors as u64)
 }
 
-/// Prints what is told of a file, but for the image and the slot: the members from its name to its
-/// read errors.
+/// Prints the members of a file, from its name to its read errors; the image and the slot are not
+/// among them.
 pub fn put_file_members(
     scratch: &mut Vec<u8>,
     writer: &mut Writer,

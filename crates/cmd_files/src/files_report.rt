@@ -17,7 +17,7 @@ use program_batch::{AnswerRoom, Report, Verdict};
 use std::alloc::{AllocError, Global};
 use std::mem;
 
-/// The report of `files`, with the memory that it keeps from file to file.
+/// The report of `files`, with the buffers that it uses for one file after another.
 #[derive(Drop)]
 pub struct FilesReport {
     alloc: Global,
@@ -29,7 +29,7 @@ pub struct FilesReport {
 }
 
 impl FilesReport {
-    /// A report in a form.
+    /// Returns a report in a form.
     pub fn new(alloc: Global, form: Format) -> Result<FilesReport, AllocError>
         ensures { IfOk result (λ report. report.form ≡ form) }
     {
@@ -43,7 +43,7 @@ impl FilesReport {
         })
     }
 
-    /// What is told of the dump that was read of a file, with these bytes.
+    /// Puts what is printed of the dump that was read into the buffer, and returns the verdict.
     fn tell_dump(&mut self, name: &[u8], room: &mut AnswerRoom) -> Result<Verdict, AllocError>
         ensures form { self.new.form ≡ self.old.form }
         ensures answered { room.old.printed.items ≡ [] → room.old.complaint.items ≡ [] → (bytes : List ℕ) → IfOk result (λ verdict.
@@ -60,7 +60,7 @@ impl FilesReport {
         }
     }
 
-    /// What is told of a file that cannot be read.
+    /// Puts what is printed of a file that cannot be read into the buffer.
     fn tell_unread(&mut self, name: &[u8], room: &mut AnswerRoom) -> Result<Verdict, AllocError>
         ensures form { self.new.form ≡ self.old.form }
         ensures answered { room.old.printed.items ≡ [] → room.old.complaint.items ≡ [] → IfOk result (λ verdict.
@@ -73,7 +73,7 @@ impl FilesReport {
         Ok(Verdict::Failed)
     }
 
-    /// What is told of a file with these bytes, where no dump has so many.
+    /// Puts what is printed of a file whose length is not a dump's into the buffer.
     fn tell_wrong_length(
         &mut self,
         name: &[u8],

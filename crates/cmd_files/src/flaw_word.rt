@@ -1,10 +1,10 @@
-//! The words for why a file isn't whole.
+//! The names of the reasons why a file is not whole, as JSON and CSV have them.
 ghost use Rattle.std.specs.Prelude.{◌≡◌};
 ghost use Rattle.cmd_files.specs.FlawWords.{flaw_word as flaw_word_of};
 
 use d64_survey::Flaw;
 
-/// The word for a reason.
+/// Returns the name of a reason.
 pub(crate) fn flaw_word(flaw: Flaw) -> &'static str
     ensures { result.now ≡ flaw_word_of flaw }
 {

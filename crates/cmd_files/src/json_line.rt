@@ -9,7 +9,7 @@ use json::Writer;
 use out_json_csv::{Scratch, into_line, put_image, put_number};
 use std::alloc::AllocError;
 
-/// Prints where a file is: the image, by its name on the host, and the slot.
+/// Prints the place of a file: the image, by its name on the host, and the slot.
 pub fn put_place(
     scratch: &mut Vec<u8>,
     writer: &mut Writer,
@@ -23,8 +23,8 @@ pub fn put_place(
     put_number(writer, "slot", row.slot as u64)
 }
 
-/// Adds the line of a file to a text: an object of JSON with the name of its image and all that is
-/// told of it.
+/// Appends the line of a file to a text: an object of JSON with the name of its image and the
+/// members of the file.
 pub fn file_json(
     scratch: &mut Scratch,
     name: &[u8],

@@ -9,15 +9,15 @@ use d64_survey::{Fault, Inspection, ReadError, Survey};
 use out_messages::{push_fault, push_read_error};
 use std::alloc::AllocError;
 
-/// What each of these lines begins with, and what it ends with.
+/// How each of these lines begins, and how it ends.
 const START: &[u8] = b"  ";
 
 const END: &[u8] = b", so files may be missing\n";
 
-/// The number of the condition that the directory's way is a whole chain.
+/// The number of the condition that the directory is a whole chain.
 const DIRECTORY_CONDITION: u8 = 2;
 
-/// Adds the line of a fault of the directory's way.
+/// Appends the line of a fault of the directory's chain.
 #[tactic(auto, unfolding(crate::specs::FileTable::broken_line, out_messages::specs::Words::line_below))]
 fn push_broken_line(out: &mut Vec<u8>, survey: &Survey, fault: &Fault) -> Result<(), AllocError>
     ensures { OnOk result (out.new.items ≡ out.old.items ++ broken_line survey.now fault.now) }
@@ -30,7 +30,7 @@ fn push_broken_line(out: &mut Vec<u8>, survey: &Survey, fault: &Fault) -> Result
     out.extend_from_slice(END)
 }
 
-/// Adds a line each fault of the directory's way.
+/// Appends a line for each fault of the directory's chain.
 #[tactic(auto, unfolding(crate::specs::FileTable::broken_lines))]
 fn push_broken_lines(out: &mut Vec<u8>, survey: &Survey, list: &[Fault]) -> Result<(), AllocError>
     ensures { OnOk result (out.new.items ≡ out.old.items ++ broken_lines survey.now list.now) }
@@ -52,14 +52,14 @@ fn is_among(block: BlockNo, blocks: &[BlockNo]) -> bool
     is_found
 }
 
-/// Whether a block is 18/0 or one of the directory's way.
+/// Whether a block is 18/0 or one of the directory's chain.
 fn is_of_directory(survey: &Survey, block: BlockNo) -> bool
     ensures { result ≡ is_of_directory survey.now block }
 {
     map_block() == block || is_among(block, survey.directory())
 }
 
-/// Adds the line of a read error in such a block.
+/// Appends the line of a read error in such a block.
 #[tactic(auto, unfolding(crate::specs::FileTable::unreadable_line, out_messages::specs::Words::line_below))]
 fn push_unreadable_line(
     out: &mut Vec<u8>,
@@ -76,7 +76,7 @@ fn push_unreadable_line(
     out.extend_from_slice(END)
 }
 
-/// Adds a line each read error in such a block.
+/// Appends a line for each read error in such a block.
 #[tactic(auto, unfolding(crate::specs::FileTable::unreadable_lines))]
 fn push_unreadable_lines(
     out: &mut Vec<u8>,
@@ -91,8 +91,8 @@ fn push_unreadable_lines(
     Ok(())
 }
 
-/// Adds a line each reason why files may be missing from a table: where the directory's way is no
-/// whole chain, and where 18/0 or a block of the directory couldn't be read well.
+/// Appends a line for each reason why files may be missing from a table: the directory is not a
+/// whole chain, or 18/0 or a block of the directory was read with an error.
 #[tactic(auto, unfolding(crate::specs::FileTable::missing_lines))]
 pub fn push_missing_lines(out: &mut Vec<u8>, inspection: &Inspection) -> Result<(), AllocError>
     ensures { OnOk result (out.new.items ≡ out.old.items ++ missing_lines inspection.now) }

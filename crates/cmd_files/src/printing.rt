@@ -13,7 +13,7 @@ use out_json_csv::{Scratch, no_dump_json, unread_json};
 use program_arguments::Format;
 use std::alloc::AllocError;
 
-/// Appends what stands before all answers.
+/// Appends what is printed before the first result.
 pub(crate) fn print_heading(
     form: Format,
     scratch: &mut Scratch,
@@ -125,7 +125,7 @@ pub(crate) fn print_unread(
     }
 }
 
-/// Appends what is printed of a file with these bytes, which is no dump.
+/// Appends what is printed of a file with these bytes, which is not a dump.
 pub(crate) fn print_wrong_length(
     form: Format,
     scratch: &mut Scratch,

@@ -9,7 +9,7 @@ use d64_survey::Flaw;
 use itoa::Buffer;
 use std::alloc::AllocError;
 
-/// Adds a word after a space.
+/// Appends a word after a space.
 fn push_after_space(text: &mut Vec<u8>, word: &[u8]) -> Result<(), AllocError>
     ensures { OnOk result (text.new.items ≡ text.old.items ++ after_space word.now) }
 {
@@ -17,7 +17,7 @@ fn push_after_space(text: &mut Vec<u8>, word: &[u8]) -> Result<(), AllocError>
     text.extend_from_slice(word)
 }
 
-/// Adds the words for reasons, each after a space.
+/// Appends the names of reasons, each after a space.
 fn push_flaws(text: &mut Vec<u8>, flaws: &[Flaw]) -> Result<(), AllocError>
     ensures { OnOk result (text.new.items ≡ text.old.items ++ flat_map (λ flaw. after_space (flaw_word_of flaw)) flaws.now) }
 {
@@ -27,7 +27,7 @@ fn push_flaws(text: &mut Vec<u8>, flaws: &[Flaw]) -> Result<(), AllocError>
     Ok(())
 }
 
-/// Spells the words for reasons, with a space between them, in the place of what the text had.
+/// Replaces the text by the names of reasons, with a space between them.
 #[tactic(auto, unfolding(crate::specs::FileRow::spaced_texts))]
 pub(crate) fn spell_flaws(text: &mut Vec<u8>, flaws: &[Flaw]) -> Result<(), AllocError>
     ensures { OnOk result (text.new.items ≡ spaced_texts flaw_word_of flaws.now) }
@@ -42,7 +42,7 @@ pub(crate) fn spell_flaws(text: &mut Vec<u8>, flaws: &[Flaw]) -> Result<(), Allo
     }
 }
 
-/// Adds numbers in decimal, each after a space.
+/// Appends numbers in decimal, each after a space.
 fn push_numbers(text: &mut Vec<u8>, numbers: &[u8]) -> Result<(), AllocError>
     ensures { OnOk result (text.new.items ≡ text.old.items ++ flat_map (λ number. after_space (decimal number)) numbers.now) }
 {
@@ -53,7 +53,7 @@ fn push_numbers(text: &mut Vec<u8>, numbers: &[u8]) -> Result<(), AllocError>
     Ok(())
 }
 
-/// Spells numbers in decimal, with a space between them, in the place of what the text had.
+/// Replaces the text by numbers in decimal, with a space between them.
 #[tactic(auto, unfolding(crate::specs::FileRow::spaced_texts))]
 pub(crate) fn spell_numbers(text: &mut Vec<u8>, numbers: &[u8]) -> Result<(), AllocError>
     ensures { OnOk result (text.new.items ≡ spaced_texts decimal numbers.now) }

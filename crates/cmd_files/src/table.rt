@@ -11,13 +11,13 @@ use itoa::Buffer;
 use out_messages::{kind_letters, push_flaws, push_label, push_quoted};
 use std::alloc::AllocError;
 
-/// How many columns the size has.
+/// The width of the size, in columns.
 const SIZE_COLUMNS: usize = 5;
 
-/// How many columns the name has, in quotes.
+/// The width of the name in quotes, in columns.
 const NAME_COLUMNS: usize = 18;
 
-/// Adds so many spaces.
+/// Appends `count` spaces.
 fn push_spaces(out: &mut Vec<u8>, count: usize) -> Result<(), AllocError>
     requires { count ≤ 18 }
     ensures { OnOk result (out.new.items ≡ out.old.items ++ spaces count) }
@@ -25,7 +25,7 @@ fn push_spaces(out: &mut Vec<u8>, count: usize) -> Result<(), AllocError>
     out.resize(out.len() + count, b' ')
 }
 
-/// Adds a text at the right of so many columns.
+/// Appends a text, right-aligned to this width.
 fn push_right(out: &mut Vec<u8>, width: usize, text: &[u8]) -> Result<(), AllocError>
     requires { width ≤ 18 }
     ensures { OnOk result (out.new.items ≡ out.old.items ++ right_in width text.now) }
@@ -34,7 +34,7 @@ fn push_right(out: &mut Vec<u8>, width: usize, text: &[u8]) -> Result<(), AllocE
     out.extend_from_slice(text)
 }
 
-/// Adds a text at the left of so many columns.
+/// Appends a text, left-aligned to this width.
 fn push_left(out: &mut Vec<u8>, width: usize, text: &[u8]) -> Result<(), AllocError>
     requires { width ≤ 18 }
     ensures { OnOk result (out.new.items ≡ out.old.items ++ left_in width text.now) }
@@ -43,7 +43,7 @@ fn push_left(out: &mut Vec<u8>, width: usize, text: &[u8]) -> Result<(), AllocEr
     push_spaces(out, width.saturating_sub(text.len()))
 }
 
-/// Adds the image's line: its name on the host, the disk's name and its id.
+/// Appends the image's line: its name on the host, the disk's name and its id.
 #[tactic(auto, unfolding(crate::specs::FileTable::head_line))]
 pub fn push_head_line(out: &mut Vec<u8>, name: &[u8], image: &Image) -> Result<(), AllocError>
     ensures { OnOk result (out.new.items ≡ out.old.items ++ head_line name.now image.now) }
@@ -54,7 +54,7 @@ pub fn push_head_line(out: &mut Vec<u8>, name: &[u8], image: &Image) -> Result<(
     out.extend_from_slice(b"\n")
 }
 
-/// How many blocks of a file are there.
+/// Returns how many blocks of a file are there.
 fn blocks_there(row: &FileRow) -> usize
     ensures { result ≡ blocks_there row.now }
 {
@@ -63,7 +63,7 @@ fn blocks_there(row: &FileRow) -> usize
         .saturating_add(row.side.unwrap_or(0))
 }
 
-/// Adds why the file isn't whole, or why that isn't known.
+/// Appends why the file is not whole, or why that is not known.
 #[tactic(auto, unfolding(crate::specs::FileTable::reasons))]
 fn push_reasons(out: &mut Vec<u8>, row: &FileRow) -> Result<(), AllocError>
     ensures { OnOk result (out.new.items ≡ out.old.items ++ reasons row.now) }
@@ -76,7 +76,7 @@ fn push_reasons(out: &mut Vec<u8>, row: &FileRow) -> Result<(), AllocError>
     )
 }
 
-/// Adds that it isn't known whether the file is whole, and why, where there is more to say.
+/// Appends that it is not known whether the file is whole, and why, if there is more to say.
 #[tactic(auto, unfolding(crate::specs::FileTable::unknown_text))]
 fn push_unknown(out: &mut Vec<u8>, row: &FileRow) -> Result<(), AllocError>
     ensures { OnOk result (out.new.items ≡ out.old.items ++ unknown_text row.now) }
@@ -89,7 +89,7 @@ fn push_unknown(out: &mut Vec<u8>, row: &FileRow) -> Result<(), AllocError>
     push_reasons(out, row)
 }
 
-/// Adds whether the file is whole, or what is amiss.
+/// Appends whether the file is whole, or what is wrong with it.
 fn push_wholeness(out: &mut Vec<u8>, row: &FileRow) -> Result<(), AllocError>
     ensures { OnOk result (out.new.items ≡ out.old.items ++ state_by row.now.whole row.now) }
 {
@@ -100,14 +100,14 @@ fn push_wholeness(out: &mut Vec<u8>, row: &FileRow) -> Result<(), AllocError>
     }
 }
 
-/// That a file is locked.
+/// Returns the text of a locked file; empty if it is not locked.
 fn locked_text(locked: bool) -> &'static [u8]
     ensures { result.now ≡ locked_text locked }
 {
     if locked { b", locked" } else { b"" }
 }
 
-/// The letters of a kind.
+/// Returns the letters of a kind.
 fn kind_text(kind: Option<Kind>) -> &'static str
     ensures { result.now ≡ kind_text kind }
 {
@@ -117,7 +117,7 @@ fn kind_text(kind: Option<Kind>) -> &'static str
     }
 }
 
-/// Adds what is told of a file after its name.
+/// Appends what a line says of a file after its name.
 #[tactic(auto, unfolding(crate::specs::FileTable::state_text))]
 fn push_state(out: &mut Vec<u8>, row: &FileRow) -> Result<(), AllocError>
     ensures { OnOk result (out.new.items ≡ out.old.items ++ state_text row.now) }
@@ -128,7 +128,7 @@ fn push_state(out: &mut Vec<u8>, row: &FileRow) -> Result<(), AllocError>
     out.extend_from_slice(locked_text(row.locked))
 }
 
-/// Adds the shown size, in its columns.
+/// Appends the size that the directory has, right-aligned.
 fn push_size(out: &mut Vec<u8>, size: u16) -> Result<(), AllocError>
     ensures { OnOk result (out.new.items ≡ out.old.items ++ right_in 5 (decimal size)) }
 {
@@ -136,7 +136,7 @@ fn push_size(out: &mut Vec<u8>, size: u16) -> Result<(), AllocError>
     push_right(out, SIZE_COLUMNS, digits.format(size).as_bytes())
 }
 
-/// Adds a name in quotes, in its columns.
+/// Appends a name in quotes, left-aligned.
 fn push_name(scratch: &mut Vec<u8>, out: &mut Vec<u8>, name: &[u8]) -> Result<(), AllocError>
     ensures { OnOk result (out.new.items ≡ out.old.items ++ left_in 18 (quoted_name name.now)) }
 {
@@ -145,8 +145,8 @@ fn push_name(scratch: &mut Vec<u8>, out: &mut Vec<u8>, name: &[u8]) -> Result<()
     push_left(out, NAME_COLUMNS, scratch.as_slice())
 }
 
-/// Adds what is told of a file on a line: the size that the directory shows, the name, the kind,
-/// whether it is whole or what is amiss, and whether it is locked.
+/// Appends the text of a file: the size that the directory has, the name, the kind, whether it is
+/// whole or what is wrong with it, and whether it is locked.
 #[tactic(auto, unfolding(crate::specs::FileTable::file_text))]
 pub(crate) fn push_file_text(
     scratch: &mut Vec<u8>,
@@ -162,7 +162,7 @@ pub(crate) fn push_file_text(
     push_state(out, row)
 }
 
-/// Adds the line of a file.
+/// Appends the line of a file.
 #[tactic(auto, unfolding(crate::specs::FileTable::file_line))]
 pub fn push_file_line(
     scratch: &mut Vec<u8>,
