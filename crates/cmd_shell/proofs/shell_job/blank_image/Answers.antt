@@ -7,7 +7,7 @@ use Rattle.d64_image.specs.Image.{blocks_of}
 use Rattle.cmd_shell.specs.ShellRuns.{blank_image}
 use Rattle.cmd_shell.proofs.shell_job.blank_image.Goals as goal
 
--- the number of blocks is the greatest one where the second test passes
+-- the number of blocks is the greatest one if the second test passes
 by_tests : (few all : Bool) → (few ≡ true → all ≡ false) → option_eq eqb (cond few (Some 683) (cond all (Some 768) None)) (Some 768) ≡ all
 by_tests true true apart = absurd (let f : true ≡ false = apart refl in cc)
 by_tests true false apart = refl
