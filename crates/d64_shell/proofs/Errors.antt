@@ -1,11 +1,11 @@
--- Errors of words.
+-- Errors of arguments.
 use Rattle.std.proofs.Common.{ℕ, List, inr}
 use Rattle.program_arguments.specs.Asked.{IsFault}
 use Rattle.program_arguments.specs.declared.asked.JobFault.{JobFault}
 use Rattle.program_arguments.specs.declared.asked.JobFault.TheVariants.{Words, Start, Memory, Tracks, Both, Format, Names, Null, Picture, Difference, Folder, Title, Links}
 use Rattle.d64_shell.specs.Program.{IsErrorOf}
 
--- a fault of words is an error of them, if it is one of clap's
+-- a fault of arguments is an error of them, if it is one of clap's
 pub of_words : (words : List (List ℕ)) (fault : JobFault) → IsFault words fault → IsErrorOf words fault
 of_words words (Words error) is = inr is
 of_words words Start is = tt

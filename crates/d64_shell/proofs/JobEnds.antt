@@ -17,7 +17,7 @@ use Rattle.cmd_shell.specs.ShellRuns.{EndedShell}
 use Rattle.program_surveys.specs.JobEnds.{EndedSurvey}
 use Rattle.d64_shell.specs.Program.{EndedWork}
 
--- where a job's work is a survey, it has ended as that has
+-- a job whose work is a survey has ended as that has
 pub survey_ended : (job : Job) (rule : Rule) (heading : List ℕ) (files shown : SurveyFiles) (old new : Outside) (faults told : Account) (status : ℕ)
     → work_of job ≡ Survey rule heading files → shown ≡ files → EndedSurvey (by_rule rule) heading shown old new faults told status
     → EndedWork (work_of job) old new faults told status
@@ -25,7 +25,7 @@ survey_ended job rule heading files shown old new faults told status is same end
     subst (λ (work : JobWork). EndedWork work old new faults told status) (sym is)
     (subst (λ (f : SurveyFiles). EndedSurvey (by_rule rule) heading f old new faults told status) same ended)
 
--- where it is a script, it has ended as that has
+-- a job whose work is a script has ended as that has
 pub script_ended : (job : Job) (beginning begun : Beginning) (source from : Source) (manner at : Manner) (old new : Outside) (faults told : Account) (status : ℕ)
     → work_of job ≡ Script beginning source manner → begun ≡ beginning → from ≡ source → at ≡ manner → EndedShell begun from at old new faults told status
     → EndedWork (work_of job) old new faults told status
@@ -35,7 +35,7 @@ script_ended job beginning begun source from manner at old new faults told statu
     (subst (λ (s : Source). EndedShell beginning s at old new faults told status) same_source
     (subst (λ (b : Beginning). EndedShell b from at old new faults told status) same_beginning ended)))
 
--- where it is an extraction, it has ended as that has
+-- a job whose work is an extraction has ended as that has
 pub extraction_ended : (job : Job) (setup : SetupView) (heading : List ℕ) (files shown : SurveyFiles) (old new : Outside) (faults told : Account) (status : ℕ)
     → work_of job ≡ Extraction setup heading files → shown ≡ files → EndedSurvey (unpacks setup) heading shown old new faults told status
     → EndedWork (work_of job) old new faults told status
@@ -43,7 +43,7 @@ extraction_ended job setup heading files shown old new faults told status is sam
     subst (λ (work : JobWork). EndedWork work old new faults told status) (sym is)
     (subst (λ (f : SurveyFiles). EndedSurvey (unpacks setup) heading f old new faults told status) same ended)
 
--- an extraction that passes over nothing
+-- an extraction that skips nothing
 not_true : (test : Bool) → (test ≡ true → ⊥) → test ≡ false
 not_true true refuted = absurd (refuted refl)
 not_true false refuted = refl
@@ -51,7 +51,7 @@ not_true false refuted = refl
 passes_not : (job : Job) (setup : SetupView) (heading : List ℕ) (files : SurveyFiles) → work_of job ≡ Extraction setup heading files → (PassesOver (work_of job) → ⊥) → setup.skips ≡ false
 passes_not job setup heading files is passes = not_true setup.skips (λ skips. passes (subst PassesOver (sym is) skips))
 
--- keeps quiet, where there was memory to begin
+-- writes nothing to the standard error about a clean image, if there was memory to begin
 pub extraction_is_quiet : {E : Type 0} (job : Job) (setup : SetupView) (heading : List ℕ) (files : SurveyFiles) (made : Result Unpacker E)
     → work_of job ≡ Extraction setup heading files → IfOk made (λ unpacker. unpacker.setup ≡ setup) → (PassesOver (work_of job) → ⊥)
     → IfOk made (λ unpacker. KeepsQuiet (unpacks unpacker.setup))

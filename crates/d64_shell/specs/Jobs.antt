@@ -19,14 +19,14 @@ use Rattle.cmd_diff.specs.Differences.{difference_rule}
 use Rattle.cmd_basic.specs.declared.tools.Tool.TheVariants as tools
 use Rattle.cmd_shell.specs.Beginnings.{Beginning, beginning_of, home_of, Source, source_of, refusals_of}
 
--- what an extraction is asked for by the words, in a form of the output
+-- the options of an extraction that the arguments give, in a form of the output
 abbrev pub setup_of : AskedExtraction → Format → SetupView
 setup_of asked format = record { into = string_bytes asked.into; with_parts = asked.part; skips = asked.skip_existing; form = format }
 
--- what a job does: it runs a script of some source in a manner, from a beginning; runs a tool on
--- the input, or on the host file of a name, to the output, or to the host file of a second name;
--- surveys files, by a rule, with what stands before all answers; unpacks files, as is asked for,
--- with what stands before all answers; or compares the files of two names, by a rule
+-- what a job does: it runs a script from this source, with these options, from a beginning; runs a
+-- tool on the input, or on the host file with a name, to the output, or to the host file with a
+-- second name; surveys files by a rule, after a heading; unpacks files with these options, after a
+-- heading; or compares the files with two names, by a rule
 pub data JobWork : Type 0 where
   Script : Beginning → Source → Manner → JobWork
   Conversion : Tool → Option (List ℕ) → Option (List ℕ) → JobWork
@@ -48,7 +48,7 @@ work_of (Map format file) = Survey (map_rule format) [] (Named (string_bytes fil
 work_of (Catalogue page names) = Survey (catalogue_rule page) (catalogue_heading page) (files_of names)
 work_of (Diff format old new) = Comparison (difference_rule format) (string_bytes old) (string_bytes new)
 
--- the work is a script, which tells nothing where it runs to its end
+-- the work is a script, which reports nothing if it runs to its end
 abbrev pub IsScript : JobWork → Type 0
 IsScript (Script beginning source manner) = ⊤
 IsScript (Conversion tool name target) = ⊥
@@ -56,7 +56,7 @@ IsScript (Survey rule heading files) = ⊥
 IsScript (Extraction setup heading files) = ⊥
 IsScript (Comparison rule old_name new_name) = ⊥
 
--- the work passes over folders that are there, and complains of it though all is well
+-- the work skips folders that exist, and writes a line about each though all is well
 abbrev pub PassesOver : JobWork → Type 0
 PassesOver (Script beginning source manner) = ⊥
 PassesOver (Conversion tool name target) = ⊥

@@ -1,4 +1,4 @@
--- What the program does with its words, its streams and a host.
+-- What the program does with its arguments, its streams and a host.
 use Rattle.std.specs.Prelude.{◌≡◌, ℕ, List, ◌∷◌, map, codes, ◌⊎◌, ⊤}
 use Rattle.script_text.specs.Output.{Account}
 use Rattle.host_names.specs.Shown.{shown_name}
@@ -15,7 +15,7 @@ use Rattle.program_surveys.specs.JobEnds.{EndedSurvey, EndedComparison}
 use Rattle.cmd_shell.specs.ShellRuns.{EndedShell}
 use Rattle.d64_shell.specs.Jobs.{JobWork, Script, Conversion, Survey, Extraction, Comparison, work_of, IsScript, PassesOver}
 
--- how a job ended that does this work
+-- how a job with this work ended
 abbrev pub EndedWork : JobWork → Outside → Outside → Account → Account → ℕ → Type 0
 EndedWork (Script beginning source manner) old new faults told status = EndedShell beginning source manner old new faults told status
 EndedWork (Conversion tool name target) old new faults told status = EndedConversion tool name target old new faults told status
@@ -23,31 +23,31 @@ EndedWork (Survey rule heading files) old new faults told status = EndedSurvey (
 EndedWork (Extraction setup heading files) old new faults told status = EndedSurvey (unpacks setup) heading files old new faults told status
 EndedWork (Comparison rule old_name new_name) old new faults told status = EndedComparison rule old_name new_name old new faults told status
 
--- the words with the program's name before them
+-- the arguments with the program's name before them
 abbrev pub named_words : List (List ℕ) → List (List ℕ)
 named_words after = codes "d64sh" ∷ after
 
--- words as names of the host are shown
+-- arguments, each shown as a name of the host
 abbrev pub shown_words : List (List ℕ) → List (List ℕ)
 shown_words words = map shown_name words
 
--- where the fault is an error of clap's, whose text has words, and not the help or the version that
--- was asked for, it is one of these words
+-- a fault that is an error of clap's, and neither help nor version, is an error of these arguments
 abbrev pub IsErrorOf : List (List ℕ) → JobFault → Type 0
 IsErrorOf words (Words error) = WasAskedFor (Words error) ⊎ IsFault words (Words error)
 IsErrorOf words fault = ⊤
 
--- the words ask for the shell
+-- the arguments ask for the shell
 abbrev pub AsksForShell : List (List ℕ) → Type 0
 AsksForShell after = (job : Job) × IsJob (named_words after) job × IsScript (work_of job)
 
--- the words ask to pass over folders that are there, which is complained of though all is well
+-- the arguments ask to skip folders that exist, of each of which a line is written though all is
+-- well
 abbrev pub AsksToPassOver : List (List ℕ) → Type 0
 AsksToPassOver after = (job : Job) × IsJob (named_words after) job × PassesOver (work_of job)
 
--- what the program has done, and its status: the job that the words ask for has ended; or they ask
--- for none, and were answered so, with nothing read and no file touched; an error of clap's is then
--- one of the words as they are shown
+-- what the program has done, and its status: the job that the arguments ask for has ended; or they
+-- ask for none, which is reported, with nothing read and no file touched; an error of clap's is
+-- then one of the arguments as they are shown
 abbrev pub Ended : List (List ℕ) → Outside → Outside → Account → Account → ℕ → Type 0
 Ended after old new faults told status =
     ((job : Job) × IsJob (named_words after) job × EndedWork (work_of job) old new faults told status)

@@ -8,9 +8,9 @@ use host_names::push_shown;
 use program_arguments::{Job, JobFault, job};
 use std::alloc::{AllocError, Global};
 
-/// The job that the words after the program's name ask for. What `clap` says of words that ask for
-/// none has them as names of the host are shown: as they were given they could command a terminal,
-/// or make a line of their own. Where there is no memory for that, it is out of memory.
+/// Returns the job that the arguments after the program's name ask for. The text of an error of
+/// `clap`'s has them as names of the host are shown: as they were given they could command a
+/// terminal, or make a line of their own. If memory runs out for that, the fault is out of memory.
 pub(crate) fn asked(alloc: Global, words: &[&str]) -> Result<Job, JobFault>
     ensures job { IfOk result (IsJob (named_words (map (λ word. word.now) words.now))) }
     ensures fault { IfErr result (IsFault (named_words (map (λ word. word.now) words.now))) }
@@ -22,7 +22,7 @@ pub(crate) fn asked(alloc: Global, words: &[&str]) -> Result<Job, JobFault>
     }
 }
 
-/// The same, with the words in the fault as they were given.
+/// Does the same, but the text has the arguments as they were given.
 fn named_job(alloc: Global, words: &[&str]) -> Result<Job, JobFault>
     ensures job { IfOk result (IsJob (named_words (map (λ word. word.now) words.now))) }
     ensures fault { IfErr result (IsFault (named_words (map (λ word. word.now) words.now))) }
@@ -39,7 +39,8 @@ fn named_job(alloc: Global, words: &[&str]) -> Result<Job, JobFault>
     job(alloc, all.as_slice())
 }
 
-/// The fault of these words, with them as they are shown where it is one of `clap`'s.
+/// Returns the fault of these arguments, whose text has them as they are shown if it is one of
+/// `clap`'s.
 fn shown_fault(alloc: Global, fault: JobFault, words: &[&str]) -> JobFault
     ensures fault { (asked : List (List ℕ)) → IsFault asked fault → IsFault asked result }
     ensures shown { IsErrorOf (named_words (shown_words (map (λ word. word.now) words.now))) result }
@@ -53,7 +54,8 @@ fn shown_fault(alloc: Global, fault: JobFault, words: &[&str]) -> JobFault
     }
 }
 
-/// Whether the fault is an error of `clap`'s whose text has words: neither help nor the version.
+/// Whether the fault is an error of `clap`'s whose text has arguments: neither help nor the
+/// version.
 fn has_words(fault: &JobFault) -> bool
     ensures { result ≡ false → (words : List (List ℕ)) → IsErrorOf words fault.now }
 {
@@ -63,8 +65,8 @@ fn has_words(fault: &JobFault) -> bool
     }
 }
 
-/// The fault as it is of these words, which are shown, where it is of the same kind. No words are
-/// known of which it is not, as they are shown; their fault would be out of memory.
+/// Returns the fault of these arguments as they are shown, if it is of the same kind; otherwise the
+/// fault is out of memory. No arguments are known whose fault changes its kind.
 fn fault_as_shown(alloc: Global, fault: JobFault, shown: &[String]) -> JobFault
     ensures fault { (asked : List (List ℕ)) → IsFault asked fault → IsFault asked result }
     ensures shown { IsErrorOf (named_words (map string_bytes shown.now)) result }
@@ -79,8 +81,8 @@ fn fault_as_shown(alloc: Global, fault: JobFault, shown: &[String]) -> JobFault
     }
 }
 
-/// The second of two faults, where both are errors of `clap`'s and of one kind, and else out of
-/// memory.
+/// Returns the second of two faults if both are errors of `clap`'s and of one kind, and otherwise
+/// out of memory.
 #[tactic(auto, using(crate::proofs::Errors::of_words))]
 fn last_if_alike(fault: &JobFault, other: JobFault) -> JobFault
     ensures fault { (asked : List (List ℕ)) → IsFault asked fault.now → IsFault asked result }
@@ -102,7 +104,7 @@ fn are_alike(fault: &JobFault, other: &JobFault) -> bool
     }
 }
 
-/// Words as names of the host are shown; None where there is no memory for them.
+/// Returns arguments, each shown as a name of the host, or None if memory runs out.
 fn shown_texts(alloc: Global, words: &[&str]) -> Option<Vec<String>>
     ensures { IfSome result (λ all. map string_bytes all.items ≡ shown_words (map (λ word. word.now) words.now)) }
 {
@@ -116,7 +118,7 @@ fn shown_texts(alloc: Global, words: &[&str]) -> Option<Vec<String>>
     Some(all)
 }
 
-/// A word as names of the host are shown; None where there is no memory for that.
+/// Returns an argument, shown as a name of the host, or None if memory runs out.
 fn shown_text(alloc: Global, word: &str) -> Option<String>
     ensures { IfSome result (λ text. string_bytes text ≡ shown_name word.now) }
 {
@@ -125,11 +127,11 @@ fn shown_text(alloc: Global, word: &str) -> Option<String>
         Ok(()) => {}
         Err(_) => return None,
     }
-    // What is shown of a text is one.
+    // The shown text is always UTF-8.
     String::from_utf8(shown).ok()
 }
 
-/// Words, as their owner lends them.
+/// Borrows the arguments.
 fn lent(alloc: Global, words: &[String]) -> Result<Vec<&str>, AllocError>
     ensures { IfOk result (λ all. map (λ word. word.now) all.items ≡ map string_bytes words.now) }
 {

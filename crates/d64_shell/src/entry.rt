@@ -27,19 +27,19 @@ use script_text::output::OutputStream;
 use std::alloc::Global;
 use std::io::{Read, Write};
 
-/// Does what the words after the program's name ask for, and answers the exit status: 0 where all
-/// lines of the script or a tool's input were accepted, and after help; 1 where some line was
-/// refused, or a tool's input, which a status line on `faults` tells; 2 after a fault, or where the
-/// words are no use of the program, which `faults` is told.
+/// Does what the arguments after the program's name ask for, and returns the exit status: 0 if all
+/// lines of the script or a tool's input were accepted, and after help; 1 if a line was refused, or
+/// a tool's input, of which `faults` gets a status line; 2 after a fault, or if the arguments are
+/// wrong, which is reported on `faults`.
 ///
 /// `shell` runs the script that `reader` gives on a blank image, of 40 tracks after `--tracks 40`;
-/// `shell IMAGE` runs it on the image that the host has under this name, which is also where `save`
+/// `shell IMAGE` runs it on the image that the host has under this name, to which `save` also
 /// stores it by default; `shell --resume FILE` runs it on the session that the host has in this
-/// file, and an IMAGE beside it is where `save` stores by default, and isn't read. `petcat` and
+/// file, and an IMAGE beside it is only the file that `save` stores to by default. `petcat` and
 /// `crunch` work on what `reader` gives, or on the file that the host has under the name that they
-/// are given. The writer is flushed before a status comes; each answer is a few writes, so a writer
-/// that buffers is the faster one. Of plain streams no contract can say whether a call of theirs
-/// failed: `program_on` takes streams that can.
+/// are given. The writer is flushed before a status is returned; each line of output is a few
+/// writes, so a writer that buffers is faster. A contract cannot say of plain streams whether a
+/// call of theirs failed: `program_on` takes streams of which it can.
 pub fn program<R: Read, W: Write, F: Write, H: Host>(
     alloc: Global,
     words: &[&str],
@@ -62,10 +62,10 @@ pub fn program<R: Read, W: Write, F: Write, H: Host>(
     program_on(alloc, words, &mut input, &mut output, &mut told, host)
 }
 
-/// Does what the words ask for on an input of which nothing was read yet and on an output that has
-/// not failed, and answers the exit status. Status 0 comes only where all that was printed was
-/// delivered, and the line of a fault, a tool's status line and what is wrong with the words are
-/// written whole unless writing them fails.
+/// Does what the arguments ask for on an input of which nothing was read yet and on an output that
+/// has not failed, and returns the exit status. Status 0 is returned only if all that was printed
+/// was delivered, and the line of a fault, a tool's status line and what is wrong with the
+/// arguments are written whole unless writing them fails.
 pub fn program_on<R: Read, W: Write, F: Write, H: Host>(
     alloc: Global,
     words: &[&str],
@@ -97,7 +97,8 @@ pub fn program_on<R: Read, W: Write, F: Write, H: Host>(
     program.run(words, input, output, faults, host)
 }
 
-/// The program with memory, and who is told what its shell answers where the script is the input.
+/// The program with memory, and a listener that follows the shell's output if the script is the
+/// input.
 #[derive(Drop)]
 pub struct HeardProgram<'l, L: Listener> {
     pub alloc: Global,
@@ -105,7 +106,7 @@ pub struct HeardProgram<'l, L: Listener> {
 }
 
 impl<'l, L: Listener> HeardProgram<'l, L> {
-    /// Does what `program_on` does. All this is the same with every listener.
+    /// Does what `program_on` does, in the same way with every listener.
     pub fn run<R: Read, W: Write, F: Write, H: Host>(
         self,
         words: &[&str],
@@ -169,7 +170,7 @@ impl<'l, L: Listener> HeardProgram<'l, L> {
         status
     }
 
-    /// Does a job, and answers the exit status.
+    /// Does a job, and returns the exit status.
     fn do_job<R: Read, W: Write, F: Write, H: Host>(
         self,
         job: Job,

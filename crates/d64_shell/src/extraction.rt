@@ -1,11 +1,11 @@
-//! What the arguments of `extract` ask for.
+//! The options of `extract`.
 ghost use Rattle.std.specs.Prelude.{◌≡◌};
 ghost use Rattle.d64_shell.specs.Jobs.{setup_of};
 
 use cmd_extract::Setup;
 use program_arguments::{Extraction, Format};
 
-/// What an extraction is asked for by the words, in a form of the output.
+/// Returns the options of an extraction that the arguments give, in a form of the output.
 pub(crate) fn setup_of(asked: Extraction, form: Format) -> Setup
     ensures { result ≡ setup_of asked form }
 {

@@ -3,7 +3,7 @@ use Rattle.program_arguments.specs.Asked.{IsFault}
 use Rattle.d64_shell.specs.Program.{named_words}
 use Rattle.d64_shell.proofs.asking.fault_as_shown.Goals as goal
 
--- the second error is one of the words as they are shown
+-- the second error is one of the arguments as they are shown
 pub returns-clause-shown : goal.returns-clause-shown
 returns-clause-shown c =
     let same : map (λ word. word.now) c.as_slice.result.now ≡ map string_bytes c.args.shown.now =
