@@ -16,10 +16,10 @@ use std::env;
 use std::io::{self, BufWriter, ErrorKind, IsTerminal, Write};
 use std::process::ExitCode;
 
-/// The exit status where nothing was done.
+/// The exit status if nothing was done.
 const NOT_RUN: u8 = 2;
 
-/// What is said where a program would be written to a terminal.
+/// The line for a program that would be written to a terminal.
 const PROGRAM_AT_TERMINAL: &[u8] =
     b"d64sh: a program is not shown on a terminal: crunch -o FILE stores it in a file\n";
 
@@ -39,7 +39,7 @@ fn main(rt: HostRuntime) -> ExitCode {
     ExitCode::from(status)
 }
 
-/// Does what the words of the process ask for, and answers the exit status.
+/// Does what the arguments of the process ask for, and returns the exit status.
 fn start<'a, E: Write>(
     rt: &'a HostRuntime,
     limit: &'a SizeLimit,
@@ -93,13 +93,13 @@ fn run_program<'a, O: Write + Drop, E: Write>(
     Ok(status)
 }
 
-/// The program, with this listener.
+/// Returns the program, with this listener.
 fn program_with<'l, L: Listener>(alloc: Global, listener: &'l mut L) -> HeardProgram<'l, L> {
     HeardProgram { alloc, listener }
 }
 
-/// Whether the words ask for a program on the output, as `crunch` writes it without `-o`. Where
-/// there is no memory to read them, they do not.
+/// Whether the arguments ask for a program on the output, as `crunch` writes it without `-o`; false
+/// if memory runs out as they are read.
 fn asks_for_program(alloc: Global, words: &[&str]) -> bool {
     let mut named = Vec::new(alloc);
     if named.push("d64sh").is_err() || named.extend_from_slice(words).is_err() {
@@ -111,7 +111,7 @@ fn asks_for_program(alloc: Global, words: &[&str]) -> bool {
     )
 }
 
-/// Whether the first argument is a subcommand of which output that nobody reads is no fault.
+/// Whether the first argument is a subcommand whose output may go unread without a fault.
 fn is_survey(argument: Option<&String>) -> bool {
     match argument {
         Some(argument) => matches!(
@@ -122,7 +122,7 @@ fn is_survey(argument: Option<&String>) -> bool {
     }
 }
 
-/// Why the words cannot be had: there is no memory for them, or one of them is no text.
+/// Returns why the arguments cannot be had: memory ran out, or one of them is not UTF-8.
 fn fault_of_words(error: io::Error) -> ProgramFault {
     match error.kind() {
         ErrorKind::OutOfMemory => ProgramFault::Memory,
