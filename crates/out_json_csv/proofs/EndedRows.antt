@@ -1,4 +1,4 @@
--- Rows whose last fields are a digest, where there is one, doubts, and an error.
+-- Rows whose last fields are a digest, if there is one, doubts, and an error.
 use Rattle.std.proofs.Common.{◌≡◌, ℕ, List, Option, [], ◌∷◌, ◌++◌, ap, ◌∙◌, append_assoc}
 use Rattle.csv.specs.Writing.{row_text, default_writer}
 use Rattle.out_json_csv.specs.Rows.{field_where, row_of}

@@ -25,8 +25,7 @@ members_written old first last fields more begun done =
     ∙ append_assoc old (member_tokens fields) (member_tokens more)
     ∙ ap (λ (ts : List Token). old ++ ts) (sym (flat_map-append (λ (field : Field). key field.0 ∷ json_tokens field.1) fields more))
 
--- an object is written where its bracket is opened, its members are written, and the bracket is
--- closed
+-- an object is written if its bracket is opened, its members are written, and the bracket is closed
 pub object_written : (old opened last closed : List Token) (fields : List Field) → opened ≡ old ++ begin_object ∷ [] → last ≡ opened ++ member_tokens fields → closed ≡ last ++ end_object ∷ []
     → closed ≡ old ++ json_tokens (object_of fields)
 object_written old opened last closed fields opens written closes =
@@ -36,7 +35,7 @@ object_written old opened last closed fields opens written closes =
     ∙ append_assoc old (begin_object ∷ []) (member_tokens fields ++ end_object ∷ [])
     ∙ ap (λ (ts : List Token). old ++ ts) (sym (object_tokens fields))
 
--- a member is written where its key and its value are
+-- a member is written if its key and its value are
 pub member_written : (old keyed last : List Token) (name : List ℕ) (value : Json) → keyed ≡ old ++ key name ∷ [] → last ≡ keyed ++ json_tokens value → last ≡ old ++ member_tokens ((name, value) ∷ [])
 member_written old keyed last name value named written =
     written

@@ -53,7 +53,7 @@ error_list dump = (codes "read_errors", array_of (map (read_error_object dump.im
 abbrev pub finding_members : DumpView → List Field
 finding_members dump = fault_list dump ∷ error_list dump ∷ []
 
--- the digest in hexadecimal digits, where it is asked for
+-- the digest in hexadecimal digits, if it is asked for
 abbrev pub digest_members : Option Bytes → List Field
 digest_members digest = option_map_or (λ bytes. (codes "sha256", string (encode_lower bytes)) ∷ []) digest []
 
@@ -61,7 +61,7 @@ digest_members digest = option_map_or (λ bytes. (codes "sha256", string (encode
 abbrev pub doubt_members : DumpView → List Field
 doubt_members dump = (codes "doubts", array_of (map doubt_value (doubts dump.image))) ∷ []
 
--- what is printed of a dump with this host name, and with a digest where it is asked for
+-- what is printed of a dump with this host name, and with a digest if it is asked for
 unfoldable pub check_object : DumpView → Bytes → Option Bytes → Json
 check_object dump name digest =
     object_of
@@ -93,6 +93,6 @@ state_fields dump =
 abbrev pub check_fields : DumpView → Bytes → List (List ℕ)
 check_fields dump name = dump_fields dump name ++ (label_fields dump.image ++ (count_fields dump ++ state_fields dump))
 
--- the row of a dump, with a digest in hexadecimal digits where it is asked for; it has no error
+-- the row of a dump, with a digest in hexadecimal digits if it is asked for; its error is empty
 unfoldable pub check_row : DumpView → Bytes → Option Bytes → List ℕ
 check_row dump name digest = row_of (check_fields dump name) (option_map encode_lower digest) (doubts_text (doubts dump.image)) []

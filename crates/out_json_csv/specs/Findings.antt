@@ -16,24 +16,25 @@ use Rattle.out_json_csv.specs.Values.{Field, object_of, numeral, numeral_or_null
 use Rattle.out_json_csv.specs.Pairs.{pair_text, block_text}
 use Rattle.out_json_csv.specs.Owners.{part_word, slot_members, owner_members}
 
--- the last block of a way; null where the way has none
+-- the last block of a chain; null if the chain has no block
 abbrev pub last_value : LastBlock → Json
 last_value Missing = null
 last_value (Block block) = string (block_text block)
 
--- the word for the end of a way
+-- the word for the end of a chain
 abbrev pub end_word : WayEnd → List ℕ
 end_word End = codes "end"
 end_word (Off track sector) = codes "off"
 end_word (Loop track sector) = codes "loop"
 
--- the pair at which a way ends; null where it ends after a last block, as no way of a fault does
+-- the pair at which a chain ends; null if it ends after a last block, which no chain of a fault
+-- does
 abbrev pub end_value : WayEnd → Json
 end_value End = null
 end_value (Off track sector) = string (pair_text (track, sector))
 end_value (Loop track sector) = string (pair_text (track, sector))
 
--- where a way ends, and how
+-- where a chain ends, and how
 abbrev pub end_members : LastBlock → WayEnd → List Field
 end_members at end = (codes "at", last_value at) ∷ (codes "end", string (end_word end)) ∷ (codes "to", end_value end) ∷ []
 
@@ -41,7 +42,7 @@ end_members at end = (codes "at", last_value at) ∷ (codes "end", string (end_w
 abbrev pub block_members : Disk → ℕ → List Field
 block_members image block = (codes "block", string (block_text block)) ∷ owner_members image (owners_of image block)
 
--- what a fault says beside its number
+-- what a fault has beside its number
 abbrev pub fault_members : Disk → Fault → List Field
 fault_members image (WrongCount track count marked) = (codes "track", numeral track) ∷ (codes "count", numeral count) ∷ (codes "marked", numeral marked) ∷ []
 fault_members image (BrokenDirectory at end) = end_members at end
@@ -54,7 +55,7 @@ fault_members image (MarkedFree block) = block_members image block
 abbrev pub fault_object : Disk → Fault → Json
 fault_object image fault = object_of ((codes "condition", numeral (number fault)) ∷ fault_members image fault)
 
--- a read error, with the owners of its block, of which there may be none
+-- a read error, with the owners of its block, if it has some
 abbrev pub read_error_object : Disk → ReadError → Json
 read_error_object image error =
     object_of

@@ -25,7 +25,7 @@ owner_word (File slot part) = part_word part
 abbrev pub slot_members : Disk → ℕ → List Field
 slot_members image slot = (codes "slot", numeral slot) ∷ (codes "name", name_value (slot_name image slot)) ∷ []
 
--- the slot of a file that owns a block; nothing of the map and the directory
+-- the slot of a file that owns a block; no members for the map and the directory
 abbrev pub owner_file : Disk → Owner → List Field
 owner_file image Map = []
 owner_file image Directory = []
@@ -35,10 +35,10 @@ owner_file image (File slot part) = slot_members image slot
 abbrev pub owner_object : Disk → Owner → Json
 owner_object image owner = object_of ((codes "what", string (owner_word owner)) ∷ owner_file image owner)
 
--- how many more there are than eight; nothing where there aren't more
+-- how many owners there are beyond eight; no members if there are no more
 abbrev pub more_than_eight : ℕ → List Field
 more_than_eight count = if nat_lt 8 count then (codes "more", numeral (count - 8)) ∷ [] else []
 
--- the first eight of the owners, and after them how many more there are
+-- the first eight of the owners, and how many more there are
 abbrev pub owner_members : Disk → List Owner → List Field
 owner_members image owners = (codes "owners", array_of (map (owner_object image) (take 8 owners))) ∷ more_than_eight (length owners)

@@ -34,12 +34,12 @@ array_of values = array (items_of values)
 abbrev pub numeral : ℕ → Json
 numeral n = number (decimal n)
 
--- a number in decimal, or null where there is none
+-- a number in decimal, or null if there is none
 abbrev pub numeral_or_null : Option ℕ → Json
 numeral_or_null n = option_map_or numeral n null
 
--- tokens on a line of their own: no space but in strings, control characters and the marks of
--- direction by their numbers, and a line feed at the end
+-- tokens on a line of their own: without spaces outside strings, with control characters and the
+-- marks of direction by their numbers, and a line feed at the end
 abbrev pub printed_line : List Token → List ℕ
 printed_line tokens = shown_json (print tokens) ++ 10 ∷ []
 

@@ -16,7 +16,7 @@ use d64_names::{disk_dos, disk_id, disk_name};
 use d64_survey::Inspection;
 use std::alloc::AllocError;
 
-/// Adds the file, the number of tracks, and whether there are read codes, to a row.
+/// Appends the file, the number of tracks, and whether there are read codes, to a row.
 fn push_dump(
     scratch: &mut Vec<u8>,
     row: &mut ByteRecord,
@@ -32,7 +32,7 @@ fn push_dump(
     push_boolean(row, inspection.codes().is_some())
 }
 
-/// Adds the disk's name, its id and its DOS version to a row.
+/// Appends the disk's name, its id and its DOS version to a row.
 fn push_label(scratch: &mut Vec<u8>, row: &mut ByteRecord, image: &Image) -> Result<(), AllocError>
     requires { partial_of row.old ≡ [] }
     ensures fields { OnOk result (fields_of row.new ≡ fields_of row.old ++ label_fields image.now) }
@@ -43,8 +43,8 @@ fn push_label(scratch: &mut Vec<u8>, row: &mut ByteRecord, image: &Image) -> Res
     push_name(scratch, row, disk_dos(image))
 }
 
-/// Adds how many slots are used, how many files are whole, and how many blocks are free, and are
-/// neither free nor owned, to a row.
+/// Appends how many slots are used, how many files are whole, how many blocks are free, and how
+/// many are neither free nor owned, to a row.
 fn push_counts(row: &mut ByteRecord, inspection: &Inspection) -> Result<(), AllocError>
     requires { partial_of row.old ≡ [] }
     ensures fields { OnOk result (fields_of row.new ≡ fields_of row.old ++ count_fields inspection.now) }
@@ -56,8 +56,8 @@ fn push_counts(row: &mut ByteRecord, inspection: &Inspection) -> Result<(), Allo
     push_number(row, inspection.unowned() as u64)
 }
 
-/// Adds whether the image is sound, whether something is amiss, and how many faults and read errors
-/// there are, to a row.
+/// Appends whether the image is sound, whether something is amiss, and how many faults and read
+/// errors there are, to a row.
 fn push_state(row: &mut ByteRecord, inspection: &Inspection) -> Result<(), AllocError>
     requires { partial_of row.old ≡ [] }
     ensures fields { OnOk result (fields_of row.new ≡ fields_of row.old ++ state_fields inspection.now) }
@@ -85,7 +85,7 @@ fn put_dump_row(
     push_state(&mut scratch.row, inspection)
 }
 
-/// Adds a digest in hexadecimal digits to a row, where there is one.
+/// Appends a digest in hexadecimal digits to a row, if there is one.
 fn push_digest(
     scratch: &mut Vec<u8>,
     row: &mut ByteRecord,
@@ -101,8 +101,8 @@ fn push_digest(
     }
 }
 
-/// Adds the row of a dump to a text: the name of its file, what is on the disk, how much is wrong
-/// with it, the SHA-256 digest of the file's bytes where there is one, and its doubts.
+/// Appends the row of a dump to a text: the name of its file, what is on the disk, how much is
+/// wrong with it, the SHA-256 digest of the file's bytes if there is one, and its doubts.
 pub fn check_csv(
     scratch: &mut Scratch,
     name: &[u8],

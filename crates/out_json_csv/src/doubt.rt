@@ -12,7 +12,7 @@ use d64_survey::Doubt;
 use json::Writer;
 use std::alloc::AllocError;
 
-/// The word for a doubt.
+/// Returns the name of a doubt.
 fn doubt_word(doubt: Doubt) -> &'static str
     ensures { result.now ≡ doubt_word_of doubt }
 {
@@ -45,7 +45,7 @@ pub(crate) fn put_doubts(writer: &mut Writer, doubts: &[Doubt]) -> Result<(), Al
     put_doubt_list(writer, doubts)
 }
 
-/// Adds the words for doubts, each after a space.
+/// Appends the names of doubts, each after a space.
 fn push_next(text: &mut Vec<u8>, doubts: &[Doubt]) -> Result<(), AllocError>
     ensures { OnOk result (text.new.items ≡ text.old.items ++ flat_map next_word doubts.now) }
 {
@@ -56,7 +56,7 @@ fn push_next(text: &mut Vec<u8>, doubts: &[Doubt]) -> Result<(), AllocError>
     Ok(())
 }
 
-/// Spells the words for doubts, with a space between them, in the place of what the text had.
+/// Replaces the text by the names of doubts, with a space between them.
 #[tactic(auto, unfolding(crate::specs::Doubts::doubts_text))]
 fn spell_doubts(text: &mut Vec<u8>, doubts: &[Doubt]) -> Result<(), AllocError>
     ensures { OnOk result (text.new.items ≡ doubts_text doubts.now) }
@@ -71,7 +71,7 @@ fn spell_doubts(text: &mut Vec<u8>, doubts: &[Doubt]) -> Result<(), AllocError>
     }
 }
 
-/// Adds what makes an image doubtful to a row.
+/// Appends what makes an image doubtful to a row.
 pub(crate) fn push_doubts(
     scratch: &mut Vec<u8>,
     row: &mut ByteRecord,

@@ -15,7 +15,7 @@ use itoa::Buffer;
 use std::alloc::AllocError;
 use std::str;
 
-/// Adds a field to a row.
+/// Appends a field to a row.
 pub fn push_field(row: &mut ByteRecord, field: &[u8]) -> Result<(), AllocError>
     requires { partial_of row.old ≡ [] }
     ensures fields { OnOk result (fields_of row.new ≡ fields_of row.old ++ field.now ∷ []) }
@@ -24,7 +24,7 @@ pub fn push_field(row: &mut ByteRecord, field: &[u8]) -> Result<(), AllocError>
     row.push_field(field)
 }
 
-/// Adds fields to a row.
+/// Appends fields to a row.
 pub fn push_fields(row: &mut ByteRecord, fields: &[&[u8]]) -> Result<(), AllocError>
     requires { partial_of row.old ≡ [] }
     ensures fields { OnOk result (fields_of row.new ≡ fields_of row.old ++ map (λ f. f.now) fields.now) }
@@ -36,14 +36,14 @@ pub fn push_fields(row: &mut ByteRecord, fields: &[&[u8]]) -> Result<(), AllocEr
     Ok(())
 }
 
-/// `true` or `false`.
+/// Returns `true` or `false`.
 fn truth_text(value: bool) -> &'static [u8]
     ensures { result.now ≡ truth_text_of value }
 {
     if value { b"true" } else { b"false" }
 }
 
-/// Adds `true` or `false` to a row.
+/// Appends `true` or `false` to a row.
 pub fn push_boolean(row: &mut ByteRecord, value: bool) -> Result<(), AllocError>
     requires { partial_of row.old ≡ [] }
     ensures fields { OnOk result (fields_of row.new ≡ fields_of row.old ++ truth_text_of value ∷ []) }
@@ -52,7 +52,7 @@ pub fn push_boolean(row: &mut ByteRecord, value: bool) -> Result<(), AllocError>
     push_field(row, truth_text(value))
 }
 
-/// Adds a number in decimal to a row.
+/// Appends a number in decimal to a row.
 pub fn push_number(row: &mut ByteRecord, number: u64) -> Result<(), AllocError>
     requires { partial_of row.old ≡ [] }
     ensures fields { OnOk result (fields_of row.new ≡ fields_of row.old ++ decimal number ∷ []) }
@@ -62,7 +62,7 @@ pub fn push_number(row: &mut ByteRecord, number: u64) -> Result<(), AllocError>
     push_field(row, digits.format(number).as_bytes())
 }
 
-/// Adds a name in text form to a row.
+/// Appends a name in text form to a row.
 pub fn push_name(scratch: &mut Vec<u8>, row: &mut ByteRecord, name: &[u8]) -> Result<(), AllocError>
     requires { partial_of row.old ≡ [] }
     ensures fields { OnOk result (fields_of row.new ≡ fields_of row.old ++ spelling name.now ∷ []) }
@@ -72,7 +72,7 @@ pub fn push_name(scratch: &mut Vec<u8>, row: &mut ByteRecord, name: &[u8]) -> Re
     push_field(row, scratch.as_slice())
 }
 
-/// Adds a name of the host to a row; one that isn't UTF-8 as it is shown in text.
+/// Appends a name of the host to a row; a name that is not UTF-8 as it is shown in text.
 pub fn push_host_name(
     scratch: &mut Vec<u8>,
     row: &mut ByteRecord,
@@ -92,7 +92,7 @@ pub fn push_host_name(
     }
 }
 
-/// Adds bytes in hexadecimal digits to a row.
+/// Appends bytes in hexadecimal digits to a row.
 pub fn push_hexadecimal(
     scratch: &mut Vec<u8>,
     row: &mut ByteRecord,
@@ -106,7 +106,7 @@ pub fn push_hexadecimal(
     push_field(row, scratch.as_slice())
 }
 
-/// Adds a pair of track and sector to a row.
+/// Appends a pair of track and sector to a row.
 pub fn push_pair(row: &mut ByteRecord, track: u8, sector: u8) -> Result<(), AllocError>
     requires { partial_of row.old ≡ [] }
     ensures fields { OnOk result (fields_of row.new ≡ fields_of row.old ++ pair_text_of (track, sector) ∷ []) }

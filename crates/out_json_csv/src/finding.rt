@@ -21,7 +21,7 @@ fn put_block(writer: &mut Writer, key: &str, block: BlockNo) -> Result<(), Alloc
     put_pair(writer, key, block.track(), block.sector())
 }
 
-/// Prints where a way ends: at its last block, or null.
+/// Prints where a chain ends: at its last block, or null.
 fn put_last(writer: &mut Writer, key: &str, at: LastBlock) -> Result<(), AllocError>
     ensures before { writer.new.before ≡ writer.old.before }
     ensures tokens { OnOk result (writer.new.tokens ≡ writer.old.tokens ++ member_tokens ((key.now, last_value at) ∷ [])) }
@@ -35,7 +35,7 @@ fn put_last(writer: &mut Writer, key: &str, at: LastBlock) -> Result<(), AllocEr
     }
 }
 
-/// The word for the end of a way.
+/// Returns the word for the end of a chain.
 fn end_word(end: WayEnd) -> &'static str
     ensures { result.now ≡ end_word_of end }
 {
@@ -46,7 +46,7 @@ fn end_word(end: WayEnd) -> &'static str
     }
 }
 
-/// Prints the pair at which a way ends, or null.
+/// Prints the pair at which a chain ends, or null.
 fn put_end(writer: &mut Writer, key: &str, end: WayEnd) -> Result<(), AllocError>
     ensures before { writer.new.before ≡ writer.old.before }
     ensures tokens { OnOk result (writer.new.tokens ≡ writer.old.tokens ++ member_tokens ((key.now, end_value end) ∷ [])) }
@@ -62,7 +62,7 @@ fn put_end(writer: &mut Writer, key: &str, end: WayEnd) -> Result<(), AllocError
     }
 }
 
-/// Prints the members of the end of a way: its last block, the word for its end, and the pair
+/// Prints the members of the end of a chain: its last block, the word for its end, and the pair
 /// there.
 fn put_way(writer: &mut Writer, at: LastBlock, end: WayEnd) -> Result<(), AllocError>
     ensures before { writer.new.before ≡ writer.old.before }
@@ -87,7 +87,7 @@ fn put_owned(
     put_owners(scratch, writer, survey, block)
 }
 
-/// Prints what a fault says beside its number.
+/// Prints what a fault has beside its number.
 fn put_fault_members(
     scratch: &mut Vec<u8>,
     writer: &mut Writer,
@@ -152,7 +152,7 @@ pub(crate) fn put_faults(
     writer.end_array()
 }
 
-/// Prints the drive's status of a read code, or null.
+/// Prints the drive's status for a read code, or null.
 fn put_status(writer: &mut Writer, key: &str, status: Option<u8>) -> Result<(), AllocError>
     ensures before { writer.new.before ≡ writer.old.before }
     ensures tokens { OnOk result (writer.new.tokens ≡ writer.old.tokens ++ member_tokens ((key.now, numeral_or_null status) ∷ [])) }

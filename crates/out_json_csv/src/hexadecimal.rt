@@ -11,7 +11,7 @@ pub(crate) fn digits_are_ascii(bytes: &[u8])
     ensures { IsAscii (encode_lower bytes.now) }
 {}
 
-/// Spells bytes in hexadecimal digits, in small letters, in the place of what the text had.
+/// Replaces the text by bytes in hexadecimal digits, in small letters.
 pub(crate) fn spell_hexadecimal(text: &mut Vec<u8>, bytes: &[u8]) -> Result<(), AllocError>
     ensures { OnOk result (text.new.items ≡ encode_lower bytes.now) }
 {

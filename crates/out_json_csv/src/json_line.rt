@@ -41,8 +41,8 @@ fn put_label(scratch: &mut Vec<u8>, writer: &mut Writer, image: &Image) -> Resul
     put_name(scratch, writer, "dos", disk_dos(image))
 }
 
-/// Prints how many slots are used, how many files are whole, and how many blocks are free, and are
-/// neither free nor owned.
+/// Prints how many slots are used, how many files are whole, how many blocks are free, and how many
+/// are neither free nor owned.
 fn put_counts(writer: &mut Writer, inspection: &Inspection) -> Result<(), AllocError>
     ensures before { writer.new.before ≡ writer.old.before }
     ensures tokens { OnOk result (writer.new.tokens ≡ writer.old.tokens ++ member_tokens (count_members inspection.now)) }
@@ -106,7 +106,7 @@ fn put_findings(
     put_error_list(scratch, writer, inspection)
 }
 
-/// Prints a digest, where there is one.
+/// Prints a digest, if there is one.
 fn put_digest(
     scratch: &mut Vec<u8>,
     writer: &mut Writer,
@@ -121,8 +121,8 @@ fn put_digest(
     }
 }
 
-/// Adds the line of a dump to a text: an object of JSON with the name of its file, what is on the
-/// disk, what is wrong with it, the SHA-256 digest of the file's bytes where there is one, and its
+/// Appends the line of a dump to a text: an object of JSON with the name of its file, what is on
+/// the disk, what is wrong with it, the SHA-256 digest of the file's bytes if there is one, and its
 /// doubts.
 pub fn check_json(
     scratch: &mut Scratch,

@@ -15,7 +15,7 @@ fn spelling_is_ascii(bytes: &[u8])
     ensures { All (λ byte. byte < 128) (spelling bytes.now) }
 {}
 
-/// Spells a name of the disk in text form, in the place of what the text had.
+/// Replaces the text by a name of the disk in text form.
 pub(crate) fn spell(text: &mut Vec<u8>, name: &[u8]) -> Result<(), AllocError>
     ensures { OnOk result (text.new.items ≡ spelling name.now) }
 {

@@ -14,7 +14,7 @@ use d64_survey::{Owner, Part, SHOWN_OWNERS, Survey};
 use json::Writer;
 use std::alloc::AllocError;
 
-/// The word for a part of a file.
+/// Returns the word for a part of a file.
 pub(crate) fn part_word(part: Part) -> &'static str
     ensures { result.now ≡ part_word_of part }
 {
@@ -24,7 +24,7 @@ pub(crate) fn part_word(part: Part) -> &'static str
     }
 }
 
-/// The word for an owner.
+/// Returns the word for an owner.
 fn owner_word(owner: Owner) -> &'static str
     ensures { result.now ≡ owner_word_of owner }
 {
@@ -85,7 +85,7 @@ fn put_owner_list(
     writer.end_array()
 }
 
-/// Prints how many owners there are more than those that are shown, where there are more.
+/// Prints how many owners there are beside those that are shown, if there are more.
 fn put_more(writer: &mut Writer, count: usize) -> Result<(), AllocError>
     ensures before { writer.new.before ≡ writer.old.before }
     ensures tokens { OnOk result (writer.new.tokens ≡ writer.old.tokens ++ member_tokens (more_than_eight count)) }

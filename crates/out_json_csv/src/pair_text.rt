@@ -8,7 +8,7 @@ use itoa::Buffer;
 /// The most bytes of such a text: two numbers below 256, and a slash.
 const MAX_LEN: usize = 7;
 
-/// The text of a track and a sector, as `17/3`.
+/// Returns the text of a track and a sector, such as `17/3`.
 pub(crate) fn pair_text(track: u8, sector: u8) -> ArrayString<MAX_LEN>
     ensures { result.bytes ≡ pair_text (track, sector) }
 {

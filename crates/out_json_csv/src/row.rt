@@ -11,7 +11,7 @@ use crate::unanswered::{UNREAD, no_dump_error};
 use csv::{ByteRecord, Writer};
 use std::alloc::AllocError;
 
-/// The columns that each row has, but for the digest, the doubts and the error.
+/// The columns of each row, without the digest, the doubts and the error.
 const COLUMNS: [&[u8]; 14] = [
     b"image",
     b"tracks",
@@ -29,10 +29,10 @@ const COLUMNS: [&[u8]; 14] = [
     b"read_errors",
 ];
 
-/// The columns of a row between the name and the digest, with nothing in them.
+/// Empty fields for the columns between the name and the digest.
 const EMPTY: [&[u8]; 13] = [b""; 13];
 
-/// Adds a row with an error after its fields to a text.
+/// Appends a row, whose last field is an error, to a text.
 pub fn end_row(row: &mut ByteRecord, error: &[u8], out: Vec<u8>) -> Result<Vec<u8>, AllocError>
     requires { partial_of row.old ≡ [] }
     ensures { IfOk result (λ text. text.items ≡ out.items ++ row_text default_writer (fields_of row.old ++ error.now ∷ [])) }
@@ -41,7 +41,7 @@ pub fn end_row(row: &mut ByteRecord, error: &[u8], out: Vec<u8>) -> Result<Vec<u
     write_row(row, out)
 }
 
-/// Adds a whole row to a text.
+/// Appends a whole row to a text.
 fn write_row(row: &ByteRecord, out: Vec<u8>) -> Result<Vec<u8>, AllocError>
     ensures { IfOk result (λ text. text.items ≡ out.items ++ row_text default_writer (fields_of row.now)) }
 {
@@ -56,7 +56,7 @@ fn write_row(row: &ByteRecord, out: Vec<u8>) -> Result<Vec<u8>, AllocError>
     }
 }
 
-/// Adds a text in the column of the digest to a row, where there is one.
+/// Appends a text in the column of the digest to a row, if there is such a column.
 fn push_in_digest(row: &mut ByteRecord, has_digest: bool, text: &[u8]) -> Result<(), AllocError>
     requires { partial_of row.old ≡ [] }
     ensures fields { OnOk result (fields_of row.new ≡ fields_of row.old ++ field_where (in_digest has_digest text.now)) }
@@ -68,7 +68,7 @@ fn push_in_digest(row: &mut ByteRecord, has_digest: bool, text: &[u8]) -> Result
     Ok(())
 }
 
-/// Adds the header row to a text.
+/// Appends the header row to a text.
 pub fn csv_header(
     scratch: &mut Scratch,
     has_digest: bool,
@@ -83,7 +83,7 @@ pub fn csv_header(
     end_row(&mut scratch.row, b"error", out)
 }
 
-/// Adds a row with a name and an error alone.
+/// Appends a row with only a name and an error.
 fn push_unanswered(
     scratch: &mut Scratch,
     name: &[u8],
@@ -101,7 +101,7 @@ fn push_unanswered(
     end_row(&mut scratch.row, error, out)
 }
 
-/// Adds the row of a file that cannot be read to a text.
+/// Appends the row of a file that cannot be read to a text.
 pub fn unread_csv(
     scratch: &mut Scratch,
     name: &[u8],
@@ -113,7 +113,7 @@ pub fn unread_csv(
     push_unanswered(scratch, name, has_digest, UNREAD.as_bytes(), out)
 }
 
-/// Adds the row of a file with these bytes, which is no dump, to a text.
+/// Appends the row of a file with these bytes, which is not a dump, to a text.
 pub fn no_dump_csv(
     scratch: &mut Scratch,
     name: &[u8],

@@ -20,13 +20,13 @@ pub const WRONG_LENGTH: &str = "wrong length";
 /// The error of a G64 whose header is cut off or of another version.
 const BAD_G64: &str = "bad G64";
 
-/// The error of an image whose folder is there before anything of it is written.
+/// The error of an image whose folder exists before anything of it is written.
 pub const IS_THERE: &str = "is there already";
 
 /// The error of an image whose folder cannot be made, or cannot take its name.
 pub const UNWRITTEN: &str = "cannot be written";
 
-/// Prints a member whose value is a name of the host. What isn't UTF-8 in it becomes U+FFFD.
+/// Prints a member whose value is a name of the host. What is not UTF-8 in it becomes U+FFFD.
 pub fn put_host_name(
     scratch: &mut Vec<u8>,
     writer: &mut Writer,
@@ -51,8 +51,8 @@ pub fn put_image(scratch: &mut Vec<u8>, writer: &mut Writer, name: &[u8]) -> Res
     put_host_name(scratch, writer, "image", name)
 }
 
-/// What a writer holds, with a line feed after it: a text of so many bytes, and what was written after
-/// it, with control characters and the marks of direction by their numbers.
+/// Returns what a writer holds, with a line feed after it: a text of `start` bytes, and what was
+/// written after it, with control characters and the marks of direction by their numbers.
 pub fn into_line(writer: Writer, start: usize) -> Result<Vec<u8>, AllocError>
     requires { start ≡ length writer.before }
     ensures { IfOk result (λ text. text.items ≡ writer.before ++ printed_line writer.tokens) }
@@ -63,7 +63,7 @@ pub fn into_line(writer: Writer, start: usize) -> Result<Vec<u8>, AllocError>
     Ok(text)
 }
 
-/// Adds the line of a file that isn't answered, for this error, to a text.
+/// Appends the line of a file with this error to a text.
 pub fn unanswered_json(
     scratch: &mut Scratch,
     name: &[u8],
@@ -82,14 +82,14 @@ pub fn unanswered_json(
     Ok(text)
 }
 
-/// Adds the line of a file that cannot be read to a text.
+/// Appends the line of a file that cannot be read to a text.
 pub fn unread_json(scratch: &mut Scratch, name: &[u8], out: Vec<u8>) -> Result<Vec<u8>, AllocError>
     ensures { IfOk result (λ text. text.items ≡ out.items ++ line_of (unread_object name.now)) }
 {
     unanswered_json(scratch, name, UNREAD, out)
 }
 
-/// Adds the line of a file of this length, which no dump has, to a text.
+/// Appends the line of a file of this length, which no dump has, to a text.
 pub fn wrong_length_json(
     scratch: &mut Scratch,
     name: &[u8],
@@ -109,7 +109,7 @@ pub fn wrong_length_json(
     Ok(text)
 }
 
-/// Adds the line of a file with these bytes, which is no dump, to a text.
+/// Appends the line of a file with these bytes, which is not a dump, to a text.
 pub fn no_dump_json(
     scratch: &mut Scratch,
     name: &[u8],
@@ -125,7 +125,7 @@ pub fn no_dump_json(
     }
 }
 
-/// The error of a file with these bytes, which is no dump.
+/// Returns the error of a file with these bytes, which is not a dump.
 pub fn no_dump_error(bytes: &[u8]) -> &'static str
     ensures { result.now ≡ no_dump_error bytes.now }
 {
