@@ -1,5 +1,5 @@
--- A subcommand that reads alone the words from its name on makes of them what the program makes of
--- all words.
+-- A subcommand that reads the arguments from its name on alone makes of them what the program makes
+-- of all arguments.
 use Rattle.std.proofs.Common.{◌≡◌, ◌∙◌, ◌++◌, Bool, cond, true, false, refl, sym, ap, ap₂, subst, List, [], ◌∷◌, Option, Some, None, append-nil, append_assoc, codes, drop, is_some}
 use Rattle.std.specs.Prelude.{option_map, ⊤}
 use Rattle.std.specs.List.{find, fold}
@@ -15,7 +15,7 @@ use Rattle.program_arguments.specs.Commands.{apps, d64sh, app_named}
 use Rattle.program_arguments.proofs.Filled.{found_passes}
 use Rattle.program_arguments.proofs.Parses.{none≢some, same_Some}
 
--- the walk that stopped at a subcommand, with these words after it
+-- the walk that stopped at a subcommand, with these arguments after it
 abbrev at_subcommand : Text → List Text → Walk
 at_subcommand name words = record { held = nothing_held; waiting = idle; position = 1; is_trailing = false; stopped = Some (name, words) }
 
@@ -33,7 +33,7 @@ unfolding walk_fault walked
 fails_no_more s names name before [] = refl
 fails_no_more s names name before (word ∷ rest) = fails_no_more s names name (before ++ word ∷ []) rest
 
--- ---- the words from the name of a subcommand on, in a program that has it
+-- -- the arguments from the name of a subcommand on, in a program that has it
 
 module _ (program : App) (s : Shape) (rest : List Text)
     (found : find (λ t. answers_to s.name (label_of t)) program.subs ≡ Some s) (no_help : bytes_eq s.name (codes "help") ≡ false) where
@@ -62,7 +62,7 @@ module _ (program : App) (s : Shape) (rest : List Text)
       ends [] = refl
       ends (kind ∷ kinds) = refl
 
--- ---- the same words, in a command without subcommands
+-- -- the same arguments, in a command without subcommands
 
 leaf_fails : (s : Shape) (words : List Text) → built_fault (record { top = s; subs = [] }) nothing_held words ≡ level_fault s [] nothing_held words false []
 leaf_fails s words = go (walk s.rules [] nothing_held words).stopped refl
@@ -110,7 +110,7 @@ has_binary_name : d64sh.top.no_binary_name ≡ false
 unfolding d64sh
 has_binary_name = refl
 
--- the words of the program, which go on with the name of a subcommand
+-- the arguments of the program, which go on with the name of a subcommand
 module _ (words : List Text) (name : Text) (rest : List Text) (leaf : App) (is : app_named name ≡ Some leaf) (begins : drop 1 words ≡ name ∷ rest) where
   part : IsPart leaf
   part = part_found (λ app. bytes_eq app.top.name name) apps leaf are_parts is

@@ -1,5 +1,4 @@
--- An argument that is a place and no option has a value in each row of it that a walk over words
--- makes.
+-- A positional argument has a value in each row of it that a walk over the arguments makes.
 use Rattle.std.proofs.Common.{◌≡◌, ◌∙◌, ◌&&◌, ◌||◌, ◌++◌, ◌+◌, ℕ, min, Bool, cond, true, false, not, zero, suc, refl, sym, ap, List, [], ◌∷◌, length, Option, Some, None, is_some, true≢false}
 use Rattle.std.specs.Prelude.{IsSome, option_and_then, slice_get, ⊤}
 use Rattle.std.specs.List.{find, fold, list_all}
@@ -267,7 +266,7 @@ module _ (id : Text) where
     pub rows_full : (words : List Text) → Full (rows_after c [] words)
     rows_full words = defaults_full c _ (settled_full (walk c [] nothing_held words).held (walk_full [] (walk_from nothing_held) words (tt, tt)))
 
-  -- where it is given, it has a value
+  -- an argument that is given has a value
   pub has_value : (rows : List Row) → Full rows → is_given id rows ≡ true → IsSome (first_of id rows)
   has_value [] full given = absurd (true≢false (sym given))
   has_value (row ∷ rows) full given = go (has_value rows full.1) (bytes_eq row.id id) refl given

@@ -1,4 +1,4 @@
--- Words without a fault name no subcommand `help`: clap answers that one by itself.
+-- Arguments without a fault name no subcommand `help`: clap prints the help for that one by itself.
 use Rattle.std.proofs.Common.{◌≡◌, ◌∙◌, ◌&&◌, ◌||◌, ◌++◌, ℕ, Bool, cond, true, false, not, refl, sym, ap, List, [], ◌∷◌, Option, Some, None, codes, is_some, true≢false, inl, inr}
 use Rattle.std.specs.Prelude.{option_and_then, option_map, ⊤}
 use Rattle.std.specs.List.{find, fold, list_all}
@@ -130,7 +130,7 @@ named_alone [] name word alone answers = go (bytes_eq name word) answers
     go false e = e
 named_alone (alias ∷ aliases) name word alone answers = absurd (true≢false (sym alone))
 
--- the subcommand that is entered is not the one for help, where the walk stopped elsewhere
+-- the subcommand that is entered is not the one for help, if the walk stopped at another
 entered_elsewhere : (subs : List Shape) → list_all is_plainly_named subs ≡ true → (stop : Option (Text × List Text)) → IsElsewhere stop → (met : Met)
     → option_and_then (λ p. option_map (λ s. rows_at s p.1) (find (λ s. answers_to p.0 (label_of s)) subs)) stop ≡ Some met → bytes_eq met.0 help ≡ false
 entered_elsewhere subs plainly None is met e = absurd (none≢some met e)
@@ -163,7 +163,7 @@ subcommands_and_help : (words : List Text) (met : Met) → subcommand_of d64sh w
 unfolding d64sh
 subcommands_and_help words met e = met_among d64sh _ refl words met e
 
--- the words that have no fault name one of the program's subcommands
+-- arguments without a fault name one of the program's subcommands
 pub met_is_subcommand : (words : List Text) (met : Met) → fault_of d64sh words ≡ [] → subcommand_of d64sh words ≡ Some met → IsOneOf subcommands met.0
 met_is_subcommand words met none is =
     let after = argument_words d64sh words in

@@ -1,4 +1,4 @@
--- What a parse of the program's words says of them.
+-- What the parse of the program's arguments implies.
 use Rattle.std.proofs.Common.{◌≡◌, ◌≢◌, ◌∙◌, inl, inr, Bool, true, false, cond, map, refl, sym, ap, subst, List, [], ◌∷◌, Option, Some, None, Result, Ok, Err, IfErr, true≢false}
 use Rattle.std.specs.Option.{IsSomeAnd, is_some, option_map, unwrap_or}
 use Rattle.std.specs.Prelude.{IsErrAnd, find, option_and_then}
@@ -68,7 +68,7 @@ met_among a names are words met e =
     let stop = stop_after (built a).top.rules (names_of (built a)) (argument_words a words) in
     subst (λ all. IsOneOf all met.0) are (named_by (built a).subs stop met e)
 
--- ---- what the clauses of the parse say of the program's words
+-- -- what the clauses of the parse say of the program's arguments
 
 module _ (command : Command) (words : List Text) (is : app_of command ≡ d64sh) where
   pub command_is_free : is_simple_and_free (app_of command) ≡ true
@@ -84,7 +84,7 @@ module _ (command : Command) (words : List Text) (is : app_of command ≡ d64sh)
   pub no_fault : fault_of (app_of command) words ≡ [] → fault_of d64sh words ≡ []
   no_fault none = sym (ap (λ a. fault_of a words) is) ∙ none
 
--- clap's error is told
+-- clap's error is reported
 pub told : (words : List Text) (error : Error) (fault : JobFault) → HasKind (fault_of d64sh words) error → IsToldAs error fault → IsFault words fault
 told words error (Words carried) kind is = elim kind [ inl memory ↦ absurd (is.1 memory) | inr among ↦ subst (λ (e : Error). IsAmong (kind_of e) (fault_of d64sh words) × (kind_of e ≢ OutOfMemory)) (sym is.0) (among, is.1) ]
 told words error Start kind is = absurd is
@@ -100,7 +100,7 @@ told words error Folder kind is = absurd is
 told words error Title kind is = absurd is
 told words error Links kind is = absurd is
 
--- what the subcommand asks for is what the words ask for
+-- the job of the subcommand is the job of the arguments
 module _ (words : List Text) (met : Met) (none : fault_of d64sh words ≡ []) (is : subcommand_of d64sh words ≡ Some met) where
   pub asked : (job : Job) → IsJobOf met job → IsJob words job
   asked job asks = (none, subst (λ o. IsSomeAnd o (λ m. IsJobOf m job)) (sym is) asks)

@@ -1,4 +1,4 @@
--- Where words have no fault, an argument that their subcommand requires has a value.
+-- If arguments have no fault, an argument that their subcommand requires has a value.
 use Rattle.std.proofs.Common.{◌≡◌, ◌∙◌, ◌&&◌, ◌||◌, Bool, true, false, not, refl, sym, ap, subst, List, [], ◌∷◌, Option, Some, None, true≢false}
 use Rattle.std.specs.Prelude.{IsSome, option_map}
 use Rattle.std.specs.List.{find, list_all, list_any}
@@ -23,7 +23,7 @@ use Rattle.program_arguments.proofs.Parses.{none≢some, same_Some}
 abbrev HasValue : Text → Text → Met → Type 0
 HasValue name id met = met.0 ≡ name → IsSome (first_of id met.1)
 
--- where nothing that is required is missing, it is given
+-- if no required argument is missing, it is given
 abbrev is_required : Text → Rule → Bool
 is_required id rule = rule.required && bytes_eq rule.id id
 
@@ -41,7 +41,7 @@ given_where_required id rows (rule ∷ rules) some none =
         let given : not (is_given rule.id rows) ≡ false = ap (λ s. s && not (is_given rule.id rows)) (sym parts.0) ∙ (or_parts _ _ none).0 in
         ap (λ name. is_given name rows) (sym same) ∙ not-false _ given
 
--- ---- where there is no fault, all that is required is there
+-- -- if there is no fault, all required arguments are given
 
 wants_none : (help sub missing : Bool) → check_kinds help sub missing ≡ [] → missing ≡ false
 wants_none true sub missing e = cc
@@ -71,7 +71,7 @@ required_has_value id s words wanted none =
     let missing = lifts_none s.subcommand_negates_reqs _ (wants_none _ _ _ checked) in
     has_value id rows (rows_full id s.rules parts.0 words) (given_where_required id rows s.rules parts.1 missing)
 
--- the subcommand of this name wants the argument
+-- the subcommand with this name requires the argument
 abbrev is_wanted_by : Text → Text → Shape → Bool
 is_wanted_by name id s = not (bytes_eq s.name name) || is_wanted id s
 
@@ -119,7 +119,7 @@ all_wanted : are_wanted (built d64sh) [] requirements ≡ true
 unfolding clap_on_literals d64sh
 all_wanted = refl
 
--- the words that have no fault give a value to each argument that their subcommand requires
+-- arguments without a fault give a value to each argument that their subcommand requires
 pub met_is_whole : (words : List Text) (met : Met) → fault_of d64sh words ≡ [] → subcommand_of d64sh words ≡ Some met → IsWhole met
 met_is_whole words met none is =
     (met_is_subcommand words met none is, values_met (built d64sh) (argument_words d64sh words) requirements all_wanted met none is)

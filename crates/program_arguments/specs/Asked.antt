@@ -1,4 +1,4 @@
--- What the words of the program ask for.
+-- What the arguments of the program ask for.
 use Rattle.std.specs.Prelude.{◌≡◌, ◌≢◌, ◌⊎◌, ◌∷◌, ◌++◌, ℕ, List, [], codes, None, Option, Some, option_map, IsSome, IsSomeAnd, String, map, string_bytes, ⊤}
 use Rattle.clap.specs.Words.{Row, Text, IsAmong, fault_of, first_of, kind_of, subcommand_of}
 use Rattle.clap.specs.declared.error.Error.{Error}
@@ -19,7 +19,7 @@ use Rattle.program_arguments.specs.declared.asked.Job.TheVariants.{Shell, Petcat
 use Rattle.program_arguments.specs.declared.asked.JobFault.{JobFault}
 use Rattle.program_arguments.specs.declared.asked.JobFault.TheVariants.{Words, Start, Memory, Tracks, Both, Format, Names, Null, Picture, Difference, Folder, Title, Links}
 
--- a subcommand that the words name, and the values that they give to its arguments
+-- a subcommand that the arguments name, and the values that they give to its arguments
 abbrev pub Met : Type 0
 Met = Text × List Row
 
@@ -40,7 +40,7 @@ subcommands = codes "shell" ∷ codes "petcat" ∷ codes "crunch" ∷ (surveys +
 abbrev pub requirements : List (Text × Text)
 requirements = (codes "map", codes "file") ∷ (codes "diff", codes "old") ∷ (codes "diff", codes "new") ∷ []
 
--- each of these arguments has a value where its subcommand is the one that is met
+-- each of these arguments has a value if its subcommand is the one that is named
 abbrev pub HasValues : List (Text × Text) → Met → Type 0
 HasValues [] met = ⊤
 HasValues (first ∷ rest) met = (met.0 ≡ first.0 → IsSome (first_of first.1 met.1)) × HasValues rest met
@@ -49,11 +49,11 @@ HasValues (first ∷ rest) met = (met.0 ≡ first.0 → IsSome (first_of first.1
 abbrev pub IsWhole : Met → Type 0
 IsWhole met = IsOneOf subcommands met.0 × HasValues requirements met
 
--- a name in a job is the value that the words give to an argument, where they give one
+-- a name in a job is the value that is given to an argument, if one is given
 abbrev pub IsGiven : {A : Type 0} → Met → Text → Option (String A) → Type 0
 IsGiven met id name = option_map string_bytes name ≡ first_of id met.1
 
--- `--resume` stands beside `--tracks`
+-- both `--resume` and `--tracks` are given
 abbrev pub HasBoth : Met → Type 0
 HasBoth met = IsSomeAnd (first_of (codes "resume") met.1) (λ file. IsSome (first_of (codes "tracks") met.1))
 
@@ -61,20 +61,21 @@ HasBoth met = IsSomeAnd (first_of (codes "resume") met.1) (λ file. IsSome (firs
 abbrev pub format_given : Met → Option OutputFormat
 format_given met = format_of (form_word met.1)
 
--- `extract` stands in the words with a folder whose name is empty
+-- `extract` is given a folder with an empty name
 abbrev pub IsPlaceless : Met → Type 0
 IsPlaceless met = (met.0 ≡ codes "extract") × HasNoFolder (first_of (codes "into") met.1)
 
--- the subcommand takes names of files: a survey, where it has a form of output, and a folder where
--- it wants one; or `catalogue`, which has one form alone, where its page has its names
+-- the subcommand takes names of files: a survey that has a form of output, and no folder with an
+-- empty name; or `catalogue`, which has only one form, if its page has a title and a folder of
+-- links
 abbrev pub TakesNames : Met → Type 0
 TakesNames met = (IsOneOf surveys met.0 × IsSome (format_given met) × (¬ IsPlaceless met)) ⊎ ((met.0 ≡ codes "catalogue") × HasNamedPage met.1)
 
--- the form of a picture that it gives
+-- the form of a picture that `--format` gives
 abbrev pub picture_form_given : Met → Option PictureForm
 picture_form_given met = picture_form_of (form_word met.1)
 
--- the form in which it wants changes told
+-- the form of changes that `--format` gives
 abbrev pub diff_form_given : Met → Option DiffForm
 diff_form_given met = diff_form_of (form_word met.1)
 
@@ -100,11 +101,11 @@ IsJobOf met (Diff format old new) =
     × (first_of (codes "old") met.1 ≡ Some (string_bytes old)) × (first_of (codes "new") met.1 ≡ Some (string_bytes new))
 IsJobOf met (Catalogue page names) = (met.0 ≡ codes "catalogue") × IsPageBy met.1 page × IsNamesBy met.1 names
 
--- it asks for no job, since its start is no address, or no disk has its number of tracks; or, where
--- a disk has so many, since a session of a file has tracks of its own; or since its word for a form
--- of output stands for none; or, where it has a form, since the name of its folder is empty; or
--- since its page has an empty title, or else an empty folder of links; or else since there are no
--- names; or there is no memory
+-- the subcommand asks for no job by this fault: its start is no address; no disk has its number of
+-- tracks, or the image that it names has tracks of its own; or it names a session as well, which
+-- has tracks of its own; its form of output is unknown; it has a form, but the name of its folder
+-- is empty; its page has an empty title, or else an empty folder of links; it gives no names, or
+-- names in two ways, or `--null` without a list; or memory ran out
 abbrev pub IsFaultOf : Met → JobFault → Type 0
 IsFaultOf met (Words error) = ⊥
 IsFaultOf met Start = (met.0 ≡ codes "crunch") × HasNoAddress (first_of (codes "start") met.1)
@@ -121,29 +122,29 @@ IsFaultOf met Folder = IsPlaceless met × IsSome (format_given met)
 IsFaultOf met Title = (met.0 ≡ codes "catalogue") × IsPageFault met.1 Title
 IsFaultOf met Links = (met.0 ≡ codes "catalogue") × IsPageFault met.1 Links
 
--- the words are the program's, and ask neither for help nor for the version; and of the subcommand
--- that they name this holds
+-- the arguments are the program's, and ask neither for help nor for the version; and this holds of
+-- the subcommand that they name
 abbrev pub IsUse : List Text → (Met → Type 0) → Type 0
 IsUse words holds = (fault_of d64sh words ≡ []) × IsSomeAnd (subcommand_of d64sh words) holds
 
--- the words ask for this job
+-- the arguments ask for this job
 abbrev pub IsJob : List Text → Job → Type 0
 IsJob words job = IsUse words (λ met. IsJobOf met job)
 
--- the words ask for no job, for this fault: an error of clap's, of one of the kinds that it has at
--- these words; or a fault of what the subcommand that they name is given
+-- the arguments ask for no job, by this fault: an error of clap's, of one of the kinds that it has
+-- for these arguments; or a fault of what the subcommand is given
 abbrev pub IsFault : List Text → JobFault → Type 0
 IsFault words (Words error) = IsAmong (kind_of error) (fault_of d64sh words) × (kind_of error ≢ OutOfMemory)
 IsFault words Memory = ⊤
 IsFault words fault = IsUse words (λ met. IsFaultOf met fault)
 
--- how clap's error is told: want of memory as that, and every other as it is
+-- the fault for an error of clap's: memory ran out, or the error itself
 abbrev pub IsToldAs : Error → JobFault → Type 0
 IsToldAs error (Words told) = (told ≡ error) × (kind_of error ≢ OutOfMemory)
 IsToldAs error Memory = kind_of error ≡ OutOfMemory
 IsToldAs error fault = ⊥
 
--- the fault is the help or the version that the words asked for
+-- the fault is the help or the version that the arguments asked for
 abbrev pub WasAskedFor : JobFault → Type 0
 WasAskedFor (Words error) = (kind_of error ≡ DisplayHelp) ⊎ (kind_of error ≡ DisplayVersion)
 WasAskedFor fault = ⊥

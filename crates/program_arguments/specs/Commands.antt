@@ -4,14 +4,14 @@ use Rattle.clap.specs.Words.{App, Rule, new_app, new_rule, with_rule, with_subco
 use Rattle.clap.specs.Lexer.{usize_max}
 use Rattle.clap.specs.declared.builder.action.ArgAction.TheVariants.{Append, SetTrue}
 
--- `image` and `file`: two places
+-- `image` and `file`: two positional arguments
 abbrev pub image_argument : Rule
 image_argument = record (new_rule (codes "image")) { value_names = 1 }
 
 abbrev pub file_argument : Rule
 file_argument = record (new_rule (codes "file")) { value_names = 1 }
 
--- a place of this name, which must be given
+-- a positional argument with this name, which must be given
 abbrev pub required_argument : List ℕ → Rule
 required_argument name = record (new_rule name) { value_names = 1; required = true }
 
@@ -19,7 +19,7 @@ required_argument name = record (new_rule name) { value_names = 1; required = tr
 abbrev pub valued_option : List ℕ → Rule
 valued_option name = record (new_rule name) { long = Some name; value_names = 1 }
 
--- an option without one
+-- an option without a value
 abbrev pub flag : List ℕ → Rule
 flag name = record (new_rule name) { long = Some name; action = Some SetTrue }
 
@@ -27,7 +27,7 @@ flag name = record (new_rule name) { long = Some name; action = Some SetTrue }
 abbrev pub output_option : Rule
 output_option = record (valued_option (codes "output")) { short = Some 111 }
 
--- `file` as all the places that are left, one or more
+-- `file` as all positional arguments that are left, one or more
 abbrev pub files_argument : Rule
 files_argument = record file_argument { range = Some (record { start_inclusive = 1; end_inclusive = usize_max }) }
 
@@ -39,11 +39,11 @@ line_option = record (valued_option (codes "command")) { short = Some 99; action
 abbrev pub stop_flag : Rule
 stop_flag = record (flag (codes "stop-at-refusal")) { short = Some 101 }
 
--- a subcommand with the words for a script
+-- a subcommand with the options of a script
 abbrev pub with_script : App → App
 with_script app = with_rule (with_rule app line_option) stop_flag
 
--- `shell [--tracks N] [--resume FILE] [IMAGE]` with the words for a script
+-- `shell [--tracks N] [--resume FILE] [IMAGE]` with the options of a script
 abbrev pub shell : App
 shell =
     let begun = with_rule (with_rule (new_app (codes "shell")) (valued_option (codes "tracks"))) (valued_option (codes "resume")) in
@@ -61,19 +61,19 @@ crunch = with_rule (with_rule (with_rule (new_app (codes "crunch")) (valued_opti
 abbrev pub with_names : App → App
 with_names app = with_rule (with_rule (with_rule app (valued_option (codes "files-from"))) (flag (codes "null"))) files_argument
 
--- a subcommand with the words of a survey: `--format FORMAT` and the names of files
+-- a subcommand with the arguments of a survey: `--format FORMAT` and the names of files
 abbrev pub survey : App → App
 survey app = with_names (with_rule app (valued_option (codes "format")))
 
--- `check [--digest]` with the words of a survey
+-- `check [--digest]` with the arguments of a survey
 abbrev pub check : App
 check = survey (with_rule (new_app (codes "check")) (flag (codes "digest")))
 
--- `files` with the words of a survey
+-- `files` with the arguments of a survey
 abbrev pub files : App
 files = survey (new_app (codes "files"))
 
--- `extract [--into FOLDER] [--part] [--skip-existing]` with the words of a survey
+-- `extract [--into FOLDER] [--part] [--skip-existing]` with the arguments of a survey
 abbrev pub extract : App
 extract =
     let placed = with_rule (new_app (codes "extract")) (valued_option (codes "into")) in
@@ -99,12 +99,12 @@ catalogue =
 abbrev pub apps : List App
 apps = shell ∷ petcat ∷ crunch ∷ check ∷ files ∷ extract ∷ map ∷ diff ∷ catalogue ∷ []
 
--- the one of this name
+-- the subcommand with this name
 abbrev pub app_named : List ℕ → Option App
 app_named name = find (λ app. bytes_eq app.top.name name) apps
 
--- `d64sh` alone: it has a version, wants a subcommand, and tells its help where it is given
--- nothing, and after `help`
+-- `d64sh` alone: it has a version, requires a subcommand, and prints its help without arguments and
+-- after `help`
 abbrev pub bare_app : App
 bare_app = let named = new_app (codes "d64sh") in record named {
   top = record named.top {

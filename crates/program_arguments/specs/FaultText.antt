@@ -1,9 +1,9 @@
--- How the faults of words are told.
+-- The texts of the faults of arguments.
 use Rattle.std.specs.Prelude.{List, ℕ, Option, None, Some, codes}
 use Rattle.program_arguments.specs.declared.asked.JobFault.{JobFault}
 use Rattle.program_arguments.specs.declared.asked.JobFault.TheVariants.{Words, Start, Memory, Tracks, Both, Format, Names, Null, Picture, Difference, Folder, Title, Links}
 
--- the text that tells a fault; none for an error of clap's, which has its own
+-- the text of a fault; None for an error of clap's, which has its own
 abbrev pub text_of : JobFault → Option (List ℕ)
 text_of (Words error) = None
 text_of Start = Some (codes "usage: --start takes one to four hexadecimal digits")

@@ -8,11 +8,11 @@ use Rattle.program_arguments.specs.declared.asked.DiffForm.TheVariants as diff
 use Rattle.program_arguments.specs.declared.asked.PictureForm.{PictureForm}
 use Rattle.program_arguments.specs.declared.asked.PictureForm.TheVariants as picture
 
--- the word for a form: that of the option, and `text` where it doesn't stand in the words
+-- the word for a form: that of the option, or `text` without it
 abbrev pub form_word : List Row → Word
 form_word rows = unwrap_or (first_of (codes "format") rows) (codes "text")
 
--- the form of a survey's output that a word stands for; none where it stands for none
+-- the form of a survey's output for a word; None for an unknown word
 abbrev pub format_of : Word → Option Format
 format_of word =
     if bytes_eq word (codes "text") then Some Text
@@ -20,14 +20,14 @@ format_of word =
     else if bytes_eq word (codes "csv") then Some Csv
     else None
 
--- the form of a picture that it stands for
+-- the form of a picture for a word
 abbrev pub picture_form_of : Word → Option PictureForm
 picture_form_of word =
     if bytes_eq word (codes "text") then Some picture.Text
     else if bytes_eq word (codes "svg") then Some picture.Svg
     else None
 
--- the form in which changes are told that it stands for
+-- the form of changes for a word
 abbrev pub diff_form_of : Word → Option DiffForm
 diff_form_of word =
     if bytes_eq word (codes "text") then Some diff.Text

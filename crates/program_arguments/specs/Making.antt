@@ -5,7 +5,7 @@ use Rattle.clap.specs.declared.builder.arg.Arg.{Arg}
 use Rattle.clap.specs.declared.builder.command.Command.{Command}
 use Rattle.clap.specs.declared.builder.command.Command.TheViews.{out-Command as fields_of}
 
--- an argument has this rule, and isn't global
+-- an argument has this rule, and is not global
 abbrev pub IsArgument : Rule → Arg → Type 0
 IsArgument rule argument = (rule_of argument ≡ rule) × (argument.global ≡ false)
 
@@ -13,6 +13,6 @@ IsArgument rule argument = (rule_of argument ≡ rule) × (argument.global ≡ f
 abbrev pub IsCommand : App → Command → Type 0
 IsCommand app command = (app_of command ≡ app) × ((fields_of command).has_globals ≡ false)
 
--- such a command was made, if there was memory for it
+-- such a command was made, unless memory ran out
 abbrev pub IsMade : {E : Type 0} → App → Result Command E → Type 0
 IsMade app made = IfOk made (IsCommand app)

@@ -1,4 +1,4 @@
--- The names of files that the words give, in FILE.. or in a list.
+-- The names of files that the arguments give, in FILE.. or in a list.
 use Rattle.std.specs.Prelude.{◌≡◌, ◌≢◌, ◌⊎◌, Bool, true, false, List, [], Option, None, Some, IsSome, codes, if◌then◌else◌, map, string_bytes, ⊤}
 use Rattle.clap.specs.Words.{Row, Text, first_of}
 use Rattle.program_arguments.specs.Values.{all_given, has_flag}
@@ -33,15 +33,15 @@ IsNamesBy rows (Given names) =
 IsNamesBy rows (Listed list separator) =
     (list_by rows ≡ Some (string_bytes list)) × (files_by rows ≡ []) × (separator ≡ separator_by rows)
 
--- both FILE and `--files-from` stand in the words, or neither
+-- both FILE and `--files-from` are given, or neither
 abbrev pub HasNoNames : List Row → Type 0
 HasNoNames rows = ((files_by rows ≢ []) × IsSome (list_by rows)) ⊎ ((files_by rows ≡ []) × (list_by rows ≡ None))
 
--- `--null` stands there beside FILE.., where there is no list
+-- `--null` is given with FILE, but no list is
 abbrev pub HasNullAlone : List Row → Type 0
 HasNullAlone rows = (files_by rows ≢ []) × (list_by rows ≡ None) × (has_null rows ≡ true)
 
--- why the words give no names
+-- why no names are given
 abbrev pub IsNamesFault : List Row → JobFault → Type 0
 IsNamesFault rows fault.Names = HasNoNames rows
 IsNamesFault rows fault.Null = HasNullAlone rows

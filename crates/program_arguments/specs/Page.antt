@@ -1,4 +1,4 @@
--- How the words want one page of dumps made.
+-- How one page of dumps is made, by the options.
 use Rattle.std.specs.Prelude.{◌≡◌, ◌==◌, Bool, true, false, List, length, codes, option_map, string_bytes, ⊤}
 use Rattle.std.specs.Option.{option_map_or}
 use Rattle.clap.specs.Words.{Row, Text, first_of}
@@ -11,12 +11,12 @@ use Rattle.program_arguments.specs.declared.asked.Page.{Page}
 abbrev pub is_left_empty : Text → List Row → Bool
 is_left_empty id rows = option_map_or (λ value. length value == 0) (first_of id rows) false
 
--- neither `--title` nor `--links` is given one
+-- neither `--title` nor `--links` has an empty value
 abbrev pub HasNamedPage : List Row → Type 0
 HasNamedPage rows = (is_left_empty (codes "title") rows ≡ false) × (is_left_empty (codes "links") rows ≡ false)
 
--- the page has pictures where `--maps` stands in the words, the title that `--title` gives, and
--- links into the folder that `--links` gives
+-- the page has pictures if `--maps` is given, the title that `--title` gives, and links into the
+-- folder that `--links` gives
 abbrev pub IsPageBy : List Row → Page → Type 0
 IsPageBy rows page =
     (page.maps ≡ has_flag (codes "maps") rows) × (option_map string_bytes page.title ≡ first_of (codes "title") rows)

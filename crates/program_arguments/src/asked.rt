@@ -10,13 +10,14 @@ use clap::error::ErrorKind;
 use std::alloc::AllocError;
 use thiserror::Error;
 
-/// What the words ask for. The names are names of host files, as they stand in the words.
+/// What the arguments ask for. The names are names of host files, as they are given.
 #[derive(Debug, Drop)]
 pub enum Job {
-    /// Run a script on an image, or on a blank one of so many tracks where there is no name: 35 or 40. Where `resume`
-    /// names a session file, the script runs on its session, and `image` is where `save` stores by default and no more. The script is
-    /// `lines`, each with a line feed after it, or the standard input where there are none; it ends after the first line that is
-    /// refused where `stops_at_refusal` is set.
+    /// Run a script on an image, or on a blank one of 35 or 40 tracks if there is no name. If
+    /// `resume` names a session file, the script runs on its session, and `image` is only the file
+    /// that `save` stores to by default. The script is `lines`, each with a line feed after it, or
+    /// the standard input if there are no lines; it ends after the first line that is refused if
+    /// `stops_at_refusal` is set.
     Shell {
         image: Option<String>,
         tracks: u8,
@@ -24,31 +25,31 @@ pub enum Job {
         lines: Vec<String>,
         stops_at_refusal: bool,
     },
-    /// List the BASIC program in a file, or in the standard input where there is no name, to the
-    /// file `output`, or to the standard output.
+    /// List the BASIC program in a file, or in the standard input if there is no name, to the file
+    /// `output`, or to the standard output.
     Petcat {
         file: Option<String>,
         output: Option<String>,
     },
     /// Make a BASIC program, loaded at `start`, of the text in a file, or in the standard input,
-    /// and write it so.
+    /// and write it in the same way.
     Crunch {
         start: u16,
         file: Option<String>,
         output: Option<String>,
     },
-    /// Survey dumps and say what is amiss, with the digest of each where `digest` is set.
+    /// Survey dumps and print what is wrong, with the digest of each if `digest` is set.
     Check {
         digest: bool,
         format: Format,
         names: Names,
     },
-    /// Tell of each file on dumps, and whether it is whole.
+    /// Print each file on dumps, and whether it is whole.
     Files {
         format: Format,
         names: Names,
     },
-    /// Write the files on dumps to the host, and tell of each.
+    /// Write the files on dumps to the host, and print each.
     Extract {
         extraction: Extraction,
         format: Format,
@@ -64,7 +65,7 @@ pub enum Job {
         page: Page,
         names: Names,
     },
-    /// Say what changed from one dump to another.
+    /// Print what changed from one dump to another.
     Diff {
         format: DiffForm,
         old: String,
@@ -75,11 +76,11 @@ pub enum Job {
 /// How files are taken out of images.
 #[derive(Debug, Drop)]
 pub struct Extraction {
-    /// The folder below which each image gets a folder of its own. The name isn't empty.
+    /// The folder below which each image gets a folder of its own. The name is not empty.
     pub into: String,
-    /// Whether what is left of files that have no content is written too.
+    /// Whether what is left of files without content is written too.
     pub part: bool,
-    /// Whether an image whose folder is there is passed over.
+    /// Whether an image whose folder exists is skipped.
     pub skip_existing: bool,
 }
 
@@ -88,10 +89,10 @@ pub struct Extraction {
 pub struct Page {
     /// Whether it has the picture of each dump's blocks.
     pub maps: bool,
-    /// Its title and heading, or None for the usual one. The text isn't empty.
+    /// Its title and heading, or None for the usual one. The text is not empty.
     pub title: Option<String>,
     /// The folder of the extracted files to which their names on the page are links, or None
-    /// without links. The name isn't empty.
+    /// without links. The name is not empty.
     pub links: Option<String>,
 }
 
@@ -100,7 +101,7 @@ pub struct Page {
 pub enum Format {
     /// Lines for people.
     Text,
-    /// One JSON object a line.
+    /// One JSON object on each line.
     Json,
     /// CSV with one header row.
     Csv,
@@ -109,25 +110,25 @@ pub enum Format {
 /// The form of a picture of blocks.
 #[derive(Clone, Copy, Debug, PartialEq, Eq)]
 pub enum PictureForm {
-    /// A line a track, for people.
+    /// A line for each track, for people.
     Text,
     /// One SVG document.
     Svg,
 }
 
-/// The form in which changes are told.
+/// The form in which changes are printed.
 #[derive(Clone, Copy, Debug, PartialEq, Eq)]
 pub enum DiffForm {
     /// Lines for people.
     Text,
-    /// One JSON object a line.
+    /// One JSON object on each line.
     Json,
 }
 
 /// The names of the files to survey.
 #[derive(Debug, Drop)]
 pub enum Names {
-    /// One name or more, as the words have them.
+    /// One name or more, as they are given.
     Given(Vec<String>),
     /// The names that a list holds, each up to the next separator. The list is a host file; `-` is
     /// the standard input.
@@ -141,41 +142,41 @@ pub enum Separator {
     Nul,
 }
 
-/// Why the words ask for no job.
+/// Why the arguments ask for no job.
 #[derive(Debug, Drop, Error)]
 #[error("{}", self.text().unwrap_or_default())]
 pub enum JobFault {
-    /// The words are none of the program's, or ask for help or the version, which the error's text
-    /// then is.
+    /// The arguments are not the program's, or ask for help or the version, which is then the
+    /// error's text.
     #[error("{0}")]
     Words(WordsError),
-    /// What follows `--start` is other than one to four hexadecimal digits.
+    /// The value of `--start` is not one to four hexadecimal digits.
     Start,
     Memory,
-    /// What follows `--tracks` is neither 35 nor 40, or there is an image beside it.
+    /// The value of `--tracks` is neither 35 nor 40, or there is an image too.
     Tracks,
-    /// There is `--resume` beside `--tracks`.
+    /// There are both `--resume` and `--tracks`.
     Both,
-    /// What follows `--format` of a survey is neither `text`, `json` nor `csv`.
+    /// The value of a survey's `--format` is neither `text`, `json` nor `csv`.
     Format,
     /// There are both FILE and `--files-from`, or neither.
     Names,
     /// There is `--null` without `--files-from`.
     Null,
-    /// What follows `--format` of `map` is neither `text` nor `svg`.
+    /// The value of `--format` of `map` is neither `text` nor `svg`.
     Picture,
-    /// What follows `--format` of `diff` is neither `text` nor `json`.
+    /// The value of `--format` of `diff` is neither `text` nor `json`.
     Difference,
-    /// What follows `--into` is empty.
+    /// The value of `--into` is empty.
     Folder,
-    /// What follows `--title` is empty.
+    /// The value of `--title` is empty.
     Title,
-    /// What follows `--links` is empty.
+    /// The value of `--links` is empty.
     Links,
 }
 
 impl JobFault {
-    /// Whether the fault is the help or the version that the words asked for.
+    /// Whether the fault is the help or the version that the arguments asked for.
     pub fn was_asked_for(&self) -> bool
         ensures { IsTrue result ↔ WasAskedFor self.now }
     {
@@ -185,7 +186,7 @@ impl JobFault {
         }
     }
 
-    /// The text that tells the fault; none for an error of `clap`'s, which has its own.
+    /// Returns the text of the fault, or None for an error of `clap`'s, which has its own.
     pub fn text(&self) -> Option<&'static str>
         ensures text { option_map (λ text. text.now) result ≡ text_of self.now }
         ensures fits { IfSome result (λ text. length text.now ≤ 56) }

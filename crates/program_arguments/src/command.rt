@@ -14,7 +14,7 @@ use std::alloc::{AllocError, Global};
 /// The program's version.
 const VERSION: &str = "0.2.0";
 
-/// The command `d64sh`, with its subcommands.
+/// Returns the command `d64sh`, with its subcommands.
 pub(crate) fn d64sh<'a>(alloc: Global) -> Result<Command<'a>, AllocError>
     ensures { IsMade d64sh result }
 {
@@ -29,8 +29,9 @@ pub(crate) fn d64sh<'a>(alloc: Global) -> Result<Command<'a>, AllocError>
     with_subcommand(command, catalogue(alloc))
 }
 
-/// The subcommand of this name, where there is one. It makes of the words from its name on what
-/// `d64sh` makes of all words, and the options of the other subcommands are not made for it.
+/// Returns the subcommand with this name, if there is one. It makes of the arguments from its name
+/// on what `d64sh` makes of all arguments, and the options of the other subcommands are not made
+/// for it.
 pub(crate) fn named<'a>(alloc: Global, name: &str) -> Result<Option<Command<'a>>, AllocError>
     ensures { IfOk result (λ command. option_map app_of command ≡ app_named name.now) }
 {
@@ -49,8 +50,8 @@ pub(crate) fn named<'a>(alloc: Global, name: &str) -> Result<Option<Command<'a>>
     Ok(Some(command?))
 }
 
-/// An error of this kind that says this, with the usage of the subcommand of this name, or of the
-/// program where there is none.
+/// Returns an error of this kind with this text, and the usage of the subcommand with this name, or
+/// of the program if there is none.
 pub(crate) fn error(
     alloc: Global,
     name: &str,
@@ -64,7 +65,7 @@ pub(crate) fn error(
         .error(kind, message)
 }
 
-/// The command `d64sh` without its subcommands.
+/// Returns the command `d64sh` without its subcommands.
 fn bare<'a>(alloc: Global) -> Command<'a>
     ensures app { app_of result ≡ bare_app }
     ensures local { (fields_of result).has_globals ≡ false }
@@ -78,7 +79,7 @@ fn bare<'a>(alloc: Global) -> Command<'a>
         .arg_required_else_help(true)
 }
 
-/// The subcommand of this name, with no arguments yet.
+/// Returns the subcommand with this name, without arguments yet.
 fn subcommand<'a>(alloc: Global, name: &'a str) -> Command<'a>
     ensures app { app_of result ≡ new_app name.now }
     ensures local { (fields_of result).has_globals ≡ false }
@@ -90,8 +91,8 @@ fn subcommand<'a>(alloc: Global, name: &'a str) -> Command<'a>
         .after_help(help.details)
 }
 
-/// The command with one argument more. A command or the want of memory for it is passed on without
-/// an exit between, since each exit would drop all that is made until then.
+/// Returns the command with one more argument. A command, or that memory ran out for it, is passed
+/// on without an exit between, since each exit would drop all that is made until then.
 fn with_argument<'a>(
     command: Result<Command<'a>, AllocError>,
     argument: Arg<'a>,
@@ -104,7 +105,7 @@ fn with_argument<'a>(
     }
 }
 
-/// The command with one subcommand more.
+/// Returns the command with one more subcommand.
 fn with_subcommand<'a>(
     command: Result<Command<'a>, AllocError>,
     subcommand: Result<Command<'a>, AllocError>,
@@ -117,7 +118,7 @@ fn with_subcommand<'a>(
     }
 }
 
-/// `shell [-e] [-c LINE].. [--tracks N] [IMAGE]` and `shell [-e] [-c LINE].. --resume FILE
+/// Returns `shell [-e] [-c LINE].. [--tracks N] [IMAGE]` and `shell [-e] [-c LINE].. --resume FILE
 /// [IMAGE]`.
 fn shell<'a>(alloc: Global) -> Result<Command<'a>, AllocError>
     ensures { IsMade shell result }
@@ -140,7 +141,7 @@ fn shell<'a>(alloc: Global) -> Result<Command<'a>, AllocError>
     with_script(alloc, command)
 }
 
-/// The subcommand with the words for a script: `[-c LINE]..` and `[-e]`.
+/// Returns the subcommand with the options of a script: `[-c LINE]..` and `[-e]`.
 fn with_script<'a>(
     alloc: Global,
     command: Result<Command<'a>, AllocError>,
@@ -151,7 +152,7 @@ fn with_script<'a>(
     with_argument(command, stop_flag(alloc))
 }
 
-/// `petcat [-o FILE] [FILE]`.
+/// Returns `petcat [-o FILE] [FILE]`.
 fn petcat<'a>(alloc: Global) -> Result<Command<'a>, AllocError>
     ensures { IsMade petcat result }
 {
@@ -161,7 +162,7 @@ fn petcat<'a>(alloc: Global) -> Result<Command<'a>, AllocError>
     with_argument(command, file)
 }
 
-/// `crunch [--start HEX] [-o FILE] [FILE]`.
+/// Returns `crunch [--start HEX] [-o FILE] [FILE]`.
 fn crunch<'a>(alloc: Global) -> Result<Command<'a>, AllocError>
     ensures { IsMade crunch result }
 {
@@ -178,7 +179,7 @@ fn crunch<'a>(alloc: Global) -> Result<Command<'a>, AllocError>
     with_argument(command, file)
 }
 
-/// `check [--digest]` with the words of a survey.
+/// Returns `check [--digest]` with the arguments of a survey.
 fn check<'a>(alloc: Global) -> Result<Command<'a>, AllocError>
     ensures { IsMade check result }
 {
@@ -191,14 +192,14 @@ fn check<'a>(alloc: Global) -> Result<Command<'a>, AllocError>
     survey(alloc, command)
 }
 
-/// `files` with the words of a survey.
+/// Returns `files` with the arguments of a survey.
 fn files<'a>(alloc: Global) -> Result<Command<'a>, AllocError>
     ensures { IsMade files result }
 {
     survey(alloc, Ok(subcommand(alloc, "files")))
 }
 
-/// `extract [--into FOLDER] [--part] [--skip-existing]` with the words of a survey.
+/// Returns `extract [--into FOLDER] [--part] [--skip-existing]` with the arguments of a survey.
 fn extract<'a>(alloc: Global) -> Result<Command<'a>, AllocError>
     ensures { IsMade extract result }
 {
@@ -224,7 +225,7 @@ fn extract<'a>(alloc: Global) -> Result<Command<'a>, AllocError>
     survey(alloc, command)
 }
 
-/// `map [--format FORMAT] FILE`.
+/// Returns `map [--format FORMAT] FILE`.
 fn map<'a>(alloc: Global) -> Result<Command<'a>, AllocError>
     ensures { IsMade map result }
 {
@@ -239,7 +240,7 @@ fn map<'a>(alloc: Global) -> Result<Command<'a>, AllocError>
     with_argument(command, file)
 }
 
-/// `diff [--format FORMAT] OLD NEW`.
+/// Returns `diff [--format FORMAT] OLD NEW`.
 fn diff<'a>(alloc: Global) -> Result<Command<'a>, AllocError>
     ensures { IsMade diff result }
 {
@@ -256,7 +257,7 @@ fn diff<'a>(alloc: Global) -> Result<Command<'a>, AllocError>
     with_argument(command, new)
 }
 
-/// `catalogue [--maps] [--title TEXT] [--links FOLDER]` with the names of files.
+/// Returns `catalogue [--maps] [--title TEXT] [--links FOLDER]` with the names of files.
 fn catalogue<'a>(alloc: Global) -> Result<Command<'a>, AllocError>
     ensures { IsMade catalogue result }
 {
@@ -279,7 +280,8 @@ fn catalogue<'a>(alloc: Global) -> Result<Command<'a>, AllocError>
     with_names(alloc, command)
 }
 
-/// The subcommand with the words of a survey: `[--format FORMAT]` and the names of files.
+/// Returns the subcommand with the arguments of a survey: `[--format FORMAT]` and the names of
+/// files.
 fn survey<'a>(
     alloc: Global,
     command: Result<Command<'a>, AllocError>,
@@ -296,7 +298,8 @@ fn survey<'a>(
     with_names(alloc, command)
 }
 
-/// The subcommand with the names of files: `FILE..`, and `--files-from LIST [--null]` in its place.
+/// Returns the subcommand with the names of files: `FILE..`, and `--files-from LIST [--null]` in
+/// its place.
 fn with_names<'a>(
     alloc: Global,
     command: Result<Command<'a>, AllocError>,
@@ -319,7 +322,7 @@ fn with_names<'a>(
     with_argument(command, files_argument(alloc))
 }
 
-/// `[IMAGE]`.
+/// Returns `[IMAGE]`.
 fn image_argument<'a>(alloc: Global) -> Arg<'a>
     ensures rule { rule_of result ≡ image_argument }
     ensures local { result.global ≡ false }
@@ -329,7 +332,7 @@ fn image_argument<'a>(alloc: Global) -> Arg<'a>
         .help("The D64 image to work on; without it, a blank image")
 }
 
-/// `[FILE]..`.
+/// Returns `[FILE]..`.
 fn files_argument<'a>(alloc: Global) -> Arg<'a>
     ensures rule { rule_of result ≡ files_argument }
     ensures local { result.global ≡ false }
@@ -340,7 +343,7 @@ fn files_argument<'a>(alloc: Global) -> Arg<'a>
         .help("The images to survey, in this order")
 }
 
-/// `[FILE]`.
+/// Returns `[FILE]`.
 fn file_argument<'a>(alloc: Global, help: &'a str) -> Arg<'a>
     ensures rule { rule_of result ≡ file_argument }
     ensures local { result.global ≡ false }
@@ -348,7 +351,7 @@ fn file_argument<'a>(alloc: Global, help: &'a str) -> Arg<'a>
     Arg::new(alloc, "file").value_name("FILE").help(help)
 }
 
-/// `-o FILE` and `--output FILE`.
+/// Returns `-o FILE` and `--output FILE`.
 fn output_option<'a>(alloc: Global, help: &'a str) -> Arg<'a>
     ensures rule { rule_of result ≡ output_option }
     ensures local { result.global ≡ false }
@@ -356,7 +359,7 @@ fn output_option<'a>(alloc: Global, help: &'a str) -> Arg<'a>
     valued_option(alloc, "output", "FILE", help).short('o')
 }
 
-/// `-c LINE` and `--command LINE`, any number of times.
+/// Returns `-c LINE` and `--command LINE`, any number of times.
 fn line_option<'a>(alloc: Global) -> Arg<'a>
     ensures rule { rule_of result ≡ line_option }
     ensures local { result.global ≡ false }
@@ -371,7 +374,7 @@ fn line_option<'a>(alloc: Global) -> Arg<'a>
     .action(ArgAction::Append)
 }
 
-/// `-e` and `--stop-at-refusal`.
+/// Returns `-e` and `--stop-at-refusal`.
 fn stop_flag<'a>(alloc: Global) -> Arg<'a>
     ensures rule { rule_of result ≡ stop_flag }
     ensures local { result.global ≡ false }
@@ -384,7 +387,7 @@ fn stop_flag<'a>(alloc: Global) -> Arg<'a>
     .short('e')
 }
 
-/// `NAME`, which must be given.
+/// Returns `NAME`, which must be given.
 fn required_argument<'a>(alloc: Global, id: &'a str, name: &'a str, help: &'a str) -> Arg<'a>
     ensures rule { rule_of result ≡ required_argument id.now }
     ensures local { result.global ≡ false }
@@ -395,7 +398,7 @@ fn required_argument<'a>(alloc: Global, id: &'a str, name: &'a str, help: &'a st
         .help(help)
 }
 
-/// `--NAME VALUE`.
+/// Returns `--NAME VALUE`.
 fn valued_option<'a>(alloc: Global, name: &'a str, value: &'a str, help: &'a str) -> Arg<'a>
     ensures rule { rule_of result ≡ valued_option name.now }
     ensures local { result.global ≡ false }
@@ -406,7 +409,7 @@ fn valued_option<'a>(alloc: Global, name: &'a str, value: &'a str, help: &'a str
         .help(help)
 }
 
-/// `--NAME`.
+/// Returns `--NAME`.
 fn flag<'a>(alloc: Global, name: &'a str, help: &'a str) -> Arg<'a>
     ensures rule { rule_of result ≡ flag name.now }
     ensures local { result.global ≡ false }

@@ -10,7 +10,7 @@ use crate::values::required_value;
 use clap::ArgMatches;
 use std::alloc::Global;
 
-/// The job that `map` with these matches asks for.
+/// Returns the job that `map` with these matches asks for.
 pub(crate) fn map_job(alloc: Global, arguments: &ArgMatches) -> Result<Job, JobFault>
     requires { IsSome (first_of (codes "file") (rows_of (found_of arguments.now))) }
     ensures job { IfOk result (IsJobOf (codes "map", rows_of (found_of arguments.now))) }
@@ -22,7 +22,7 @@ pub(crate) fn map_job(alloc: Global, arguments: &ArgMatches) -> Result<Job, JobF
     })
 }
 
-/// The job that `diff` with these matches asks for.
+/// Returns the job that `diff` with these matches asks for.
 pub(crate) fn diff_job(alloc: Global, arguments: &ArgMatches) -> Result<Job, JobFault>
     requires old { IsSome (first_of (codes "old") (rows_of (found_of arguments.now))) }
     requires new { IsSome (first_of (codes "new") (rows_of (found_of arguments.now))) }

@@ -9,7 +9,7 @@ use crate::asked::{DiffForm, Format, JobFault, PictureForm};
 use crate::values::given;
 use clap::ArgMatches;
 
-/// The form of a survey's output that the words give.
+/// Returns the form of a survey's output that the arguments give.
 pub(crate) fn format(arguments: &ArgMatches) -> Result<Format, JobFault>
     ensures form { IfOk result (λ form. format_of (form_word (rows_of (found_of arguments.now))) ≡ Some form) }
     ensures fault { IfErr result (λ fault. (fault ≡ NoFormat) × (format_of (form_word (rows_of (found_of arguments.now))) ≡ None)) }
@@ -22,7 +22,7 @@ pub(crate) fn format(arguments: &ArgMatches) -> Result<Format, JobFault>
     }
 }
 
-/// The form of a picture that the words give.
+/// Returns the form of a picture that the arguments give.
 pub(crate) fn picture_form(arguments: &ArgMatches) -> Result<PictureForm, JobFault>
     ensures form { IfOk result (λ form. picture_form_of (form_word (rows_of (found_of arguments.now))) ≡ Some form) }
     ensures fault { IfErr result (λ fault. (fault ≡ NoPicture) × (picture_form_of (form_word (rows_of (found_of arguments.now))) ≡ None)) }
@@ -34,7 +34,7 @@ pub(crate) fn picture_form(arguments: &ArgMatches) -> Result<PictureForm, JobFau
     }
 }
 
-/// The form in which the words want changes told.
+/// Returns the form of changes that the arguments give.
 pub(crate) fn diff_form(arguments: &ArgMatches) -> Result<DiffForm, JobFault>
     ensures form { IfOk result (λ form. diff_form_of (form_word (rows_of (found_of arguments.now))) ≡ Some form) }
     ensures fault { IfErr result (λ fault. (fault ≡ NoDifference) × (diff_form_of (form_word (rows_of (found_of arguments.now))) ≡ None)) }
@@ -46,7 +46,7 @@ pub(crate) fn diff_form(arguments: &ArgMatches) -> Result<DiffForm, JobFault>
     }
 }
 
-/// The word for a form of output that the words give, or `text`.
+/// Returns the word for a form of output that the arguments give, or `text`.
 fn form_word<'a>(arguments: &ArgMatches<'a>) -> &'a str
     ensures { result.now ≡ form_word (rows_of (found_of arguments.now)) }
 {

@@ -1,17 +1,17 @@
 //! The texts of the help, beside those of single arguments.
 
-/// What the help of a subcommand says of all of it.
+/// The help of a subcommand as a whole.
 #[derive(Clone, Copy, Debug)]
 pub(crate) struct Help {
     /// What it does, in a line.
     pub(crate) about: &'static str,
     pub(crate) usage: &'static str,
-    /// What stands after the arguments: what goes in and what comes out, the exit statuses and an
+    /// The text after the arguments: what goes in and what comes out, the exit statuses and an
     /// example.
     pub(crate) details: &'static str,
 }
 
-/// The help of the subcommand of this name, or of the program where it has none of that name.
+/// Returns the help of the subcommand with this name, or of the program if there is none.
 pub(crate) fn help_of(name: &str) -> Help {
     match name {
         "shell" => Help {

@@ -19,28 +19,29 @@ use clap::error::ErrorKind;
 use clap::{ArgMatches, Error};
 use std::alloc::{AllocError, Global};
 
-/// The address at which programs are loaded, where the words say no other.
+/// The address at which programs are loaded if the arguments give no other.
 const DEFAULT_START: u16 = 0x0801;
 
-/// The tracks of a blank image, where the words say no other number.
+/// The tracks of a blank image if the arguments give no other number.
 const DEFAULT_TRACKS: u8 = 35;
 
 /// The most digits of an address.
 const ADDRESS_DIGITS: usize = 4;
 
-/// The job that the words of the process ask for, of which the first is the program's name.
+/// Returns the job that the arguments of the process ask for, of which the first is the program's
+/// name.
 ///
-/// `Words` comes exactly where the words are none of the program's, or ask for help or the version;
-/// else `Start` exactly where what follows `--start` is other than one to four hexadecimal digits;
-/// else `Tracks` exactly where what follows `--tracks` is neither 35 nor 40, or there is an image
-/// beside it; else `Both` exactly where there is `--resume` beside `--tracks`; else `Format`
-/// exactly where what follows `--format` of a survey is neither `text`, `json` nor `csv`; else
-/// `Folder` exactly where what follows `--into` of `extract` is empty, `Title` exactly where what
-/// follows `--title` of `catalogue` is empty, or else `Links` exactly where what follows `--links`
-/// is empty; else `Names` exactly where there are both FILE and `--files-from`, or neither; else
-/// `Null` exactly where there is `--null` without `--files-from`; else `Picture` exactly where what
-/// follows `--format` of `map` is neither `text` nor `svg`, or `Difference` exactly where what
-/// follows `--format` of `diff` is neither `text` nor `json`; and `Memory` in place of any answer.
+/// `Words` comes if and only if the arguments are not the program's, or ask for help or the
+/// version. The other faults come in this order, each if and only if no earlier one does: `Start`
+/// if the value of `--start` is not one to four hexadecimal digits; `Tracks` if the value of
+/// `--tracks` is neither 35 nor 40, or there is an image too; `Both` if there are both `--resume`
+/// and `--tracks`; `Format` if the value of a survey's `--format` is neither `text`, `json` nor
+/// `csv`; `Folder` if the value of `--into` of `extract` is empty; `Title` if the value of
+/// `--title` of `catalogue` is empty; `Links` if the value of `--links` is empty; `Names` if there
+/// are both FILE and `--files-from`, or neither; `Null` if there is `--null` without
+/// `--files-from`; `Picture` if the value of `--format` of `map` is neither `text` nor `svg`;
+/// `Difference` if the value of `--format` of `diff` is neither `text` nor `json`. `Memory` may
+/// come in place of any result.
 pub fn job(alloc: Global, words: &[&str]) -> Result<Job, JobFault>
     ensures job { IfOk result (IsJob (map (λ word. word.now) words.now)) }
     ensures fault { IfErr result (IsFault (map (λ word. word.now) words.now)) }
@@ -57,7 +58,8 @@ pub fn job(alloc: Global, words: &[&str]) -> Result<Job, JobFault>
     }
 }
 
-/// The same for words that name no subcommand first, read by the command with all of them.
+/// Does the same for arguments that do not begin with a subcommand, which the command with all
+/// subcommands reads.
 fn program_job(alloc: Global, words: &[&str]) -> Result<Job, JobFault>
     ensures job { IfOk result (IsJob (map (λ word. word.now) words.now)) }
     ensures fault { IfErr result (IsFault (map (λ word. word.now) words.now)) }
@@ -72,8 +74,8 @@ fn program_job(alloc: Global, words: &[&str]) -> Result<Job, JobFault>
     job_of(alloc, name, arguments)
 }
 
-/// The error of a subcommand, with its usage where `clap` tells none, or with a tip where `shell`
-/// was probably meant otherwise.
+/// Returns the error of a subcommand, with its usage if `clap` prints none, or with a tip if
+/// `shell` was probably meant otherwise.
 fn explained(alloc: Global, words: &[&str], name: &str, error: Error) -> Result<Error, AllocError>
     ensures { IfOk result (λ told. kind_of told ≡ kind_of error) }
 {
@@ -84,8 +86,8 @@ fn explained(alloc: Global, words: &[&str], name: &str, error: Error) -> Result<
     }
 }
 
-/// The error that an option lacks its value, with the usage of the subcommand of this name: `clap`
-/// tells no usage of that one.
+/// Returns the error that an option lacks its value, with the usage of the subcommand with this
+/// name: `clap` prints no usage for that error.
 fn with_usage(alloc: Global, name: &str, error: &Error) -> Result<Error, AllocError>
     ensures { IfOk result (λ told. kind_of told ≡ kind_of error.now) }
 {
@@ -93,7 +95,7 @@ fn with_usage(alloc: Global, name: &str, error: &Error) -> Result<Error, AllocEr
     command::error(alloc, name, error.kind(), message_of(text.as_str()))
 }
 
-/// The job that a subcommand with these matches asks for.
+/// Returns the job that a subcommand with these matches asks for.
 fn job_of(alloc: Global, name: &str, arguments: &ArgMatches) -> Result<Job, JobFault>
     requires { IsWhole (name.now, rows_of (found_of arguments.now)) }
     ensures job { IfOk result (IsJobOf (name.now, rows_of (found_of arguments.now))) }
@@ -119,7 +121,7 @@ fn job_of(alloc: Global, name: &str, arguments: &ArgMatches) -> Result<Job, JobF
     }
 }
 
-/// The job that `shell` with these matches asks for.
+/// Returns the job that `shell` with these matches asks for.
 fn shell_job(alloc: Global, arguments: &ArgMatches) -> Result<Job, JobFault>
     ensures job { IfOk result (IsJobOf (codes "shell", rows_of (found_of arguments.now))) }
     ensures fault { IfErr result (IsFaultOf (codes "shell", rows_of (found_of arguments.now))) }
@@ -138,7 +140,7 @@ fn shell_job(alloc: Global, arguments: &ArgMatches) -> Result<Job, JobFault>
     })
 }
 
-/// The tracks that the words give, or the default number.
+/// Returns the tracks that the arguments give, or the default number.
 fn tracks(arguments: &ArgMatches) -> Result<u8, JobFault>
     ensures tracks { IfOk result (IsTracksBy (first_of (codes "tracks") (rows_of (found_of arguments.now)))
         (first_of (codes "image") (rows_of (found_of arguments.now)))) }
@@ -154,7 +156,7 @@ fn tracks(arguments: &ArgMatches) -> Result<u8, JobFault>
     }
 }
 
-/// The number of tracks that a text says; None where no disk has so many.
+/// Returns the number of tracks that a text gives, or None if no disk has this many.
 fn track_count(text: &str) -> Option<u8>
     ensures { result ≡ track_count text.now }
 {
@@ -165,7 +167,7 @@ fn track_count(text: &str) -> Option<u8>
     }
 }
 
-/// The start that the words give, or the default one.
+/// Returns the start that the arguments give, or the default one.
 fn start(arguments: &ArgMatches) -> Result<u16, JobFault>
     ensures start { IfOk result (IsStartBy (first_of (codes "start") (rows_of (found_of arguments.now)))) }
     ensures fault { IfErr result (λ fault. (fault ≡ Start) × HasNoAddress (first_of (codes "start") (rows_of (found_of arguments.now)))) }
@@ -176,7 +178,8 @@ fn start(arguments: &ArgMatches) -> Result<u16, JobFault>
     }
 }
 
-/// The address that one to four hexadecimal digits write; None where the text is anything else.
+/// Returns the address that one to four hexadecimal digits write, or None if the text is anything
+/// else.
 fn address(hex: &str) -> Option<u16>
     ensures { MatchOption result (¬ IsAddress hex.now) (λ address. IsAddress hex.now × (address ≡ address_of hex.now)) }
 {
@@ -189,7 +192,7 @@ fn address(hex: &str) -> Option<u16>
     }
 }
 
-/// Whether the text has hexadecimal digits alone.
+/// Whether the text has only hexadecimal digits.
 fn is_hexadecimal(text: &str) -> bool
     ensures { result ≡ list_all is_ascii_hexdigit text.now }
 {

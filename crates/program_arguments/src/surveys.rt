@@ -14,7 +14,7 @@ use crate::values::{given, has_flag, value, values};
 use clap::ArgMatches;
 use std::alloc::Global;
 
-/// The job that `check` with these matches asks for.
+/// Returns the job that `check` with these matches asks for.
 pub(crate) fn check_job(alloc: Global, arguments: &ArgMatches) -> Result<Job, JobFault>
     ensures job { IfOk result (IsJobOf (codes "check", rows_of (found_of arguments.now))) }
     ensures fault { IfErr result (IsFaultOf (codes "check", rows_of (found_of arguments.now))) }
@@ -27,7 +27,7 @@ pub(crate) fn check_job(alloc: Global, arguments: &ArgMatches) -> Result<Job, Jo
     })
 }
 
-/// The job that `files` with these matches asks for.
+/// Returns the job that `files` with these matches asks for.
 pub(crate) fn files_job(alloc: Global, arguments: &ArgMatches) -> Result<Job, JobFault>
     ensures job { IfOk result (IsJobOf (codes "files", rows_of (found_of arguments.now))) }
     ensures fault { IfErr result (IsFaultOf (codes "files", rows_of (found_of arguments.now))) }
@@ -38,7 +38,7 @@ pub(crate) fn files_job(alloc: Global, arguments: &ArgMatches) -> Result<Job, Jo
     })
 }
 
-/// The job that `extract` with these matches asks for.
+/// Returns the job that `extract` with these matches asks for.
 pub(crate) fn extract_job(alloc: Global, arguments: &ArgMatches) -> Result<Job, JobFault>
     ensures job { IfOk result (IsJobOf (codes "extract", rows_of (found_of arguments.now))) }
     ensures fault { IfErr result (IsFaultOf (codes "extract", rows_of (found_of arguments.now))) }
@@ -51,7 +51,7 @@ pub(crate) fn extract_job(alloc: Global, arguments: &ArgMatches) -> Result<Job, 
     })
 }
 
-/// How the words want files taken out.
+/// Returns how files are to be taken out, by the arguments.
 fn extraction(alloc: Global, arguments: &ArgMatches) -> Result<Extraction, JobFault>
     ensures extraction { IfOk result (IsExtractionBy (rows_of (found_of arguments.now))) }
     ensures fault { IfErr result (λ fault. (fault ≡ Memory) ⊎ ((fault ≡ Folder) × HasNoFolder (first_of (codes "into") (rows_of (found_of arguments.now))))) }
@@ -67,7 +67,7 @@ fn extraction(alloc: Global, arguments: &ArgMatches) -> Result<Extraction, JobFa
     })
 }
 
-/// The job that `catalogue` with these matches asks for.
+/// Returns the job that `catalogue` with these matches asks for.
 pub(crate) fn catalogue_job(alloc: Global, arguments: &ArgMatches) -> Result<Job, JobFault>
     ensures job { IfOk result (IsJobOf (codes "catalogue", rows_of (found_of arguments.now))) }
     ensures fault { IfErr result (IsFaultOf (codes "catalogue", rows_of (found_of arguments.now))) }
@@ -78,7 +78,7 @@ pub(crate) fn catalogue_job(alloc: Global, arguments: &ArgMatches) -> Result<Job
     })
 }
 
-/// Whether the words give an argument an empty value.
+/// Whether the arguments give an argument an empty value.
 fn is_left_empty(arguments: &ArgMatches, id: &str) -> bool
     ensures { result ≡ is_left_empty id.now (rows_of (found_of arguments.now)) }
 {
@@ -88,7 +88,7 @@ fn is_left_empty(arguments: &ArgMatches, id: &str) -> bool
     }
 }
 
-/// How the words want a page made.
+/// Returns how a page is to be made, by the arguments.
 fn page(alloc: Global, arguments: &ArgMatches) -> Result<Page, JobFault>
     ensures page { IfOk result (IsPageBy (rows_of (found_of arguments.now))) }
     ensures fault { IfErr result (IsPageFault (rows_of (found_of arguments.now))) }
@@ -106,7 +106,7 @@ fn page(alloc: Global, arguments: &ArgMatches) -> Result<Page, JobFault>
     })
 }
 
-/// The names that the words give, or the list that holds them.
+/// Returns the names that the arguments give, or the list that holds them.
 fn names(alloc: Global, arguments: &ArgMatches) -> Result<Names, JobFault>
     ensures names { IfOk result (IsNamesBy (rows_of (found_of arguments.now))) }
     ensures fault { IfErr result (IsNamesFault (rows_of (found_of arguments.now))) }

@@ -1,5 +1,5 @@
-//! Tips beside errors of `clap`: what was probably meant where a subcommand is missing, or where
-//! there are more arguments than `shell` takes.
+//! Tips beside errors of `clap`: what was probably meant if a subcommand is missing, or if there
+//! are more arguments than `shell` takes.
 
 ghost use Rattle.std.specs.Prelude.{◌≡◌, IfOk};
 ghost use Rattle.clap.specs.Words.{kind_of};
@@ -15,10 +15,10 @@ const SHOWN_CHARACTERS: usize = 64;
 /// What was probably meant: the shell, on an image, with a line to run.
 #[derive(Clone, Copy, Debug)]
 struct Intent<'a> {
-    /// The name of the subcommand whose error it is, or nothing for the program's own.
+    /// The name of the subcommand whose error it is, empty for the program's own.
     subcommand: &'static str,
     image: &'a str,
-    /// The arguments behind the image, of which the line consists.
+    /// The arguments after the image, of which the line consists.
     rest: &'a [&'a str],
 }
 
@@ -32,7 +32,7 @@ fn is_plain(word: &str) -> bool {
     !word.starts_with('-')
 }
 
-/// What the arguments, of which the first is the program's name, probably mean.
+/// Returns what the arguments, of which the first is the program's name, probably mean.
 fn intent_of<'a>(words: &'a [&'a str], kind: ErrorKind) -> Option<Intent<'a>> {
     match words {
         [_, image, rest @ ..] if kind == ErrorKind::InvalidSubcommand && is_path_like(image) => {
@@ -62,8 +62,8 @@ fn is_bare(byte: u8) -> bool {
     byte.is_ascii_alphanumeric() || matches!(byte, b'.' | b'/' | b'_' | b'-' | b'+' | b',')
 }
 
-/// Adds an argument as a line for a shell of the host has it: between apostrophes unless all its
-/// bytes are bare, and cut where it is long.
+/// Appends an argument as a line for a shell of the host has it: between apostrophes unless all its
+/// bytes are bare, and cut if it is long.
 fn push_argument(tip: &mut String, word: &str) -> Result<(), AllocError> {
     let is_quoted = word.is_empty() || !word.bytes().all(is_bare);
     if is_quoted {
@@ -76,7 +76,7 @@ fn push_argument(tip: &mut String, word: &str) -> Result<(), AllocError> {
     Ok(())
 }
 
-/// Adds the first characters of an argument, and `..` where it has more.
+/// Appends the first characters of an argument, and `..` if it has more.
 fn push_cut(tip: &mut String, word: &str) -> Result<(), AllocError> {
     for (count, character) in word.chars().enumerate() {
         if count == SHOWN_CHARACTERS {
@@ -87,8 +87,8 @@ fn push_cut(tip: &mut String, word: &str) -> Result<(), AllocError> {
     Ok(())
 }
 
-/// The line that arguments probably mean, up to the first that is an option; `list` where there are
-/// none.
+/// Returns the line that arguments probably mean, up to the first that is an option; `list` if
+/// there are none.
 fn line_of(alloc: Global, words: &[&str]) -> Result<String, AllocError> {
     let mut line = String::new(alloc);
     for word in words {
@@ -106,7 +106,7 @@ fn line_of(alloc: Global, words: &[&str]) -> Result<String, AllocError> {
     Ok(line)
 }
 
-/// What was probably meant, as it is typed.
+/// Returns what was probably meant, as it is typed.
 fn tip_of(alloc: Global, intent: Intent) -> Result<String, AllocError> {
     let line = line_of(alloc, intent.rest)?;
     let mut tip = String::new(alloc);
@@ -117,8 +117,8 @@ fn tip_of(alloc: Global, intent: Intent) -> Result<String, AllocError> {
     Ok(tip)
 }
 
-/// The error of these arguments, of which the first is the program's name, with a tip where they
-/// probably mean the shell: an image in the place of a subcommand, or a line behind an image
+/// Returns the error of these arguments, of which the first is the program's name, with a tip if
+/// they probably mean the shell: an image in place of a subcommand, or a line after an image
 /// without `-c`.
 pub(crate) fn with_tip(alloc: Global, words: &[&str], error: Error) -> Result<Error, AllocError>
     ensures { IfOk result (λ told. kind_of told ≡ kind_of error) }
@@ -135,7 +135,7 @@ pub(crate) fn with_tip(alloc: Global, words: &[&str], error: Error) -> Result<Er
     command::error(alloc, intent.subcommand, error.kind(), message.as_str())
 }
 
-/// The message of an error of `clap`: its first line, behind `error: `.
+/// Returns the message of an error of `clap`: its first line, after `error: `.
 pub(crate) fn message_of(text: &str) -> &str {
     let line = text.lines().next().unwrap_or("");
     line.strip_prefix("error: ").unwrap_or(line)

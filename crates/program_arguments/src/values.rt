@@ -7,7 +7,7 @@ ghost use Rattle.program_arguments.specs.Values.{all_given, has_flag};
 use clap::ArgMatches;
 use std::alloc::{AllocError, Global};
 
-/// The value that the words give to an argument, copied.
+/// Returns a copy of the value that is given to an argument.
 pub(crate) fn value(
     alloc: Global,
     arguments: &ArgMatches,
@@ -21,14 +21,14 @@ pub(crate) fn value(
     }
 }
 
-/// The value that the words give to an argument.
+/// Returns the value that is given to an argument.
 pub(crate) fn given<'a>(arguments: &ArgMatches<'a>, id: &str) -> Option<&'a str>
     ensures { option_map (λ text. text.now) result ≡ first_of id.now (rows_of (found_of arguments.now)) }
 {
     arguments.get_str(id)
 }
 
-/// The value that the words give to an argument that must have one, copied.
+/// Returns a copy of the value that is given to an argument that must have one.
 pub(crate) fn required_value(
     alloc: Global,
     arguments: &ArgMatches,
@@ -43,7 +43,7 @@ pub(crate) fn required_value(
     String::from_str(alloc, text)
 }
 
-/// The values that the words give to an argument of several, copied; none where it isn't there.
+/// Returns copies of the values that are given to an argument of several; none without it.
 pub(crate) fn values(
     alloc: Global,
     arguments: &ArgMatches,
@@ -57,14 +57,14 @@ pub(crate) fn values(
     }
 }
 
-/// Whether the words have a flag.
+/// Whether a flag is given.
 pub(crate) fn has_flag(arguments: &ArgMatches, id: &str) -> bool
     ensures { result ≡ has_flag id.now (rows_of (found_of arguments.now)) }
 {
     matches!(given(arguments, id), Some("true"))
 }
 
-/// The texts, copied.
+/// Returns copies of the texts.
 fn copied(alloc: Global, texts: &[&str]) -> Result<Vec<String>, AllocError>
     ensures { IfOk result (λ copies. map string_bytes copies.items ≡ map (λ text. text.now) texts.now) }
 {

@@ -15,7 +15,7 @@ use Rattle.program_arguments.proofs.reading.job.Goals as goal
 abbrev text : Bor (List ℕ) → Text
 text word = word.now
 
--- the second of the words is the name of this subcommand
+-- the second of the arguments is the name of this subcommand
 record Begins (words : List (Bor (List ℕ))) (name : Bor (List ℕ)) (app : App) : Type 0 where
   has : 1 < length words
   is : name ≡ slice_index_or words 1 name
@@ -25,7 +25,7 @@ begins_with : {words : List (Bor (List ℕ))} {name : Bor (List ℕ)} {found : O
     → name ≡ slice_index_or words 1 name → option_map app_of found ≡ app_named name.now → found ≡ Some command → Begins words name (app_of command)
 begins_with has is finds found = record { has = has; is = is; is_app = sym finds ∙ ap (option_map app_of) found }
 
--- the words that the subcommand is given, and those of the program
+-- the arguments that the subcommand is given, and those of the program
 module _ {words : List (Bor (List ℕ))} {name : Bor (List ℕ)} {app : App} (begins : Begins words name app) where
   abbrev arguments : List Text
   arguments = map text (take (length words - 1) (drop 1 words))
