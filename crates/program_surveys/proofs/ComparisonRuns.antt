@@ -18,7 +18,7 @@ same_answer rule said old_name old_name' old old' new_name new_name' new new' is
     is ∙ ap (λ (n : List ℕ). rule n old new_name new) e1 ∙ ap (λ (o : Contents). rule old_name' o new_name new) e2
     ∙ ap (λ (n : List ℕ). rule old_name' old' n new) e3 ∙ ap (λ (o : Contents). rule old_name' old' new_name' o) e4
 
--- both files were read, and there was no memory to tell of them
+-- both files were read, and memory ran out
 pub wants_memory : (rule : PairRule) (old_name new_name : List ℕ) (first middle last : HostState) (told : Told) (old new : Contents) (result : Result (Unit {0}) DifferenceFault)
     → IsReadAs old_name first old middle → IsReadAs new_name middle new last → result ≡ Err Memory
     → Compares rule old_name new_name (stand_of first told) (stand_of last told) result
@@ -27,7 +27,7 @@ wants_memory rule old_name new_name first middle last told old new result old_re
     (inr (inr (old, new, record { middle = middle; old_read = old_read; new_read = new_read })), refl) in
     subst (λ (r : Result (Unit {0}) DifferenceFault). Compares rule old_name new_name (stand_of first told) (stand_of last told) r) (sym is) ended
 
--- both files were read, and the output failed while they were told of
+-- both files were read, and the output failed while the result was written
 pub was_cut : (rule : PairRule) (old_name new_name : List ℕ) (first middle last : HostState) (before after : Told) (old new : Contents) (said : Answer) (result : Result (Unit {0}) DifferenceFault)
     → IsReadAs old_name first old middle → IsReadAs new_name middle new last → said ≡ rule old_name old new_name new → IsCut said before after → result ≡ Err Write
     → Compares rule old_name new_name (stand_of first before) (stand_of last after) result
@@ -40,7 +40,7 @@ was_cut rule old_name new_name first middle last before after old new said resul
     } in
     subst (λ (r : Result (Unit {0}) DifferenceFault). Compares rule old_name new_name (stand_of first before) (stand_of last after) r) (sym is) ended
 
--- both files were read and told of
+-- both files were read, and the result was written
 pub compared : (rule : PairRule) (old_name new_name : List ℕ) (first middle last : HostState) (before after : Told) (old new : Contents) (said : Answer)
     → IsReadAs old_name first old middle → IsReadAs new_name middle new last → said ≡ rule old_name old new_name new → IsTold said before after
     → AreCompared rule old_name new_name (stand_of first before) (stand_of last after)
@@ -51,7 +51,7 @@ compared rule old_name new_name first middle last before after old new said old_
   told = subst (λ (a : Answer). IsTold a before after) same told;
 }
 
--- a comparison that began with nothing amiss has ended as its run has
+-- a comparison that began with a clean verdict has ended as its run has
 pub comparison_ended : (rule : PairRule) (old_name new_name : List ℕ) (old new : Outside) (faults told : Account) (status : ℕ) (ended : Result (Unit {0}) DifferenceFault) (first last : Stand)
     → first ≡ first_stand old faults → Compares rule old_name new_name first last ended → new.reader ≡ old.reader → new.host ≡ last.host
     → new.output ≡ last.told.output → TellsComparison ended last.told told status → EndedComparison rule old_name new_name old new faults told status

@@ -69,7 +69,7 @@ surveyed conduct same heading files reader left has_failed host before after err
       (subst (λ (w : Verdict). RunsOver same files reader left has_failed (stand_of host (told_of after error w)) last ended) clean ran);
 }
 
--- where there is no memory to begin a survey, it has ended with nothing printed
+-- if memory runs out before a survey begins, it has ended with nothing printed
 pub not_begun : (conduct : Conduct) (heading : List ℕ) (files : SurveyFiles) (old : Outside) (faults told : Account) (status : ℕ)
     → Reports Memory faults told status → EndedSurvey conduct heading files old old faults told status
 not_begun conduct heading files old faults told status reports = record {

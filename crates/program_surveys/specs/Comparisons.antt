@@ -8,8 +8,8 @@ use Rattle.cmd_diff.specs.Differences.{Contents}
 use Rattle.program_surveys.specs.declared.difference_job.DifferenceFault.{DifferenceFault}
 use Rattle.program_surveys.specs.declared.difference_job.DifferenceFault.TheVariants.{Write, Memory}
 
--- what is answered of an old file and a new one: of the name of each, and of its bytes, or why it
--- cannot be read
+-- the result for an old file and a new one, by the name of each, and its bytes, or why it cannot be
+-- read
 abbrev pub PairRule : Type 0
 PairRule = List ℕ → Contents → List ℕ → Contents → Answer
 
@@ -24,29 +24,29 @@ pub record AreRead (old_name new_name : List ℕ) (first : HostState) (old new :
   pub old_read : IsReadAs old_name first old middle
   pub new_read : IsReadAs new_name middle new last
 
--- both files were read, and what the rule says of them was told
+-- both files were read, and the rule's result for them was written
 pub record AreCompared (rule : PairRule) (old_name new_name : List ℕ) (first last : Stand) : Type 0 where
   pub old : Contents
   pub new : Contents
   pub read : AreRead old_name new_name first.host old new last.host
   pub told : IsTold (rule old_name old new_name new) first.told last.told
 
--- both files were read, and the output failed while they were told of
+-- both files were read, and the output failed while the result was written
 pub record AreCut (rule : PairRule) (old_name new_name : List ℕ) (first last : Stand) : Type 0 where
   pub old : Contents
   pub new : Contents
   pub read : AreRead old_name new_name first.host old new last.host
   pub told : IsCut (rule old_name old new_name new) first.told last.told
 
--- how far the reading of the files has come: none is read, or the old one, or both
+-- how far the reading of the files has come: no file is read, or the old one, or both
 abbrev pub AreReadSoFar : List ℕ → List ℕ → HostState → HostState → Type 0
 AreReadSoFar old_name new_name first last =
     (last ≡ first)
     ⊎ (((old : Contents) × IsReadAs old_name first old last)
     ⊎ ((old : Contents) × (new : Contents) × AreRead old_name new_name first old new last))
 
--- how a comparison ends: both files are read and told of, unless the output failed, or there was no
--- memory, and nothing was told
+-- how a comparison ends: both files are read and the result is written, unless the output failed,
+-- or memory ran out and nothing was written
 abbrev pub Compares : {A : Type 0} → PairRule → List ℕ → List ℕ → Stand → Stand → Result A DifferenceFault → Type 0
 Compares rule old_name new_name first last (Ok done) = AreCompared rule old_name new_name first last
 Compares rule old_name new_name first last (Err Write) = AreCut rule old_name new_name first last

@@ -1,4 +1,4 @@
--- How the end of a survey or of a comparison is told.
+-- How the end of a survey or of a comparison is reported.
 use Rattle.std.specs.Prelude.{◌≡◌, ℕ, List, Option, None, MatchBool, Result, Ok, Err, ◌⊎◌}
 use Rattle.host_storage.specs.Files.{Files}
 use Rattle.host_storage.specs.declared.host.HostFault.TheVariants.{Device}
@@ -20,13 +20,13 @@ use Rattle.program_exit.specs.declared.program_fault.ProgramFault.TheVariants.{W
 use Rattle.program_exit.specs.Outside.{Outside}
 use Rattle.program_exit.specs.Faults.{Reports}
 
--- why a list cannot be read, as far as a host of these files can say: of the standard input it says
--- nothing, and else what a look at the list's path shows
+-- why a list cannot be read, as far as a host with these files can say: no reason for the standard
+-- input, and otherwise what is at the list's path
 abbrev pub IsListReason : Option Files → List ℕ → Option Reason → Type 0
 IsListReason files list reason = MatchBool (is_input list) (reason ≡ None) (IsReason files list Device reason)
 
--- how the fault of a survey is told where the host has these files: by its line, with status 2; that
--- of a list has the reason behind it, if one is known
+-- how the fault of a survey is reported if the host has these files: by its line, with status 2;
+-- the line for a list has the reason, if one is known
 abbrev pub TellsFault : Option Files → List ℕ → RunFault → Account → Account → ℕ → Type 0
 TellsFault files list run_faults.List error told status =
     ((reason : Option Reason) × IsListReason files list reason × (status ≡ 2) × Writes error told (with_known_reason reason (unread_line list)))
@@ -34,13 +34,13 @@ TellsFault files list run_faults.List error told status =
 TellsFault files list run_faults.Write error told status = Reports Write error told status
 TellsFault files list run_faults.Memory error told status = Reports Memory error told status
 
--- how the end of a survey is told, of which this was told: by the status of the worst verdict, or
--- as a fault
+-- how the end of a survey with this result is reported: by the status of the worst verdict, or as a
+-- fault
 abbrev pub TellsEnd : Option Files → List ℕ → Result (Unit {0}) RunFault → Told → Account → ℕ → Type 0
 TellsEnd files list (Ok done) old told status = (told ≡ old.error) × (status ≡ verdict_status old.worst)
 TellsEnd files list (Err fault) old told status = TellsFault files list fault old.error told status
 
--- where a survey or a comparison begins: at what the program begins with, with nothing amiss
+-- the state in which a survey or a comparison begins: that of the program, with a clean verdict
 abbrev pub first_stand : Outside → Account → Stand
 first_stand old faults = stand_of old.host (told_of old.output faults Clean)
 
@@ -53,14 +53,14 @@ pub record EndedSurvey (conduct : Conduct) (heading : List ℕ) (files : SurveyF
   pub output : new.output ≡ last.told.output
   pub tells : TellsEnd last.host.files (list_name files) ended last.told told status
 
--- how the end of a comparison is told, of which this was told: by the status of the verdict, or by
--- the line of a fault
+-- how the end of a comparison with this result is reported: by the status of the verdict, or by the
+-- line of a fault
 abbrev pub TellsComparison : Result (Unit {0}) DifferenceFault → Told → Account → ℕ → Type 0
 TellsComparison (Ok done) old told status = (told ≡ old.error) × (status ≡ verdict_status old.worst)
 TellsComparison (Err comparisons.Write) old told status = Reports Write old.error told status
 TellsComparison (Err comparisons.Memory) old told status = Reports Memory old.error told status
 
--- a comparison has ended, for which nothing of the input was read
+-- a comparison has ended, which read nothing of the input
 pub record EndedComparison (rule : PairRule) (old_name new_name : List ℕ) (old new : Outside) (faults told : Account) (status : ℕ) : Type 0 where
   pub ended : Result (Unit {0}) DifferenceFault
   pub last : Stand

@@ -18,24 +18,25 @@ use Rattle.program_surveys.specs.SurveyFiles.{SurveyFiles, Named, ListedIn}
 abbrev pub is_input : List ℕ → Bool
 is_input list = bytes_eq list (codes "-")
 
--- how the fault of a list that cannot be opened is told: there is no memory, or the list cannot be
--- read
+-- the fault of a run for a list that cannot be opened: memory ran out, or the list cannot be read
 abbrev pub fault_of_list : HostFault → RunFault
 fault_of_list (refusals.Memory error) = faults.Memory
 fault_of_list fault = faults.List
 
--- a file was opened of the host, which keeps its files; the answer has the bytes that it tells
+-- a file of the host was opened, which keeps its files; the result has its bytes, as far as they
+-- are known
 abbrev pub IsOpened : List ℕ → HostState → Result (Option (List ℕ)) HostFault → HostState → Type 0
 IsOpened name old answer new =
     Opens old.files name answer × (new.files ≡ old.files) × CountsDevice old.failures new.failures answer
 
--- the host after a list of it was read, of which a read has failed or not: a failed one is counted
+-- the host after a list of it was read; the flag says whether a read failed, which is counted
 abbrev pub after_reading : Bool → HostState → HostState
 after_reading true host = record host { failures = one_more_failure host.failures }
 after_reading false host = host
 
--- how a run over the names of a list of the host ends, which was opened so: it is read as it comes,
--- and some of it may be left; a failed read ends the run, and is counted; or nothing is answered
+-- how a run ends over the names of a list of the host that was opened with this result: the list is
+-- read as it comes, and some of it may be left; a failed read ends the run, and is counted; or no
+-- file is processed
 abbrev pub RunsOpened : {A : Type 0} → Conduct → ℕ → Result (Option (List ℕ)) HostFault → Stand → Stand → Result A RunFault → Type 0
 RunsOpened conduct separator (Ok reader) first last result =
     (left : Option (List ℕ)) × (has_failed : Bool) × (read : Stand) × RunsStream conduct separator reader left has_failed first read result
@@ -56,20 +57,20 @@ RunsOver conduct (ListedIn list separator) reader left has_failed first last res
     (RunsStream conduct separator reader left has_failed first last result)
     ((left ≡ reader) × RunsListFile conduct separator list first last result)
 
--- how a survey goes on after what stands before all answers: over the files, or not at all where
--- that was not printed
+-- how a survey goes on after the heading: over the files, or not at all if the heading was not
+-- printed
 abbrev pub GoesOn : {A B : Type 0} → Conduct → SurveyFiles → Option (List ℕ) → Option (List ℕ) → Bool → Result B RunFault → Stand → Stand → Result A RunFault → Type 0
 GoesOn conduct files reader left has_failed (Ok done) first last result = RunsOver conduct files reader left has_failed first last result
 GoesOn conduct files reader left has_failed (Err fault) first last result = (left ≡ reader) × (last ≡ first) × (result ≡ Err fault)
 
--- how a survey ends: what stands before all answers is printed, and then the files are answered
+-- how a survey ends: the heading is printed, and then the files are processed
 pub record Surveys (conduct : Conduct) (heading : List ℕ) (files : SurveyFiles) (reader left : Option (List ℕ)) (has_failed : Bool) (first last : Stand) (ended : Result (Unit {0}) RunFault) : Type 0 where
   pub begun : Result (Unit {0}) RunFault
   pub output : Account
   pub begins : Begins heading first.told.output output begun
   pub goes_on : GoesOn conduct files reader left has_failed begun (stand_of first.host (told_of output first.told.error first.told.worst)) last ended
 
--- a survey that ended so says this: the worst verdict, or the fault
+-- the result of a survey that ended with this: the worst verdict, or the fault
 abbrev pub Says : Verdict → Result (Unit {0}) RunFault → Result Verdict RunFault → Type 0
 Says worst (Ok done) said = said ≡ Ok worst
 Says worst (Err fault) said = said ≡ Err fault

@@ -18,7 +18,7 @@ use std::alloc::{AllocError, Global};
 use std::io::Write;
 use thiserror::Error;
 
-/// Why a comparison has no end.
+/// Why a comparison did not come to its end.
 #[derive(Clone, Copy, Debug, PartialEq, Eq, Error)]
 pub(crate) enum DifferenceFault {
     /// The output takes no more bytes.
@@ -60,7 +60,7 @@ pub struct DifferenceJob<'n> {
 }
 
 impl<'n> DifferenceJob<'n> {
-    /// A comparison of the files of these names, which is told in a form.
+    /// Returns a comparison of the files with these names, whose result is printed in a form.
     pub fn new(alloc: Global, form: DiffForm, old: &'n str, new: &'n str) -> DifferenceJob<'n>
         ensures form { result.form ≡ form }
         ensures old { result.old.now ≡ old.now }
@@ -74,9 +74,9 @@ impl<'n> DifferenceJob<'n> {
         }
     }
 
-    /// Reads both files, tells what changed, and returns the exit status: 0 where they are the
-    /// same, 1 where they differ, and 2 where one of them is no dump or cannot be read, the output
-    /// takes no more bytes, or memory is wanting.
+    /// Reads both files, prints what changed, and returns the exit status: 0 if they are the same,
+    /// 1 if they differ, and 2 if one of them is not a dump or cannot be read, the output takes no
+    /// more bytes, or memory runs out.
     pub fn run<W: Write, F: Write, H: Host>(
         &self,
         output: &mut OutputStream<'_, W>,
@@ -102,9 +102,10 @@ impl<'n> DifferenceJob<'n> {
         }
     }
 
-    /// Reads both files, and tells at a desk what changed.
+    /// Reads both files, and prints what changed.
     ///
-    /// It is a call of its own: each job would else take room for the inspections of two dumps.
+    /// It is a function of its own: otherwise each job would take memory for the inspections of two
+    /// dumps.
     #[inline(never)]
     fn compare<W: Write, F: Write, H: Host>(
         &self,
@@ -136,7 +137,8 @@ impl<'n> DifferenceJob<'n> {
         Ok(())
     }
 
-    /// The bytes of a file of the host, or why it cannot be read, as far as the host can say.
+    /// Returns the bytes of a file of the host, or why it cannot be read, as far as the host can
+    /// say.
     fn read<H: Host>(
         &self,
         name: &str,
@@ -155,7 +157,7 @@ impl<'n> DifferenceJob<'n> {
     }
 }
 
-/// What was read of a file, as its owner lends it.
+/// Borrows what was read of a file.
 fn lent(contents: &Result<Vec<u8>, Option<Reason>>) -> Result<&[u8], Option<Reason>>
     ensures { contents_by (λ bytes. bytes.now) result ≡ contents_by (λ bytes. bytes.items) contents.now }
 {

@@ -4,18 +4,18 @@ ghost use Rattle.program_surveys.specs.SurveyFiles.{files_in, files_of, list_nam
 
 use program_arguments::{Names, Separator};
 
-/// The names of the files that a survey answers.
+/// The names of the files that a survey processes.
 #[derive(Clone, Copy, Debug)]
 pub enum FileNames<'n> {
-    /// These.
+    /// These names.
     Given(&'n [String]),
-    /// Those that a list holds, with this byte between them. The list is a host file; `-` is the
-    /// standard input.
+    /// The names that a list holds, with this byte between them. The list is a host file; `-` is
+    /// the standard input.
     Listed { list: &'n str, separator: u8 },
 }
 
 impl<'n> FileNames<'n> {
-    /// The names that the words give or list.
+    /// Returns the names that the arguments give or list.
     pub fn of(names: &'n Names) -> FileNames<'n>
         ensures { files_in result ≡ files_of names.now }
     {
@@ -28,7 +28,7 @@ impl<'n> FileNames<'n> {
         }
     }
 
-    /// The name of the list, or nothing where there is none.
+    /// Returns the name of the list, empty if there is none.
     pub(crate) fn list_name(self) -> &'n str
         ensures { result.now ≡ list_name (files_in self.entry) }
     {
@@ -39,7 +39,7 @@ impl<'n> FileNames<'n> {
     }
 }
 
-/// The byte that stands between the names of a list.
+/// Returns the byte between the names of a list.
 fn separator_byte(separator: Separator) -> u8
     ensures { result ≡ separator_byte separator }
 {

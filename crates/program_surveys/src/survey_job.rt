@@ -25,7 +25,7 @@ use script_text::output::OutputStream;
 use std::alloc::{AllocError, Global};
 use std::io::{Read, Write};
 
-/// How the fault of a list that cannot be opened is told.
+/// Returns the fault of a run for a list that cannot be opened.
 fn fault_of_list(fault: HostFault) -> RunFault
     ensures { result ≡ fault_of_list fault }
 {
@@ -48,7 +48,7 @@ fn open_list<H: Host>(list: &str, host: &mut H) -> Result<H::File, RunFault>
     }
 }
 
-/// Why a list cannot be read, as far as the host can say: nothing of the standard input.
+/// Returns why a list cannot be read, as far as the host can say; no reason for the standard input.
 fn reason_of_list<H: Host>(list: &str, host: &H) -> Option<Reason>
     ensures { IsListReason (H.state host.now).files list.now result }
 {
@@ -58,7 +58,7 @@ fn reason_of_list<H: Host>(list: &str, host: &H) -> Option<Reason>
     }
 }
 
-/// Answers at a desk the files that a list of the host names. A failed read of the list is counted.
+/// Processes the files that a list of the host names. A failed read of the list is counted.
 fn answer_list_file<H: Host, C: Clerk, W: Write, F: Write>(
     list: &str,
     desk: &mut ListDesk,
@@ -91,7 +91,8 @@ fn answer_list_file<H: Host, C: Clerk, W: Write, F: Write>(
     Err(RunFault::List)
 }
 
-/// Adds the line of a list that cannot be read to an empty text, and the reason, if one is known.
+/// Appends the line of a list that cannot be read to an empty text, with the reason if one is
+/// known.
 fn push_unread_list(
     line: &mut Vec<u8>,
     list: &str,
@@ -103,7 +104,7 @@ fn push_unread_list(
     push_known_reason(line, reason)
 }
 
-/// A survey of the files of these names.
+/// A survey of the files with these names.
 #[derive(Drop)]
 pub struct SurveyJob<'n> {
     alloc: Global,
@@ -111,16 +112,16 @@ pub struct SurveyJob<'n> {
 }
 
 impl<'n> SurveyJob<'n> {
-    /// A survey of the files of these names.
+    /// Returns a survey of the files with these names.
     pub fn new(alloc: Global, names: FileNames<'n>) -> SurveyJob<'n>
         ensures { result.names ≡ names.entry }
     {
         SurveyJob { alloc, names }
     }
 
-    /// Answers the files by a report, where there was memory to make one, and returns the exit
-    /// status: that of the worst verdict, or 2 where the list cannot be read, the output takes no
-    /// more bytes, or memory is wanting.
+    /// Processes the files by a report, unless memory ran out while it was made, and returns the
+    /// exit status: that of the worst verdict, or 2 if the list cannot be read, the output takes no
+    /// more bytes, or memory runs out.
     pub fn run<R: Read, W: Write, F: Write, H: Host, P: Report + Drop>(
         &self,
         report: Result<P, AllocError>,
@@ -147,9 +148,9 @@ impl<'n> SurveyJob<'n> {
         self.run_by(report, input, output, faults, host)
     }
 
-    /// Answers the files by a clerk, where there was memory to make one, and returns the exit
-    /// status: that of the worst verdict, or 2 where the list cannot be read, the output takes no
-    /// more bytes, or memory is wanting.
+    /// Processes the files by a task, unless memory ran out while it was made, and returns the exit
+    /// status: that of the worst verdict, or 2 if the list cannot be read, the output takes no more
+    /// bytes, or memory runs out.
     pub fn run_by<R: Read, W: Write, F: Write, H: Host, C: Clerk + Drop>(
         &self,
         clerk: Result<C, AllocError>,
@@ -183,7 +184,7 @@ impl<'n> SurveyJob<'n> {
         }
     }
 
-    /// Answers the files by a clerk, and returns the worst verdict.
+    /// Processes the files by a task, and returns the worst verdict.
     fn answer<R: Read, W: Write, F: Write, H: Host, C: Clerk>(
         &self,
         clerk: &mut C,
@@ -227,7 +228,7 @@ impl<'n> SurveyJob<'n> {
         }
     }
 
-    /// Tells the fault of a run, and returns the exit status. Where a write fails, the rest of the
+    /// Reports the fault of a run, and returns the exit status. If a write fails, the rest of the
     /// line is dropped.
     fn tell<H: Host, F: Write>(
         &self,
@@ -246,7 +247,7 @@ impl<'n> SurveyJob<'n> {
         }
     }
 
-    /// Tells that a list cannot be read, and why, if that is known.
+    /// Reports that a list cannot be read, and why, if that is known.
     fn tell_list<H: Host, F: Write>(
         &self,
         list: &str,

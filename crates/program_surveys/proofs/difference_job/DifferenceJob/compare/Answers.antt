@@ -27,7 +27,7 @@ returns-in_err-tell-clause-compared g c =
     was_cut _ _ _ _ _ _ _ _ _ _ said c.from_residual-in_err-tell.result c.in_ok-old.ensures.read c.in_ok-new.ensures.read
     (same ∙ ap (λ form. difference_rule form c.args.self.now.old.now old c.args.self.now.new.now new) form) c.in_err-tell.ensures.told (search rules)
 
--- both are told of
+-- the result is written
 pub returns-clause-compared : goal.returns-clause-compared
 returns-clause-compared g c =
     let said : Answer = record { printed = c.answer.new.room.printed.items; complaint = c.answer.new.room.complaint.items; verdict = c.in_ok-verdict.verdict } in
