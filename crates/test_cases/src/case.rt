@@ -25,7 +25,7 @@ pub enum WhenFull {
 pub struct Manner {
     /// The arguments after the program's name; None if the script is run without the program.
     pub words: Option<Vec<String>>,
-    /// The most bytes that a read gives; None stands for 1, 7 and 4,096 in turn.
+    /// The most bytes that a read gives; None means 1, 7 and 4,096 in turn.
     pub at_most: Option<usize>,
     pub reader_fails: Place,
     pub writer_stops: Place,

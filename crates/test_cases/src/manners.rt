@@ -34,7 +34,7 @@ fn unreadable(alloc: Global, text: &str) -> CaseFault {
     }
 }
 
-/// Returns the words of a text, with single spaces between them; `""` is an empty one.
+/// Returns the arguments in a text, with single spaces between them; `""` is an empty one.
 fn words_of(alloc: Global, text: &str) -> Result<Vec<String>, CaseFault> {
     let mut words = Vec::new(alloc);
     for word in text.split_whitespace() {
