@@ -87,12 +87,12 @@ some_length dump bytes is kept = by_map (image_bytes (length bytes)) (d64_dump-b
     by_map None e = absurd (cc)
     by_map (Some count) e = refl
 
--- no D64 has so many bytes, where they are refused for that
+-- no D64 has a length that is refused
 pub no_part : {A : Type 0} → (told : Option ℕ) (part : Option A) (n m : ℕ) → told ≡ Some n → told ≡ (if is_some part then None else Some m) → part ≡ None
 no_part told None n m is refused = refl
 no_part told (Some part) n m is refused = cc
 
--- where so many bytes are not refused, they are a D64
+-- bytes of a length that is not refused are a D64
 pub a_part : (bytes : List ℕ) (n : ℕ) → None ≡ (if is_some (image_bytes (length bytes)) then None else Some n) → is_some (dump_of bytes) ≡ true
 unfolding dump_of d64_dump
 a_part bytes n kept = by_part (image_bytes (length bytes)) kept
@@ -118,7 +118,7 @@ d64_is_one bytes there = by_part (image_bytes (length bytes)) there
     by_part None e = absurd (cc)
     by_part (Some count) e = refl
 
--- other bytes are one where they are a G64
+-- other bytes are a dump if they are a G64
 pub g64_is_one : (bytes : List ℕ) (begins sound : Bool) → is_some (image_bytes (length bytes)) ≡ false → begins ≡ begins_as_g64 bytes → sound ≡ is_g64 bytes
     → (begins && sound) ≡ is_some (dump_of bytes)
 g64_is_one bytes begins sound none begins_is sound_is =

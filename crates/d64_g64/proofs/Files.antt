@@ -33,7 +33,7 @@ has_entry file number offset h is =
     ap (λ (x : ℕ). not (nat_eq x 0) && leb (x + 2) (length file)) is
     ∙ sym (ap (λ (b : Bool). b && not (offset_of file number == 0) && leb (offset_of file number + 2) (length file)) (lt-ltb (2 * number - 2) (entries file) h))
 
--- where its length stands, its entry and its length are there
+-- if its length is in the file, its entry and its length are there
 pub there : (file : List ℕ) (number : ℕ) → true ≡ has_track file number → (2 * number - 2 < entries file) × (offset_of file number + 2 ≤ length file)
 unfolding has_track
 there file number h =

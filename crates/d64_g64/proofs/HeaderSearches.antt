@@ -86,7 +86,7 @@ code_one id track number sector pair is =
 abbrev pub good_one : Option (ℕ × ℕ) → List ℕ → ℕ → ℕ → Option (ℕ × ℕ)
 good_one id track number sector = find (λ pair. names track number sector pair && (header_code id track pair == 1)) (start_pairs track)
 
--- the block, where that search found a header
+-- the block, if that search found a header
 pub good_block : (id : Option (ℕ × ℕ)) (track : List ℕ) (number sector : ℕ) (there : Bool) (block : List ℕ) (found : Option (ℕ × ℕ))
     → good_one id track number sector ≡ found → there ≡ true → (length (starts_on track) ≡ 0 → ⊥)
     → MatchOption found (there ≡ false) (λ pair. (there ≡ true) × (block ≡ bytes_behind track pair.1))
@@ -97,7 +97,7 @@ good_block id track number sector there block (Some pair) is yes_there some read
   read.1 ∙ bytes_with id track number sector (Some pair) (found_good id track number sector pair is),
 )
 
--- and where it found none
+-- and if it found no header
 pub no_good : (there : Bool) (found : Option (ℕ × ℕ)) (A : ℕ × ℕ → Type 0) → there ≡ false → MatchOption found (there ≡ false) (λ pair. (there ≡ true) × A pair) → found ≡ None
 no_good there None A not_there none = refl
 no_good there (Some pair) A not_there read = let wrong : true ≡ false = sym read.0 ∙ not_there in absurd (cc)

@@ -70,7 +70,7 @@ filter_one p a (suc n) (suc z) h only =
         let f : a + 1 + m ≡ a + suc m = omega arith in
         let same : suc m ≡ suc z = only (suc m) (omega arith) (ap p (sym f) ∙ passes) in omega arith
 
--- where the eleven bits that end at a place are ten ones and a zero, the last byte lies between
+-- if the eleven bits that end at a place are ten ones and a zero, the last byte lies between
 -- these bounds, which are those of its highest zero
 bounds : (w m : ℕ) → m < 8 → w / 2 ^ (7 - m) % 2048 ≡ 2046 → (256 - 2 ^ (8 - m) ≤ w % 256) × (w % 256 < 256 - 2 ^ (7 - m))
 bounds w zero h is = (omega arith, omega arith)
@@ -99,7 +99,7 @@ one_place w z m hz hm low high is =
       ]
     ]
 
--- a place is a start where the eleven bits that end there, in three bytes, are ten ones and a zero
+-- a place is a start if the eleven bits that end there, in three bytes, are ten ones and a zero
 pub start_by_bytes : (track : List ℕ) (at back m : ℕ) → AreBytes track → 0 < length track → m < 8
     → ((back ≡ at + 2 * length track - 2) ⊎ (back + 2 * length track ≡ at + 2 * length track - 2))
     → is_start track (8 * at + m) ≡ (three track back / 2 ^ (7 - m) % 2048 == 2046)
@@ -126,7 +126,7 @@ starts_in_byte track at back z are some h back_is low high =
     eqb_true : (a b : ℕ) → (a == b) ≡ true → a ≡ b
     eqb_true a b e = elim (eqb_tells a b) [ inl same ↦ same.1 | inr other ↦ let wrong : true ≡ false = sym e ∙ other.0 in absurd (cc) ]
 
--- a byte without a zero has none
+-- a byte without a zero has no start
 pub no_start_in_byte : (track : List ℕ) (at back : ℕ) → AreBytes track → 0 < length track
     → ((back ≡ at + 2 * length track - 2) ⊎ (back + 2 * length track ≡ at + 2 * length track - 2))
     → three track back % 256 ≡ 255 → starts_in track at ≡ []
@@ -170,7 +170,7 @@ starts_more track at =
     ∙ filter-append (is_start track) (range_with_len 0 (8 * at)) (range_with_len (0 + 8 * at) 8)
     ∙ ap (λ (x : ℕ). filter (is_start track) (range_with_len 0 (8 * at)) ++ filter (is_start track) (range_with_len x 8)) f
 
--- a byte whose predecessor doesn't end in three ones has none
+-- a byte whose predecessor doesn't end in three ones has no start
 three_ones : (w m : ℕ) → m < 8 → w / 2 ^ (7 - m) % 2048 ≡ 2046 → w / 256 % 8 ≡ 7
 three_ones w zero h is = omega arith
 three_ones w (suc zero) h is = omega arith

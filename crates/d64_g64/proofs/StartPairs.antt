@@ -4,7 +4,7 @@ use Rattle.std.specs.List.{find}
 use Rattle.std.proofs.lemmas.Bool.{lt-ltb, le-ltb, cases_lt}
 use Rattle.d64_g64.specs.Starts.{with_next, next_of, paired}
 
--- the start after one of a list, where this one comes after the last
+-- the start after one of a list, if this one comes after the last
 abbrev next_from : ℕ → List ℕ → ℕ → ℕ
 next_from first starts place = cond (ltb (place + 1) (length starts)) (get_or starts (place + 1) 0) first
 

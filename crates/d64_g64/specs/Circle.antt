@@ -3,15 +3,15 @@ use Rattle.std.specs.Prelude.{ℕ, zero, suc, ◌+◌, ◌-◌, ◌*◌, ◌/◌
 use Rattle.std.specs.Int.{bit_at}
 use Rattle.d64_image.specs.Disk.{Bytes}
 
--- a track has a byte at least, and no more than two bytes can count
+-- a track has at least one byte, and no more than a number of two bytes can count
 abbrev pub IsTrack : Bytes → Type 0
 IsTrack track = (0 < length track) × (length track < 65536)
 
--- the byte at a place, which is counted round the circle
+-- the byte at a place, counted round the circle
 unfoldable pub byte_on : Bytes → ℕ → ℕ
 byte_on track place = slice_index track (place % length track)
 
--- the bit at a place of the circle: eight a byte, the highest first
+-- the bit at a place of the circle: eight in each byte, the highest first
 unfoldable pub bit_on : Bytes → ℕ → ℕ
 bit_on track place = bit_at (byte_on track (place / 8)) (7 - place % 8)
 

@@ -8,11 +8,11 @@ use Rattle.d64_g64.specs.Circle.{bits_from}
 abbrev pub nibble_codes : List ℕ
 nibble_codes = 10 ∷ 11 ∷ 18 ∷ 19 ∷ 14 ∷ 15 ∷ 22 ∷ 23 ∷ 9 ∷ 25 ∷ 26 ∷ 27 ∷ 13 ∷ 29 ∷ 30 ∷ 21 ∷ []
 
--- the nibble of a code; none where it is no code
+-- the nibble of a code; None if it is no code
 unfoldable pub nibble_of : ℕ → Option ℕ
 nibble_of code = position (nat_eq code) nibble_codes
 
--- the byte of two nibbles, the high one first; none where one of them is none
+-- the byte of two nibbles, the high one first; None if one of them is missing
 abbrev pub joined : Option ℕ → Option ℕ → Option ℕ
 joined None low = None
 joined (Some high) None = None
@@ -22,27 +22,27 @@ joined (Some high) (Some low) = Some (16 * high + low)
 unfoldable pub byte_of_bits : ℕ → Option ℕ
 byte_of_bits bits = joined (nibble_of (bits / 32)) (nibble_of (bits % 32))
 
--- byte k of a place: that of the ten bits from ten times k further on
+-- byte k from a place: that of the ten bits from ten times k further on
 unfoldable pub value_at : Bytes → ℕ → ℕ → Option ℕ
 value_at track place k = byte_of_bits (bits_from track (place + 10 * k) 10)
 
--- that byte, and 0 where it has no value
+-- a value, or 0 if there is no value
 abbrev pub value_or_zero : Option ℕ → ℕ
 value_or_zero None = 0
 value_or_zero (Some value) = value
 
--- there is a value, and it is this one
+-- whether there is a value, and it is this one
 abbrev pub is_value : Option ℕ → ℕ → Bool
 is_value None wanted = false
 is_value (Some value) wanted = value == wanted
 
--- the exclusive or of two bytes; none where one of them has no value
+-- the exclusive or of two bytes; None if one of them has no value
 abbrev pub xor_of : Option ℕ → Option ℕ → Option ℕ
 xor_of None other = None
 xor_of (Some value) None = None
 xor_of (Some value) (Some other) = Some (bit_xor value other)
 
--- both have values, and these are equal
+-- whether both bytes have values, and these are equal
 abbrev pub are_equal : Option ℕ → Option ℕ → Bool
 are_equal value None = false
 are_equal value (Some other) = is_value value other

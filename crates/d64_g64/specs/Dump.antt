@@ -12,7 +12,7 @@ use Rattle.d64_g64.specs.File.{track_of}
 abbrev pub id_in : Bytes → Option (ℕ × ℕ)
 id_in file = disk_id (track_of file 18)
 
--- the code of a block, and its bytes, by the track on which it lies
+-- the code of a block and its bytes, by the track that has it
 unfoldable pub block_code : Bytes → ℕ → ℕ
 block_code file block = code_of (id_in file) (track_of file (pair_at block).0) (pair_at block).0 (pair_at block).1
 
@@ -26,7 +26,7 @@ first_codes file count = map (block_code file) (range_with_len 0 count)
 unfoldable pub first_blocks : Bytes → ℕ → Disk
 first_blocks file count = map (block_bytes file) (range_with_len 0 count)
 
--- how many blocks the dump has, by their codes: those of 40 tracks where more than half of the 85
+-- how many blocks the dump has, by their codes: those of 40 tracks if more than half of the 85
 -- blocks of tracks 36 to 40 have code 1, else those of 35
 unfoldable pub kept_count : Bytes → ℕ
 kept_count codes = if nat_lt 85 (2 * count_by (λ code. code == 1) (drop 683 codes)) then 768 else 683

@@ -3,7 +3,7 @@ use Rattle.std.specs.Prelude.{Bool, true, false, Result, Ok, Err}
 use Rattle.d64_g64.specs.declared.fault.G64Fault.{G64Fault}
 use Rattle.d64_g64.specs.declared.fault.G64Fault.TheVariants.{Bad, Memory}
 
--- the bytes were refused as no G64; not where they made a dump, or memory was wanting
+-- whether bytes were refused as a bad G64; false if they made a dump, or memory was out
 abbrev pub was_bad : {A : Type 0} → Result A G64Fault → Bool
 was_bad (Ok dump) = false
 was_bad (Err Bad) = true

@@ -3,7 +3,7 @@ use Rattle.std.specs.Prelude.{ℕ, ◌+◌, ◌-◌, ◌*◌, ◌==◌, ◌&&◌
 use Rattle.std.specs.Cmp.Lexicographic.{pointwise}
 use Rattle.d64_image.specs.Disk.{Bytes}
 
--- the file begins with the text of a G64
+-- whether a file begins with the text of a G64
 unfoldable pub begins_as_g64 : Bytes → Bool
 begins_as_g64 file = pointwise nat_eq (take 8 file) (codes "GCR-1541")
 
@@ -18,25 +18,25 @@ number_of_four file place = number_of_two file place + 65536 * number_of_two fil
 abbrev pub entries : Bytes → ℕ
 entries file = slice_index file 9
 
--- the file has its header of twelve bytes, the version is 0, and four bytes a track for its place
--- and four for its speed are there
+-- whether the file has its header of twelve bytes, its version is 0, and it has four bytes for the
+-- place of each track and four for its speed
 unfoldable pub is_g64 : Bytes → Bool
 is_g64 file = nat_le 12 (length file) && (slice_index file 8 == 0) && nat_le (12 + 8 * entries file) (length file)
 
--- where a whole track's length stands, from 0: entry 0 is track 1, entry 2 track 2
+-- the place of a whole track's length, from 0: entry 0 is for track 1, entry 2 for track 2
 unfoldable pub offset_of : Bytes → ℕ → ℕ
 offset_of file number = number_of_four file (4 + 8 * number)
 
--- the file has the track: its entry is there and isn't 0, and the two bytes of its length are there
+-- whether the file has the track: it has its entry, which isn't 0, and the two bytes of its length
 unfoldable pub has_track : Bytes → ℕ → Bool
 has_track file number =
     nat_lt (2 * number - 2) (entries file) && not (offset_of file number == 0) && nat_le (offset_of file number + 2) (length file)
 
--- count bytes from a place on; those that the file hasn't are 0
+-- count bytes from a place on; bytes past the file's end are 0
 abbrev pub padded : Bytes → ℕ → ℕ → Bytes
 padded file place count = take count (drop place file) ++ replicate (count - (length file - place)) 0
 
--- the bytes of a whole track; no bytes where there is no such track
+-- the bytes of a whole track; no bytes if there is no such track
 unfoldable pub track_of : Bytes → ℕ → Bytes
 track_of file number =
     if has_track file number

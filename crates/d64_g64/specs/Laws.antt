@@ -13,19 +13,19 @@ use Rattle.d64_g64.specs.Dump.{id_in, block_code, block_bytes, g64_dump}
 abbrev pub AnyBytesMakeADump : Type 0
 AnyBytesMakeADump = (file : Bytes) → IsDump (g64_dump file)
 
--- a good header of the block, with the disk's id where there is one, and behind it a data block
--- whose checksum is right
+-- whether a pair is a good header of the block, with the disk's id if there is one, followed by a
+-- data block whose checksum is right
 abbrev pub is_sound : Bytes → Bytes → ℕ → ℕ × ℕ → Bool
 is_sound file track block pair =
     (names track (pair_at block).0 (pair_at block).1 pair && is_good track pair && not (has_other_id (id_in file) track pair)) && (is_data track pair.1 && is_whole track pair.1)
 
--- a block has code 1 exactly where its track holds such a header
+-- a block has code 1 exactly if its track has such a header
 abbrev pub CodeOneIsASoundBlock : Type 0
 CodeOneIsASoundBlock =
     (file : Bytes) (block : ℕ)
     → (block_code file block ≡ 1) ↔ (is_some (find (is_sound file (track_of file (pair_at block).0) block) (start_pairs (track_of file (pair_at block).0))) ≡ true)
 
--- its bytes are then those behind the first such header
+-- the bytes of such a block are those behind the first such header
 abbrev pub SoundBytesAreTheFirst : Type 0
 SoundBytesAreTheFirst =
     (file : Bytes) (block : ℕ) (pair : ℕ × ℕ)

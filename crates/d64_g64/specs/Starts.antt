@@ -8,7 +8,7 @@ use Rattle.d64_g64.specs.Circle.{bits_from}
 abbrev pub before : Bytes → ℕ → ℕ → ℕ
 before track place count = place + 16 * length track - count
 
--- the bit at the place is 0, and the ten before it are 1: together they make 11111111110
+-- whether a place is a start: its bit is 0, and the ten before it are 1, which makes 11111111110
 unfoldable pub is_start : Bytes → ℕ → Bool
 is_start track place = bits_from track (before track place 10) 11 == 2046
 
@@ -16,7 +16,7 @@ is_start track place = bits_from track (before track place 10) 11 == 2046
 unfoldable pub starts_in : Bytes → ℕ → List ℕ
 starts_in track at = filter (is_start track) (range_with_len (8 * at) 8)
 
--- the starts of a track, rising
+-- the starts of a track, ascending
 unfoldable pub starts_on : Bytes → List ℕ
 starts_on track = filter (is_start track) (range_with_len 0 (8 * length track))
 
@@ -24,7 +24,7 @@ starts_on track = filter (is_start track) (range_with_len 0 (8 * length track))
 abbrev pub next_of : List ℕ → ℕ → ℕ
 next_of starts place = if nat_lt (place + 1) (length starts) then slice_index starts (place + 1) else slice_index starts 0
 
--- each start with the next one on the circle, where the first one is the next of the last
+-- each start with the next one on the circle, so that the last one comes with the first
 unfoldable pub with_next : ℕ → List ℕ → List (ℕ × ℕ)
 with_next first [] = []
 with_next first (start ∷ []) = (start, first) ∷ []

@@ -17,8 +17,8 @@ fn make_blank(block: &mut [u8; BLOCK_BYTES])
     *block = [0; BLOCK_BYTES];
 }
 
-/// Reads a data block: its bytes, 0 for one without a value. Whether all have values and the
-/// checksum is right.
+/// Reads a data block: its bytes, 0 for one without a value. Returns whether all have values and
+/// the checksum is right.
 fn read_data(track: &[u8], start: usize, block: &mut [u8; BLOCK_BYTES]) -> bool
     requires track { IsTrack track.now }
     requires start { start < 8 * length track.now }
@@ -37,8 +37,8 @@ fn read_data(track: &[u8], start: usize, block: &mut [u8; BLOCK_BYTES]) -> bool
     whole & is_value(value_at(track, start, 257), sum)
 }
 
-/// Reads what follows a header, by the start after it: 1 where that is a whole data block, 5 where
-/// it isn't whole, 4 where it is none; and the bytes.
+/// Reads what follows a header, by the start after it. Returns 1 if it is a whole data block, 5 if
+/// it isn't whole, and 4 if it is no data block.
 #[tactic(auto, unfolding(crate::specs::Blocks::data_code, crate::specs::Blocks::bytes_behind))]
 fn read_next(track: &[u8], next: usize, block: &mut [u8; BLOCK_BYTES]) -> u8
     requires track { IsTrack track.now }
@@ -53,7 +53,7 @@ fn read_next(track: &[u8], next: usize, block: &mut [u8; BLOCK_BYTES]) -> u8
     if read_data(track, next, block) { 1 } else { 5 }
 }
 
-/// Reads what follows a header, and returns the header's code.
+/// Reads what follows a header. Returns the header's code.
 fn read_behind(
     track: &[u8],
     start: usize,
@@ -78,7 +78,8 @@ fn read_behind(
     }
 }
 
-/// Reads a block behind the first header that names it and has code 1. Whether there is one.
+/// Reads a block behind the first header that names it and has code 1. Returns whether there is
+/// one.
 fn read_good(
     track: &[u8],
     starts: &[u32],
@@ -104,7 +105,8 @@ fn read_good(
     false
 }
 
-/// Reads a block behind the first header that names it, and zeros where there is none. Its code.
+/// Reads a block behind the first header that names it, and zeros if there is no such header.
+/// Returns the code.
 fn read_first(
     track: &[u8],
     starts: &[u32],
@@ -129,7 +131,7 @@ fn read_first(
     2
 }
 
-/// Reads a block of a track: its code, and the bytes.
+/// Reads a block of a track. Returns its code.
 pub(crate) fn read_block(
     track: &[u8],
     starts: &[u32],

@@ -2,7 +2,7 @@
 ghost use Rattle.std.specs.Prelude.{◌≡◌, ℕ, ◌+◌, ◌*◌, ◌/◌, ◌%◌, ◌<◌, ◌≤◌, length};
 ghost use Rattle.d64_g64.specs.Circle.{IsTrack, byte_on, bits_from};
 
-/// The byte at a place not far past the track's end, which is counted round the circle.
+/// The byte at a place not far past the track's end, counted round the circle.
 fn byte_at(track: &[u8], place: usize) -> u8
     requires { IsTrack track.now }
     ensures { result ≡ byte_on track.now place }

@@ -5,13 +5,13 @@ ghost use Rattle.d64_g64.specs.Codes.{nibble_of, byte_of_bits, value_at, value_o
 
 use crate::circle::{around, ten_bits};
 
-/// The nibble of each code of five bits, and 16 for one that is no code.
+/// The nibble of each code of five bits, and 16 for bits that are no code.
 const NIBBLES: [u8; 32] = [
     16, 16, 16, 16, 16, 16, 16, 16, 16, 8, 0, 1, 16, 12, 4, 5, 16, 16, 2, 3, 16, 15, 6, 7, 16, 9,
     10, 11, 16, 13, 14, 16,
 ];
 
-/// The nibble of a code of five bits, or None where it is no code.
+/// The nibble of a code of five bits, or None if it is no code.
 fn nibble_of(code: u32) -> Option<u8>
     requires { code < 32 }
     ensures value { result ≡ nibble_of code }
@@ -21,7 +21,7 @@ fn nibble_of(code: u32) -> Option<u8>
     if nibble < 16 { Some(nibble) } else { None }
 }
 
-/// The byte of ten bits, or None where one of their two codes is none.
+/// The byte of ten bits, or None if one of its two halves is no code.
 #[tactic(auto, unfolding(crate::specs::Codes::byte_of_bits))]
 fn byte_of_bits(bits: u32) -> Option<u8>
     requires { bits < 1024 }
@@ -33,7 +33,7 @@ fn byte_of_bits(bits: u32) -> Option<u8>
     }
 }
 
-/// Byte k of a place of the track, from 0, or None where it has no value.
+/// Byte k from a place of the track, from 0, or None if it has no value.
 pub(crate) fn value_at(track: &[u8], place: usize, k: usize) -> Option<u8>
     requires track { IsTrack track.now }
     requires place { place < 8 * length track.now }
@@ -43,7 +43,7 @@ pub(crate) fn value_at(track: &[u8], place: usize, k: usize) -> Option<u8>
     byte_of_bits(ten_bits(track, around(track, place + 10 * k)))
 }
 
-/// A value, and 0 in the place of none.
+/// A value, or 0 if there is no value.
 pub(crate) fn value_or_zero(found: Option<u8>) -> u8
     ensures { result ≡ value_or_zero found }
 {
@@ -63,7 +63,7 @@ pub(crate) fn is_value(found: Option<u8>, wanted: u8) -> bool
     }
 }
 
-/// The exclusive or of two values, or None where one of them is none.
+/// The exclusive or of two values, or None if one of them is missing.
 pub(crate) fn xor_of(one: Option<u8>, other: Option<u8>) -> Option<u8>
     ensures { result ≡ xor_of one other }
 {

@@ -28,7 +28,7 @@ const BLOCKS_OF_35: usize = 683;
 /// How many blocks the tracks 36 to 40 have.
 const BLOCKS_BEYOND: usize = 85;
 
-/// The track whose headers say the disk's id.
+/// The track whose headers have the disk's id.
 const DIRECTORY_TRACK: u8 = 18;
 
 /// The track that is read: its bytes and its starts.
@@ -38,7 +38,7 @@ struct Track {
     starts: Vec<u32>,
 }
 
-/// What was read of a disk, block after block.
+/// What was read of a disk, block by block.
 #[derive(Drop)]
 struct Blocks {
     bytes: Vec<u8>,
@@ -139,7 +139,7 @@ fn kept_count(codes: &[u8]) -> usize
     }
 }
 
-/// Leaves the blocks that the dump has, and appends their codes to their bytes.
+/// Keeps the blocks that the dump has, and appends their codes to their bytes.
 fn close(blocks: &mut Blocks) -> Result<(), AllocError>
     requires { length blocks.old.codes.items ≡ 768 }
     ensures { OnOk result (blocks.new.bytes.items ≡ take (256 * kept_count blocks.old.codes.items) blocks.old.bytes.items ++ take (kept_count blocks.old.codes.items) blocks.old.codes.items) }
@@ -150,7 +150,7 @@ fn close(blocks: &mut Blocks) -> Result<(), AllocError>
     blocks.bytes.extend_from_slice(&blocks.codes)
 }
 
-/// Reads a dump into lists without items.
+/// Reads a dump into empty lists.
 fn read_blocks(blocks: &mut Blocks, file: &[u8], track: &mut Track) -> Result<(), AllocError>
     requires file { is_g64 file.now ≡ true }
     requires codes { blocks.old.codes.items ≡ [] }
@@ -163,9 +163,9 @@ fn read_blocks(blocks: &mut Blocks, file: &[u8], track: &mut Track) -> Result<()
     close(blocks)
 }
 
-/// Reads a file that begins as a G64: the bytes of its dump, those of a D64 with read codes. Any
-/// bytes are read; refused is only a file whose header or places of tracks are cut off, or whose
-/// version isn't 0.
+/// Reads a file that begins as a G64. Returns the bytes of its dump, those of a D64 with read
+/// codes. Any tracks are read; `Bad` comes only if the header or the places of the tracks are cut
+/// off, or the version isn't 0.
 pub fn read_g64(alloc: Global, file: &[u8]) -> Result<Vec<u8>, G64Fault>
     ensures refused { was_bad result ≡ not (is_g64 file.now) }
     ensures dump { IfOk result (λ bytes. bytes.items ≡ dump_bytes (g64_dump file.now)) }

@@ -1,4 +1,4 @@
-//! G64 files: where their tracks lie.
+//! G64 files and the places of their tracks.
 ghost use Rattle.std.specs.Prelude.{◌≡◌, ℕ, ◌+◌, ◌-◌, ◌*◌, ◌<◌, ◌≤◌, true, length, OnOk, if◌then◌else◌, Some, None};
 ghost use Rattle.d64_g64.specs.File.{begins_as_g64, number_of_two, number_of_four, is_g64, entries, offset_of, has_track, padded, track_of};
 
@@ -29,7 +29,7 @@ fn number_of_two(file: &[u8], place: usize) -> usize
     usize::from(file[place]) + 256 * usize::from(file[place + 1])
 }
 
-/// Where the length of a whole track stands, from 0, as its entry says.
+/// The place of the length of a whole track, from 0, as its entry has it.
 #[tactic(auto, unfolding(crate::specs::File::offset_of))]
 fn offset_of(file: &[u8], number: u8) -> usize
     requires { 4 + 8 * number + 4 ≤ length file.now }
@@ -53,7 +53,7 @@ fn has_track(file: &[u8], number: u8) -> bool
     offset != 0 && offset + 2 <= file.len()
 }
 
-/// Copies so many bytes of a file from a place on. Those that the file hasn't are 0.
+/// Copies `count` bytes of a file from a place on. Bytes past the file's end are 0.
 fn copy_padded(
     copy: &mut Vec<u8>,
     file: &[u8],
@@ -76,7 +76,7 @@ fn copy_padded(
     copy.resize(count, 0)
 }
 
-/// Copies the bytes of a whole track, none where the file has no such track.
+/// Copies the bytes of a whole track, or no bytes if the file has no such track.
 pub(crate) fn copy_track(copy: &mut Vec<u8>, file: &[u8], number: u8) -> Result<(), AllocError>
     requires file { is_g64 file.now ≡ true }
     requires number { (1 ≤ number) × (number < 41) }

@@ -8,7 +8,7 @@ ghost use Rattle.d64_g64.specs.Headers.{names, is_good, id_of, has_other_id, dis
 use crate::code::{are_equal, is_value, value_at, value_or_zero, xor_of};
 use crate::start::start_at;
 
-/// The id of a disk, as its headers have it: their bytes 5 and 4.
+/// The id of a disk, as its headers have it: bytes 5 and 4.
 pub(crate) type Id = (u8, u8);
 
 /// Whether a start is a header that names a track and a sector.
@@ -59,7 +59,8 @@ fn known_value(track: &[u8], start: usize, k: usize) -> u8
     value_or_zero(value_at(track, start, k))
 }
 
-/// The disk's id, of the starts of its track 18: that of the first good header of 18/0, or None.
+/// The disk's id, by the starts of its track 18: that of the first good header of 18/0, or None if
+/// there is no such header.
 pub(crate) fn disk_id(track: &[u8], starts: &[u32]) -> Option<Id>
     requires track { length track.now < 65536 }
     requires starts { starts.now ≡ starts_on track.now }

@@ -6,8 +6,8 @@ pub fn any_bytes_make_a_dump()
     ensures { AnyBytesMakeADump }
 {}
 
-/// A block has code 1 exactly where its track holds a good header of it, followed by a data block
-/// whose checksum is right, and its bytes are those of the first such data block.
+/// A block has code 1 exactly if its track has a good header of it, followed by a data block whose
+/// checksum is right; its bytes are those of the first such data block.
 pub fn code_one_is_a_sound_block()
     ensures code { CodeOneIsASoundBlock }
     ensures bytes { SoundBytesAreTheFirst }

@@ -1,8 +1,8 @@
 //! The dump that a file is read as: that of a D64, or that of a G64, which has the bits of each track
 //! as the drive's head saw them (the VICE manual, "The G64 GCR-encoded disk image format").
 //!
-//! A track is a circle of bits. After a sync, ten ones and more, the drive begins to read bytes, ten
-//! bits each: so it finds headers, which name blocks, and the data blocks that follow them.
+//! A track is a circle of bits. After a sync, ten ones or more, the drive begins to read bytes of
+//! ten bits each. It finds headers, which name blocks, and the data blocks that follow them.
 #![tactic(auto)]
 
 mod block;

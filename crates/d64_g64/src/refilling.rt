@@ -11,7 +11,7 @@ use crate::file::{begins_as_g64, is_g64};
 use d64_survey::{Dump, DumpFault};
 use std::alloc::Global;
 
-/// Whether a D64 has so many bytes.
+/// Whether a D64 can have this many bytes.
 fn is_d64_length(length: usize) -> bool
     ensures { result ≡ is_some (image_bytes length) }
 {
@@ -28,7 +28,7 @@ pub fn is_dump(file: &[u8]) -> bool
     begins_as_g64(file) && is_g64(file)
 }
 
-/// Puts the dump of a G64 in the place of the one that is there.
+/// Replaces a dump by that of a G64.
 fn refill_from_g64(dump: &mut Dump, alloc: Global, file: &[u8]) -> Result<(), DumpFault>
     ensures refused { wrong_length result ≡ (if is_g64 file.now then None else Some (length file.now)) }
     ensures filled { OnOk result (dump.new ≡ g64_dump file.now) }
@@ -41,9 +41,9 @@ fn refill_from_g64(dump: &mut Dump, alloc: Global, file: &[u8]) -> Result<(), Du
     }
 }
 
-/// Puts the dump that a file is, by its bytes, in the place of the one that is there: a D64 of one
-/// of the four lengths, or a G64. Where the bytes are neither the fault has their number, also
-/// where they are a bad G64, and the dump is as before.
+/// Replaces a dump by the one that a file is, by its bytes: a D64 of one of the four lengths, or a
+/// G64. The error `WrongLength` has the number of bytes if they are neither, or a bad G64, and then
+/// the dump is unchanged.
 pub fn refill_from(dump: &mut Dump, alloc: Global, file: &[u8]) -> Result<(), DumpFault>
     ensures refused { wrong_length result ≡ (if is_some (dump_of file.now) then None else Some (length file.now)) }
     ensures filled { OnOk result (dump_of file.now ≡ Some dump.new) }

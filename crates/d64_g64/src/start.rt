@@ -7,8 +7,7 @@ ghost use Rattle.d64_g64.specs.Starts.{is_start, starts_in, starts_on, next_of};
 use crate::circle::three_bytes;
 use std::alloc::AllocError;
 
-/// The place of a byte's highest bit that is 0, counted from the highest bit, or None where all are
-/// 1.
+/// The place of a byte's highest bit that is 0, counted from the highest bit, or None if all are 1.
 fn first_zero(byte: u8) -> Option<u32>
     ensures some { IfSome result (λ place. (place < 8) × (256 - 2 ^ (8 - place) ≤ byte) × (byte < 256 - 2 ^ (7 - place))) }
     ensures none { IfNone result (byte ≡ 255) }
@@ -26,7 +25,7 @@ fn first_zero(byte: u8) -> Option<u32>
     }
 }
 
-/// The byte before another one of the track, which is a circle.
+/// The byte before another one of the track, counted round the circle.
 fn byte_before(track: &[u8], at: usize) -> u8
     requires track { IsTrack track.now }
     requires at { at < length track.now }
@@ -54,7 +53,7 @@ fn two_before(track: &[u8], at: usize) -> usize
 }
 
 /// The start among the eight places of a byte of the track, or None. There is at most one, at the
-/// byte's first bit that is 0, and none where the byte before doesn't end in three ones.
+/// byte's first bit that is 0, and only if the byte before ends in three ones.
 fn start_in(track: &[u8], at: usize) -> Option<u32>
     requires track { IsTrack track.now }
     requires at { at < length track.now }
@@ -76,7 +75,7 @@ fn start_in(track: &[u8], at: usize) -> Option<u32>
     }
 }
 
-/// Lists the starts of a track, rising, in the place of those of another one.
+/// Replaces a list by the starts of a track, ascending.
 pub(crate) fn list_starts(starts: &mut Vec<u32>, track: &[u8]) -> Result<(), AllocError>
     requires { length track.now < 65536 }
     ensures { OnOk result (starts.new.items ≡ starts_on track.now) }
@@ -104,7 +103,7 @@ pub(crate) fn start_at(track: &[u8], starts: &[u32], place: usize) -> usize
     starts[place] as usize
 }
 
-/// The start of a track after another one, where the first one comes after the last.
+/// The start of a track after another one. The first one comes after the last one.
 pub(crate) fn next_start(track: &[u8], starts: &[u32], place: usize) -> usize
     requires track { length track.now < 65536 }
     requires starts { starts.now ≡ starts_on track.now }
