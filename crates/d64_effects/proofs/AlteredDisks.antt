@@ -1,4 +1,4 @@
--- disks whose slots and map are changed, and whose files lie where they lay
+-- disks whose slots and map are changed, and whose files stay in their places
 use Rattle.std.proofs.Common.{◌≡◌, ◌≢◌, ℕ, ◌+◌, ◌<◌, ◌≤◌, ◌==◌, true, false, eqb, eq-eqb, nat_eq, List, [], length, map, drop, take, get_or, refl, sym, ap, ap₂, ◌∙◌, subst, arith}
 use Rattle.std.specs.Prelude.{All, filter}
 use Rattle.std.specs.List.{list_any, flat_map, range_with_len, IsDistinct}
@@ -26,7 +26,7 @@ use Rattle.d64_effects.proofs.SlotChanges.{SlotsChanged}
 use Rattle.d64_effects.proofs.TakenBlocks.{occurs-owned}
 
 -- an image with other slots, another map, and this field of the name and this id, whose directory
--- and files lie where they lay
+-- and files stay in their places
 pub record AlteredTo (image other cells : List (List ℕ)) (free : set.FinSet nat_cmp) (field code : List ℕ) : Type 0 where
   pub is_image : IsImage other
   pub long : length other ≡ length image
@@ -49,7 +49,7 @@ unfolding free_blocks is_free
 free_blocks-same image other long e =
     ap₂ (λ (n : ℕ) (bytes : List ℕ). set.from_list {R = nat_cmp} (filter (λ block. bit_in bytes (pair_at block).0 (pair_at block).1 == 1) (range_with_len 0 n))) long e
 
--- the image with changed slots, where its map stays
+-- the image with changed slots and an unchanged map
 pub same_map : (image one cells : List (List ℕ)) → SlotsChanged image one cells → occurs map_block (directory image) ≡ 0 → CountsFit image
     → Altered image one cells (free_blocks image)
 same_map image one cells changed apart fit =
@@ -169,7 +169,7 @@ module _ {field code : List ℕ} (image other cells : List (List ℕ)) (free : s
       let one = once q in
       omega arith)
 
-  -- so the image is sound, where none of these blocks is marked free
+  -- so the image is sound, if no block of these is marked free
   pub sound_held : All HasKind cells → ((q : ℕ) → 1 ≤ held_by image cells q → set.contains free q ≡ false) → IsSound other
   sound_held kinds unfree WrongCounts from to = left.counts
   sound_held kinds unfree NoDirectory from to = λ e. some (sym left.blocks ∙ e)

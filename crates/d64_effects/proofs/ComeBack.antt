@@ -70,7 +70,7 @@ over bytes start x y inside =
       ]
     ])
 
--- a byte that is written where it stands
+-- a byte that is written over itself
 pub rewritten : (bytes : List ℕ) (start byte : ℕ) → start < length bytes → get_or bytes start 0 ≡ byte → written_at bytes start (byte ∷ []) ≡ bytes
 rewritten bytes start byte inside is =
     let n = length-written_at bytes (byte ∷ []) start (omega arith) in

@@ -126,7 +126,7 @@ directory-is_chain image =
     by_test true e = refl
     by_test false e = sym (ap (λ (b : Bool). cond b (chain_by (length image) image directory_start (link_of image directory_start)) []) e)
 
--- where there is a directory, it is the chain that the relation admits
+-- if there is a directory, it is the chain that the relation admits
 pub Chain-directory : (image : List (List ℕ)) → directory image ≢ [] → Chain image directory_start (directory image)
 Chain-directory image some = is_chain image directory_start (directory image) (sym (directory-is_chain image)) some
 
@@ -144,7 +144,7 @@ pub directory-same : (image other : List (List ℕ)) → directory image ≢ [] 
 directory-same image other some long alike =
     directory-from_Chain other (directory image) (kept image other directory_start (directory image) (Chain-directory image some) long alike)
 
--- where there is a slot, there is a directory
+-- if there is a slot, there is a directory
 pub directory-of_slot : (image : List (List ℕ)) (slot : ℕ) → slot < length (slots image) → directory image ≢ []
 directory-of_slot image slot there none =
     let e : length (slots image) ≡ 0 = ap (λ (blocks : List ℕ). length (slots_in image blocks)) none in absurd (omega arith)
@@ -178,7 +178,7 @@ directory-within image block some found = within image directory_start (director
 pub slot_block-within : (image : List (List ℕ)) (slot : ℕ) → directory image ≢ [] → slot < length (slots image) → slot_block image slot < length image
 slot_block-within image slot some there = directory-within image (slot_block image slot) some (slot_block-is_held image slot there)
 
--- a block isn't another that stands before it in the directory
+-- a block isn't another one that comes before it in the directory
 not_before : (image : List (List ℕ)) (i j : ℕ) → directory image ≢ [] → i < j → j < length (directory image)
     → get_or (directory image) i 0 ≢ get_or (directory image) j 0
 not_before image i j some less here e =

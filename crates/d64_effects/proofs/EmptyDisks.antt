@@ -116,7 +116,7 @@ unfolding formatted_disk
 length-formatted_disk count size name id =
     length-with_map (with_sector (with_sector (blank_disk count) map_block (header name id)) directory_start empty_directory) (free_when_formatted count) ∙ length-parts count size name id
 
--- a track that the directory's sum counts, of so many tracks
+-- a track that the directory's sum counts, of n tracks
 abbrev is_counted : ℕ → ℕ → Bool
 is_counted tracks track = nat_le 1 track && (nat_le track tracks && not (nat_eq track 18))
 

@@ -1,4 +1,4 @@
--- what the image holds where a file's bytes were written along blocks
+-- the image after a file's bytes are written along blocks
 use Rattle.std.proofs.Common.{◌≡◌, ℕ, suc, ◌+◌, ◌-◌, ◌*◌, ◌<◌, ◌≤◌, Bool, true, false, cond, eqb, nat_eq, List, [], ◌∷◌, ◌++◌, length, get_or, take, drop, Option, Some, None, refl, sym, ap, ap₂, ◌∙◌, subst, inl, inr, arith}
 use Rattle.std.specs.Prelude.{All, slice_index}
 use Rattle.std.specs.List.{list_any, IsDistinct}
@@ -21,7 +21,7 @@ use Rattle.d64_files.proofs.FileBlocks.{needs_one, fills_first, needs_less}
 use Rattle.d64_files.proofs.Repeats.{not_among}
 use Rattle.d64_effects.specs.Laws.{AreBytes}
 
--- blocks that a file's bytes fit: as many as it needs, different ones, each one of so many in all
+-- blocks that a file's bytes fit: as many as it needs, different ones, each one of n in all
 pub record Fits (total : ℕ) (taken bytes : List ℕ) : Type 0 where
   pub count : length taken ≡ blocks_for (length bytes)
   pub distinct : IsDistinct nat_eq taken
@@ -42,7 +42,7 @@ rest_needs n k e =
     let less = needs_less n more in
     (more, omega arith)
 
--- blocks that so many bytes fill: each but the last one whole
+-- blocks that these bytes fill: each but the last one whole
 FilledBy : List ℕ → ℕ → Type 0
 FilledBy [] n = ⊥
 FilledBy (block ∷ []) n = n ≤ 254
@@ -141,7 +141,7 @@ IsBlock-last_block bytes bytes_are few =
 IsImage-with_sector : (image : List (List ℕ)) (block : ℕ) (bytes : List ℕ) → IsImage image → IsBlock bytes → IsImage (with_sector image block bytes)
 IsImage-with_sector image block bytes is one = (subst IsSize (sym (length-set image block bytes)) is.0, All-set IsBlock image block bytes one is.1)
 
--- blocks of an image of so many
+-- blocks of an image of n blocks
 module _ (total : ℕ) (most : total ≤ BLOCKS) where
   -- what is written along the blocks leaves an image
   IsImage-filled : (image : List (List ℕ)) (taken bytes : List ℕ) → IsImage image → AreBytes bytes → FilledBy taken (length bytes)
@@ -216,7 +216,7 @@ linked : (image : List (List ℕ)) (block next : ℕ) (rest : List ℕ) → next
 linked image block next rest inside there e =
     ap (λ (sector : List ℕ). led_by image (get_or sector 0 0, get_or sector 1 0)) e ∙ leads_to image next inside there
 
--- blocks of an image of so many
+-- blocks of an image of n blocks
 module _ (total : ℕ) (most : total ≤ BLOCKS) where
   -- what is written along the blocks is a chain
   Chain-along : (image : List (List ℕ)) (block : ℕ) (others bytes : List ℕ) → length image ≡ total → IsDistinct eqb (block ∷ others)
@@ -253,7 +253,7 @@ data_of-linked_block next bytes inside =
     ap (λ (t : Bool). cond t (take ((pair_at next).1 + 1 - 2) (take 254 bytes)) (take 254 (take 254 bytes))) (track_some next inside)
     ∙ take_all 254 (take 254 bytes) (omega (arith, length-take 254 bytes))
 
--- the data of the last one are as many as its byte 1 tells
+-- the data of the last one are as many as its byte 1 says
 data_of-last_block : (bytes : List ℕ) → data_of (last_block bytes) ≡ bytes
 data_of-last_block bytes =
     let e : length bytes + 1 + 1 - 2 ≡ length bytes = omega arith in
@@ -267,7 +267,7 @@ data_along-same image other (block ∷ blocks) same =
     let P : ℕ → Type 0 = λ b. sector_at other b ≡ sector_at image b in
     ap₂ (λ (xs ys : List ℕ). xs ++ ys) (ap data_of (All-head P block blocks same)) (data_along-same image other blocks (All-tail P block blocks same))
 
--- blocks of an image of so many
+-- blocks of an image of n blocks
 module _ (total : ℕ) (most : total ≤ BLOCKS) where
   -- the data along the blocks are what was written
   data_along-filled : (image : List (List ℕ)) (taken bytes : List ℕ) → length image ≡ total → IsDistinct eqb taken → All (λ block. block < total) taken

@@ -63,7 +63,7 @@ map_block-formatted_disk count size name id =
     (get_or-set_other (with_sector (blank_disk count) map_block (header name id)) directory_start map_block empty_directory [] (λ e. omega arith)
     ∙ get_or-set_same (blank_disk count) map_block (header name id) [] (let l = length-blank_disk count size in omega arith))
 
--- a directory whose first block is linked to none
+-- a directory whose first block has no link
 directory-of_one : (image : List (List ℕ)) → directory_start < length image → slice_index (sector_at image directory_start) 0 ≡ 0
     → directory image ≡ directory_start ∷ []
 unfolding block_in led_by
@@ -149,7 +149,7 @@ holds-formatted_disk count size name id MarkedFree =
     (All-cons P map_block (directory_start ∷ []) (is_marked count size name id map_block (contains-free count size map_block))
     (All-cons P directory_start [] (is_marked count size name id directory_start (contains-free count size directory_start)) (All-nil P)))
 
--- the map's block is as it was where the label stands
+-- the map's block is unchanged at the label
 pub part-map_for : (tracks : ℕ) (bytes : List ℕ) (free : set.FinSet nat_cmp) (n count : ℕ) → length bytes ≡ 256 → 144 ≤ n → n + count ≤ 192
     → take count (drop n (map_for tracks bytes free)) ≡ take count (drop n bytes)
 part-map_for tracks bytes free n count long past before =

@@ -163,7 +163,7 @@ slot_view-unused image cell unused = ap (λ (used : Bool). cond used (Some (file
 abbrev pub Framed : List (List ℕ) → List (List ℕ) → List ℕ → Type 0
 Framed image other cell = HasItsChains image cell × Agree image other (owned_by image cell)
 
--- where the blocks of all slots hold the same, those of each do
+-- if the blocks of all slots have the same bytes, those of each do
 pub framed : (image other : List (List ℕ)) (cells : List (List ℕ)) → All (HasItsChains image) cells
     → Agree image other (flat_map (owned_by image) cells) → All (Framed image other) cells
 framed image other [] has agree = All-nil (Framed image other)

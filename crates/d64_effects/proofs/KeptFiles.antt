@@ -1,4 +1,4 @@
--- files that a command doesn't name stay where they are
+-- files that a command doesn't name keep their places
 use Rattle.std.proofs.Common.{◌≡◌, ◌≢◌, ℕ, ◌<◌, zero, suc, arith, Bool, true, false, not, cond, List, [], ◌∷◌, ◌++◌, length, map, get_or, set, Option, Some, None, refl, sym, ap, ◌∙◌}
 use Rattle.std.specs.Prelude.{position, slice_get, replicate, bytes_eq}
 use Rattle.std.proofs.lemmas.List.{get_or-map, length-map}

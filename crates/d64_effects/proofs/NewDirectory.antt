@@ -46,7 +46,7 @@ length-slot image slot is some within =
     ap length (slot_at_place image (directory image) slot here)
     ∙ length-cell (sector_at image block) (slot % 8) (is.1 block [] inside).0 (omega arith)
 
--- a block that isn't among others is none of them
+-- a block that isn't in a list is not one of its blocks
 pub other_block : (block one : ℕ) (others : List ℕ) → occurs block others ≡ 0 → list_any (nat_eq one) others ≡ true → block ≢ one
 other_block block one others absent present e =
     let f = occurs-present one others present in
@@ -97,7 +97,7 @@ in_growth image new entry is some within fresh long bytes =
     new_is_there : (new : ℕ) → list_any (nat_eq new) (new ∷ []) ≡ true
     new_is_there new = ap (λ (b : Bool). b || false) (eq-eqb new new refl)
 
--- either of them, as the directory has an unused slot or none
+-- either of them, as the directory has an unused slot or not
 by_place : (image : List (List ℕ)) (entry : List ℕ) → IsImage image → IsSound image → length entry ≡ 30 → All (λ byte. byte < 256) entry
     → (place : Option ℕ) → first_unused (slots image) ≡ place → (place ≡ None → next_of_directory (free_blocks image) (dir_last image) ≢ None)
     → NewEntry image (with_entry_in image place (grown_by (free_blocks image) (dir_last image) place) entry) place

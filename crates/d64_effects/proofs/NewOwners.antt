@@ -126,7 +126,7 @@ module _ (image other : List (List ℕ)) (name : List ℕ) (kind : Kind) (bytes 
       let cell : List ℕ = get_or (slots image) slot [] in
       (omega arith, get_or-map (owned_by image) (slots image) slot [] [] p.0 ∙ owned_by-unused image cell (not-true (is_used cell) p.1))
 
-  -- a block is owned as often as before, and once more where it was taken
+  -- a block is owned as often as before, and once more if it was taken
   occurs-owned_after : (q : ℕ) → occurs q (owned_blocks other) ≡ occurs q (owned_blocks image) + occurs q grown + occurs q taken
   occurs-owned_after q =
       let before = occurs-owned image q in
@@ -156,7 +156,7 @@ module _ (image other : List (List ℕ)) (name : List ℕ) (kind : Kind) (bytes 
         ]
       ])
 
-  -- none is marked free
+  -- no block is marked free
   pub none_free_after : NoneIsFree other (owned_blocks other)
   none_free_after = All-from_occurs (λ block. set.contains (free_blocks other) block ≡ false) (owned_blocks other) (λ q there.
       let after = occurs-owned_after q in

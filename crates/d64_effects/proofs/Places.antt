@@ -1,4 +1,4 @@
--- where the map and the directory begin
+-- the blocks at which the map and the directory begin
 use Rattle.std.proofs.Common.{◌≡◌, Some, arith}
 use Rattle.d64_image.specs.Block.{block_of, first_block}
 use Rattle.d64_image.proofs.Pairs.{block_of-legal}

@@ -121,7 +121,7 @@ unseen f cells place new there same =
     map-set f cells place new ∙ ap (set (map f cells) place) (same ∙ sym (get_or-map f cells place [] (f new) there))
     ∙ set-get_or (map f cells) place (f new)
 
--- the file of a slot in which another name stands
+-- the file of a slot with another name
 first_shown : (image : List (List ℕ)) (cell new : List ℕ) (cells : List (List ℕ)) (old : List ℕ) (place : Option ℕ)
     → (rows : List (Option FileView))
     → slot_view image (named cell new) ≡ cond (is_used cell) (Some (with_field (file_view image cell) new)) None

@@ -49,7 +49,7 @@ map-same f g (row ∷ rows) all =
 pub joined-map : {A : Type 0} (f : A → List ℕ) (rows : List A) → joined (map f rows) ≡ flat_map f rows
 joined-map f rows = flat_map-map (λ xs. xs) f rows
 
--- the first of rows that passes a test stands where the first passes that is made of them
+-- the first row that passes a test is at the place of the first row made of it that passes
 first_mapped : {A B : Type 0} (f : A → B) (passes : B → Bool) (test : A → Bool) (n : ℕ) (rows : List A) → ((row : A) → passes (f row) ≡ test row)
     → position_from passes n (map f rows) ≡ position_from test n rows
 first_mapped f passes test n [] agree = refl

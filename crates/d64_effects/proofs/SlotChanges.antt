@@ -152,7 +152,7 @@ changed_again image one other cells others first second = record {
 abbrev pub cleared : List ℕ → List ℕ
 cleared old = written_at old 2 (0 ∷ [])
 
--- the same where the slot passes a test
+-- the same if the slot passes a test
 abbrev pub cleared_if : (List ℕ → Bool) → List ℕ → List ℕ
 cleared_if test old = cond (test old) (cleared old) old
 
@@ -164,7 +164,7 @@ one_cleared image slot is there =
     slot_changed image slot 2 (32 * (slot % 8) + 2) (0 ∷ []) is there refl (omega arith) (omega arith)
     (All-cons (λ byte. byte < 256) 0 [] (omega arith) (All-nil (λ byte. byte < 256)))
 
--- the same where the slots before it are known
+-- the same if the slots before it are known
 next_cleared : (image done cells : List (List ℕ)) (old : List ℕ) (n : ℕ) → IsImage image → slots image ≡ done ++ old ∷ cells → length done ≡ n
     → SlotsChanged image (with_cleared_slot image n) (done ++ cleared old ∷ cells)
 next_cleared image done cells old n is e count =
@@ -176,7 +176,7 @@ next_cleared image done cells old n is e count =
     ∙ set_at done old cells (cleared old) n count)
     (one_cleared image n is there)
 
--- the numbers of the slots that pass a test, where the first of them has a number
+-- the numbers of the slots that pass a test, the first of which has a number
 abbrev pub numbers_from : (List ℕ → Bool) → ℕ → List (List ℕ) → List ℕ
 numbers_from test n cells = map (λ slot. slot.0) (filter (λ slot. test slot.1) (enumerate_from n cells))
 

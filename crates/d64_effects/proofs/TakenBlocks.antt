@@ -1,4 +1,4 @@
--- the blocks that a file and its entry take: free ones, none of which is owned
+-- the blocks that a file and its entry take: free ones, not one of which is owned
 use Rattle.std.proofs.Common.{◌≡◌, ℕ, ◌+◌, ◌<◌, ◌≤◌, ltb, Bool, true, false, not, ◌&&◌, ◌||◌, eqb, nat_eq, List, [], ◌∷◌, length, Option, Some, None, refl, sym, ap, ◌∙◌, inl, inr, arith}
 use Rattle.std.specs.Prelude.{All, is_some}
 use Rattle.std.specs.List.{list_any, IsDistinct, flat_map}

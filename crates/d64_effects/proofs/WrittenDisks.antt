@@ -24,7 +24,7 @@ written-is_sound image name kind bytes is named writable small sound fits =
     sound_after image (written_disk image name kind bytes) name kind bytes (taken_for image bytes) (directory_grown image) sound named.short writable.0
     (takes image (length bytes) fits) (grows image) (written_leaves image name kind bytes is named small sound fits)
 
--- a slot is vacant in the view where it isn't used
+-- a slot is vacant in the view if it isn't used
 vacant_shown : (image : List (List ℕ)) (cell : List ℕ) → is_vacant (slot_view image cell) ≡ not (is_used cell)
 unfolding slot_view
 vacant_shown image cell = by_use (is_used cell) (file_view image cell)

@@ -48,8 +48,8 @@ pub record LeftByWriting (image other : List (List ℕ)) (place : Option ℕ) (t
   pub name : disk_field other ≡ disk_field image
   pub id : disk_id other ≡ disk_id image
 
--- the blocks of the directory, its new one and those of the file: none is the map's, and the file's
--- are none of the directory
+-- the blocks of the directory, its new one and those of the file: the map's is not among them, and
+-- no block of the file is one of the directory
 pub record Apart (image : List (List ℕ)) (taken grown : List ℕ) : Type 0 where
   pub map_not_taken : occurs map_block taken ≡ 0
   pub map_not_listed : occurs map_block (directory image ++ grown) ≡ 0
@@ -84,7 +84,7 @@ left_are_blocks image taken q member =
 abbrev filed : List (List ℕ) → List ℕ → List ℕ → set.FinSet nat_cmp → List (List ℕ)
 filed listed taken bytes free = with_map (with_chain listed taken bytes) free
 
--- a list that goes on with another is not empty where the first isn't
+-- a list that goes on with another is not empty if the first isn't
 pub append_some : (xs ys : List ℕ) → xs ≢ [] → xs ++ ys ≢ []
 append_some [] ys some e = some refl
 append_some (x ∷ xs) ys some e = cc
@@ -167,7 +167,7 @@ module _ (image listed : List (List ℕ)) (place : Option ℕ) (taken grown entr
       (sector_at-with_map (with_chain listed taken bytes) free has_map_block ∙ ap (λ (old : List ℕ). map_for tracks old free) old_map)
       ∙ part-map_for tracks (sector_at image map_block) free n count (is.1 map_block [] inside).0 past before
 
-  -- what is left, where these blocks are marked free
+  -- what is left, if these blocks are marked free
   pub leaves : free ≡ blocks_without (free_blocks image) (taken ++ grown) → LeftByWriting image (filed listed taken bytes free) place taken grown entry bytes
   leaves left = record {
     is_image = IsImage-with_map (with_chain listed taken bytes) free (IsImage-with_chain (length image) most listed taken bytes new.is_image small fits);

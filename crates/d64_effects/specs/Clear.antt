@@ -1,4 +1,4 @@
--- Slots that become unused, and the blocks that become free.
+-- Clearing slots, and freeing blocks.
 use Rattle.std.specs.Prelude.{ℕ, Bool, List, map, filter, fold}
 use Rattle.std.specs.FinSet as set
 use Rattle.d64_image.specs.Disk.{Disk, Bytes, Blocks}
@@ -10,7 +10,7 @@ use Rattle.d64_files.specs.Directory.{numbered_slots}
 abbrev pub slots_where : (Bytes → Bool) → List Bytes → List ℕ
 slots_where test cells = map (λ slot. slot.0) (filter (λ slot. test slot.1) (numbered_slots cells))
 
--- the image with unused slots at these numbers
+-- the image after the slots with these numbers are made unused
 abbrev pub with_cleared : Disk → List ℕ → Disk
 with_cleared image numbers = fold with_cleared_slot image numbers
 

@@ -6,7 +6,7 @@ use Rattle.d64_effects.specs.View.{View, FileView}
 use Rattle.d64_files.specs.Name.{name_in}
 use Rattle.d64_files.specs.declared.kind.Kind.{Kind}
 
--- a file as that list has it: what it is called, what it is and what it holds, and not where
+-- a file as that list has it: its name, its kind and its content, but not where it is
 pub record ListedFile : Type 0 where
   pub name : Bytes
   pub kind : Kind
@@ -15,7 +15,7 @@ pub record ListedFile : Type 0 where
   pub size : ℕ
   pub content : Bytes
 
--- what the list says of a file
+-- the file of a view as that list has it
 abbrev pub listed_file : FileView → ListedFile
 listed_file file = record { name = name_in file.field; kind = file.kind; closed = file.closed; locked = file.locked; size = file.size; content = file.content }
 

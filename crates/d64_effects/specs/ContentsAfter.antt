@@ -1,5 +1,5 @@
--- What commands make of the directory's list of names and contents: what a case does not name stays
--- as it was, in its order.
+-- The effect of commands on the directory's list of names and contents: what a case does not name
+-- stays as it was, in order.
 use Rattle.std.specs.Prelude.{ℕ, true, false, if◌then◌else◌, List, [], ◌∷◌, ◌++◌, take, drop, bytes_eq, Bool, Option, Some, None}
 use Rattle.d64_image.specs.Disk.{Bytes}
 use Rattle.d64_effects.specs.Contents.{ListedFile}
@@ -7,16 +7,16 @@ use Rattle.d64_effects.specs.Delete.{is_scratched}
 use Rattle.d64_files.specs.declared.kind.Kind.{Kind}
 
 -- a list with a new file: at the place of the first empty slot, before which all are used, or else
--- at its end
+-- at the end
 abbrev pub list_with : List ListedFile → Option ℕ → ListedFile → List ListedFile
 list_with rows (Some place) row = take place rows ++ (row ∷ drop place rows)
 list_with rows None row = rows ++ (row ∷ [])
 
--- a new file of so many blocks: closed, not locked, with these bytes
+-- a new file of n blocks: closed, not locked, with these bytes
 abbrev pub new_row : Bytes → Kind → Bytes → ℕ → ListedFile
 new_row name kind bytes blocks = record { name = name; kind = kind; closed = true; locked = false; size = blocks; content = bytes }
 
--- whether patterns scratch a file of the list
+-- whether patterns delete a file of the list
 abbrev pub is_scratched_row : List Bytes → ListedFile → Bool
 is_scratched_row patterns row = is_scratched patterns row.closed row.locked row.name
 
@@ -24,7 +24,7 @@ is_scratched_row patterns row = is_scratched patterns row.closed row.locked row.
 abbrev pub row_named : ListedFile → Bytes → ListedFile
 row_named row name = record row { name = name }
 
--- a list in which the first file of a name has another
+-- a list in which the first file of a name gets another
 abbrev pub renamed_rows : List ListedFile → Bytes → Bytes → List ListedFile
 renamed_rows [] old new = []
 renamed_rows (row ∷ rows) old new = if bytes_eq row.name old then row_named row new ∷ rows else row ∷ renamed_rows rows old new

@@ -1,4 +1,4 @@
--- What the commands make of the directory's list of names and contents: on disks, and on views,
+-- The effect of the commands on the directory's list of names and contents: on disks, and on views,
 -- whose steps are these steps on that list.
 use Rattle.std.specs.Prelude.{◌≡◌, ℕ, not, List, [], length, filter, Option, IfSome}
 use Rattle.d64_image.specs.Disk.{Disk, Bytes}
@@ -23,7 +23,7 @@ use Rattle.d64_files.specs.declared.kind.Kind.{Kind}
 abbrev pub FormattedListsNothing : Type 0
 FormattedListsNothing = (count : ℕ) (name id : Bytes) → names_and_contents (formatted_view count name id) ≡ []
 
--- the writing of a file puts that file into the list
+-- writing a file puts that file into the list
 abbrev pub WrittenListsTheFile : Type 0
 WrittenListsTheFile =
     (shown : View) (name : Bytes) (kind : Kind) (bytes : Bytes)
@@ -31,32 +31,32 @@ WrittenListsTheFile =
     → names_and_contents (written_view shown name kind bytes)
     ≡ list_with (names_and_contents shown) (first_vacant shown) (new_row name kind bytes (length (taken_by shown.free (length bytes))))
 
--- the deleting of files leaves the others in the list
+-- deleting files keeps the others in the list
 abbrev pub ScratchedListsTheOthers : Type 0
 ScratchedListsTheOthers =
     (shown : View) (patterns : List Bytes)
     → names_and_contents (scratched_view shown patterns) ≡ filter (λ row. not (is_scratched_row patterns row)) (names_and_contents shown)
 
--- the renaming of a file changes its name in the list
+-- renaming a file changes its name in the list
 abbrev pub RenamedListsTheName : Type 0
 RenamedListsTheName =
     (shown : View) (old new : Bytes)
     → IsName new → names_and_contents (renamed_view shown old new) ≡ renamed_rows (names_and_contents shown) old new
 
--- a new name of the disk leaves the list as it was
+-- giving the disk a new name keeps the list as it was
 abbrev pub NamedListsTheSame : Type 0
 NamedListsTheSame = (shown : View) (name : Bytes) (id : Option Bytes) → names_and_contents (named_view shown name id) ≡ names_and_contents shown
 
--- a validation leaves the closed files in the list
+-- a validation keeps the closed files in the list
 abbrev pub ValidatedListsTheClosed : Type 0
 ValidatedListsTheClosed =
     (shown : View) → names_and_contents (validated_view shown) ≡ filter (λ row. row.closed) (names_and_contents shown)
 
--- the list of a disk
+-- the directory's list of a disk
 abbrev pub files_of : Disk → List ListedFile
 files_of image = names_and_contents (view image)
 
--- so a formatted disk lists nothing
+-- a formatted disk lists nothing
 abbrev pub FormattedDiskLists : Type 0
 FormattedDiskLists =
     (count : ℕ) (name id : Bytes) → IsSize count → IsName name → AreTwoBytes id → files_of (formatted_disk count name id) ≡ []
@@ -88,7 +88,7 @@ NamedDiskLists =
     (image : Disk) (name : Bytes) (id : Option Bytes)
     → IsImage image → IsName name → IfSome id AreTwoBytes → IsSound image → files_of (named_disk image name id) ≡ files_of image
 
--- and a validated disk lists the closed files
+-- a validated disk lists the closed files
 abbrev pub ValidatedDiskLists : Type 0
 ValidatedDiskLists =
     (image : Disk) → IsImage image → AllHold image 2 5 → files_of (validated_disk image) ≡ filter (λ row. row.closed) (files_of image)

@@ -1,4 +1,4 @@
--- The image that the deleting of files leaves, byte for byte.
+-- The image after files are deleted, byte for byte.
 use Rattle.std.specs.Prelude.{ℕ, ◌&&◌, Bool, not, List, [], ◌∷◌, length}
 use Rattle.std.specs.List.{list_any, flat_map}
 use Rattle.d64_image.specs.Disk.{Disk, Bytes}
@@ -8,30 +8,31 @@ use Rattle.d64_files.specs.Pattern.{matches}
 use Rattle.d64_files.specs.Slot.{is_used, is_closed, is_locked, name_of}
 use Rattle.d64_effects.specs.Clear.{slots_where, with_cleared, with_freed}
 
--- whether patterns scratch a file with these flags and this name: one that is closed and not
--- locked, and that one pattern or more matches
+-- whether patterns delete a file with these flags and this name: it is closed and not locked, and
+-- at least one pattern matches it
 abbrev pub is_scratched : List Bytes → Bool → Bool → Bytes → Bool
 is_scratched patterns closed locked name = closed && (not locked && list_any (λ pattern. matches pattern name) patterns)
 
--- the same for a slot, which must be used
+-- whether patterns delete the file of a slot, which must be used
 abbrev pub is_scratched_slot : List Bytes → Bytes → Bool
 is_scratched_slot patterns cell = is_used cell && is_scratched patterns (is_closed cell) (is_locked cell) (name_of cell)
 
--- the numbers of the slots that patterns scratch: each once, whether one pattern matches or several
+-- the numbers of the slots whose files patterns delete, each once, whether one pattern matches or
+-- several
 abbrev pub scratched_slots : Disk → List Bytes → List ℕ
 scratched_slots image patterns = slots_where (is_scratched_slot patterns) (slots image)
 
--- how many these are
+-- how many files patterns delete
 abbrev pub scratched_count : Disk → List Bytes → ℕ
 scratched_count image patterns = length (scratched_slots image patterns)
 
--- the image without the files of these slots, whose blocks are free; where there are none, nothing
+-- the image without the files of these slots, whose blocks are free; if there are no slots, nothing
 -- is written
 abbrev pub without_files : Disk → List ℕ → Disk
 without_files image [] = image
 without_files image (slot ∷ others) =
     with_map (with_cleared image (slot ∷ others)) (with_freed (free_blocks image) (flat_map (slot_owns image) (slot ∷ others)))
 
--- the image after the deleting of the files that patterns match
+-- the image after the files are deleted that patterns match
 unfoldable pub scratched_disk : Disk → List Bytes → Disk
 scratched_disk image patterns = without_files image (scratched_slots image patterns)

@@ -1,4 +1,4 @@
--- The disk that a format leaves, byte for byte.
+-- The image after a format, byte for byte.
 use Rattle.std.specs.Prelude.{ℕ, [], ◌∷◌, ◌++◌, replicate}
 use Rattle.std.specs.FinSet as set
 use Rattle.d64_image.specs.Disk.{Disk, Bytes}
@@ -13,8 +13,8 @@ use Rattle.d64_files.specs.Writing.{empty_directory}
 abbrev pub directory_start : ℕ
 directory_start = 358
 
--- the map's block before the map is written, part after part: the directory's first track and
--- sector, the format `A`, no map yet, the name, the id, the DOS version `2A`, and nothing more
+-- the map's block before the map is written, part by part: the directory's first track and sector,
+-- the format `A`, no map yet, the name, the id, the DOS version `2A`, and nothing more
 unfoldable pub header : Bytes → Bytes → Bytes
 header name id =
     (0x12 ∷ 0x01 ∷ [])
@@ -28,16 +28,17 @@ header name id =
     ++ replicate 4 0xA0
     ++ replicate 85 0x00
 
--- the free blocks of a disk of so many: all but the map's block and the directory's first one
+-- the free blocks of a formatted disk of n blocks: all but the map's block and the directory's
+-- first one
 unfoldable pub free_when_formatted : ℕ → BlockSet
 free_when_formatted count = set.remove (set.remove (all_of count) map_block) directory_start
 
--- the blank image of so many blocks, all of whose bytes are 0
+-- the blank image of n blocks, whose bytes are all 0
 unfoldable pub blank_disk : ℕ → Disk
 blank_disk count = replicate count (replicate BLOCK_BYTES 0)
 
--- the blank image of so many blocks with the map's block and the directory's first one, and the map
--- of the free blocks
+-- the blank image of n blocks with the map's block and the directory's first one, and the map of
+-- the free blocks
 unfoldable pub formatted_disk : ℕ → Bytes → Bytes → Disk
 formatted_disk count name id =
     with_map (with_sector (with_sector (blank_disk count) map_block (header name id)) directory_start empty_directory) (free_when_formatted count)

@@ -19,14 +19,14 @@ use Rattle.d64_files.specs.declared.kind.Kind.{Kind}
 abbrev pub HasFile : Disk → ℕ → FileView → Type 0
 HasFile image slot file = slice_get (view image).slots slot ≡ Some (Some file)
 
--- the writing of a file keeps every file that is there
+-- writing a file keeps every file that was there
 abbrev pub WritingKeepsFiles : Type 0
 WritingKeepsFiles =
     (image : Disk) (name : Bytes) (kind : Kind) (bytes : Bytes)
     → IsImage image → IsName name → IsWritable kind → AreBytes bytes → IsSound image → HasRoom image (length bytes)
     → (slot : ℕ) (file : FileView) → HasFile image slot file → HasFile (written_disk image name kind bytes) slot file
 
--- the deleting of files keeps those that are not closed, or locked, or matched by no pattern
+-- deleting files keeps those that are not closed, or locked, or matched by no pattern
 abbrev pub DeletingKeepsOtherFiles : Type 0
 DeletingKeepsOtherFiles =
     (image : Disk) (patterns : List Bytes)
@@ -34,14 +34,14 @@ DeletingKeepsOtherFiles =
     → (slot : ℕ) (file : FileView)
     → is_scratched_file patterns file ≡ false → HasFile image slot file → HasFile (scratched_disk image patterns) slot file
 
--- the renaming of a file keeps those of other names
+-- renaming a file keeps those of other names
 abbrev pub RenamingKeepsOtherFiles : Type 0
 RenamingKeepsOtherFiles =
     (image : Disk) (old new : Bytes)
     → IsImage image → IsName new → IsSound image
     → (slot : ℕ) (file : FileView) → name_in file.field ≢ old → HasFile image slot file → HasFile (renamed_disk image old new) slot file
 
--- a new name of the disk keeps every file
+-- giving the disk a new name keeps every file
 abbrev pub NamingKeepsFiles : Type 0
 NamingKeepsFiles =
     (image : Disk) (name : Bytes) (id : Option Bytes)

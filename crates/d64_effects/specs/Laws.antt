@@ -22,7 +22,7 @@ use Rattle.d64_effects.specs.Write.{written_disk, next_of_directory}
 use Rattle.d64_files.specs.declared.kind.Kind.{Kind}
 use Rattle.d64_files.specs.declared.kind.Kind.TheVariants.{Del, Rel}
 
--- two bytes, as an id has
+-- two bytes, as in an id
 abbrev pub AreTwoBytes : Bytes → Type 0
 AreTwoBytes id = (length id ≡ 2) × All (λ byte. byte < 256) id
 
@@ -30,21 +30,21 @@ AreTwoBytes id = (length id ≡ 2) × All (λ byte. byte < 256) id
 abbrev pub FormattedIsImage : Type 0
 FormattedIsImage = (count : ℕ) (name id : Bytes) → IsSize count → IsName name → AreTwoBytes id → IsImage (formatted_disk count name id)
 
--- its map marks free all blocks but its own and the directory's first one, whatever its name and
--- its id are
+-- the map of a formatted disk marks all blocks free but its own and the directory's first one,
+-- whatever its name and its id are
 abbrev pub FormattedIsFree : Type 0
 FormattedIsFree = (count : ℕ) (name id : Bytes) → IsSize count → free_blocks (formatted_disk count name id) ≡ free_when_formatted count
 
--- and the counts of its map fit
+-- the counts of a formatted disk's map fit
 abbrev pub FormattedCountsFit : Type 0
 FormattedCountsFit = (count : ℕ) (name id : Bytes) → IsSize count → CountsFit (formatted_disk count name id)
 
--- how many blocks the directory of a formatted disk of so many shows as free: all but those of
+-- how many blocks the directory of a formatted disk of n blocks shows as free: all but those of
 -- track 18, so 664 on 35 tracks, and 749 on 40
 abbrev pub free_count_of : ℕ → ℕ
 free_count_of count = count - sectors_on 18
 
--- the directory shows so many free blocks
+-- the directory of a formatted disk shows that many free blocks
 abbrev pub FormattedShowsItsFree : Type 0
 FormattedShowsItsFree = (count : ℕ) (name id : Bytes) → IsSize count → blocks_free (formatted_disk count name id) ≡ free_count_of count
 
@@ -52,16 +52,16 @@ FormattedShowsItsFree = (count : ℕ) (name id : Bytes) → IsSize count → blo
 abbrev pub FormattedIsSound : Type 0
 FormattedIsSound = (count : ℕ) (name id : Bytes) → IsSize count → IsSound (formatted_disk count name id)
 
--- and shows what it should
+-- a formatted disk shows its name and id, and no file
 abbrev pub FormattedShows : Type 0
 FormattedShows = (count : ℕ) (name id : Bytes) → IsSize count → IsName name → AreTwoBytes id → view (formatted_disk count name id) ≡ formatted_view count name id
 
--- there is room for a file of so many bytes and its entry
+-- a disk has room for a file of n bytes and its entry
 pub record HasRoom (image : Disk) (bytes : ℕ) : Type 0 where
   pub blocks : blocks_for bytes ≤ room (free_blocks image)
   pub slot : first_unused (slots image) ≡ None → next_of_directory (free_blocks image) (dir_last image) ≢ None
 
--- bytes of a file
+-- the numbers are bytes
 abbrev pub AreBytes : Bytes → Type 0
 AreBytes bytes = All (λ byte. byte < 256) bytes
 
@@ -69,71 +69,71 @@ AreBytes bytes = All (λ byte. byte < 256) bytes
 abbrev pub IsWritable : Kind → Type 0
 IsWritable kind = (kind ≢ Del) × (kind ≢ Rel)
 
--- the writing of a file leaves an image
+-- writing a file leaves an image
 abbrev pub WrittenIsImage : Type 0
 WrittenIsImage =
     (image : Disk) (name : Bytes) (kind : Kind) (bytes : Bytes)
     → IsImage image → IsName name → AreBytes bytes → IsSound image → HasRoom image (length bytes) → IsImage (written_disk image name kind bytes)
 
--- a sound image stays sound under the writing of a file
+-- writing a file leaves a sound image sound
 abbrev pub WrittenIsSound : Type 0
 WrittenIsSound =
     (image : Disk) (name : Bytes) (kind : Kind) (bytes : Bytes)
     → IsImage image → IsName name → IsWritable kind → AreBytes bytes → IsSound image → HasRoom image (length bytes)
     → IsSound (written_disk image name kind bytes)
 
--- and its view changes as the definition says
+-- writing a file changes the view as the definition says
 abbrev pub WrittenShows : Type 0
 WrittenShows =
     (image : Disk) (name : Bytes) (kind : Kind) (bytes : Bytes)
     → IsImage image → IsName name → IsWritable kind → AreBytes bytes → IsSound image → HasRoom image (length bytes)
     → view (written_disk image name kind bytes) ≡ written_view (view image) name kind bytes
 
--- the renaming of a file leaves an image
+-- renaming a file leaves an image
 abbrev pub RenamedIsImage : Type 0
 RenamedIsImage = (image : Disk) (old new : Bytes) → IsImage image → IsName new → IsSound image → IsImage (renamed_disk image old new)
 
--- a sound image stays sound under the renaming of a file
+-- renaming a file leaves a sound image sound
 abbrev pub RenamedIsSound : Type 0
 RenamedIsSound = (image : Disk) (old new : Bytes) → IsImage image → IsName new → IsSound image → IsSound (renamed_disk image old new)
 
--- and its view changes as the definition says
+-- renaming a file changes the view as the definition says
 abbrev pub RenamedShows : Type 0
 RenamedShows =
     (image : Disk) (old new : Bytes)
     → IsImage image → IsName new → IsSound image → view (renamed_disk image old new) ≡ renamed_view (view image) old new
 
--- a new name of the disk, and a new id, leave an image
+-- giving the disk a new name, and a new id, leaves an image
 abbrev pub NamedIsImage : Type 0
 NamedIsImage = (image : Disk) (name : Bytes) (id : Option Bytes) → IsImage image → IsName name → IfSome id AreTwoBytes → IsImage (named_disk image name id)
 
--- a sound image stays sound under a new name of the disk
+-- giving the disk a new name leaves a sound image sound
 abbrev pub NamedIsSound : Type 0
 NamedIsSound =
     (image : Disk) (name : Bytes) (id : Option Bytes)
     → IsImage image → IsName name → IfSome id AreTwoBytes → IsSound image → IsSound (named_disk image name id)
 
--- and its view changes as the definition says
+-- giving the disk a new name changes the view as the definition says
 abbrev pub NamedShows : Type 0
 NamedShows =
     (image : Disk) (name : Bytes) (id : Option Bytes)
     → IsImage image → IsName name → IfSome id AreTwoBytes → IsSound image → view (named_disk image name id) ≡ named_view (view image) name id
 
--- the deleting of files leaves an image
+-- deleting files leaves an image
 abbrev pub ScratchedIsImage : Type 0
 ScratchedIsImage = (image : Disk) (patterns : List Bytes) → IsImage image → IsSound image → IsImage (scratched_disk image patterns)
 
--- a sound image stays sound under the deleting of files
+-- deleting files leaves a sound image sound
 abbrev pub ScratchedIsSound : Type 0
 ScratchedIsSound = (image : Disk) (patterns : List Bytes) → IsImage image → IsSound image → IsSound (scratched_disk image patterns)
 
--- its view changes as the definition says
+-- deleting files changes the view as the definition says
 abbrev pub ScratchedShows : Type 0
 ScratchedShows =
     (image : Disk) (patterns : List Bytes) → IsImage image → IsSound image → view (scratched_disk image patterns) ≡ scratched_view (view image) patterns
 
--- and as many slots are scratched as files of the directory's list are closed, not locked, and
--- matched by a pattern or more
+-- the number of deleted files is that of the files of the directory's list that are closed, not
+-- locked, and matched by at least one pattern
 abbrev pub ScratchedAreCounted : Type 0
 ScratchedAreCounted =
     (image : Disk) (patterns : List Bytes)
@@ -144,12 +144,12 @@ ScratchedAreCounted =
 abbrev pub ValidatedIsImage : Type 0
 ValidatedIsImage = (image : Disk) → IsImage image → AllHold image 2 5 → IsImage (validated_disk image)
 
--- a validation gives a sound image from any whose directory, files and chains are in order,
--- whatever its map says
+-- a validation makes a sound image of any whose directory, files and chains are in order, whatever
+-- its map says
 abbrev pub ValidatedIsSound : Type 0
 ValidatedIsSound = (image : Disk) → IsImage image → AllHold image 2 5 → IsSound (validated_disk image)
 
--- and its view changes as the definition says
+-- a validation changes the view as the definition says
 abbrev pub ValidatedShows : Type 0
 ValidatedShows = (image : Disk) → IsImage image → AllHold image 2 5 → view (validated_disk image) ≡ validated_view (view image)
 
@@ -159,13 +159,13 @@ UndeletedIsImage =
     (image : Disk) (slot : ℕ) (kind : Kind)
     → IsImage image → IsSound image → IsWritable kind → CanComeBack image slot → IsImage (undeleted_disk image slot kind)
 
--- a sound image stays sound
+-- bringing back a deleted file leaves a sound image sound
 abbrev pub UndeletedIsSound : Type 0
 UndeletedIsSound =
     (image : Disk) (slot : ℕ) (kind : Kind)
     → IsImage image → IsSound image → IsWritable kind → CanComeBack image slot → IsSound (undeleted_disk image slot kind)
 
--- and its view changes as the definition says
+-- bringing back a deleted file changes the view as the definition says
 abbrev pub UndeletedShows : Type 0
 UndeletedShows =
     (image : Disk) (slot : ℕ) (kind : Kind)

@@ -1,4 +1,4 @@
--- The image that bringing back a deleted file leaves, byte for byte.
+-- The image after a deleted file is brought back, byte for byte.
 use Rattle.std.specs.Prelude.{◌≡◌, ◌≢◌, ℕ, ◌+◌, ◌<◌, true, false, [], ◌∷◌, length, All, slice_index_or}
 use Rattle.std.specs.FinSet as set
 use Rattle.d64_image.specs.Disk.{Disk, Bytes, Blocks}
@@ -26,7 +26,8 @@ closed_type kind = 0x80 + number_of_kind kind
 unfoldable pub with_type : Disk → ℕ → Kind → Disk
 with_type image slot kind = with_bytes image (slot_block image slot) (slot_start slot) (closed_type kind ∷ [])
 
--- the image with the file to which a slot leads, of this kind, whose blocks aren't free
+-- the image in which the file to which a slot leads is back, with this kind, and its blocks aren't
+-- free
 unfoldable pub undeleted_disk : Disk → ℕ → Kind → Disk
 undeleted_disk image slot kind = with_map (with_type image slot kind) (blocks_without (free_blocks image) (chain_left image slot))
 

@@ -1,4 +1,4 @@
--- What bringing a file back makes of a disk from which it was deleted.
+-- The effect of deleting a file and bringing it back.
 use Rattle.std.specs.Prelude.{◌≡◌, ℕ, List, [], ◌∷◌}
 use Rattle.d64_image.specs.Disk.{Disk, Bytes}
 use Rattle.d64_image.specs.Image.{IsImage}
@@ -10,8 +10,8 @@ use Rattle.d64_effects.specs.Laws.{IsWritable}
 use Rattle.d64_effects.specs.Undelete.{CanComeBack, cell_at, closed_type, undeleted_disk}
 use Rattle.d64_effects.specs.View.{IsSound}
 
--- where one file was deleted, a closed one that isn't locked, it can come back, and with its kind
--- the disk is the one from before, with its map written anew
+-- if one file was deleted, a closed one that isn't locked, it can come back, and with its kind the
+-- disk is the one from before, with its map written anew
 abbrev pub DeletedFileComesBack : Type 0
 DeletedFileComesBack =
     (image : Disk) (patterns : List Bytes) (slot : ℕ) (kind : Kind)

@@ -1,4 +1,4 @@
--- The image that a validation leaves, byte for byte.
+-- The image after a validation, byte for byte.
 use Rattle.std.specs.Prelude.{ℕ, ◌&&◌, Bool, not, List, length}
 use Rattle.d64_image.specs.Disk.{Disk, Bytes, Blocks}
 use Rattle.d64_image.specs.BlockSet.{BlockSet}
@@ -16,10 +16,11 @@ is_unclosed cell = is_used cell && not (is_closed cell)
 abbrev pub unclosed_slots : Disk → List ℕ
 unclosed_slots image = slots_where is_unclosed (slots image)
 
--- all of so many blocks but these
+-- all of n blocks but these
 abbrev pub all_but : ℕ → Blocks → BlockSet
 all_but count owned = blocks_without (all_of count) owned
 
--- the image after a validation: without the unclosed files, and free is what nobody owns
+-- the image after a validation: without the unclosed files, and with exactly the blocks free that
+-- have no owner
 unfoldable pub validated_disk : Disk → Disk
 validated_disk image = with_map (with_cleared image (unclosed_slots image)) (all_but (length image) (owned_blocks image))

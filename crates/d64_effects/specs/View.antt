@@ -1,4 +1,4 @@
--- What a disk shows: its view. The view of a sound image holds all that the image says of names,
+-- What a disk shows: its view. The view of a sound image has all that the image says of names,
 -- files and free blocks.
 use Rattle.std.specs.Prelude.{ℕ, Bool, if◌then◌else◌, List, [], length, map, slice_range, Option, Some, None}
 use Rattle.std.specs.List.{slice_get}
@@ -14,7 +14,7 @@ use Rattle.d64_files.specs.Slot.{is_used, is_closed, is_locked, kind_of, field_o
 use Rattle.d64_files.specs.declared.kind.Kind.{Kind}
 
 -- a used slot of the directory: what it says of a file, and the file's blocks, side blocks and
--- content. A DEL entry and one that isn't closed have none of these three
+-- content. A DEL entry and a file that isn't closed have none of these three
 pub record FileView : Type 0 where
   pub field : Bytes
   pub kind : Kind
@@ -35,7 +35,7 @@ pub record View : Type 0 where
   pub slots : List (Option FileView)
   pub free : BlockSet
 
--- the chain from one of the roots of a slot; empty where there is no such root
+-- the chain from one of the roots of a slot; empty if there is no such root
 abbrev pub chain_of_root : Disk → Bytes → ℕ → Blocks
 chain_of_root image cell place = option_map_or (chain_at image) (slice_get (roots cell) place) []
 
@@ -52,7 +52,7 @@ file_view image cell = record {
   content = data_along image (chain_of_root image cell 0);
 }
 
--- what a slot shows: None where it isn't used
+-- what a slot shows: None if it isn't used
 unfoldable pub slot_view : Disk → Bytes → Option FileView
 slot_view image cell = if is_used cell then Some (file_view image cell) else None
 
@@ -74,6 +74,6 @@ view image = record {
   free = free_blocks image;
 }
 
--- an image is sound where it meets all six conditions
+-- an image is sound if it meets all six conditions
 abbrev pub IsSound : Disk → Type 0
 IsSound image = AllHold image 1 6

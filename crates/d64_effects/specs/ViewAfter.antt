@@ -1,4 +1,4 @@
--- What commands make of the view of a disk: what a case does not name stays as it was.
+-- The effect of commands on the view of a disk: what a case does not name stays as it was.
 use Rattle.std.specs.Prelude.{ℕ, ◌-◌, true, false, not, if◌then◌else◌, List, [], ◌∷◌, ◌++◌, map, length, replicate, position, slice_index, slice_set, bytes_eq, unwrap_or, Bool, Option, Some, None}
 use Rattle.std.specs.List.{flat_map}
 use Rattle.d64_image.specs.Disk.{Disk, Bytes, Blocks}
@@ -15,8 +15,8 @@ use Rattle.d64_effects.specs.Validate.{all_but}
 use Rattle.d64_effects.specs.Write.{taken_by, grown_by, blocks_without}
 use Rattle.d64_files.specs.declared.kind.Kind.{Kind}
 
--- after a format of a disk of so many blocks: the name and the id, eight unused slots in one block,
--- and all blocks free but two
+-- the view after a format of a disk of n blocks: the name and the id, eight unused slots in one
+-- block, and all blocks free but two
 unfoldable pub formatted_view : ℕ → Bytes → Bytes → View
 formatted_view count name id = record {
   count = count;
@@ -50,8 +50,8 @@ abbrev pub slots_with : List (Option FileView) → Option ℕ → FileView → L
 slots_with slots (Some place) file = slice_set slots place (Some file)
 slots_with slots None file = slots ++ (Some file ∷ replicate 7 None)
 
--- after the writing of a file into these blocks, where the directory takes those: the first unused
--- slot holds it
+-- the view after a file is written into these blocks, while the directory takes those: the first
+-- unused slot has it
 abbrev pub view_with : View → Option ℕ → FileView → Blocks → Blocks → View
 view_with old vacant file taken grown = record old {
   directory = old.directory ++ grown;
@@ -67,28 +67,28 @@ first_vacant old = position is_vacant old.slots
 abbrev pub last_of_directory : View → ℕ
 last_of_directory old = slice_index old.directory (length old.directory - 1)
 
--- after the writing of a file
+-- the view after a file is written
 unfoldable pub written_view : View → Bytes → Kind → Bytes → View
 written_view old name kind bytes =
     view_with old (first_vacant old) (new_file name kind bytes (taken_by old.free (length bytes)))
     (taken_by old.free (length bytes)) (grown_by old.free (last_of_directory old) (first_vacant old))
 
--- a slot that becomes unused where its file passes a test
+-- a slot that becomes unused if its file passes a test
 abbrev pub emptied_if : (FileView → Bool) → Option FileView → Option FileView
 emptied_if goes None = None
 emptied_if goes (Some file) = if goes file then None else Some file
 
--- the chain and the side chain of a slot's file, where it passes a test
+-- the chain and the side chain of a slot's file, if it passes a test
 abbrev pub blocks_if : (FileView → Bool) → Option FileView → Blocks
 blocks_if goes None = []
 blocks_if goes (Some file) = if goes file then file.blocks ++ file.side_blocks else []
 
--- whether patterns scratch a file
+-- whether patterns delete a file
 abbrev pub is_scratched_file : List Bytes → FileView → Bool
 is_scratched_file patterns file = is_scratched patterns file.closed file.locked (name_in file.field)
 
--- after the deleting of the files that patterns match: their slots are unused, and their blocks are
--- free
+-- the view after the files are deleted that patterns match: their slots are unused, and their
+-- blocks are free
 unfoldable pub scratched_view : View → List Bytes → View
 scratched_view old patterns = record old {
   slots = map (emptied_if (is_scratched_file patterns)) old.slots;
@@ -99,18 +99,18 @@ scratched_view old patterns = record old {
 abbrev pub with_field : FileView → Bytes → FileView
 with_field file name = record file { field = filled_field name }
 
--- slots of which the first file of a name has another
+-- slots in which the first file of a name gets another
 abbrev pub renamed_slots : List (Option FileView) → Bytes → Bytes → List (Option FileView)
 renamed_slots [] old new = []
 renamed_slots (None ∷ slots) old new = None ∷ renamed_slots slots old new
 renamed_slots (Some file ∷ slots) old new =
     if bytes_eq (name_in file.field) old then Some (with_field file new) ∷ slots else Some file ∷ renamed_slots slots old new
 
--- after the renaming of the first file of a name
+-- the view after the first file of a name is renamed
 unfoldable pub renamed_view : View → Bytes → Bytes → View
 renamed_view shown old new = record shown { slots = renamed_slots shown.slots old new }
 
--- after the disk is given a name, and an id, if there is one
+-- the view after the disk gets another name, and another id, if one is given
 unfoldable pub named_view : View → Bytes → Option Bytes → View
 named_view old name id = record old { name = filled_field name; id = unwrap_or id old.id }
 
@@ -128,7 +128,7 @@ file_back image slot kind = record {
   content = data_along image (chain_left image slot);
 }
 
--- after a deleted file comes back, which the image has still, and a view no longer shows
+-- the view after a deleted file comes back, which the image still has, and the view no longer shows
 unfoldable pub undeleted_view : Disk → View → ℕ → Kind → View
 undeleted_view image old slot kind = record old {
   slots = slice_set old.slots slot (Some (file_back image slot kind));
@@ -139,7 +139,8 @@ undeleted_view image old slot kind = record old {
 abbrev pub blocks_owned : View → Blocks
 blocks_owned shown = map_block ∷ (shown.directory ++ flat_map (blocks_if (λ file. true)) shown.slots)
 
--- after a validation: the slots of unclosed files are unused, and free is what nobody owns
+-- the view after a validation: the slots of unclosed files are unused, and exactly the blocks are
+-- free that have no owner
 unfoldable pub validated_view : View → View
 validated_view old = record old {
   slots = map (emptied_if (λ file. not file.closed)) old.slots;

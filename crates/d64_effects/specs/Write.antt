@@ -1,4 +1,4 @@
--- The image that the writing of a file leaves, byte for byte.
+-- The image after a file is written, byte for byte.
 use Rattle.std.specs.Prelude.{ℕ, [], ◌∷◌, ◌++◌, length, fold, find, slice_index, Option, Some, None}
 use Rattle.std.specs.Option.{option_map_or, option_to_list}
 use Rattle.std.specs.FinSet as set
@@ -11,7 +11,7 @@ use Rattle.d64_files.specs.Directory.{slots}
 use Rattle.d64_files.specs.Writing.{blocks_for, with_bytes, with_chain, entry_bytes, first_unused, dir_last, with_entry, with_growth}
 use Rattle.d64_files.specs.declared.kind.Kind.{Kind}
 
--- the blocks that a file of so many bytes takes of the free ones; none where there is no plan
+-- the blocks that a file of n bytes takes of the free ones; no block if there is no plan
 abbrev pub taken_by : BlockSet → ℕ → Blocks
 taken_by free bytes = option_map_or (λ blocks. blocks) (plan free (blocks_for bytes)) []
 
@@ -19,12 +19,12 @@ taken_by free bytes = option_map_or (λ blocks. blocks) (plan free (blocks_for b
 abbrev pub next_of_directory : BlockSet → ℕ → Option ℕ
 next_of_directory free last = find (set.contains free) (dir_order last)
 
--- the blocks that a directory takes for one more entry: none where a slot is unused
+-- the blocks that a directory takes for one more entry: no block if a slot is unused
 abbrev pub grown_by : BlockSet → ℕ → Option ℕ → Blocks
 grown_by free last (Some slot) = []
 grown_by free last None = option_to_list (next_of_directory free last)
 
--- the same for an image
+-- the blocks that the directory of an image takes for one more entry
 abbrev pub directory_grown : Disk → Blocks
 directory_grown image = grown_by (free_blocks image) (dir_last image) (first_unused (slots image))
 
@@ -48,6 +48,6 @@ with_file image name kind bytes taken =
     with_map (with_chain (with_new_entry image (entry_bytes name kind (slice_index taken 0) (length taken))) taken bytes)
     (blocks_without (free_blocks image) (taken ++ directory_grown image))
 
--- the image after the writing of a file
+-- the image after a file is written
 unfoldable pub written_disk : Disk → Bytes → Kind → Bytes → Disk
 written_disk image name kind bytes = with_file image name kind bytes (taken_by (free_blocks image) (length bytes))

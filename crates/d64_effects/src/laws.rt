@@ -1,4 +1,4 @@
-//! Laws of the effects: each function's contract is a law, and its body is empty.
+//! Laws of the commands' effects: each function's contract is a law, and its body is empty.
 //!
 //! A caller whose proof needs a law calls the function.
 ghost use Rattle.d64_effects.specs.Laws.{FormattedIsImage, FormattedIsFree, FormattedCountsFit, FormattedShowsItsFree};
@@ -28,7 +28,7 @@ pub fn formatted_disk_is_sound_and_empty()
     ensures view { FormattedShows }
 {}
 
-/// A sound image with room for a file is sound after the file is written, and shows that file
+/// A sound image with room for a file is still sound after the file is written, and shows that file
 /// beside all that it showed before.
 pub fn written_disk_is_sound()
     ensures image { WrittenIsImage }
@@ -36,16 +36,16 @@ pub fn written_disk_is_sound()
     ensures view { WrittenShows }
 {}
 
-/// A sound image stays sound under the renaming of a file, and shows the other name and nothing
-/// else that is new. Where no file has the old name, all stays as it was.
+/// A sound image is still sound after a file is renamed, and shows the other name and nothing else
+/// that is new. If no file has the old name, nothing changes.
 pub fn renamed_disk_is_sound()
     ensures image { RenamedIsImage }
     ensures sound { RenamedIsSound }
     ensures view { RenamedShows }
 {}
 
-/// Another name of the disk, and another id, leave an image, and a sound one of a sound image, which
-/// shows them and nothing else that is new.
+/// Giving the disk another name, and another id, leaves an image, and leaves a sound image sound,
+/// which shows them and nothing else that is new.
 pub fn named_disk_is_sound()
     ensures image { NamedIsImage }
     ensures sound { NamedIsSound }
@@ -53,7 +53,7 @@ pub fn named_disk_is_sound()
 {}
 
 /// While slots of an image are cleared one after another, it stays an image, and its directory
-/// keeps its blocks and the number of its slots; and which slots pass a test is known slot by slot.
+/// keeps its blocks and the number of its slots; the slots that pass a test are found slot by slot.
 pub fn clearing_keeps_the_directory()
     ensures image { ClearingKeepsTheImage }
     ensures directory { ClearingKeepsTheDirectory }
@@ -62,9 +62,9 @@ pub fn clearing_keeps_the_directory()
     ensures below { SlotsWhereAreSlots }
 {}
 
-/// A sound image stays sound under the deleting of files, and shows empty slots in their places,
-/// and their blocks, those of their side chains too, among the free ones. As many are scratched as
-/// files of the directory's list are closed, not locked, and matched.
+/// A sound image is still sound after files are deleted. It shows empty slots in their places, and
+/// their blocks, including those of their side chains, among the free ones. The number of deleted
+/// files is that of the files of the directory's list that are closed, not locked, and matched.
 pub fn scratched_disk_is_sound()
     ensures image { ScratchedIsImage }
     ensures sound { ScratchedIsSound }
@@ -72,33 +72,33 @@ pub fn scratched_disk_is_sound()
     ensures count { ScratchedAreCounted }
 {}
 
-/// A validation gives a sound image from any that meets conditions 2 to 5 of a sound one, whatever
-/// its map says. It drops the unclosed files, and free is exactly what nobody owns.
+/// A validation makes a sound image of any that meets conditions 2 to 5 of a sound one, whatever
+/// its map says. It drops the unclosed files, and frees exactly the blocks that have no owner.
 pub fn validated_disk_is_sound()
     ensures image { ValidatedIsImage }
     ensures sound { ValidatedIsSound }
     ensures view { ValidatedShows }
 {}
 
-/// A sound image stays sound where a deleted file comes back whose slot isn't used, and whose chain
-/// is there and free, and shows that file in its slot beside all that it showed before.
+/// A sound image is still sound after a deleted file comes back whose slot isn't used and whose
+/// chain is free, and shows that file in its slot beside all that it showed before.
 pub fn undeleted_disk_is_sound()
     ensures image { UndeletedIsImage }
     ensures sound { UndeletedIsSound }
     ensures view { UndeletedShows }
 {}
 
-/// Where one closed file of a sound disk was deleted, it can come back, and with its kind the disk is
-/// the one from before, byte for byte but for its map, which is written anew and marks the same.
+/// If one closed file of a sound disk was deleted, it can come back, and with its kind the disk is
+/// the one from before, byte for byte except for its map, which is written anew and marks the same.
 pub fn deleted_file_comes_back()
     ensures { DeletedFileComesBack }
 {}
 
 /// A file that a command doesn't name keeps its slot, its blocks and its content, and all else that
-/// a disk shows of it: under the writing of a file every file, under the deleting of files those
-/// that are locked, not closed or matched by no pattern, under the renaming of a file those of
-/// other names, under a new name of the disk every file, under a validation those that are closed,
-/// and where a deleted file comes back every file, beside that one.
+/// a disk shows of it. When a file is written, every file is kept; when files are deleted, those
+/// that are locked, not closed or matched by no pattern; when a file is renamed, those of other
+/// names; when the disk gets a new name, every file; by a validation, those that are closed; and
+/// when a deleted file comes back, every file.
 pub fn files_that_are_not_named_stay()
     ensures writing { WritingKeepsFiles }
     ensures deleting { DeletingKeepsOtherFiles }
@@ -120,10 +120,10 @@ pub fn steps_change_the_list_of_files()
 {}
 
 /// Each file command changes the directory's list of names and contents as it says, on a sound
-/// disk: a formatted disk lists nothing; a written file stands at the place of the first empty
-/// slot, or at the end; deleted files are gone, a renamed one has its new name, and after a
-/// validation the closed files are left. The other files of the list stay as they were, in their
-/// order, as under a new name of the disk all do.
+/// disk: a formatted disk lists nothing; a written file comes at the place of the first empty slot,
+/// or at the end; deleted files are gone, a renamed one has its new name, and after a validation
+/// the closed files are left. The other files of the list stay as they were, in order, and so do
+/// all files when the disk gets a new name.
 pub fn commands_change_the_list_of_files()
     ensures formatted { FormattedDiskLists }
     ensures written { WrittenDiskLists }

@@ -1,4 +1,4 @@
-//! What each command makes of an image, block by block, and of what the disk shows, its view:
+//! The effect of each command on an image, block by block, and on what the disk shows, its view:
 //! definitions and their laws, without code.
 #![tactic(auto)]
 
