@@ -36,7 +36,7 @@ below_next q n = elim (cases_lt q n) [
   ]
 ]
 
--- a block is among a set's members that a list names where the list has it
+-- a block is among a set's members that a list names if the list has it
 pub contains-listed : (blocks : List ℕ) (q : ℕ) → set.contains (set.from_list {R = nat_cmp} blocks) q ≡ list_any (nat_eq q) blocks
 contains-listed blocks q = contains-from_list nat_cmp_total blocks q ∙ (λ i. list_any (λ block. unsigned_tied q block i) blocks)
 
@@ -99,7 +99,7 @@ all_freed free given next n blocks all legal listed so = same_set nat_cmp_total 
 abbrev pub OthersBelow : set.FinSet nat_cmp → set.FinSet nat_cmp → ℕ → Type 0
 OthersBelow members others n = (q : ℕ) → set.contains others q ≡ (nat_lt q n && not (set.contains members q))
 
--- at first none
+-- at first no block
 pub no_others : (members : set.FinSet nat_cmp) → OthersBelow members set.empty 0
 no_others members q = contains-empty nat_cmp q ∙ sym (ap (λ (b : Bool). b && not (set.contains members q)) (not_below q 0 (omega arith)))
 

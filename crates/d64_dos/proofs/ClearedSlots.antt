@@ -16,7 +16,7 @@ use Rattle.d64_effects.specs.ClearLaws.{ClearingKeepsTheImage, ClearingKeepsTheN
 abbrev pub passing : (List ℕ → Bool) → List EntryView → List ℕ
 passing test walk = map (λ entry. entry.slot) (filter (λ entry. test entry.bytes) walk)
 
--- the entries of slots pass where the slots do, from any number on
+-- the entries of slots pass if the slots do, from any number on
 passing_from : (test : List ℕ → Bool) (image : List (List ℕ)) (n : ℕ) (cells : List (List ℕ))
     → passing test (entries_from image n cells) ≡ map (λ (slot : ℕ × List ℕ). slot.0) (filter (λ (slot : ℕ × List ℕ). test slot.1) (enumerate_from n cells))
 passing_from test image n [] = refl

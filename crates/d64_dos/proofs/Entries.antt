@@ -14,7 +14,7 @@ use Rattle.d64_dos.specs.Space.{IsPlace, StandsIn, grown_at}
 use Rattle.d64_dos.specs.declared.write.Place.{Place}
 use Rattle.d64_dos.specs.declared.write.Place.TheVariants.{Vacant, New}
 
--- the blocks that the directory takes for one more entry, where this slot is the first unused one
+-- the blocks that the directory takes for one more entry, if this slot is the first unused one
 grown_for : (image : List (List ℕ)) (vacant : Option ℕ) (block index : ℕ) → first_unused (slots image) ≡ vacant
     → MatchOption vacant ⊥ (StandsIn image block index) → directory_grown image ≡ []
 grown_for image None block index e is = absurd is
@@ -49,7 +49,7 @@ new_place image place last block entry e at =
     ap (λ (vacant : Option ℕ). with_entry_in image vacant (directory_grown image) entry) is.0
     ∙ ap (λ (taken : List ℕ). with_entry_in image None taken entry) (directory_grown-is image (New last block) is)
 
--- the directory's last block, where one is taken after it
+-- the directory's last block, if one is taken after it
 pub last_of_place : (image : List (List ℕ)) (place : Place) (last block : ℕ) → place ≡ New last block
     → IsPlace image (free_blocks image) place → last ≡ dir_last image
 last_of_place image place last block e at =

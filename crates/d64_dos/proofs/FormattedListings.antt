@@ -50,7 +50,7 @@ header_of count size name id =
     (get_or-set_other labelled directory_start map_block empty_directory [] (λ e. omega arith)
     ∙ get_or-set_same (blank_disk count) map_block (header name id) [] (omega arith))
 
--- the version stands behind the id
+-- the version comes after the id
 version_at : (before version fill back : List ℕ) → length before ≡ 165 → length version ≡ 2
     → take 2 (drop 165 (before ++ version ++ fill ++ back)) ≡ take 2 (version ++ (fill ++ back))
 version_at before version fill back begins two =

@@ -10,7 +10,7 @@ use Rattle.d64_map.specs.Plan.{plan_after, plan}
 use Rattle.d64_effects.specs.Write.{blocks_without}
 use Rattle.d64_dos.specs.Planning.{order_after}
 
--- the plan of so many blocks after the block that was taken last, or from the first block on
+-- the plan of n blocks after the block that was taken last, or from the first block on
 unfoldable pub plan_from : set.FinSet nat_cmp → Option ℕ → ℕ → Option (List ℕ)
 plan_from free None count = plan free count
 plan_from free (Some last) count = plan_after free last count
@@ -43,7 +43,7 @@ pub record PlanGoesOn (start free : set.FinSet nat_cmp) (count : ℕ) (taken : L
   pub planned : plan start count ≡ then_planned taken (plan_from free last (count - length taken))
   pub left : free ≡ blocks_without start taken
 
--- at first, none
+-- at first, no block
 pub goes_on-start : (free : set.FinSet nat_cmp) (count : ℕ) → PlanGoesOn free free count [] None
 unfolding plan_from
 goes_on-start free count = record {
@@ -78,7 +78,7 @@ goes_on-next start free count taken last next more found so = record {
   left = ap (λ (s : set.FinSet nat_cmp). set.remove s next) so.left ∙ sym (fold-append set.remove start taken (next ∷ []));
 }
 
--- no block is found where one more is needed
+-- no block is found if one more is needed
 pub goes_on-none : (start free : set.FinSet nat_cmp) (count : ℕ) (taken : List ℕ) (last : Option ℕ)
     → length taken < count
     → find (set.contains free) (order_after last) ≡ None

@@ -57,7 +57,7 @@ refused_entry image pattern entry fault h found bytes e =
     ∙ ap (λ (cell : Option (List ℕ)). option_map of_read_fault (slot_refusal image cell)) (sym bytes)
     ∙ sym (refused_found image pattern (Some entry.slot) h found)
 
--- and where nothing does, the file is read
+-- and if nothing does, the file is read
 pub not_refused : (image : List (List ℕ)) (pattern : List ℕ) (entry : EntryView) → AllHold image 2 3
     → Some entry.slot ≡ first_named pattern (slots image) → slice_get (slots image) entry.slot ≡ Some entry.bytes
     → None ≡ file_refusal image entry.bytes → read_refusal image pattern ≡ None

@@ -11,7 +11,7 @@ use Rattle.d64_files.specs.declared.dir_fault.DirFault.{DirFault}
 use Rattle.d64_dos.specs.FileRefusals.{rename_refusal}
 use Rattle.d64_dos.specs.declared.refusal.Refusal.TheVariants.{NotFound, Exists, Directory}
 
--- a slot passes where there is a first one that does
+-- a slot passes if there is a first one that does
 any_from : (test : List ℕ → Bool) (n : ℕ) (cells : List (List ℕ)) → list_any test cells ≡ is_some (position_from test n cells)
 any_from test n [] = refl
 any_from test n (cell ∷ cells) = by_test (test cell) (any_from test (n + 1) cells)
@@ -21,7 +21,7 @@ any_from test n (cell ∷ cells) = by_test (test cell) (any_from test (n + 1) ce
     by_test true later = refl
     by_test false later = later
 
--- a name is taken where a slot of that name was found
+-- a name is taken if a slot with that name was found
 taken_where_found : (name : List ℕ) (cells : List (List ℕ)) (found : Option ℕ) → found ≡ first_of_name name cells
     → is_name_taken name cells ≡ is_some found
 taken_where_found name cells found e =

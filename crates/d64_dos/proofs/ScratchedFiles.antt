@@ -16,14 +16,14 @@ not_empty slot others e = let f = eqb-true (length (slot ∷ others)) 0 (sym e) 
 not_some : false ≡ (length {A = ℕ} [] == 0) → ⊥
 not_some e = eqb-false 0 0 (sym e) refl
 
--- where no slot was found the image stays
+-- if no slot was found the image stays
 pub none_scratched : (image patterns : List (List ℕ)) (numbers : List ℕ) → numbers ≡ scratched_slots image patterns → true ≡ (length numbers == 0)
     → image ≡ scratched_disk image patterns
 unfolding scratched_disk
 none_scratched image patterns [] found none = ap (without_files image) found
 none_scratched image patterns (slot ∷ others) found none = absurd (not_empty slot others none)
 
--- where one was the image is the one with these slots cleared, and the map of what is free then
+-- if one was the image is the one with these slots cleared, and the map of what is free then
 pub some_scratched : (image patterns cleared next : List (List ℕ)) (numbers : List ℕ) (free : set.FinSet nat_cmp) → numbers ≡ scratched_slots image patterns
     → false ≡ (length numbers == 0) → cleared ≡ with_cleared image numbers
     → free ≡ with_freed (free_blocks image) (flat_map (slot_owns image) (scratched_slots image patterns)) → next ≡ with_map cleared free

@@ -39,7 +39,7 @@ use Rattle.d64_dos.specs.WriteRefusal.{has_room, is_writable, write_refusal}
 use Rattle.d64_dos.specs.declared.refusal.Refusal.{Refusal}
 use Rattle.d64_dos.specs.declared.refusal.Refusal.TheVariants.{Exists, WrongType, NotFound, Directory, DiskFull}
 
--- what holds where none of a write's refusals applies
+-- what holds if no refusal of a write applies
 none_applies : (writable taken fits : Bool) (fault : Option DirFault)
     → cond (not writable) (Some WrongType) (option_or (option_map Directory fault) (cond taken (Some Exists) (cond fits None (Some DiskFull)))) ≡ None
     → (writable ≡ true) × (fits ≡ true)
@@ -74,7 +74,7 @@ not_none : (found : Option ℕ) → is_some found ≡ true → found ≢ None
 not_none (Some block) h = λ e. cc
 not_none None h = absurd (cc)
 
--- the test of room tells that there is room
+-- the test of room says that there is room
 has_its_room : (image : List (List ℕ)) (bytes : ℕ) → has_room image bytes ≡ true → HasRoom image bytes
 has_its_room image bytes h =
     let parts =
@@ -189,7 +189,7 @@ starts_from_accepted image (Name name id) known sure is none = sure is
 starts_from_accepted image Validate known sure is none = tt
 starts_from_accepted image (BlockWrite at block) known sure is none = absurd (cc)
 
--- what the answer of a command says of its image and its reply makes the step
+-- what the result of a command says of its image and its reply makes the step
 pub step_of : (image next : List (List ℕ)) (change : Change) (result : Result Reply Refusal)
     → IsImage image → IsMade change → refused_by result ≡ refusal_of image change
     → IfOk result (λ reply. reply ≡ reply_to image change) → OnOk result (next ≡ image_after image change)
@@ -200,7 +200,7 @@ step_of image next change (Ok answer) is made refused reply accepted =
     subst (λ (r : Reply). Leaves image change r next) (sym reply)
     (subst (Leaves image change (reply_to image change)) (sym accepted) (keeps_sound image change is made (sym refused) from))
 
--- and what an accepted command leaves is sound, where it leaves a sound disk
+-- and what an accepted command leaves is sound, if it is one that leaves a sound disk
 pub sound_of : (image next : List (List ℕ)) (change : Change) (known : Bool) (result : Result Reply Refusal)
     → (known ≡ true → IsSound image) → IsImage image → IsMade change → refused_by result ≡ refusal_of image change
     → IfOk result (λ reply. reply ≡ reply_to image change) → OnOk result (next ≡ image_after image change)
@@ -214,7 +214,7 @@ pub nothing_back : (image : List (List ℕ)) (patch : Kept) → patch ≡ [] →
 unfolding restored_image
 nothing_back image patch empty = ap (restored_image image) empty
 
--- what holds whatever is answered holds after a refusal
+-- what always holds, holds after a refusal
 pub on_err : {T E P : Type 0} (result : Result T E) → P → OnErr result P
 on_err (Ok value) p = tt
 on_err (Err error) p = p

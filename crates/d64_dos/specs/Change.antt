@@ -1,4 +1,4 @@
--- Commands as definitions see them: names and bytes are lists, so that a definition can say a
+-- Commands as the definitions see them: names and bytes are lists, so that a definition can have a
 -- command that no code has made.
 use Rattle.std.specs.Prelude.{ℕ, List, Option}
 use Rattle.d64_image.specs.Disk.{Bytes}
@@ -8,19 +8,19 @@ use Rattle.d64_dos.specs.declared.command.Command.TheVariants as commands
 
 -- a change of a disk
 pub data Change : Type 0 where
-  -- an empty disk with this name and this id
+  -- makes an empty disk with this name and this id
   Format : Bytes → Bytes → Change
-  -- a file more, of this name, this kind and these bytes
+  -- adds a file with this name, this kind and these bytes
   Write : Bytes → Kind → Bytes → Change
-  -- without the files that these patterns match
+  -- deletes the files that these patterns match
   Delete : List Bytes → Change
-  -- the first file of this name under that one
+  -- gives the first file with this name that one
   Rename : Bytes → Bytes → Change
-  -- this name of the disk, and this id, if there is one
+  -- gives the disk this name, and this id, if there is one
   Name : Bytes → Option Bytes → Change
-  -- without unclosed files, and with the map that the files ask for
+  -- drops unclosed files, and writes the map that the files ask for
   Validate : Change
-  -- other bytes in one block
+  -- writes other bytes into one block
   BlockWrite : ℕ → Bytes → Change
 
 -- the change that a command asks for

@@ -1,4 +1,4 @@
--- What commands do, and when they are refused: a table with a row for each command.
+-- The commands' effects, and when they are refused: a table with a row for each command.
 use Rattle.std.specs.Prelude.{◌≡◌, ℕ, ◌<◌, true, Bool, List, length, filter, Option, None, Some, IsSome, MatchOption}
 use Rattle.d64_image.specs.Disk.{Disk, Bytes}
 use Rattle.d64_image.specs.Image.{with_sector}
@@ -19,32 +19,32 @@ use Rattle.d64_dos.specs.declared.command.Reply.{Reply}
 use Rattle.d64_dos.specs.declared.command.Reply.TheVariants.{Done, Scratched}
 use Rattle.d64_dos.specs.declared.refusal.Refusal.{Refusal}
 
--- the disks from which a promise holds, where the command is accepted
+-- the disks for which a promise holds, if the command is accepted
 pub data Start : Type 0 where
   AnyDisk : Start
   SoundDisk : Start
 
--- what a file command promises of a disk: from which disks on, and, of what the disk shows, what is
--- answered and what it shows then
+-- what a file command promises of a disk: for which disks it holds, and, by what the disk shows,
+-- the reply and what it shows then
 pub record Promise : Type 0 where
   pub start : Start
   pub reply : View → Reply
   pub shows : View → View
 
--- a command: of an image, the first refusal that applies, the image that it leaves, in which every
--- byte that the command does not name is as before, and the reply; and the block that a command
--- names by itself, where it names one
+-- a command: for an image, the first refusal that applies, the image after it, in which every byte
+-- that the command does not name is unchanged, and the reply; and the block that a command names by
+-- itself, if it names one
 pub record Row : Type 0 where
   pub refusal : Disk → Option Refusal
   pub effect : Disk → Disk
   pub reply : Disk → Reply
   pub block : Option ℕ
 
--- how many files of the directory's list patterns scratch
+-- how many files of the directory's list patterns delete
 abbrev pub scratched_of : View → List Bytes → ℕ
 scratched_of shown patterns = length (filter (is_scratched_row patterns) (names_and_contents shown))
 
--- the table
+-- the table of commands
 abbrev pub row : Change → Row
 row (Format name id) = record {
   refusal = λ image. None;
@@ -100,8 +100,7 @@ promise_of (Name name id) = Some (record { start = SoundDisk; reply = λ shown. 
 promise_of Validate = Some (record { start = AnyDisk; reply = λ old. Done; shows = validated_view })
 promise_of (BlockWrite at block) = None
 
--- the first refusal of a command that applies to the image, and none where the command is to be
--- accepted
+-- the first refusal of a command that applies to the image; None if the command is accepted
 abbrev pub refusal_of : Disk → Change → Option Refusal
 refusal_of image change = (row change).refusal image
 
@@ -109,7 +108,7 @@ refusal_of image change = (row change).refusal image
 abbrev pub image_after : Disk → Change → Disk
 image_after image change = (row change).effect image
 
--- what an accepted command answers
+-- the reply to an accepted command
 abbrev pub reply_to : Disk → Change → Reply
 reply_to image change = (row change).reply image
 
@@ -117,22 +116,22 @@ reply_to image change = (row change).reply image
 abbrev pub IsWithin : Disk → Change → Type 0
 IsWithin image change = MatchOption (row change).block (Unit {0}) (λ block. block < length image)
 
--- a command that changes the files of a disk; a block write promises nothing of them
+-- the command changes the files of a disk; a block write promises nothing of them
 abbrev pub IsFileCommand : Change → Type 0
 IsFileCommand change = IsSome (promise_of change)
 
--- an accepted command leaves a sound disk, where that before is known to be sound or not: each file
--- command does, but for a name of the disk, which any disk is given, and which leaves it as it was
+-- an accepted command leaves a sound disk, by whether the disk before is known to be sound: each
+-- file command does, but a disk that gets a name stays sound or not as it was
 abbrev pub LeavesSound : Change → Bool → Type 0
 LeavesSound (Name name id) known = known ≡ true
 LeavesSound change known = IsFileCommand change
 
--- the images from which a promise holds
+-- the images for which a promise holds
 abbrev pub IsStart : Start → Disk → Type 0
 IsStart AnyDisk image = Unit {0}
 IsStart SoundDisk image = IsSound image
 
--- the images from which a file command is promised to leave a sound disk
+-- the images for which a file command promises to leave a sound disk
 abbrev pub StartsFrom : Change → Disk → Type 0
 StartsFrom change image = MatchOption (promise_of change) ⊥ (λ promise. IsStart promise.start image)
 

@@ -1,4 +1,4 @@
--- When the deleting of files, the renaming of a file and a validation are refused.
+-- When deleting files, renaming a file and a validation are refused.
 use Rattle.std.specs.Prelude.{if◌then◌else◌, Option, Some, None, option_map}
 use Rattle.std.specs.Option.{option_or}
 use Rattle.d64_image.specs.Disk.{Disk, Bytes}
@@ -7,19 +7,19 @@ use Rattle.d64_files.specs.FirstFault.{first_fault, sound_conditions, owning_con
 use Rattle.d64_dos.specs.declared.refusal.Refusal.{Refusal}
 use Rattle.d64_dos.specs.declared.refusal.Refusal.TheVariants.{NotFound, Exists, Directory}
 
--- of the deleting of files, as of all that asks for a sound image: the first condition of one that
--- fails
+-- why deleting files is refused, as is everything that needs a sound image: the first condition of
+-- a sound image that fails
 abbrev pub unsound_refusal : Disk → Option Refusal
 unsound_refusal image = option_map Directory (first_fault image sound_conditions)
 
--- of a renaming: the first condition of a sound image that fails, then that no file has the old
--- name, then that one has the new name
+-- why a renaming is refused: the first condition of a sound image that fails, then that no file has
+-- the old name, then that one has the new name
 unfoldable pub rename_refusal : Disk → Bytes → Bytes → Option Refusal
 rename_refusal image old new =
     option_or (unsound_refusal image)
     (if is_name_taken old (slots image) then (if is_name_taken new (slots image) then Some Exists else None) else Some NotFound)
 
--- of a validation: the first condition that fails of those on the directory, the files and their
--- chains, whatever the map says
+-- why a validation is refused: the first condition that fails of those on the directory, the files
+-- and their chains, whatever the map says
 abbrev pub validate_refusal : Disk → Option Refusal
 validate_refusal image = option_map Directory (first_fault image owning_conditions)

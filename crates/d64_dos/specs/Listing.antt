@@ -1,4 +1,4 @@
--- What the directory of a disk lists.
+-- The list of a disk's directory.
 use Rattle.std.specs.Prelude.{◌≡◌, ℕ, Bool, List, [], ◌∷◌, map, filter, slice_range}
 use Rattle.d64_image.specs.Disk.{Disk, Bytes}
 use Rattle.d64_image.specs.Image.{IsSize, sector_at}
@@ -34,11 +34,11 @@ pub record ListingView : Type 0 where
 abbrev pub row_of : Bytes → RowView
 row_of cell = record { blocks = size_of cell; name = name_of cell; closed = is_closed cell; kind = kind_of cell; locked = is_locked cell }
 
--- the rows of the used ones among entries
+-- the rows of the used entries
 abbrev pub rows_of : List EntryView → List RowView
 rows_of walk = map (λ (entry : EntryView). row_of entry.bytes) (filter (λ (entry : EntryView). is_used entry.bytes) walk)
 
--- what the directory of an image lists
+-- the list of an image's directory
 unfoldable pub listing_of : Disk → ListingView
 listing_of image = record {
   name = name_in (disk_field image);
@@ -48,11 +48,11 @@ listing_of image = record {
   free = blocks_free image;
 }
 
--- what a row shows
+-- the row of the code as one of the definitions
 abbrev pub shown_row : Row → RowView
 shown_row row = record { blocks = row.blocks; name = row.name.items; closed = row.closed; kind = row.kind; locked = row.locked }
 
--- what a listing shows
+-- the listing of the code as one of the definitions
 abbrev pub shown_listing : Listing → ListingView
 shown_listing listing = record {
   name = listing.name.items;

@@ -1,4 +1,4 @@
--- What a file that is asked for by its name gives, and what keeps it from being read.
+-- Reading a file by its name, and why it can't be read.
 use Rattle.std.specs.Prelude.{◌≡◌, ℕ, [], slice_get, Option, Some, None, option_map}
 use Rattle.std.specs.Option.{option_or, option_map_or}
 use Rattle.d64_image.specs.Disk.{Disk, Bytes}
@@ -14,17 +14,17 @@ use Rattle.d64_dos.specs.declared.refusal.Refusal.TheVariants.{NotFound, Directo
 abbrev pub directory_refusal : Disk → Option Refusal
 directory_refusal image = option_map Directory (first_fault image reading_conditions)
 
--- why the slot that was found can't be read; there may be none
+-- why the slot that was found can't be read, if one was found
 abbrev pub found_refusal : Disk → Option ℕ → Option Refusal
 found_refusal image None = Some NotFound
 found_refusal image (Some slot) = option_map of_read_fault (slot_refusal image (slice_get (slots image) slot))
 
--- why a file can't be read by a pattern: what is wrong with the directory, or else with the first
--- used slot whose name the pattern matches
+-- why a file can't be read by a pattern: first a fault of the directory, then one of the first used
+-- slot whose name the pattern matches
 unfoldable pub read_refusal : Disk → Bytes → Option Refusal
 read_refusal image pattern = option_or (directory_refusal image) (found_refusal image (first_named pattern (slots image)))
 
--- the name in a slot; nothing where there is no such slot
+-- the name in a slot; nothing if there is no such slot
 abbrev pub name_at : Disk → ℕ → Bytes
 name_at image slot = option_map_or name_of (slice_get (slots image) slot) []
 

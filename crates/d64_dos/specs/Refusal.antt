@@ -1,17 +1,17 @@
--- Refusals, and the causes that an image gives for them.
+-- Refusals, and their causes in an image.
 use Rattle.std.specs.Prelude.{Option, Some, None, Result, Ok, Err}
 use Rattle.d64_files.specs.declared.reading.ReadFault.{ReadFault}
 use Rattle.d64_files.specs.declared.reading.ReadFault.TheVariants as faults
 use Rattle.d64_dos.specs.declared.refusal.Refusal.{Refusal}
 use Rattle.d64_dos.specs.declared.refusal.Refusal.TheVariants.{NotClosed, NotFound, WrongType, Directory, Memory}
 
--- the refusal that the image gave cause for: want of memory is none
+-- the refusal for which the image has a cause: any but that memory is out
 abbrev pub cause_of : Refusal → Option Refusal
 cause_of Memory = None
 cause_of refusal = Some refusal
 
--- the refusal that was answered with a cause in the image: none where the request was accepted or
--- memory was wanting
+-- the refusal that was returned with a cause in the image: None if the request was accepted or
+-- memory was out
 abbrev pub refused_by : {T : Type 0} → Result T Refusal → Option Refusal
 refused_by (Ok value) = None
 refused_by (Err refusal) = cause_of refusal

@@ -11,12 +11,12 @@ use Rattle.d64_dos.specs.declared.write.Place.{Place}
 use Rattle.d64_dos.specs.declared.write.Place.TheVariants.{Vacant, New}
 use Rattle.d64_dos.specs.declared.write.Space.{Space}
 
--- a slot stands in a block of the directory, and is this one of its eight
+-- a slot is in a block of the directory, and is this one of its eight
 abbrev pub StandsIn : Disk → ℕ → ℕ → ℕ → Type 0
 StandsIn image block index slot = (block ≡ slot_block image slot) × (index ≡ slot % 8)
 
--- the place of a new entry: the first unused slot, or where there is none the first slot of the
--- block that the directory takes after its last one
+-- the place of a new entry: the first unused slot, or if all are used the first slot of the block
+-- that the directory takes after its last one
 abbrev pub IsPlace : Disk → BlockSet → Place → Type 0
 IsPlace image free (Vacant block index) = MatchOption (first_unused (slots image)) ⊥ (StandsIn image block index)
 IsPlace image free (New last block) =
@@ -31,8 +31,8 @@ abbrev pub grown_at : Place → Blocks
 grown_at (Vacant block index) = []
 grown_at (New last block) = block ∷ []
 
--- what a new file of so many bytes takes: the blocks of its data, the place of its entry, and the
--- blocks that stay free
+-- what a new file of n bytes takes: the blocks of its data, the place of its entry, and the blocks
+-- that stay free
 pub record IsSpace (image : Disk) (bytes : ℕ) (blocks : Blocks) (space : Space) : Type 0 where
   pub taken : plan (free_blocks image) (blocks_for bytes) ≡ Some blocks
   pub place : IsPlace image (free_blocks image) space.place

@@ -1,4 +1,4 @@
--- What an accepted command makes of a sound disk and of what it shows.
+-- The effect of an accepted command on a sound disk and on what it shows.
 use Rattle.std.specs.Prelude.{◌≡◌, None, IfSome}
 use Rattle.d64_image.specs.Disk.{Disk}
 use Rattle.d64_files.specs.Name.{IsName}
@@ -9,7 +9,7 @@ use Rattle.d64_dos.specs.Change.{Change, Format, Write, Delete, Rename, Name, Va
 use Rattle.d64_dos.specs.Command.{image_after, reply_to, refusal_of, StartsFrom, ViewStep}
 use Rattle.d64_dos.specs.declared.command.Reply.{Reply}
 
--- what is left is an image, sound, and shows what it did before with the command's change
+-- the next image is a sound image, and shows what the disk did before with the command's change
 pub record Leaves (image : Disk) (change : Change) (reply : Reply) (next : Disk) : Type 0 where
   pub is_image : IsImage next
   pub sound : IsSound next

@@ -1,4 +1,4 @@
--- When the writing of a file is refused.
+-- When writing a file is refused.
 use Rattle.std.specs.Prelude.{ℕ, nat_le, ◌&&◌, ◌||◌, not, true, false, Bool, if◌then◌else◌, Option, Some, None, is_some}
 use Rattle.std.specs.Option.{option_or}
 use Rattle.d64_image.specs.Disk.{Disk, Bytes}
@@ -13,20 +13,20 @@ use Rattle.d64_dos.specs.FileRefusals.{unsound_refusal}
 use Rattle.d64_dos.specs.declared.refusal.Refusal.{Refusal}
 use Rattle.d64_dos.specs.declared.refusal.Refusal.TheVariants.{Exists, WrongType, DiskFull}
 
--- files of this kind can be written: SEQ, PRG and USR
+-- whether files of this kind can be written: SEQ, PRG and USR
 abbrev pub is_writable : Kind → Bool
 is_writable Del = false
 is_writable Rel = false
 is_writable kind = true
 
--- there is room for a file of so many bytes, and for its entry
+-- whether a disk has room for a file of n bytes and for its entry
 abbrev pub has_room : Disk → ℕ → Bool
 has_room image bytes =
     nat_le (blocks_for bytes) (room (free_blocks image))
     && (is_some (first_unused (slots image)) || is_some (next_of_directory (free_blocks image) (dir_last image)))
 
--- the first refusal of a write that applies: the kind, then the first condition of a sound image
--- that fails, then the name, then the room
+-- the first refusal of a write that applies: by the kind, then by the first condition of a sound
+-- image that fails, then by the name, then for lack of room
 unfoldable pub write_refusal : Disk → Bytes → Kind → ℕ → Option Refusal
 write_refusal image name kind bytes =
     if not (is_writable kind)

@@ -1,4 +1,4 @@
-//! Commands on an image, their replies, and how they are applied.
+//! Commands on an image, their replies, and their application.
 ghost use Rattle.std.specs.Prelude.{◌≡◌, ◌↔◌, true, [], length, IfOk, IfSome, OnOk, OnErr};
 ghost use Rattle.d64_dos.specs.Change.{change_of};
 ghost use Rattle.d64_dos.specs.Command.{image_after, reply_to, refusal_of, IsWithin, LeavesSound, StartsFrom};
@@ -22,39 +22,39 @@ use d64_image::{BLOCK_BYTES, BlockNo, Image, Patch, known_bytes};
 /// A change of an image.
 #[derive(Debug, Drop)]
 pub enum Command {
-    /// Makes the disk an empty one with this name and id (1541 User's Guide, "New"). Nothing of the
-    /// image before stays.
+    /// Makes an empty disk with this name and id (1541 User's Guide, "New"). Nothing of the image
+    /// before is kept.
     Format {
         name: Name,
         id: [u8; 2],
     },
     /// Writes a file of these bytes and closes it: into free blocks outside track 18, and with an
-    /// entry in the first empty slot, for which the directory takes one more block of track 18
-    /// where there is none. No other file changes.
+    /// entry in the first empty slot, or in a new block of track 18 that the directory takes if no
+    /// slot is empty. No other file changes.
     Write {
         name: Name,
         kind: Kind,
         bytes: Vec<u8>,
     },
-    /// Deletes each file that is closed and not locked and whose name one of the patterns matches
-    /// or more (1541 User's Guide, "Scratch"): its slot is unused then, and the blocks of its chain
-    /// and of its side chain are free. Where there is no such file, nothing is written.
+    /// Deletes each file that is closed and not locked and whose name at least one of the patterns
+    /// matches (1541 User's Guide, "Scratch"): its slot is unused then, and the blocks of its chain
+    /// and of its side chain are free. If there is no such file, nothing is written.
     Delete {
         patterns: Vec<Pattern>,
     },
-    /// Gives the first used slot of one name another (1541 User's Guide, "Rename"). Every other
+    /// Gives the first used slot with one name another (1541 User's Guide, "Rename"). Every other
     /// byte of its entry stays, and the file may be locked or unclosed.
     Rename {
         old: Name,
         new: Name,
     },
-    /// Gives the disk another name, and another id, if there is one. No other byte changes.
+    /// Gives the disk another name, and another id, if one is given. No other byte changes.
     Name {
         name: Name,
         id: Option<[u8; 2]>,
     },
-    /// Drops the files that were never closed, and writes the map anew: free is what no file,
-    /// directory or map owns (1541 User's Guide, "Validate").
+    /// Drops the files that were never closed, and writes the map anew: the free blocks are those
+    /// that no file, directory or map owns (1541 User's Guide, "Validate").
     Validate,
     /// Replaces the 256 bytes of one block.
     BlockWrite {
@@ -64,9 +64,9 @@ pub enum Command {
 }
 
 impl Command {
-    /// Whether it leaves a sound disk where it is accepted, and where the disk before is known to be
-    /// sound or not: a block write promises nothing, and a name is given to any disk, which stays as
-    /// it was.
+    /// Whether it leaves a sound disk if it is accepted, by whether the disk before is known to be
+    /// sound: a block write promises nothing, and a disk that gets a name stays sound or not as it
+    /// was.
     pub fn leaves_sound(&self, is_known: bool) -> bool
         ensures { (result ≡ true) ↔ LeavesSound (change_of self.now) is_known }
     {
@@ -86,35 +86,35 @@ impl Command {
     }
 }
 
-/// What an accepted command answers.
+/// The reply to an accepted command.
 #[derive(Clone, Copy, Debug, PartialEq, Eq)]
 pub enum Reply {
     Done,
-    /// So many files were deleted.
+    /// This many files were deleted.
     Scratched(usize),
 }
 
-/// Changes the image as a command asks, and answers it. The patch, empty before, keeps each block
-/// that the command changed, once and ascending, with its bytes from before. The image has the
-/// block that a block write names.
+/// Changes the image as a command asks, and returns the reply. The patch, empty before, keeps each
+/// block that the command changed, once and ascending, with its bytes from before. The image must
+/// have the block that a block write names.
 ///
-/// The first refusal that applies is answered, and want of memory only where none does; then the
-/// image is as it was, and the patch is empty. A format, a name of the disk and a block write have
+/// The error is the first refusal that applies, and `Memory` only if no other applies; then the
+/// image is unchanged, and the patch is empty. A format, a name of the disk and a block write have
 /// no refusal of their own. The others have these, in order:
 ///
-/// - A write `WrongType`, where the kind is DEL or REL; `Directory` with the first condition of a
-///   sound image that fails; `Exists`, where a used slot has exactly the name; `DiskFull`, where
-///   fewer blocks outside track 18 are free than the file takes, or no slot is empty and no block
-///   of track 18 is free.
-/// - A deletion `Directory`, as a write.
-/// - A renaming `Directory`, as a write; `NotFound`, where no used slot has the old name; `Exists`,
-///   where one has the new name, be it the same.
-/// - A validation `Directory` with the first condition that fails of those on the directory, the
+/// - A write: `WrongType` if the kind is DEL or REL; `Directory` with the first condition of a
+///   sound image that fails; `Exists` if a used slot has exactly the name; `DiskFull` if fewer
+///   blocks outside track 18 are free than the file takes, or no slot is empty and no block of
+///   track 18 is free.
+/// - A deletion: `Directory`, as for a write.
+/// - A renaming: `Directory`, as for a write; `NotFound` if no used slot has the old name; `Exists`
+///   if one has the new name, also if it is the same name.
+/// - A validation: `Directory` with the first condition that fails of those on the directory, the
 ///   files and their chains.
 ///
 /// The image keeps its number of tracks. An accepted file command leaves a sound disk, which shows
-/// the command's change and nothing else: a format always, a validation too, the others where the
-/// disk was sound. A name is given to any disk.
+/// the command's change and nothing else: a format always, a validation too, the others if the disk
+/// was sound. Any disk can get a name.
 pub fn apply(image: &mut Image, patch: &mut Patch, command: &Command) -> Result<Reply, Refusal>
     requires patch { patch.old ≡ [] }
     requires block { IsWithin image.old (change_of command.now) }
@@ -131,8 +131,8 @@ pub fn apply(image: &mut Image, patch: &mut Patch, command: &Command) -> Result<
     apply_knowing(image, patch, command, false)
 }
 
-/// Changes the image as `apply` does. The caller may know that the disk is sound, as every disk is
-/// that an accepted file command left: then a command that asks for that doesn't look at it again.
+/// Changes the image as `apply` does. `is_sound` may be true only if the disk is sound, as it is
+/// after every accepted file command: then a command that needs a sound disk doesn't test it again.
 pub fn apply_knowing(
     image: &mut Image,
     patch: &mut Patch,
@@ -163,7 +163,7 @@ pub fn apply_knowing(
     answer
 }
 
-/// The parts of a command are known to be what they should.
+/// Does nothing: its contract states what the parts of a command are.
 fn known_command(command: &Command)
     ensures { IsMade (change_of command.now) }
 {
@@ -194,7 +194,7 @@ fn known_command(command: &Command)
     }
 }
 
-/// An id, if there is one, is known to be two bytes.
+/// Does nothing: its contract states that an id, if there is one, has two bytes.
 fn known_id(id: &Option<[u8; 2]>)
     ensures { IfSome id.now AreTwoBytes }
 {
@@ -204,9 +204,9 @@ fn known_id(id: &Option<[u8; 2]>)
     }
 }
 
-/// Changes the image as a command asks, byte for byte. After a refusal in the middle some blocks
-/// may be written; the image with the patch put back is the one from before in any case. The caller
-/// may know that the disk is sound.
+/// Changes the image as a command asks, byte for byte. After an error some blocks may be written;
+/// putting the patch back gives the image from before in any case. `is_sound` may be true only if
+/// the disk is sound.
 fn carried_out(
     image: &mut Image,
     patch: &mut Patch,

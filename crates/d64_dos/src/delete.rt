@@ -1,4 +1,4 @@
-//! The deleting of files: their slots become unused, and their blocks free.
+//! Deleting files: their slots become unused, and their blocks free.
 ghost use Rattle.std.specs.Prelude.{◌≡◌, ◌<◌, true, ℕ, List, length, All, IfOk, OnOk};
 ghost use Rattle.std.specs.List.{list_any, flat_map};
 ghost use Rattle.std.specs.FinSet as set;
@@ -24,7 +24,7 @@ use std::alloc::AllocError;
 /// How many slots a directory has at most: eight in each of its blocks.
 pub(crate) const MOST_SLOTS: usize = 8 * BLOCKS;
 
-/// The files that patterns scratch.
+/// The files that patterns delete.
 #[derive(Drop)]
 struct Scratched {
     /// The places of their slots, in the directory's order.
@@ -40,15 +40,15 @@ fn is_named_by(patterns: &[Pattern], name: &[u8]) -> bool
     patterns.iter().any(|pattern| matches(pattern, name))
 }
 
-/// Whether patterns scratch the file of an entry: it is closed and not locked, and one of them
-/// matches its name or more.
+/// Whether patterns delete the file of an entry: it is closed and not locked, and at least one of
+/// them matches its name.
 fn is_scratched(patterns: &[Pattern], entry: &Entry) -> bool
     ensures { result ≡ is_scratched_slot patterns.now entry.now.bytes }
 {
     entry.used() && entry.closed() && !entry.locked() && is_named_by(patterns, entry.name())
 }
 
-/// Makes the members of another set free, too.
+/// Adds the members of another set to the free blocks.
 fn free_all(free: &mut BlockSet, given: &BlockSet)
     ensures { (blocks : List ℕ) → given.now ≡ set.from_list blocks → free.new ≡ with_freed free.old blocks }
 {
@@ -65,9 +65,9 @@ fn free_all(free: &mut BlockSet, given: &BlockSet)
     }
 }
 
-/// The files that patterns scratch.
+/// Finds the files that patterns delete.
 ///
-/// The caller knows that the disk is sound.
+/// The disk must be sound.
 fn find_scratched(directory: &Directory, patterns: &[Pattern]) -> Scratched
     requires { AllHold directory.now 1 6 }
     ensures places { result.places.items ≡ scratched_slots directory.now patterns.now }
@@ -85,10 +85,10 @@ fn find_scratched(directory: &Directory, patterns: &[Pattern]) -> Scratched
     Scratched { places, free }
 }
 
-/// Makes the slots of these places unused ones.
+/// Makes the slots at these places unused.
 ///
-/// Refused where there is no memory to keep the bytes of a block. The caller knows that the
-/// directory has these slots.
+/// An error comes if there is no memory to keep the bytes of a block. The directory must have these
+/// slots.
 pub(crate) fn clear_slots(
     image: &mut Image,
     patch: &mut Patch,
@@ -107,15 +107,15 @@ pub(crate) fn clear_slots(
     Ok(())
 }
 
-/// Deletes the files that are closed and not locked and whose names one of the patterns matches or
-/// more, and answers how many: their slots become unused, and the blocks of their chains and side
-/// chains free. Where there is none, nothing is written. It takes memory for nothing but the patch.
+/// Deletes the files that are closed and not locked and whose names at least one of the patterns
+/// matches, and returns how many: their slots become unused, and the blocks of their chains and
+/// side chains free. If there is no such file, nothing is written. Only the patch allocates.
 ///
-/// Refused with `Directory` and the first condition of a sound image that fails, and else with
-/// `Memory` where there is no memory to keep the bytes of a block. After a refusal some blocks may
-/// be written; the image with the patch put back stays the same in any case. The caller may know
-/// that the disk is sound. Apart, so that the room for the places of all slots is no part of the
-/// frames of its callers.
+/// The error is `Directory` with the first condition of a sound image that fails, and otherwise
+/// `Memory` if there is no memory to keep the bytes of a block. After an error some blocks may be
+/// written; putting the patch back gives the image from before in any case. `is_sound` may be true
+/// only if the disk is sound. It is a function of its own, so that the list of the slots' places is
+/// not in the frames of its callers.
 #[inline(never)]
 pub(crate) fn scratch(
     image: &mut Image,

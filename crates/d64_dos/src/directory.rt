@@ -14,10 +14,10 @@ use d64_image::{BLOCK_BYTES, Image};
 use d64_map::{blocks_free, map_block};
 use std::alloc::Global;
 
-/// Where the field of the disk's name ends in the map's block.
+/// The end of the field of the disk's name in the map's block.
 const NAME_END: usize = NAME_START + 16;
 
-/// The map's block of an image, in which the disk's name and id stand too.
+/// The map's block of an image, which has the disk's name and id too.
 fn header_of(image: &Image) -> &[u8; BLOCK_BYTES]
     ensures value { result.now ≡ sector_at image.now map_block }
     ensures block { IsBlock result.now }
@@ -26,12 +26,11 @@ fn header_of(image: &Image) -> &[u8; BLOCK_BYTES]
     image.sector(map_block())
 }
 
-/// What the directory of an image lists. Neither the map's counts nor the files' chains need be as
-/// they should.
+/// Lists the directory of an image. Neither the map's counts nor the files' chains need be right.
 ///
-/// Refused with `Directory` where there is no chain of blocks from track 18, sector 1
-/// (`NoDirectory`), or else the low four bits of a slot's type byte are above 4 (`UnknownKind`);
-/// then with `Memory`.
+/// The error is `Directory` if there is no chain of blocks from track 18, sector 1 (`NoDirectory`),
+/// or else if the low four bits of a slot's type byte are above 4 (`UnknownKind`), and otherwise
+/// `Memory`.
 pub fn listing(alloc: Global, image: &Image) -> Result<Listing, Refusal>
     ensures refused { refused_by result ≡ directory_refusal image.now }
     ensures listing { IfOk result (λ listing. shown_listing listing ≡ listing_of image.now) }

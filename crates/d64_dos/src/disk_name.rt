@@ -1,4 +1,4 @@
-//! Another name of the disk, and another id.
+//! Giving the disk another name, and another id.
 ghost use Rattle.std.specs.Prelude.{◌≡◌, OnOk};
 ghost use Rattle.d64_image.specs.Patch.{IsPatchOf, restored_image};
 ghost use Rattle.d64_files.specs.Name.{filled_field};
@@ -23,7 +23,7 @@ fn name_field(name: &Name) -> [u8; NAME_BYTES]
     field
 }
 
-/// The map's block with another name, and another id, if there is one.
+/// The map's block with another name, and another id, if one is given.
 #[tactic(auto, unfolding(d64_effects::specs::DiskName::labelled))]
 fn labelled(old: &[u8; BLOCK_BYTES], name: &Name, id: Option<[u8; 2]>) -> [u8; BLOCK_BYTES]
     ensures { result ≡ labelled old.now name.now id }
@@ -37,9 +37,9 @@ fn labelled(old: &[u8; BLOCK_BYTES], name: &Name, id: Option<[u8; 2]>) -> [u8; B
     block
 }
 
-/// Gives the disk another name, and another id, if there is one. No other byte changes, and the
-/// image needn't be sound. Refused where there is no memory to keep the map's block; then the image
-/// stays.
+/// Gives the disk another name, and another id, if one is given. No other byte changes, and the
+/// image needn't be sound. An error comes if there is no memory to keep the map's block; then the
+/// image is unchanged.
 #[tactic(auto, unfolding(d64_effects::specs::DiskName::named_disk))]
 pub(crate) fn name_disk(
     image: &mut Image,

@@ -1,4 +1,4 @@
-//! An empty disk, made block by block.
+//! Making an empty disk, block by block.
 ghost use Rattle.std.specs.Prelude.{◌≡◌, ◌<◌, length, replicate, OnOk};
 ghost use Rattle.d64_image.specs.declared.image.TheConstants.{BLOCK_BYTES};
 ghost use Rattle.d64_image.specs.Image.{with_sector};
@@ -11,20 +11,20 @@ use d64_image::{BLOCK_BYTES, BlockNo, BlockSet, Image, Patch};
 use d64_map::{DIRECTORY_TRACK, map_block, put_map};
 use std::alloc::AllocError;
 
-/// What begins the map's block: the link to the directory's first block, and the mark of the 1541's
-/// format.
+/// The beginning of the map's block: the link to the directory's first block, and the mark of the
+/// 1541's format.
 const LINK_AND_FORMAT: [u8; 4] = [DIRECTORY_TRACK, DIRECTORY_SECTOR, 0x41, 0x00];
 
 /// The DOS version and the format, as a directory shows them: `2A`.
 const DOS_VERSION: [u8; 2] = [0x32, 0x41];
 
-/// Where the disk's name stands in the map's block.
+/// The place of the disk's name in the map's block.
 pub(crate) const NAME_START: usize = 0x90;
 
-/// Where the disk's id stands in the map's block.
+/// The place of the disk's id in the map's block.
 pub(crate) const ID_START: usize = 0xA2;
 
-/// Where the DOS version stands in the map's block.
+/// The place of the DOS version in the map's block.
 pub(crate) const DOS_VERSION_START: usize = 0xA5;
 
 /// How many bytes the disk's label has, from its name on: the name, the id and the DOS version.
@@ -50,8 +50,8 @@ fn header(name: &Name, id: &[u8; 2]) -> [u8; BLOCK_BYTES]
     header
 }
 
-/// The free blocks of the disk when it is formatted, as many tracks as it has: all but those of the
-/// map and of the directory.
+/// The free blocks of a formatted disk, by its number of tracks: all but those of the map and of
+/// the directory.
 fn free_when_formatted(image: &Image) -> BlockSet
     ensures { result ≡ free_when_formatted (length image.now) }
 {
@@ -67,8 +67,8 @@ fn free_when_formatted(image: &Image) -> BlockSet
     free
 }
 
-/// Writes zeros into a block of the image, where it has other bytes: what a patch need not keep
-/// takes no memory.
+/// Writes zeros into a block of the image, if it has other bytes: a block that the patch need not
+/// keep needs no memory.
 fn blank_block(image: &mut Image, patch: &mut Patch, block: BlockNo) -> Result<(), AllocError>
     requires { block < length image.old }
     ensures blank { OnOk result (image.new ≡ with_sector image.old block (replicate BLOCK_BYTES 0)) }
@@ -97,9 +97,9 @@ fn blank(image: &mut Image, patch: &mut Patch) -> Result<(), AllocError>
     Ok(())
 }
 
-/// Makes the disk an empty one with that name and id. Refused where there is no memory to keep what
-/// stood there: then some blocks may be written, and the image with the patch put back is still the
-/// one from before.
+/// Makes an empty disk with that name and id. An error comes if there is no memory to keep a
+/// block's bytes: then some blocks may be written, and putting the patch back still gives the image
+/// from before.
 pub(crate) fn format(
     image: &mut Image,
     patch: &mut Patch,

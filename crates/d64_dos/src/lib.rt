@@ -1,8 +1,8 @@
 //! The commands on an image, such as write, delete and validate: when each is refused, what it
 //! writes into the image, and what it reads and lists.
 //!
-//! A command is one of a D64 image as the VICE manual describes it for `c1541`, with the meaning
-//! that the 1541 User's Guide gives it.
+//! The commands are those that the VICE manual describes for `c1541` and a D64 image, with the
+//! meaning that the 1541 User's Guide gives them.
 #![tactic(auto)]
 
 mod block_count;

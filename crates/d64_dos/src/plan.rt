@@ -10,8 +10,8 @@ use arrayvec::ArrayVec;
 use d64_image::{BLOCKS, BlockNo, BlockSet};
 use d64_map::{pick_first, pick_next};
 
-/// The free block that a file takes after the one that it took last, or as its first one. None
-/// where no block outside track 18 is free.
+/// The free block that a file takes after the one that it took last, or as its first one; None if
+/// no block outside track 18 is free.
 fn pick_after(free: &BlockSet, last: Option<BlockNo>) -> Option<BlockNo>
     ensures { result ≡ find (set.contains free.now) (order_after last) }
 {
@@ -21,9 +21,9 @@ fn pick_after(free: &BlockSet, last: Option<BlockNo>) -> Option<BlockNo>
     }
 }
 
-/// Takes the blocks of a file of so many blocks from the free ones, and lists them in the file's
-/// order, in place of what the list had. None where too few blocks outside track 18 are free: then
-/// some of them may be taken, and the list says nothing.
+/// Takes the blocks of a file of `count` blocks from the free ones, and replaces the list by them,
+/// in the file's order. Returns None if too few blocks outside track 18 are free: then some of them
+/// may be taken, and the list has any blocks.
 pub(crate) fn take_plan(
     free: &mut BlockSet,
     count: usize,

@@ -21,11 +21,11 @@ pub struct ReadBack {
 /// name, and the content of its file (1541 User's Guide). A REL file is read without its side
 /// blocks.
 ///
-/// Refused, in this order: with `Directory` where there is no chain of blocks from track 18, sector
-/// 1 (`NoDirectory`), or the low four bits of a slot's type byte are above 4 (`UnknownKind`); with
-/// `NotFound`; with `NotClosed`; with `WrongType` for a DEL entry; with `Directory` where there is
-/// no chain from the file's first block (`NoChain`); with `Memory` where the name or the content
-/// has no room.
+/// The error is the first of these that applies: `Directory` if there is no chain of blocks from
+/// track 18, sector 1 (`NoDirectory`), or the low four bits of a slot's type byte are above 4
+/// (`UnknownKind`); `NotFound`; `NotClosed`; `WrongType` for a DEL entry; `Directory` if there is
+/// no chain from the file's first block (`NoChain`); `Memory` if there is no memory for the name or
+/// the content.
 pub fn read(alloc: Global, image: &Image, pattern: &Pattern) -> Result<ReadBack, Refusal>
     ensures refused { refused_by result ≡ read_refusal image.now pattern.now }
     ensures back { IfOk result (λ back. IsReadBack image.now pattern.now back.name.items back.bytes.items) }

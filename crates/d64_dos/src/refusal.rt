@@ -3,11 +3,11 @@ use d64_files::{DirFault, ReadFault};
 use std::alloc::AllocError;
 use thiserror::Error;
 
-/// Why a command or a request is refused. The numbers of the 1541 User's Guide stand in the shell's
-/// status lines.
+/// Why a command or a request is refused. The shell's status lines have the numbers of the 1541
+/// User's Guide.
 #[derive(Clone, Copy, Debug, PartialEq, Eq, Error)]
 pub enum Refusal {
-    /// The file was never closed, so its end isn't known.
+    /// The file was never closed, so that its end isn't known.
     #[error("the file was not closed after it was written")]
     NotClosed,
     /// No used slot has the name.

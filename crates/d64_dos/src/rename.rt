@@ -1,4 +1,4 @@
-//! The renaming of a file.
+//! Renaming a file.
 ghost use Rattle.std.specs.Prelude.{◌≡◌, ◌<◌, true, Some, length, IfOk, IfSome, OnOk};
 ghost use Rattle.d64_image.specs.Patch.{IsPatchOf, restored_image};
 ghost use Rattle.d64_files.specs.Directory.{slots};
@@ -12,7 +12,7 @@ use crate::sound_disk::sound_directory;
 use d64_files::{Directory, Name, SlotNo, set_name};
 use d64_image::{Image, Patch};
 
-/// The first used slot of exactly this name, or None where there is none.
+/// The first used slot with exactly this name, or None if there is no such slot.
 fn slot_of_name(directory: &Directory, name: &Name) -> Option<SlotNo>
     ensures slot { result ≡ first_of_name name.now (slots directory.now) }
     ensures within { IfSome result (λ slot. slot < length (slots directory.now)) }
@@ -25,8 +25,8 @@ fn slot_of_name(directory: &Directory, name: &Name) -> Option<SlotNo>
     None
 }
 
-/// The slot whose name changes, or the first refusal that applies. The caller may know that the disk
-/// is sound.
+/// The slot whose name changes, or the first refusal that applies. `is_sound` may be true only if
+/// the disk is sound.
 #[tactic(auto, unfolding(crate::specs::FileRefusals::rename_refusal))]
 fn slot_to_rename(image: &Image, old: &Name, new: &Name, is_sound: bool) -> Result<SlotNo, Refusal>
     requires { is_sound ≡ true → IsSound image.now }
@@ -44,13 +44,13 @@ fn slot_to_rename(image: &Image, old: &Name, new: &Name, is_sound: bool) -> Resu
     Ok(first)
 }
 
-/// Gives the first used slot of one name another. Every other byte of its entry stays, and the file
-/// may be locked or unclosed. It takes memory for nothing but the patch.
+/// Gives the first used slot with one name another. Every other byte of its entry stays, and the
+/// file may be locked or unclosed. Only the patch allocates.
 ///
-/// The first refusal that applies is answered: `Directory` with the first condition of a sound
-/// image that fails, `NotFound` where no used slot has the old name, and `Exists` where one has the
-/// new name, be it the same. `Memory` comes only where none does. The image with the patch put back
-/// stays the same in any case. The caller may know that the disk is sound.
+/// The error is the first refusal that applies: `Directory` with the first condition of a sound
+/// image that fails, `NotFound` if no used slot has the old name, and `Exists` if one has the new
+/// name, also if it is the same name. `Memory` comes only if no other applies. Putting the patch
+/// back gives the same image in any case. `is_sound` may be true only if the disk is sound.
 pub(crate) fn rename(
     image: &mut Image,
     patch: &mut Patch,

@@ -8,11 +8,11 @@ use std::alloc::{AllocError, Global};
 /// What a directory lists of a file.
 #[derive(Debug, Drop)]
 pub struct Row {
-    /// The size in blocks of 254 bytes of data, as the entry says it.
+    /// The size in blocks of 254 bytes of data, as the entry has it.
     pub blocks: u16,
     /// The name, up to the first $A0 of its field: at most 16 bytes of PETSCII.
     pub name: Vec<u8>,
-    /// Whether the file was closed; a directory shows a `*` where it wasn't.
+    /// Whether the file was closed; a directory shows a `*` if it wasn't.
     pub closed: bool,
     /// The kind of the file.
     pub kind: Kind,

@@ -7,8 +7,8 @@ use d64_files::fault_laws::first_fault_is_the_first;
 use d64_files::{DirFault, Directory, checked};
 use d64_image::Image;
 
-/// The directory of a sound disk, or the first condition of a sound image that fails. The caller
-/// may know that the disk is sound: then it isn't looked at again.
+/// The directory of a sound disk, or the first condition of a sound image that fails. `is_sound`
+/// may be true only if the disk is sound: then it isn't tested again.
 pub(crate) fn sound_directory(image: &Image, is_sound: bool) -> Result<Directory<'_>, DirFault>
     requires { is_sound ≡ true → IsSound image.now }
     ensures image { IfOk result (λ directory. directory ≡ image.now) }

@@ -1,4 +1,4 @@
-//! The validation of a disk: unclosed files are dropped, and free is what nobody owns.
+//! Validating a disk: unclosed files are dropped, and blocks without an owner are free.
 ghost use Rattle.std.specs.Prelude.{◌≡◌, ℕ, List, length, OnOk};
 ghost use Rattle.std.specs.FinSet as set;
 ghost use Rattle.d64_image.specs.Patch.{IsPatchOf, restored_image};
@@ -46,13 +46,13 @@ fn all_but(image: &Image, owned: &BlockSet) -> BlockSet
     others
 }
 
-/// Drops the files that were never closed, and writes the map anew: free is exactly what neither
-/// the map, nor the directory, nor a file owns. It takes memory for nothing but the patch.
+/// Drops the files that were never closed, and writes the map anew: exactly the blocks are free
+/// that neither the map, nor the directory, nor a file owns. Only the patch allocates.
 ///
-/// Refused with `Directory` and the first condition that fails of those on the directory, the files
-/// and their chains, whatever the map says, and else with `Memory` where there is no memory to keep
-/// the bytes of a block. After a refusal some blocks may be written; the image with the patch put
-/// back stays the same in any case. Apart, as `scratch` is.
+/// The error is `Directory` with the first condition that fails of those on the directory, the
+/// files and their chains, whatever the map says, and otherwise `Memory` if there is no memory to
+/// keep the bytes of a block. After an error some blocks may be written; putting the patch back
+/// gives the same image in any case. It is a function of its own, as `scratch` is.
 #[inline(never)]
 pub(crate) fn validate(image: &mut Image, patch: &mut Patch) -> Result<(), Refusal>
     ensures refused { refused_by result ≡ validate_refusal image.old }

@@ -1,4 +1,4 @@
-//! The writing of a file: its blocks, its entry, and the map.
+//! Writing a file: its blocks, its entry, and the map.
 ghost use Rattle.std.specs.Prelude.{◌≡◌, true, length, is_some, IfOk, OnOk, IfSome, MatchOption};
 ghost use Rattle.d64_image.specs.Patch.{IsPatchOf, restored_image};
 ghost use Rattle.d64_map.specs.Map.{free_blocks};
@@ -24,9 +24,9 @@ use std::alloc::AllocError;
 /// Where the entry of a new file goes.
 #[derive(Clone, Copy)]
 enum Place {
-    /// Into a slot that isn't used: one of the eight of a block of the directory, counted from 0.
+    /// In an unused slot: one of the eight of a block of the directory, counted from 0.
     Vacant { block: BlockNo, index: usize },
-    /// Into the first slot of a block that the directory takes after its last one.
+    /// In the first slot of a block that the directory takes after its last one.
     New { last: BlockNo, block: BlockNo },
 }
 
@@ -38,7 +38,7 @@ struct NewFile<'f> {
     bytes: &'f [u8],
 }
 
-/// What a new file takes beside the blocks of its data, which stand in a list of their own.
+/// What a new file takes beside the blocks of its data, which are in a list of their own.
 #[derive(Drop)]
 struct Space {
     /// The place of its entry.
@@ -57,8 +57,8 @@ fn is_writable(kind: Kind) -> bool
     }
 }
 
-/// The place of one more entry, where the directory can take one of the free blocks. None where
-/// there is no such place.
+/// The place of one more entry, if need be in a free block that the directory takes. None if there
+/// is no such place.
 fn find_place(directory: &Directory, free: &BlockSet) -> Option<Place>
     ensures { MatchOption result (NoPlace directory.now free.now) (IsPlace directory.now free.now) }
 {
@@ -75,8 +75,8 @@ fn find_place(directory: &Directory, free: &BlockSet) -> Option<Place>
     }
 }
 
-/// What a file of so many bytes takes: the blocks of its data are listed in order, in place of what
-/// the list had. None where there is no room for it: then the list says nothing.
+/// Finds what a file of this many bytes takes: the list is replaced by the blocks of its data, in
+/// order. Returns None if the disk has no room for it: then the list has any blocks.
 fn find_space(
     directory: &Directory,
     bytes: usize,
@@ -100,8 +100,8 @@ fn find_space(
     Some(Space { place, free })
 }
 
-/// What a file takes, or the first refusal that applies: the blocks of its data are listed as
-/// `find_space` lists them. The caller may know that the disk is sound.
+/// What a file takes, or the first refusal that applies: the blocks of its data are listed as by
+/// `find_space`. `is_sound` may be true only if the disk is sound.
 #[tactic(auto, unfolding(crate::specs::WriteRefusal::write_refusal))]
 fn space_for(
     image: &Image,
@@ -175,12 +175,12 @@ fn put_file(
 
 /// Writes a file.
 ///
-/// The first refusal that applies is answered, and then nothing is written: `WrongType` for a DEL
-/// or a REL file, `Directory` with the first condition of a sound image that fails, `Exists` where
-/// a used slot has the name, and `DiskFull` where too few blocks outside track 18 are free, or
-/// where no slot is empty and no block of track 18 is free. `Memory` comes only where none does:
-/// then some blocks may be written, and the image with the patch put back is still the one from
-/// before. The caller may know that the disk is sound.
+/// The error is the first refusal that applies, and then nothing is written: `WrongType` for a DEL
+/// or a REL file, `Directory` with the first condition of a sound image that fails, `Exists` if a
+/// used slot has the name, and `DiskFull` if too few blocks outside track 18 are free, or if no
+/// slot is empty and no block of track 18 is free. `Memory` comes only if no other applies: then
+/// some blocks may be written, and putting the patch back still gives the image from before.
+/// `is_sound` may be true only if the disk is sound.
 pub(crate) fn write(
     image: &mut Image,
     patch: &mut Patch,
