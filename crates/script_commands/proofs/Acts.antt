@@ -40,7 +40,7 @@ pub Does-refuse : (status : Status) (world : World) → Does (Refuse status) wor
 unfolding Does
 Does-refuse status world = (refl, refl)
 
--- before a call memory may be wanting
+-- before a call memory may be out
 pub Does-no_memory : (call : Call) (next : List ℕ → Act Ending) (world : World) → Does (Then call next) world (plain_answer OutOfMemory) world
 unfolding Does
 Does-no_memory call next world = inr (refl, refl)
@@ -52,12 +52,12 @@ unfolding Does
 by_cause refusal cause act world is =
     subst (λ (c : Option Refusal). Does (refuse_by c >>= (λ _. act)) world (plain_answer (status_of_refusal refusal)) world) is (refl, refl)
 
--- where nothing refuses an act, it is done
+-- if nothing refuses an act, it is done
 pub Does-refuse_by : (cause : Option Refusal) (act : Act Ending) (world : World) (answer : LineAnswer) (after : World)
     → None ≡ cause → Does act world answer after → Does (refuse_by cause >>= (λ _. act)) world answer after
 Does-refuse_by cause act world answer after none done = subst (λ (c : Option Refusal). Does (refuse_by c >>= (λ _. act)) world answer after) none done
 
--- an act that begins with a call is refused by its cause, or for want of memory
+-- an act that begins with a call is refused by its cause, or since memory is out
 pub Does-not_allowed : (refusal : Refusal) (cause : Option Refusal) (call : Call) (next : List ℕ → Act Ending) (world : World) → cause_of refusal ≡ cause
     → Does (refuse_by cause >>= (λ _. Then call next)) world (plain_answer (status_of_refusal refusal)) world
 Does-not_allowed NotClosed cause call next world is = by_cause NotClosed cause (Then call next) world is

@@ -13,18 +13,18 @@ use Rattle.script_commands.specs.BasicFiles.{program_start, status_of_basic}
 use Rattle.script_commands.specs.Line.{host_file_limit}
 use Rattle.script_commands.proofs.Acts.{Does-refused, Does-no_memory}
 
--- a host file that was fetched has at most so many bytes
+-- a host file that was fetched has at most this many bytes
 pub length-fetched : (files : Option Files) (name : List ℕ) (limit : ℕ) (bytes : List ℕ) → Fetches files name limit (Ok bytes) → length bytes ≤ limit
 length-fetched None name limit bytes short = short
 length-fetched (Some files) name limit bytes file = file.1
 
--- the line that is told, if one is, is one of so many
+-- the line of a fault, if it has one, is one of n lines
 small : (told : Option ℕ) (none : Type 0) (lines size : ℕ) → size ≤ 1048576
     → MatchOption told none (λ line. (1 ≤ line) × (line ≤ lines) × (line ≤ size)) → IfSome told (λ line. line < 2 ^ 32)
 small None none lines size short tells = tt
 small (Some line) none lines size short tells = let (_, _, within) = tells in omega arith
 
--- a fault of a text that is no longer than a host file tells a line whose number fits
+-- a fault of a text that is no longer than a host file has a line whose number fits
 pub fault_line-fits : (text : List ℕ) (fault : BasicFault) → length text ≤ host_file_limit → TellsLine text fault
     → IfSome (fault_line fault) (λ line. line < 2 ^ 32)
 fault_line-fits text fault short tells = small (fault_line fault) _ _ (length text) short tells
@@ -35,7 +35,7 @@ refused : (text : List ℕ) (next : List ℕ → Act Ending) (fault : BasicFault
     → Does (Then (Crunch text) next) (record { host = host; history = history }) (plain_answer (status_of_basic fault)) (record { host = host; history = history })
 refused text next fault host history first = Does-refused (Crunch text) next (status_of_basic fault) host host history ((fault, first, refl), refl)
 
--- a text was refused for its first fault, or for want of memory
+-- a text was refused for its first fault, or since memory is out
 pub Does-uncrunched : (text : List ℕ) (next : List ℕ → Act Ending) (fault : BasicFault) (host : HostState) (history : History)
     → IsOfMemory fault ⊎ IsFirstFault program_start text fault
     → Does (Then (Crunch text) next) (record { host = host; history = history }) (plain_answer (status_of_basic fault)) (record { host = host; history = history })

@@ -6,7 +6,7 @@ use Rattle.std.proofs.lemmas.List.{append_assoc, append-nil}
 use Rattle.petscii.specs.Spelling.{spell, spelling}
 use Rattle.script_commands.specs.FileText.{lines_of_file, shown_line, file_text}
 
--- what is shown of the rest of a file, where a line may be begun
+-- what is shown of the rest of a file, after a line may have begun
 unfoldable pub text_after : Bool → List ℕ → List ℕ
 text_after true [] = codes "\n"
 text_after begun rest = flat_map shown_line (lines_of_file rest)
@@ -33,7 +33,7 @@ onto_line byte line lines =
     ap (λ (text : List ℕ). text ++ rest) (append_assoc (spell byte) (flat_map spell line) (codes "\n"))
     ∙ append_assoc (spell byte) (flat_map spell line ++ codes "\n") rest
 
--- where there are bytes there is a line
+-- if there are bytes there is a line
 onto_lines : (byte next : ℕ) (more : List ℕ) (end : Bool)
     → flat_map shown_line (onto_first byte (cond end ([] ∷ lines_of_file more) (onto_first next (lines_of_file more))))
     ≡ spell byte ++ flat_map shown_line (cond end ([] ∷ lines_of_file more) (onto_first next (lines_of_file more)))

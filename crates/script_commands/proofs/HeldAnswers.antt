@@ -15,7 +15,7 @@ act_of_line-text home raw text history short is_text =
     let asked : List ℕ → Option (Act Ending) = λ t. cond (is_skipped t) None (Some (act_of_text home history t)) in
     ap (λ b. cond b (Some (Refuse LongLine)) (asked (text_of raw))) short ∙ ap asked is_text
 
--- what answers the text of a line answers the line
+-- what runs the text of a line runs the line
 pub IsAnswered-text : (home raw text : List ℕ) (history : History) (world : World) (answer said : LineAnswer) (after : World)
     → is_too_long raw ≡ false → text_of raw ≡ text → is_skipped text ≡ false
     → answer ≡ said → Does (act_of_text home history text) world said after

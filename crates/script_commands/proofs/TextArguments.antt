@@ -1,4 +1,4 @@
--- Words in text form: what they stand for, and what their reading does.
+-- Arguments in text form: the bytes that they stand for, and the effect of reading them.
 use Rattle.std.proofs.Common.{◌≡◌, ℕ, ◌+◌, ◌<◌, ◌⊎◌, List, [], ◌∷◌, ◌++◌, length, map, take, drop, get_or, Bor, Bool, true, false, Ok, Err, inl, inr, refl, sym, ap, ◌∙◌, arith}
 use Rattle.std.proofs.lemmas.List.{take_more, drop_more, take-append-drop, length-map, get_or-map}
 use Rattle.std.proofs.lemmas.List.Elements.{AllZip-push}
@@ -16,12 +16,12 @@ use Rattle.script_commands.proofs.Acts.{Does-given, Does-grouped}
 use Rattle.script_commands.specs.Arguments.{status_of_text}
 use Rattle.script_commands.specs.ArgumentTexts.{Reads, ReadsEach}
 
--- a word that has a fault stands for no bytes
+-- an argument that has a fault stands for no bytes
 first_fault : (word : List ℕ) (fault : TextFault) → HasNoFaultIfRead word → IsFirstFault word fault
     → (bytes : List ℕ) → IsSpelled (λ b. true) word bytes → ⊥
 first_fault word fault none first bytes spelled = none bytes fault spelled.0 first
 
--- a fault of the word, as an answer to its reading
+-- a fault of the argument, as the result of reading it
 pub Reads-fault : (word : List ℕ) (fault : TextFault) → HasNoFaultIfRead word → IsOfMemory fault ⊎ IsFirstFault word fault
     → Reads (λ bytes. true) word (Err (status_of_text fault))
 Reads-fault word (UnknownName place) none (inl memory) = absurd memory
@@ -32,7 +32,7 @@ Reads-fault word (BadByte place) none (inl memory) = absurd memory
 Reads-fault word (BadByte place) none (inr first) = inl (refl, first_fault word (BadByte place) none first)
 Reads-fault word (Memory error) none fault = inr refl
 
--- the bytes that a word stands for do not pass a test, so no bytes of it do
+-- the bytes that an argument stands for do not pass a test, so no bytes of it do
 pub not_spelled : (test : List ℕ → Bool) (word bytes : List ℕ) → HasOneReading word → IsTextOf bytes word → test bytes ≡ false
     → (others : List ℕ) → IsSpelled test word others → ⊥
 not_spelled test word bytes one read fails others spelled =
@@ -76,13 +76,13 @@ ReadsEach-stopped test words place word texts status inside read stopped =
     sym (take-append-drop place lists) ∙ ap (λ rest. take place lists ++ rest) (drop_more lists place word.now (omega (arith, length-map words (λ (word : Bor (List ℕ)). word.now)))) in
     (take place lists, texts, (get_or words place word).now, drop (place + 1) lists, rw at at whole, read, stopped)
 
--- memory was wanting after a word was read
+-- memory was out after an argument was read
 pub ReadsEach-no_room : (test : List ℕ → Bool) (words : List (Bor (List ℕ))) (place : ℕ) (word : Bor (List ℕ)) (texts : List (List ℕ)) (bytes : List ℕ)
     → place < length words → AllZip (IsSpelled test) (take place (map (λ word. word.now) words)) texts → IsSpelled test (get_or words place word).now bytes
     → ReadsEach test (map (λ word. word.now) words) (Err OutOfMemory)
 ReadsEach-no_room test words place word texts bytes inside read next = ReadsEach-stopped test words place word texts OutOfMemory inside read (inr refl)
 
--- words were read from left to right, and what their bytes ask for was done
+-- arguments were read from left to right, and what their bytes ask for was done
 pub Does-read_each : (test : List ℕ → Bool) (words texts : List (List ℕ)) (next : List (List ℕ) → Act Ending) (host : HostState) (history : History)
     (answer : LineAnswer) (after : World)
     → AllZip (IsSpelled test) words texts → Does (next texts) (record { host = host; history = history }) answer after
@@ -95,7 +95,7 @@ Does-read_each test (word ∷ words) (bytes ∷ texts) next host history answer 
     (Does-grouped (each_text test words) (λ more. Give (bytes ∷ more)) next _ answer after
     (Does-read_each test words texts (λ more. next (bytes ∷ more)) host history answer after read.1 done))
 
--- words were read from left to right up to one that was not
+-- arguments were read from left to right up to one that was not
 pub Does-unread_after : (test : List ℕ → Bool) (before texts : List (List ℕ)) (word : List ℕ) (more : List (List ℕ)) (next : List (List ℕ) → Act Ending)
     (status : Status) (host : HostState) (history : History)
     → AllZip (IsSpelled test) before texts → Reads test word (Err status)
@@ -108,7 +108,7 @@ Does-unread_after test (first ∷ before) (bytes ∷ texts) word more next statu
     (Does-grouped (each_text test (before ++ word ∷ more)) (λ rest. Give (bytes ∷ rest)) next _ _ _
     (Does-unread_after test before texts word more (λ rest. next (bytes ∷ rest)) status host history read.1 bad))
 
--- one of the words was not read
+-- one of the arguments was not read
 pub Does-unread_each : (test : List ℕ → Bool) (words : List (List ℕ)) (next : List (List ℕ) → Act Ending) (status : Status) (host : HostState) (history : History)
     → ReadsEach test words (Err status)
     → Does (each_text test words >>= next) (record { host = host; history = history }) (plain_answer status) (record { host = host; history = history })

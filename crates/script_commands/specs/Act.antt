@@ -13,7 +13,7 @@ use Rattle.script_text.specs.Status.{status_line}
 use Rattle.script_text.specs.declared.status.Status.{Status}
 use Rattle.script_text.specs.declared.status.Status.TheVariants.{BadName, HostFile, OutOfMemory}
 
--- what a line is answered: its output, its status, and whether it ends the run
+-- the response to a line: its output, its status, and whether it ends the run
 pub record LineAnswer : Type 0 where
   pub output : Bytes
   pub status : Status
@@ -23,7 +23,7 @@ pub record LineAnswer : Type 0 where
 abbrev pub plain_answer : Status → LineAnswer
 plain_answer status = record { output = []; status = status; closes = false }
 
--- what an answer prints: its output, and then its status line
+-- what a response prints: its output, and then its status line
 abbrev pub printed_bytes : LineAnswer → Bytes
 printed_bytes answer = answer.output ++ status_line answer.status
 
@@ -35,13 +35,13 @@ pub record World : Type 0 where
 abbrev pub world_of : HostState → History → World
 world_of host history = record { host = host; history = history }
 
--- a call of what may refuse, whatever the session is; it gives bytes
+-- a call that can fail, whatever the session is; it gives bytes
 pub data Call : Type 0 where
-  -- the bytes that a word stands for in text form, where they pass a test
+  -- the bytes that an argument stands for in text form, if they pass a test
   Text : (Bytes → Bool) → Bytes → Call
-  -- a host file of at most so many bytes
+  -- a host file of at most n bytes
   Fetch : Bytes → ℕ → Call
-  -- bytes stored under a name of the host; what it gives is no matter
+  -- bytes stored under a name of the host; what it gives does not matter
   Store : Bytes → Bytes → Call
   -- the program file of a BASIC text
   Crunch : Bytes → Call
@@ -50,14 +50,14 @@ pub data Call : Type 0 where
   -- room for what comes next; it gives no bytes
   Room : Call
 
--- an act: it gives a value, it is refused with a status, or a call comes first and the rest goes by
+-- an act: it gives a value, or is refused with a status, or makes a call first and goes on with
 -- what that gives
 pub data Act (A : Type 0) : Type 0 where
   Give : A → Act A
   Refuse : Status → Act A
   Then : Call → (Bytes → Act A) → Act A
 
--- one act, and then what its value asks for
+-- one act, and then the act for its value
 infixl 10 ◌>>=◌
 abbrev pub ◌>>=◌ : {A B : Type 0} → Act A → (A → Act B) → Act B
 Give value >>= next = next value
@@ -69,7 +69,7 @@ infixl 10 ◌>>◌
 abbrev pub ◌>>◌ : {A B : Type 0} → Act A → Act B → Act B
 act >> next = act >>= (λ _. next)
 
--- what was read, or the first fault in it
+-- the value that was read, or the refusal of its first fault
 abbrev pub value_or_refusal : {A : Type 0} → Result A Status → Act A
 value_or_refusal (Ok value) = Give value
 value_or_refusal (Err status) = Refuse status
@@ -82,7 +82,7 @@ need test status = if test then Give tt else Refuse status
 abbrev pub ask : Call → Act Bytes
 ask what = Then what Give
 
--- the bytes that words stand for in text form, from left to right
+-- the bytes that arguments stand for in text form, from left to right
 abbrev pub each_text : (Bytes → Bool) → List Bytes → Act (List Bytes)
 each_text test [] = Give []
 each_text test (word ∷ words) = do
@@ -90,39 +90,39 @@ each_text test (word ∷ words) = do
   more ← each_text test words
   Give (bytes ∷ more)
 
--- what an accepted line comes to: its answer, and the history after it
+-- the end of an accepted line: its response, and the history after it
 pub record Ending : Type 0 where
   pub answer : LineAnswer
   pub history : History
 
--- a word stands for bytes in text form, and they pass a test
+-- an argument stands for bytes in text form, and they pass a test
 abbrev pub IsSpelled : (Bytes → Bool) → Bytes → Bytes → Type 0
 IsSpelled test word bytes = IsTextOf bytes word × (test bytes ≡ true)
 
--- what a host may answer to a fetch, and what it shows then; whatever it tells of its files, a file
--- is made of bytes
+-- what a host can return for a fetch, and what it exposes then; whatever it exposes of its files, a
+-- file is made of bytes
 pub record FetchesFile (old : HostState) (name : Bytes) (limit : ℕ) (fetched : Result Bytes HostFault) (new : HostState) : Type 0 where
   pub answer : Fetches old.files name limit fetched
   pub bytes : IfOk fetched AreBytes
   pub counted : CountsDevice old.failures new.failures fetched
   pub kept : new.files ≡ old.files
 
--- what a host may answer to a store, and what it shows then
+-- what a host can return for a store, and what it exposes then
 pub record StoresFile (old : HostState) (name bytes : Bytes) (stored : Result (Unit {0}) HostFault) (new : HostState) : Type 0 where
   pub answer : Stores old.files name bytes stored new.files
   pub counted : CountsDevice old.failures new.failures stored
 
--- how a fault of the host is answered
+-- the status of a fault of the host
 abbrev pub status_of_fault : HostFault → Status
 status_of_fault (Memory error) = OutOfMemory
 status_of_fault fault = HostFile (fault_number fault)
 
--- what the host gave, or how its fault is answered
+-- what the host gave, or the status of its fault
 abbrev pub given_by : {A : Type 0} → (A → Bytes) → Result A HostFault → Result Bytes Status
 given_by bytes (Ok value) = Ok (bytes value)
 given_by bytes (Err fault) = Err (status_of_fault fault)
 
--- what a call may give, and what the host shows then
+-- what a call can give, and what the host exposes then
 abbrev pub Gives : Call → HostState → Result Bytes Status → HostState → Type 0
 Gives (Text test word) old (Ok bytes) new = IsSpelled test word bytes × (new ≡ old)
 Gives (Text test word) old (Err status) new = (status ≡ BadName) × ((bytes : Bytes) → IsSpelled test word bytes → ⊥) × (new ≡ old)
@@ -134,8 +134,8 @@ Gives (Crunch text) old given new = Crunches text given × (new ≡ old)
 Gives (Expand file) old given new = Expands file given × (new ≡ old)
 Gives Room old given new = (given ≡ Ok []) × (new ≡ old)
 
--- an act of a line is done: from a world, with an answer, to a world. Before each call memory may
--- be wanting
+-- an act of a line is done: from a world, with a response, to a world. Before each call memory may
+-- be out
 unfoldable pub Does : Act Ending → World → LineAnswer → World → Type 0
 Does (Give ending) world answer after = (answer ≡ ending.answer) × (after ≡ record world { history = ending.history })
 Does (Refuse status) world answer after = (answer ≡ plain_answer status) × (after ≡ world)

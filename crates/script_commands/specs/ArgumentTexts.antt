@@ -1,4 +1,4 @@
--- What the arguments of a line stand for, as the code reads them.
+-- The values of the arguments of a line, as the code reads them.
 use Rattle.std.specs.Prelude.{◌≡◌, ◌⊎◌, List, ◌∷◌, ◌++◌, Bool, Vec, Result, Ok, Err}
 use Rattle.d64_image.specs.Disk.{Bytes}
 use Rattle.std.specs.Borrow.{Bor}
@@ -8,30 +8,30 @@ use Rattle.script_text.specs.declared.status.Status.{Status}
 use Rattle.script_text.specs.declared.status.Status.TheVariants.{BadName, OutOfMemory}
 use Rattle.script_commands.specs.Act.{IsSpelled}
 
--- a text that was answered, as its bytes
+-- a text that was returned, as its bytes
 abbrev pub texts : {E : Type 0} → Result (Bor Bytes) E → Result Bytes E
 texts (Ok text) = Ok text.now
 texts (Err fault) = Err fault
 
--- a text and a kind that were answered, the text as its bytes
+-- a text and a kind that were returned, the text as its bytes
 abbrev pub name_and_kind : {E : Type 0} → Result (Bor Bytes × Kind) E → Result (Bytes × Kind) E
 name_and_kind (Ok file) = Ok (file.0.now, file.1)
 name_and_kind (Err fault) = Err fault
 
--- a vector that was answered, as its list
+-- a vector that was returned, as its list
 abbrev pub items : {T A E : Type 0} → Result (Vec T A) E → Result (List T) E
 items (Ok values) = Ok values.items
 items (Err fault) = Err fault
 
--- a word was read: the bytes that it stands for, which pass a test; or it stands for no such bytes,
--- or memory was wanting
+-- an argument was read: the bytes that it stands for, which pass a test; or it stands for no such
+-- bytes, or memory was out
 abbrev pub Reads : (Bytes → Bool) → Bytes → Result Bytes Status → Type 0
 Reads test word (Ok bytes) = IsSpelled test word bytes
 Reads test word (Err status) =
     ((status ≡ BadName) × ((bytes : Bytes) → IsSpelled test word bytes → ⊥)) ⊎ (status ≡ OutOfMemory)
 
--- words were read from left to right: the bytes that each stands for, which pass a test; or some
--- were, and the next was not
+-- arguments were read from left to right: the bytes that each stands for, which pass a test; or
+-- some were, and the next was not
 abbrev pub ReadsEach : (Bytes → Bool) → List Bytes → Result (List Bytes) Status → Type 0
 ReadsEach test words (Ok texts) = AllZip (IsSpelled test) words texts
 ReadsEach test words (Err status) =

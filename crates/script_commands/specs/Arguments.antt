@@ -1,4 +1,4 @@
--- What the words of a line stand for, or the status that refuses them.
+-- The values of the arguments of a line, or the status that refuses them.
 use Rattle.std.specs.Prelude.{ℕ, ◌+◌, ◌==◌, nat_lt, nat_le, List, [], ◌∷◌, length, take, drop, find, position, codes, ◌&&◌, Bool, not, if◌then◌else◌, Option, Some, None, option_map, unwrap_or, Result, Ok, Err, ok_or}
 use Rattle.d64_image.specs.Disk.{Bytes, Disk}
 use Rattle.std.specs.List.{after_last}
@@ -15,34 +15,34 @@ use Rattle.script_text.specs.Number.{number_of}
 use Rattle.script_text.specs.declared.status.Status.{Status}
 use Rattle.script_text.specs.declared.status.Status.TheVariants.{SyntaxError, BadName, IllegalBlock, OutOfMemory}
 
--- a word that names a host file has 1 to 255 bytes
+-- the name of a host file: an argument of 1 to 255 bytes
 unfoldable pub host_in : Bytes → Result Bytes Status
 host_in word = if nat_lt 0 (length word) && nat_le (length word) 255 then Ok word else Err BadName
 
--- a number in a word
+-- the number in an argument
 unfoldable pub number_in : Bytes → Result ℕ Status
 number_in word = ok_or (number_of word) SyntaxError
 
--- the block of a track and a sector, where both are numbers and the image has that block
+-- the block of a track and a sector, if both are numbers and the image has that block
 abbrev pub block_at : Disk → Result ℕ Status → Result ℕ Status → Result ℕ Status
 block_at image (Err status) sector = Err status
 block_at image (Ok track) (Err status) = Err status
 block_at image (Ok track) (Ok sector) = ok_or (chains.block_in image track sector) (IllegalBlock track sector)
 
--- the block of an image at a track and a sector, each in a word
+-- the block of an image at a track and a sector, each in an argument
 unfoldable pub block_in : Disk → Bytes → Bytes → Result ℕ Status
 block_in image track sector = block_at image (number_in track) (number_in sector)
 
--- how a fault of a word in text form is answered
+-- the status of a fault of an argument in text form
 abbrev pub status_of_text : TextFault → Status
 status_of_text (Memory error) = OutOfMemory
 status_of_text fault = BadName
 
--- a word in two at its first comma
+-- an argument split in two at its first comma
 unfoldable pub at_comma : Bytes → Option (Bytes × Bytes)
 at_comma word = option_map (λ place. (take place word, drop (place + 1) word)) (position (λ byte. byte == 44) word)
 
--- bytes that a word may give a disk as its id: two, and none that no name holds
+-- whether bytes can be the id of a disk: two, both allowed in names
 abbrev pub can_be_id : Bytes → Bool
 can_be_id bytes = (length bytes == 2) && not (holds_any_of forbidden_in_names bytes)
 
@@ -54,23 +54,24 @@ kind_letters = (codes "p", Prg) ∷ (codes "s", Seq) ∷ (codes "u", Usr) ∷ (c
 abbrev pub kind_of_letter : Bytes → Option Kind
 kind_of_letter word = option_map (λ row. row.1) (find (λ row. bytes_eq word row.0) kind_letters)
 
--- the two parts of a word: a name, and the letter of a kind
+-- a name and a kind of the two parts of an argument: a name, and the letter of a kind
 abbrev pub with_kind : Bytes → Option (Bytes × Bytes) → Result (Bytes × Kind) Status
 with_kind word None = Ok (word, Prg)
 with_kind word (Some parts) = ok_or (option_map (λ kind. (parts.0, kind)) (kind_of_letter parts.1)) SyntaxError
 
--- a name and a kind in a word that may be split at its first comma; PRG where it has none
+-- a name and a kind in an argument that may be split at its first comma; PRG if it isn't
 abbrev pub name_and_kind_in : Bytes → Result (Bytes × Kind) Status
 name_and_kind_in word = with_kind word (at_comma word)
 
--- what stands after the last `/` of a word, or all of it
+-- the part of an argument after its last `/`, or all of it
 unfoldable pub after_slash : Bytes → Bytes
 after_slash word = after_last (λ byte. byte == 47) word
 
--- the word that names a new file; by default the name of its host file without folders
+-- the argument that names a new file, or by default the name of its host file without folders
 abbrev pub name_word : Bytes → Option Bytes → Bytes
 name_word host word = unwrap_or word (after_slash host)
 
--- the name and the kind of a new file, from a word or by default the host file's own name, and PRG
+-- the name and the kind of a new file, by its argument, or by default the host file's own name and
+-- PRG
 abbrev pub name_and_kind_of : Bytes → Option Bytes → Result (Bytes × Kind) Status
 name_and_kind_of host word = option_map_or name_and_kind_in word (Ok (after_slash host, Prg))

@@ -1,4 +1,4 @@
--- What a BASIC text of the host and a program of the disk are turned into, or the status that
+-- The program of a BASIC text of the host and the text of a program of the disk, or the status that
 -- refuses them.
 use Rattle.std.specs.Prelude.{◌≡◌, ℕ, Result, Ok, Err}
 use Rattle.d64_image.specs.Disk.{Bytes}
@@ -12,25 +12,25 @@ use Rattle.cbm_text.specs.declared.fault.ListFault.TheVariants.{Memory}
 use Rattle.script_text.specs.declared.status.Status.{Status}
 use Rattle.script_text.specs.declared.status.Status.TheVariants.{BasicText, NotBasic, OutOfMemory}
 
--- where a BASIC program stands in the machine's memory
+-- the place of a BASIC program in the machine's memory
 abbrev pub program_start : ℕ
 program_start = 0x0801
 
--- how a fault of a BASIC text is answered: by its number and its line
+-- the status of a fault of a BASIC text: its number and its line
 abbrev pub status_of_basic : BasicFault → Status
 status_of_basic fault = option_map_or (λ line. BasicText (texts.fault_number fault) line) (texts.fault_line fault) OutOfMemory
 
--- how a fault of a program is answered
+-- the status of a fault of a program
 abbrev pub status_of_listing : ListFault → Status
 status_of_listing (Memory error) = OutOfMemory
 status_of_listing fault = NotBasic (list_fault_number fault)
 
--- a BASIC text is turned into its program file, or refused for its first fault
+-- a BASIC text gives its program file, or is refused for its first fault
 abbrev pub Crunches : Bytes → Result Bytes Status → Type 0
 Crunches text (Ok file) = texts.IsFileOf program_start text file
 Crunches text (Err status) = (fault : BasicFault) × texts.IsFirstFault program_start text fault × (status ≡ status_of_basic fault)
 
--- a program file is turned into its text, or refused for its fault
+-- a program file gives its text, or is refused for its fault
 abbrev pub Expands : Bytes → Result Bytes Status → Type 0
 Expands file (Ok text) = Lists file text
 Expands file (Err status) = (fault : ListFault) × ListsNot file fault × (status ≡ status_of_listing fault)

@@ -7,11 +7,11 @@ use Rattle.d64_files.specs.Directory.{slots, first_named}
 use Rattle.d64_files.specs.Reading.{content_at}
 use Rattle.d64_dos.specs.Reading.{name_at}
 
--- the name of the first used slot whose name the pattern matches; nothing where there is none
+-- the name of the first used slot whose name the pattern matches; empty if there is no such slot
 abbrev pub found_name : Disk → Bytes → Bytes
 found_name image pattern = option_map_or (name_at image) (first_named pattern (slots image)) []
 
--- its content
+-- the content of that slot
 abbrev pub found_content : Disk → Bytes → Bytes
 found_content image pattern = option_map_or (content_at image) (first_named pattern (slots image)) []
 
@@ -19,7 +19,7 @@ found_content image pattern = option_map_or (content_at image) (first_named patt
 abbrev pub slash : ℕ
 slash = 47
 
--- a text that can name a host file: not empty, neither `.` nor `..`, and without a `/`
+-- whether a text can name a host file: it is not empty, neither `.` nor `..`, and without a `/`
 unfoldable pub is_file_name : Bytes → Bool
 is_file_name text =
     nat_lt 0 (length text) && not (bytes_eq text (codes ".")) && not (bytes_eq text (codes "..")) && not (list_any (λ byte. byte == slash) text)

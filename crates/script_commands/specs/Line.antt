@@ -33,7 +33,7 @@ use Rattle.d64_dos.specs.declared.refusal.Refusal.TheVariants as refusals
 use Rattle.script_text.specs.declared.status.Status.{Status}
 use Rattle.script_text.specs.declared.status.Status.TheVariants.{Done, FilesScratched, SyntaxError, UnknownCommand, LongLine, BadName, MissingWord, WriteFileOpen, FileNotFound, FileExists, FileTypeMismatch, DirectoryError, DiskFull, NothingToUndo, NothingToRedo, NotOneBlock, OutOfMemory}
 
--- how a refusal of a command is answered
+-- the status of a refusal of a command
 abbrev pub status_of_refusal : Refusal → Status
 status_of_refusal refusals.NotClosed = WriteFileOpen
 status_of_refusal refusals.NotFound = FileNotFound
@@ -43,12 +43,12 @@ status_of_refusal (refusals.Directory fault) = DirectoryError (number_of fault)
 status_of_refusal refusals.DiskFull = DiskFull
 status_of_refusal refusals.Memory = OutOfMemory
 
--- how an accepted command is answered
+-- the status of a reply to a command
 abbrev pub status_of_reply : Reply → Status
 status_of_reply replies.Done = Done
 status_of_reply (replies.Scratched count) = FilesScratched count
 
--- refused by a refusal, where there is one
+-- refuses with a refusal, if there is one
 abbrev pub refuse_by : Option Refusal → Act (Unit {0})
 refuse_by None = Give tt
 refuse_by (Some refusal) = Refuse (status_of_refusal refusal)
@@ -74,30 +74,30 @@ run history change = do
   ask Room
   Give (record { answer = plain_answer (status_of_reply (reply_to (present_image history) change)); history = extended_history history (image_after (present_image history) change) })
 
--- `block`: a block is shown
+-- `block`: shows a block
 abbrev pub block_act : History → Bytes × Bytes → Act Ending
 block_act history (track, sector) = do
   block ← value_or_refusal (block_in (present_image history) track sector)
   show (dump (sector_at (present_image history) block)) history
 
--- `bread`: a block is stored in a host file
+-- `bread`: stores a block in a host file
 abbrev pub block_read_act : History → Bytes × (Bytes × Bytes) → Act Ending
 block_read_act history (host, (track, sector)) = do
   name ← value_or_refusal (host_in host)
   block ← value_or_refusal (block_in (present_image history) track sector)
   put history name (sector_at (present_image history) block)
 
--- the most bytes that a command takes of a host file
+-- the most bytes that a command accepts of a host file
 abbrev pub host_file_limit : ℕ
 host_file_limit = 1048576
 
--- a host file of one block replaces a block
+-- replaces a block by a host file of one block
 abbrev pub write_one_block : History → ℕ → Bytes → Act Ending
 write_one_block history block bytes = do
   need (length bytes == 256) NotOneBlock
   run history (changes.BlockWrite block bytes)
 
--- `bwrite`: a block is replaced by a host file
+-- `bwrite`: replaces a block by a host file
 abbrev pub block_write_act : History → Bytes × (Bytes × Bytes) → Act Ending
 block_write_act history (host, (track, sector)) = do
   name ← value_or_refusal (host_in host)
@@ -105,14 +105,14 @@ block_write_act history (host, (track, sector)) = do
   bytes ← ask (Fetch name host_file_limit)
   write_one_block history block bytes
 
--- the program that a BASIC text stands for is written to the disk, as PRG
+-- writes the program of a BASIC text to the disk, as PRG
 abbrev pub write_program : History → Bytes → Bytes → Act Ending
 write_program history name text = do
   file ← ask (Crunch text)
   run history (changes.Write name Prg file)
 
--- `crunch`: a BASIC text of the host is written to the disk as a program, under the name of a word,
--- or by default under its own
+-- `crunch`: writes a BASIC text of the host to the disk as a program, under the name in an
+-- argument, or by default under its own
 abbrev pub crunch_act : History → Bytes × Option Bytes → Act Ending
 crunch_act history (host, word) = do
   source ← value_or_refusal (host_in host)
@@ -120,13 +120,13 @@ crunch_act history (host, word) = do
   basic ← ask (Fetch source host_file_limit)
   write_program history name basic
 
--- `delete`: the files that patterns match are deleted
+-- `delete`: deletes the files that patterns match
 abbrev pub delete_act : History → List Bytes → Act Ending
 delete_act history words = do
   patterns ← each_text is_pattern words
   run history (changes.Delete patterns)
 
--- `format`: the disk is made an empty one, with the name and the id in one word
+-- `format`: makes the disk an empty one, with the name and the id in one argument
 abbrev pub format_act : History → Bytes → Act Ending
 format_act history word = do
   parts ← value_or_refusal (ok_or (at_comma word) SyntaxError)
@@ -134,34 +134,34 @@ format_act history word = do
   id ← ask (Text can_be_id parts.1)
   run history (changes.Format name id)
 
--- `history`: the records are shown
+-- `history`: lists the records
 abbrev pub history_act : History → Act Ending
 history_act history = do
   ask Room
   show (history_text history) history
 
--- `keep`: the session, the history with its cursor, is stored in a host file
+-- `keep`: stores the session, the history with its cursor, in a host file
 abbrev pub keep_act : History → Bytes → Act Ending
 keep_act history host = do
   name ← value_or_refusal (host_in host)
   ask Room
   put history name (file_of history)
 
--- `list`: the directory is shown
+-- `list`: lists the directory
 abbrev pub list_act : History → Act Ending
 list_act history = do
   refuse_by (directory_refusal (present_image history))
   ask Room
   show (listing_text (listing_of (present_image history))) history
 
--- the file that a pattern finds is shown as a BASIC program
+-- shows the file that a pattern finds as a BASIC program
 abbrev pub show_program : History → Bytes → Act Ending
 show_program history pattern = do
   refuse_by (read_refusal (present_image history) pattern)
   listing ← ask (Expand (found_content (present_image history) pattern))
   show listing history
 
--- `name`: the disk is given another name, and another id, where the word has one after a comma
+-- `name`: gives the disk another name, and another id if the argument has one after a comma
 abbrev pub name_parts : History → Bytes → Option (Bytes × Bytes) → Act Ending
 name_parts history word None = do
   name ← ask (Text is_name word)
@@ -174,18 +174,18 @@ name_parts history word (Some parts) = do
 abbrev pub name_act : History → Bytes → Act Ending
 name_act history word = name_parts history word (at_comma word)
 
--- `petcat`: a BASIC program of the disk is shown as text
+-- `petcat`: shows a BASIC program of the disk as text
 abbrev pub petcat_act : History → Bytes → Act Ending
 petcat_act history name = do
   pattern ← ask (Text is_pattern name)
   show_program history pattern
 
--- `quit`: the run ends
+-- `quit`: ends the run
 abbrev pub quit_act : History → Act Ending
 quit_act history = Give (record { answer = record (plain_answer Done) { closes = true }; history = history })
 
--- the file that a pattern finds is stored in the host file of a word, or by default, in text form,
--- in that of its own name
+-- stores the file that a pattern finds in the host file of an argument, or by default in that of
+-- its own name in text form
 abbrev pub read_to : History → Bytes → Option Bytes → Act Ending
 read_to history pattern None = do
   refuse_by (read_refusal (present_image history) pattern)
@@ -197,26 +197,26 @@ read_to history pattern (Some host) = do
   refuse_by (read_refusal (present_image history) pattern)
   put history name (found_content (present_image history) pattern)
 
--- `read`: a file of the disk is stored in a host file
+-- `read`: stores a file of the disk in a host file
 abbrev pub read_act : History → Bytes × Option Bytes → Act Ending
 read_act history (name, host) = do
   pattern ← ask (Text is_pattern name)
   read_to history pattern host
 
--- `redo`
+-- `redo`: goes to the next image
 abbrev pub redo_act : History → Act Ending
 redo_act history = do
   need (nat_lt (history.cursor + 1) (length history.images)) NothingToRedo
   leave (redone_history history)
 
--- `rename`: a file of one name is given another
+-- `rename`: gives a file with one name another
 abbrev pub rename_act : History → Bytes × Bytes → Act Ending
 rename_act history (old_word, new_word) = do
   old ← ask (Text is_name old_word)
   new ← ask (Text is_name new_word)
   run history (changes.Rename old new)
 
--- `save`: the image is stored in a host file, by default in its own, where it has one
+-- `save`: stores the image in a host file, by default in its own, if it has one
 abbrev pub save_act : Bytes → History → Option Bytes → Act Ending
 save_act [] history None = Refuse MissingWord
 save_act home history None = put history home (bytes_of (present_image history))
@@ -224,30 +224,30 @@ save_act home history (Some host) = do
   name ← value_or_refusal (host_in host)
   put history name (bytes_of (present_image history))
 
--- the file that a pattern finds is shown as text
+-- shows the file that a pattern finds as text
 abbrev pub show_file : History → Bytes → Act Ending
 show_file history pattern = do
   refuse_by (read_refusal (present_image history) pattern)
   ask Room
   show (file_text (found_content (present_image history) pattern)) history
 
--- `type`: a text of the disk is shown
+-- `type`: shows a text of the disk
 abbrev pub type_act : History → Bytes → Act Ending
 type_act history name = do
   pattern ← ask (Text is_pattern name)
   show_file history pattern
 
--- `undo`
+-- `undo`: goes to the image before
 abbrev pub undo_act : History → Act Ending
 undo_act history = do
   need (nat_lt 0 history.cursor) NothingToUndo
   leave (undone_history history)
 
--- `validate`: unclosed files are dropped, and the map is written anew
+-- `validate`: drops unclosed files, and writes the map anew
 abbrev pub validate_act : History → Act Ending
 validate_act history = run history changes.Validate
 
--- `write`: a host file is written to the disk, under the name and with the kind of a word, or by
+-- `write`: writes a host file to the disk, under the name and with the kind in an argument, or by
 -- default under its own name and as PRG
 abbrev pub write_act : History → Bytes × Option Bytes → Act Ending
 write_act history (host, word) = do
@@ -257,7 +257,7 @@ write_act history (host, word) = do
   bytes ← ask (Fetch source host_file_limit)
   run history (changes.Write name file.1 bytes)
 
--- the commands that take no arguments: of each its name, and what it asks for
+-- the commands that take no arguments, each with its name and its act
 abbrev pub lone_commands : History → List (Bytes × Act Ending)
 lone_commands history =
     (codes "history", history_act history)
@@ -268,12 +268,12 @@ lone_commands history =
     ∷ (codes "validate", validate_act history)
     ∷ []
 
--- an act of a command that takes no arguments
+-- an act, if there are no arguments
 abbrev pub after_no_word : List Bytes → Act Ending → Act Ending
 after_no_word words act = no_word words >> act
 
--- the others that have no use for the host: of each its name, how many arguments follow it, and
--- what they ask for
+-- the other commands that do not use the host, each with its name, how many arguments it takes, and
+-- its act
 abbrev pub disk_commands : History → List Bytes → List (Bytes × Act Ending)
 disk_commands history words =
     (codes "block", word_and one_word words >>= block_act history)
@@ -285,7 +285,7 @@ disk_commands history words =
     ∷ (codes "type", one_word words >>= type_act history)
     ∷ []
 
--- those that take a file from the host to the disk or back
+-- the commands that take a file from the host to the disk or back
 abbrev pub file_commands : History → List Bytes → List (Bytes × Act Ending)
 file_commands history words =
     (codes "crunch", word_and at_most_one words >>= crunch_act history)
@@ -293,7 +293,7 @@ file_commands history words =
     ∷ (codes "write", word_and at_most_one words >>= write_act history)
     ∷ []
 
--- those that fetch or store a block, the image or the session
+-- the commands that fetch or store a block, the image or the session
 abbrev pub host_commands : Bytes → History → List Bytes → List (Bytes × Act Ending)
 host_commands home history words =
     (codes "bread", word_and (word_and one_word) words >>= block_read_act history)
@@ -311,32 +311,32 @@ commands home history words =
 abbrev pub row_of : Bytes → List (Bytes × Act Ending) → Option (Bytes × Act Ending)
 row_of command rows = find (λ row. bytes_eq command row.0) rows
 
--- what a command of a table asks for
+-- the act of a command of a table
 abbrev pub act_in : List (Bytes × Act Ending) → Bytes → Act Ending
 act_in rows command = option_map_or (λ row. row.1) (row_of command rows) (Refuse UnknownCommand)
 
--- what a line's words ask for
+-- the act of a line, by its command and arguments
 abbrev pub act_of_words : Bytes → History → List Bytes → Act Ending
 act_of_words home history [] = Refuse UnknownCommand
 act_of_words home history (first ∷ words) = act_in (commands home history words) first
 
--- what the text of a line asks for
+-- the act of the text of a line
 abbrev pub act_of_text : Bytes → History → Bytes → Act Ending
 act_of_text home history line = do
   words ← value_or_refusal (ok_or (words_of line) SyntaxError)
   act_of_words home history words
 
--- what a line of the script asks for; None where it is skipped
+-- the act of a line of the script; None if it is skipped
 unfoldable pub act_of_line : Bytes → History → Bytes → Option (Act Ending)
 act_of_line home history line =
     if is_too_long line then Some (Refuse LongLine)
     else (if is_skipped (text_of line) then None else Some (act_of_text home history (text_of line)))
 
--- a line is skipped: it asks for nothing, and nothing changes
+-- a line is skipped: it has no command, and nothing changes
 abbrev pub IsSkipped : Bytes → History → Bytes → World → World → Type 0
 IsSkipped home history line world after = (act_of_line home history line ≡ None) × (after ≡ world)
 
--- a line asks for an act, which is done and answered
+-- a line has an act, which is done with a response
 abbrev pub IsAnswered : Bytes → History → Bytes → World → LineAnswer → World → Type 0
 IsAnswered home history line world answer after =
     MatchOption (act_of_line home history line) ⊥ (λ act. Does act world answer after)

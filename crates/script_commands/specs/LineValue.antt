@@ -1,4 +1,4 @@
--- What a line asks for as the code holds it, and what words were taken as.
+-- The act of a line as the code has it, and arguments as they were read.
 use Rattle.std.specs.Prelude.{map, option_map, Result, Ok, Err}
 use Rattle.d64_image.specs.Disk.{Bytes}
 use Rattle.d64_undo.specs.History.{History}
@@ -8,7 +8,7 @@ use Rattle.script_commands.specs.Line.{block_act, block_read_act, block_write_ac
 use Rattle.script_commands.specs.declared.line.Line.{Line}
 use Rattle.script_commands.specs.declared.line.Line.TheVariants.{Block, BlockRead, BlockWrite, Crunch, Delete, Format, ListHistory, Keep, ListDirectory, Name, Petcat, Quit, Read, Redo, Rename, Save, ShowText, Undo, Validate, Write}
 
--- what a line asks for
+-- the act of a line
 abbrev pub act_of : Bytes → History → Line → Act Ending
 act_of home history (Block track sector) = block_act history (track.now, sector.now)
 act_of home history (BlockRead host track sector) = block_read_act history (host.now, (track.now, sector.now))
@@ -31,12 +31,12 @@ act_of home history Undo = undo_act history
 act_of home history Validate = validate_act history
 act_of home history (Write host name) = write_act history (host.now, option_map (λ word. word.now) name)
 
--- what a line asks for that was made, or the status that refuses its words
+-- the act of a line that was read, or the status that refuses its arguments
 abbrev pub act_of_result : Bytes → History → Result Line Status → Act Ending
 act_of_result home history (Ok line) = act_of home history line
 act_of_result home history (Err status) = Refuse status
 
--- what words were taken as, each as its bytes, or the status that refuses them
+-- arguments as they were read, each as its bytes, or the status that refuses them
 abbrev pub words_or_refusal : {A B : Type 0} → (A → B) → Result A Status → Act B
 words_or_refusal bytes (Ok words) = Give (bytes words)
 words_or_refusal bytes (Err status) = Refuse status

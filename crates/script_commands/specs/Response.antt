@@ -1,4 +1,4 @@
--- What a line prints, as the code holds it, and that it responds as an act asks.
+-- The response to a line, as the code has it, by the act of the line.
 use Rattle.std.specs.Prelude.{nat_lt, if◌then◌else◌, [], length, Result, Ok, Err}
 use Rattle.d64_image.specs.Disk.{Bytes, Disk}
 use Rattle.d64_image.specs.Image.{sector_at}
@@ -11,26 +11,26 @@ use Rattle.script_commands.specs.declared.response.Output.{Output}
 use Rattle.script_commands.specs.declared.response.Output.TheVariants.{Nothing, Block, Text}
 use Rattle.script_text.specs.declared.status.Status.{Status}
 
--- the bytes of an output, where this is the image: a block that the image hasn't is shown by none
+-- the bytes of an output, for this as the image; a block that the image doesn't have gives no bytes
 abbrev pub output_bytes : Disk → Output → Bytes
 output_bytes image Nothing = []
 output_bytes image (Block at) = if nat_lt at (length image) then dump (sector_at image at) else []
 output_bytes image (Text text) = text.items
 
--- a response as the answer that it prints, where this is the image
+-- a response as the definitions see it, for this as the image
 abbrev pub shown_answer : Disk → Response → LineAnswer
 shown_answer image response = record { output = output_bytes image response.output; status = response.status; closes = response.closes }
 
--- the answer to a line: of an accepted one, or the status that refuses it, with no output
+-- the response to a line: that of an accepted one, or the status that refuses it, with no output
 abbrev pub answer_of : Disk → Result Response Status → LineAnswer
 answer_of image (Ok response) = shown_answer image response
 answer_of image (Err status) = plain_answer status
 
--- an act is done, and responded to
+-- an act is done with a response
 abbrev pub Responds : Act Ending → World → Result Response Status → World → Type 0
 Responds act old result new = Does act old (answer_of (present_image new.history) result) new
 
--- an act is done by the session alone, whatever the host is
+-- an act is done with a response by the session alone, whatever the host is
 abbrev pub RespondsAlone : Act Ending → History → Result Response Status → History → Type 0
 RespondsAlone act old result new =
     (host : HostState) → Responds act (world_of host old) result (world_of host new)

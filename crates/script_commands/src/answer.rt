@@ -1,4 +1,4 @@
-//! What a line of a script does and prints, and which handler does it.
+//! What a line of a script does and prints, and the handler of its command.
 #![tactic(auto, unfolding(crate::specs::Act::Does, crate::specs::Line::act_of_line))]
 
 ghost use Rattle.std.specs.Prelude.{◌≡◌, ◌≤◌, ℕ, List, All, map, length, MatchOption};
@@ -23,12 +23,12 @@ use script_text::words::{MAX_WORDS, Words};
 use std::alloc::Global;
 use std::str;
 
-/// The most words that a command takes, its own counted, but for `delete`. A room for so many is
-/// made sooner than one for all that a line may have.
+/// The most arguments that a command takes, counting itself, except for `delete`. A list for these
+/// takes less time to make than one for all that a line may have.
 const FEW_WORDS: usize = 4;
 
-/// The response to a line that has come to its end, or None where it is skipped: an empty line, or
-/// a comment.
+/// Runs a line that was read to its end. Returns the response, or None if the line is skipped: an
+/// empty line, or a comment.
 ///
 /// `home` is the name of the host file in which `save` stores by default, or empty.
 pub fn answer_line<H: Host>(
@@ -57,7 +57,7 @@ pub fn answer_line<H: Host>(
     Some(Response::of(answer))
 }
 
-/// The response to the text of a line that is not skipped.
+/// Runs the text of a line that is not skipped.
 fn answer_text<H: Host>(
     alloc: Global,
     host: &mut H,
@@ -82,9 +82,10 @@ fn answer_text<H: Host>(
     }
 }
 
-/// The response to the words of a line, as many as it may have.
+/// Runs a line of any number of arguments.
 ///
-/// It is a call of its own: room for so many words would else be cleared for each line.
+/// It is a function of its own, since the long list of arguments would else be cleared for each
+/// line.
 #[inline(never)]
 fn answer_many<H: Host>(
     alloc: Global,
@@ -104,7 +105,7 @@ fn answer_many<H: Host>(
     answer_words(alloc, host, home, session, many.as_slice())
 }
 
-/// The words in a row, in a room that is large enough.
+/// The command and the arguments of a line in a list that has room for them.
 fn held<'a, const ROOM: usize>(words: Words<'a>) -> ArrayVec<&'a str, ROOM>
     requires room { length words ≤ ROOM }
     requires printable { All (All IsPrintable) words }
@@ -117,7 +118,7 @@ fn held<'a, const ROOM: usize>(words: Words<'a>) -> ArrayVec<&'a str, ROOM>
     found
 }
 
-/// A word, whose bytes are ASCII, as a text.
+/// An argument, whose bytes are ASCII, as a text.
 fn as_text(word: &[u8]) -> &str
     requires { All IsPrintable word.now }
     ensures { result.now ≡ word.now }
@@ -125,7 +126,7 @@ fn as_text(word: &[u8]) -> &str
     str::from_utf8(word).unwrap()
 }
 
-/// The response to the words of a line.
+/// Runs a line by its command and arguments.
 fn answer_words<H: Host>(
     alloc: Global,
     host: &mut H,
@@ -144,7 +145,7 @@ fn answer_words<H: Host>(
     }
 }
 
-/// The response to what a line asks for.
+/// Runs the command of a line.
 fn answer<H: Host>(
     alloc: Global,
     host: &mut H,

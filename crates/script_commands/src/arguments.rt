@@ -1,4 +1,4 @@
-//! What the arguments of a line stand for.
+//! The values of the arguments of a line.
 #![tactic(auto, unfolding(crate::specs::Arguments::host_in, crate::specs::Arguments::number_in, crate::specs::Arguments::block_in, crate::specs::Arguments::at_comma, crate::specs::Arguments::after_slash))]
 
 ghost use Rattle.std.specs.Prelude.{◌≡◌, ◌<◌, IfOk, Result, ◌==◌, true, length, map, option_map, position};
@@ -36,8 +36,7 @@ pub(crate) fn number_in(word: &str) -> Result<u8, Status>
     number(word.as_bytes()).ok_or(Status::SyntaxError)
 }
 
-/// The block of an image at a track and a sector. Both words are read before the image is looked
-/// at.
+/// The block of an image at a track and a sector. Both arguments are read before the image is used.
 #[tactic(auto, unfolding(crate::specs::Arguments::block_in, d64_files::specs::Chain::block_in))]
 pub(crate) fn block_in(image: &Image, track: &str, sector: &str) -> Result<BlockNo, Status>
     ensures block { result ≡ block_in image.now track.now sector.now }
@@ -48,7 +47,7 @@ pub(crate) fn block_in(image: &Image, track: &str, sector: &str) -> Result<Block
     d64_files::block_in(image, track, sector).ok_or(Status::IllegalBlock { track, sector })
 }
 
-/// The bytes that a word stands for in text form.
+/// The bytes that an argument stands for in text form.
 fn bytes_in(alloc: Global, word: &[u8]) -> Result<Vec<u8>, Status>
     ensures read { Reads (λ bytes. true) word.now (items result) }
     ensures one { HasOneReading word.now }
@@ -60,7 +59,7 @@ fn bytes_in(alloc: Global, word: &[u8]) -> Result<Vec<u8>, Status>
     }
 }
 
-/// The name of a disk or a file that a word stands for.
+/// The name of a disk or a file that an argument stands for.
 pub(crate) fn name_in(alloc: Global, word: &[u8]) -> Result<Name, Status>
     ensures { Reads is_name word.now result }
 {
@@ -71,7 +70,7 @@ pub(crate) fn name_in(alloc: Global, word: &[u8]) -> Result<Name, Status>
     }
 }
 
-/// The pattern that a word stands for, with which the names of files are compared.
+/// The pattern that an argument stands for, with which the names of files are compared.
 pub(crate) fn pattern_in(alloc: Global, word: &str) -> Result<Pattern, Status>
     ensures { Reads is_pattern word.now result }
 {
@@ -82,8 +81,8 @@ pub(crate) fn pattern_in(alloc: Global, word: &str) -> Result<Pattern, Status>
     }
 }
 
-/// The patterns that words stand for, from left to right. The first word that stands for none is
-/// refused.
+/// The patterns that arguments stand for, from left to right. The error is that of the first
+/// argument that is no pattern.
 pub(crate) fn patterns_in(alloc: Global, words: &[&str]) -> Result<Vec<Pattern>, Status>
     ensures { ReadsEach is_pattern (map (λ word. word.now) words.now) (items result) }
 {
@@ -98,7 +97,7 @@ pub(crate) fn patterns_in(alloc: Global, words: &[&str]) -> Result<Vec<Pattern>,
     Ok(patterns)
 }
 
-/// The id of a disk that a word stands for: two bytes, none of which is forbidden in names.
+/// The id of a disk that an argument stands for: two bytes that are allowed in names.
 pub(crate) fn id_in(alloc: Global, word: &[u8]) -> Result<[u8; 2], Status>
     ensures { Reads can_be_id word.now result }
 {
@@ -113,7 +112,7 @@ pub(crate) fn id_in(alloc: Global, word: &[u8]) -> Result<[u8; 2], Status>
     }
 }
 
-/// A word in two at its first comma, or None where it has none.
+/// An argument split in two at its first comma, or None if it has no comma.
 pub(crate) fn at_comma(word: &[u8]) -> Option<(&[u8], &[u8])>
     ensures { option_map (λ parts. (parts.0.now, parts.1.now)) result ≡ at_comma word.now }
 {
@@ -141,8 +140,8 @@ fn kind_of_letter(word: &[u8]) -> Option<Kind>
     }
 }
 
-/// The name and the kind of a file in a word that may be cut at its first comma. The kind is PRG
-/// where it isn't.
+/// The name and the kind of a file in an argument that may be split at its first comma. The kind is
+/// PRG if it isn't.
 fn name_and_kind_in(word: &[u8]) -> Result<(&[u8], Kind), Status>
     ensures { name_and_kind result ≡ name_and_kind_in word.now }
 {
@@ -155,7 +154,7 @@ fn name_and_kind_in(word: &[u8]) -> Result<(&[u8], Kind), Status>
     }
 }
 
-/// The part of a word after its last `/`, or all of it where it has none.
+/// The part of an argument after its last `/`, or all of it if it has no `/`.
 fn after_slash(word: &[u8]) -> &[u8]
     ensures { result.now ≡ after_slash word.now }
 {
@@ -165,7 +164,7 @@ fn after_slash(word: &[u8]) -> &[u8]
     }
 }
 
-/// What names a new file: a word, or the name of its host file without the folders.
+/// The argument that names a new file, or else the name of its host file without the folders.
 pub(crate) fn name_word<'a>(host: &'a str, word: Option<&'a str>) -> &'a [u8]
     ensures { result.now ≡ name_word host.now (option_map (λ word. word.now) word.entry) }
 {
@@ -175,8 +174,8 @@ pub(crate) fn name_word<'a>(host: &'a str, word: Option<&'a str>) -> &'a [u8]
     }
 }
 
-/// The name and the kind of a new file, from a word. Where there is none, the name is that of its
-/// host file without the folders, and the kind is PRG.
+/// The name and the kind of a new file, by its argument. If there is no argument, the name is that
+/// of its host file without the folders, and the kind is PRG.
 pub(crate) fn name_and_kind_of<'a>(
     host: &'a str,
     word: Option<&'a str>,

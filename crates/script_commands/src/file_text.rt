@@ -9,10 +9,10 @@ use std::alloc::{AllocError, Global};
 /// The byte that ends a line of a text on the disk.
 const CARRIAGE_RETURN: u8 = 13;
 
-/// The lines of a text of the disk in text form. There each ends with a carriage return, which the
-/// last may lack.
+/// The lines of a text of the disk in text form. On the disk each ends with a carriage return,
+/// except that the last one may have none.
 ///
-/// An `Err` comes only where there is no memory for the text.
+/// An `Err` comes only if there is no memory for the text.
 pub(crate) fn file_text(alloc: Global, content: &[u8]) -> Result<Vec<u8>, AllocError>
     ensures { IfOk result (λ text. text.items ≡ file_text content.now) }
 {
@@ -28,7 +28,7 @@ pub(crate) fn file_text(alloc: Global, content: &[u8]) -> Result<Vec<u8>, AllocE
     Ok(text)
 }
 
-/// Adds a byte of a text: the end of a line for a carriage return, or else its text form.
+/// Appends a byte of a text: a line end for a carriage return, or else its text form.
 fn push_byte(text: &mut Vec<u8>, byte: u8) -> Result<(), AllocError>
     ensures { OnOk result (text.new.items ≡ text.old.items ++ (if byte == 13 then codes "\n" else spell byte)) }
 {

@@ -1,4 +1,4 @@
-//! What each command does: a handler for each.
+//! The effect of each command: a handler for each.
 #![tactic(auto, unfolding(crate::specs::Act::Does))]
 
 ghost use Rattle.std.specs.Prelude.{◌≡◌, ◌<◌, ◌≤◌, All, Some, None, [], map, option_map, length};
@@ -34,13 +34,13 @@ use script_text::status::Status;
 use std::alloc::Global;
 use std::str;
 
-/// The most bytes that a command takes of a host file.
+/// The most bytes that a command accepts of a host file.
 pub const HOST_FILE_BYTES: usize = 1_048_576;
 
-/// Where a BASIC program stands in the machine's memory.
+/// The place of a BASIC program in the machine's memory.
 const PROGRAM_START: u16 = 0x0801;
 
-/// `block`: the sixteen lines that show a block.
+/// `block`: shows a block in sixteen lines.
 pub(crate) fn block(session: &Session, track: &str, sector: &str) -> Result<Response, Status>
     ensures { RespondsAlone (block_act session.now (track.now, sector.now)) session.now result session.now }
 {
@@ -52,7 +52,7 @@ pub(crate) fn block(session: &Session, track: &str, sector: &str) -> Result<Resp
     })
 }
 
-/// `bread`: a block stored in a host file.
+/// `bread`: stores a block in a host file.
 pub(crate) fn block_read<H: Host>(
     alloc: Global,
     host: &mut H,
@@ -72,7 +72,7 @@ pub(crate) fn block_read<H: Host>(
     store(alloc, host, name, image.sector(block))
 }
 
-/// `bwrite`: a block replaced by a host file of one block.
+/// `bwrite`: replaces a block by a host file of one block.
 pub(crate) fn block_write<H: Host>(
     alloc: Global,
     host: &mut H,
@@ -94,7 +94,7 @@ pub(crate) fn block_write<H: Host>(
     }
 }
 
-/// A block of the image replaced by the bytes of a host file.
+/// Replaces a block of the image by the bytes of a host file.
 fn write_one_block(session: &mut Session, at: BlockNo, bytes: &[u8]) -> Result<Response, Status>
     requires { at < length (present_image session.old) }
     ensures { RespondsAlone (write_one_block session.old at bytes.now) session.old result session.new }
@@ -105,7 +105,7 @@ fn write_one_block(session: &mut Session, at: BlockNo, bytes: &[u8]) -> Result<R
     }
 }
 
-/// A command given to the session. The image has the block that a block write names.
+/// Runs a command of the session. The image must have the block that a block write names.
 fn run_command(session: &mut Session, command: &Command) -> Result<Response, Status>
     requires { IsWithin (present_image session.old) (change_of command.now) }
     ensures { RespondsAlone (run session.old (change_of command.now)) session.old result session.new }
@@ -116,7 +116,7 @@ fn run_command(session: &mut Session, command: &Command) -> Result<Response, Sta
     }
 }
 
-/// `crunch`: a BASIC text of the host written to the disk as a program, by default under its own
+/// `crunch`: writes a BASIC text of the host to the disk as a program, by default under its own
 /// name.
 pub(crate) fn crunch<H: Host>(
     alloc: Global,
@@ -138,7 +138,7 @@ pub(crate) fn crunch<H: Host>(
     }
 }
 
-/// The program that a BASIC text stands for, written to the disk as PRG.
+/// Writes the program of a BASIC text to the disk as PRG.
 fn write_program(
     alloc: Global,
     session: &mut Session,
@@ -161,7 +161,8 @@ fn write_program(
     }
 }
 
-/// `delete`: the files deleted that one of the patterns matches or more, a pattern a word.
+/// `delete`: deletes the files that at least one of the patterns matches. Each argument is a
+/// pattern.
 pub(crate) fn delete(
     alloc: Global,
     session: &mut Session,
@@ -173,8 +174,8 @@ pub(crate) fn delete(
     run_command(session, &Command::Delete { patterns })
 }
 
-/// `format`: the disk made an empty one. The word is cut at its first comma, into the name and the
-/// id.
+/// `format`: makes the disk an empty one. The argument is split at its first comma, into the name
+/// and the id.
 pub(crate) fn format(alloc: Global, session: &mut Session, word: &str) -> Result<Response, Status>
     ensures { RespondsAlone (format_act session.old word.now) session.old result session.new }
 {
@@ -186,7 +187,7 @@ pub(crate) fn format(alloc: Global, session: &mut Session, word: &str) -> Result
     run_command(session, &Command::Format { name, id })
 }
 
-/// `history`: the lines that show the records.
+/// `history`: lists the records.
 pub(crate) fn history(alloc: Global, session: &Session) -> Result<Response, Status>
     ensures { RespondsAlone (history_act session.now) session.now result session.now }
 {
@@ -194,7 +195,7 @@ pub(crate) fn history(alloc: Global, session: &Session) -> Result<Response, Stat
     Ok(Response::text(text))
 }
 
-/// `keep`: the session stored in a host file.
+/// `keep`: stores the session in a host file.
 pub(crate) fn keep<H: Host>(
     alloc: Global,
     host: &mut H,
@@ -211,7 +212,7 @@ pub(crate) fn keep<H: Host>(
     store(alloc, host, name, file.as_slice())
 }
 
-/// `list`: the lines that show the directory.
+/// `list`: lists the directory.
 pub(crate) fn list(alloc: Global, session: &Session) -> Result<Response, Status>
     ensures { RespondsAlone (list_act session.now) session.now result session.now }
 {
@@ -220,8 +221,8 @@ pub(crate) fn list(alloc: Global, session: &Session) -> Result<Response, Status>
     Ok(Response::text(text))
 }
 
-/// `name`: the disk given another name. The word may be cut at its first comma, into the name and an
-/// id.
+/// `name`: gives the disk another name. The argument may be split at its first comma, into the name
+/// and an id.
 pub(crate) fn name(alloc: Global, session: &mut Session, word: &str) -> Result<Response, Status>
     ensures { RespondsAlone (name_act session.old word.now) session.old result session.new }
 {
@@ -232,7 +233,7 @@ pub(crate) fn name(alloc: Global, session: &mut Session, word: &str) -> Result<R
     }
 }
 
-/// The disk given another name and another id.
+/// Gives the disk another name and another id.
 fn name_with_id(
     alloc: Global,
     session: &mut Session,
@@ -246,7 +247,7 @@ fn name_with_id(
     run_command(session, &Command::Name { name, id: Some(id) })
 }
 
-/// The disk given another name.
+/// Gives the disk another name.
 fn name_alone(alloc: Global, session: &mut Session, name: &[u8]) -> Result<Response, Status>
     ensures { RespondsAlone (name_parts session.old name.now None) session.old result session.new }
 {
@@ -254,7 +255,7 @@ fn name_alone(alloc: Global, session: &mut Session, name: &[u8]) -> Result<Respo
     run_command(session, &Command::Name { name, id: None })
 }
 
-/// `petcat`: the text of a BASIC program of the disk.
+/// `petcat`: shows the text of a BASIC program of the disk.
 pub(crate) fn petcat(alloc: Global, session: &Session, name: &str) -> Result<Response, Status>
     ensures { RespondsAlone (petcat_act session.now name.now) session.now result session.now }
 {
@@ -262,7 +263,7 @@ pub(crate) fn petcat(alloc: Global, session: &Session, name: &str) -> Result<Res
     show_program(alloc, session, &pattern)
 }
 
-/// The text of the BASIC program that a pattern finds.
+/// Shows the text of the BASIC program that a pattern finds.
 fn show_program(alloc: Global, session: &Session, pattern: &Pattern) -> Result<Response, Status>
     ensures { RespondsAlone (show_program session.now pattern.now) session.now result session.now }
 {
@@ -273,7 +274,7 @@ fn show_program(alloc: Global, session: &Session, pattern: &Pattern) -> Result<R
     }
 }
 
-/// `quit`: the end of the run.
+/// `quit`: ends the run.
 pub(crate) fn quit(session: &Session) -> Result<Response, Status>
     ensures { RespondsAlone (quit_act session.now) session.now result session.now }
 {
@@ -285,7 +286,7 @@ pub(crate) fn quit(session: &Session) -> Result<Response, Status>
     })
 }
 
-/// `read`: a file of the disk stored in a host file, by default in the one of the file's own name.
+/// `read`: stores a file of the disk in a host file, by default in the one of the file's own name.
 pub(crate) fn read<H: Host>(
     alloc: Global,
     host: &mut H,
@@ -305,7 +306,7 @@ pub(crate) fn read<H: Host>(
     }
 }
 
-/// The file that a pattern finds, stored in the host file that a word names.
+/// Stores the file that a pattern finds in the host file of an argument.
 fn read_to<H: Host>(
     alloc: Global,
     host: &mut H,
@@ -325,7 +326,7 @@ fn read_to<H: Host>(
     }
 }
 
-/// The file that a pattern finds, stored in the host file of its own name in text form.
+/// Stores the file that a pattern finds in the host file of its own name in text form.
 fn read_as_found<H: Host>(
     alloc: Global,
     host: &mut H,
@@ -347,7 +348,7 @@ fn read_as_found<H: Host>(
     store(alloc, host, name, file.bytes.as_slice())
 }
 
-/// `redo`: the next image of the history.
+/// `redo`: goes to the next image of the history.
 pub(crate) fn redo(session: &mut Session) -> Result<Response, Status>
     ensures { RespondsAlone (redo_act session.old) session.old result session.new }
 {
@@ -355,7 +356,7 @@ pub(crate) fn redo(session: &mut Session) -> Result<Response, Status>
     Ok(Response::plain(Status::Done))
 }
 
-/// `rename`: the first file of one name given another.
+/// `rename`: gives the first file with one name another.
 pub(crate) fn rename(
     alloc: Global,
     session: &mut Session,
@@ -369,8 +370,8 @@ pub(crate) fn rename(
     run_command(session, &Command::Rename { old, new })
 }
 
-/// `save`: the image stored in a host file, by default its own. Where it has none, a word is
-/// missed.
+/// `save`: stores the image in a host file, by default its own. If it has none, an argument is
+/// missing.
 pub(crate) fn save<H: Host>(
     alloc: Global,
     host: &mut H,
@@ -391,7 +392,7 @@ pub(crate) fn save<H: Host>(
     store(alloc, host, name, session.image().bytes())
 }
 
-/// `type`: the lines of a text of the disk.
+/// `type`: shows the lines of a text of the disk.
 pub(crate) fn type_text(alloc: Global, session: &Session, name: &str) -> Result<Response, Status>
     ensures { RespondsAlone (type_act session.now name.now) session.now result session.now }
 {
@@ -399,7 +400,7 @@ pub(crate) fn type_text(alloc: Global, session: &Session, name: &str) -> Result<
     show_file(alloc, session, &pattern)
 }
 
-/// The lines of the text that a pattern finds.
+/// Shows the lines of the text that a pattern finds.
 fn show_file(alloc: Global, session: &Session, pattern: &Pattern) -> Result<Response, Status>
     ensures { RespondsAlone (show_file session.now pattern.now) session.now result session.now }
 {
@@ -408,7 +409,7 @@ fn show_file(alloc: Global, session: &Session, pattern: &Pattern) -> Result<Resp
     Ok(Response::text(text))
 }
 
-/// `undo`: the image before.
+/// `undo`: goes to the image before.
 pub(crate) fn undo(session: &mut Session) -> Result<Response, Status>
     ensures { RespondsAlone (undo_act session.old) session.old result session.new }
 {
@@ -416,14 +417,14 @@ pub(crate) fn undo(session: &mut Session) -> Result<Response, Status>
     Ok(Response::plain(Status::Done))
 }
 
-/// `validate`: the files dropped that were never closed, and the map written anew.
+/// `validate`: drops the files that were never closed, and writes the map anew.
 pub(crate) fn validate(session: &mut Session) -> Result<Response, Status>
     ensures { RespondsAlone (validate_act session.old) session.old result session.new }
 {
     run_command(session, &Command::Validate)
 }
 
-/// `write`: a host file written to the disk, by default under its own name and as PRG.
+/// `write`: writes a host file to the disk, by default under its own name and as PRG.
 pub(crate) fn write<H: Host>(
     alloc: Global,
     host: &mut H,
@@ -445,7 +446,7 @@ pub(crate) fn write<H: Host>(
     }
 }
 
-/// Bytes stored in a host file.
+/// Stores bytes in a host file.
 fn store<H: Host>(alloc: Global, host: &mut H, name: &str, bytes: &[u8]) -> Result<Response, Status>
     ensures { (history : History) → Responds (put history name.now bytes.now)
         (world_of (H.state host.old) history)
@@ -458,7 +459,7 @@ fn store<H: Host>(alloc: Global, host: &mut H, name: &str, bytes: &[u8]) -> Resu
     }
 }
 
-/// The text form of bytes is ASCII.
+/// Does nothing: its contract states that the text form of bytes is ASCII.
 fn spelling_is_ascii(bytes: &[u8])
     ensures { All (λ byte. byte < 128) (spelling bytes.now) }
 {}

@@ -6,10 +6,10 @@ use d64_undo::Session;
 use itoa::Buffer;
 use std::alloc::{AllocError, Global};
 
-/// The lines that show the records of a session, oldest first: of each its number from 1, how many
+/// The lines that show the records of a session, oldest first: for each its number from 1, how many
 /// blocks it changed, and whether it is done or undone.
 ///
-/// An `Err` comes only where there is no memory for the text.
+/// An `Err` comes only if there is no memory for the text.
 pub(crate) fn history_text(alloc: Global, session: &Session) -> Result<Vec<u8>, AllocError>
     ensures { IfOk result (λ text. text.items ≡ history_text session.now) }
 {
@@ -20,7 +20,7 @@ pub(crate) fn history_text(alloc: Global, session: &Session) -> Result<Vec<u8>, 
     Ok(text)
 }
 
-/// Adds the line of a record.
+/// Appends the line of a record.
 #[tactic(auto, unfolding(crate::specs::HistoryText::record_line))]
 fn push_record(text: &mut Vec<u8>, session: &Session, number: usize) -> Result<(), AllocError>
     requires { number < 2 ^ 64 - 1 }
@@ -33,7 +33,7 @@ fn push_record(text: &mut Vec<u8>, session: &Session, number: usize) -> Result<(
     text.extend_from_slice(cursor_mark(number < session.done()))
 }
 
-/// What the line of a record ends with: on which side of the cursor it lies.
+/// The end of a record's line: on which side of the cursor the record is.
 fn cursor_mark(done: bool) -> &'static [u8]
     ensures { result.now ≡ (if done then codes " done\n" else codes " undone\n") }
 {

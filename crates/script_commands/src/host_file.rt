@@ -6,7 +6,7 @@ ghost use Rattle.script_commands.specs.Act.{FetchesFile};
 use host_storage::{Host, HostFault};
 use std::alloc::Global;
 
-/// The bytes of a host file, of which there are at most `limit`.
+/// The bytes of a host file, at most `limit` of them.
 pub fn fetch<H: Host>(
     alloc: Global,
     host: &mut H,
@@ -23,7 +23,7 @@ pub fn fetch<H: Host>(
     Ok(bytes)
 }
 
-/// The bytes of a slice are known to be bytes.
+/// Does nothing: its contract states what the bytes of a slice are.
 fn known_bytes(_bytes: &[u8])
     ensures { AreBytes _bytes.now }
 {}

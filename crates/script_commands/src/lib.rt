@@ -1,5 +1,5 @@
-//! The commands of a script: which there are, the arguments of each, what it does to the session
-//! and the host, its status, and the lines that it prints.
+//! The commands of a script: which there are, the arguments of each, its effect on the session and
+//! the host, its status, and the lines that it prints.
 #![tactic(auto)]
 
 mod answer;

@@ -1,4 +1,4 @@
-//! `Line`: a line of a script as a value, made from its command and arguments.
+//! `Line`: a line of a script as a value, made of its command and arguments.
 ghost use Rattle.std.specs.Prelude.{◌≡◌, ◌++◌, map, option_map};
 ghost use Rattle.d64_image.specs.Disk.{Bytes};
 ghost use Rattle.d64_undo.specs.History.{History};
@@ -9,7 +9,7 @@ ghost use Rattle.script_commands.specs.WordCounts.{one_word, at_most_one, word_a
 use script_text::status::Status;
 use script_text::words::MAX_WORDS;
 
-/// What a line asks for: its command, and the words after that one as they were written.
+/// What a line asks for: its command, and the arguments as they were written.
 #[derive(Clone, Copy)]
 pub(crate) enum Line<'a> {
     /// `block t s`: shows a block.
@@ -29,7 +29,7 @@ pub(crate) enum Line<'a> {
         track: &'a str,
         sector: &'a str,
     },
-    /// `crunch host [name]`: writes the program that a BASIC text of the host stands for.
+    /// `crunch host [name]`: writes the program of a BASIC text of the host.
     Crunch {
         host: &'a str,
         name: Option<&'a str>,
@@ -38,7 +38,7 @@ pub(crate) enum Line<'a> {
     Delete {
         patterns: &'a [&'a str],
     },
-    /// `format name,id`: makes the disk an empty one.
+    /// `format name,id`: makes an empty disk.
     Format {
         name_and_id: &'a str,
     },
@@ -65,7 +65,7 @@ pub(crate) enum Line<'a> {
         name: &'a str,
         host: Option<&'a str>,
     },
-    /// `redo`: takes an undo back.
+    /// `redo`: reverses an undo.
     Redo,
     /// `rename old new`: gives a file another name.
     Rename {
@@ -80,7 +80,7 @@ pub(crate) enum Line<'a> {
     ShowText {
         name: &'a str,
     },
-    /// `undo`: takes the last command back.
+    /// `undo`: reverses the last command.
     Undo,
     /// `validate`: drops the files that were never closed, and writes the map anew.
     Validate,
@@ -94,8 +94,8 @@ pub(crate) enum Line<'a> {
 impl<'a> Line<'a> {
     ghost use Rattle.script_commands.specs.Line.{act_of_words};
 
-    /// What the words of a line ask for. The first stands for a command, in small letters, and then
-    /// so many follow as that takes.
+    /// Reads a command and its arguments. The command is in small letters, and must have as many
+    /// arguments as it takes.
     pub(crate) fn of(words: &'a [&'a str]) -> Result<Line<'a>, Status>
         ensures { (home : Bytes) (history : History) → act_of_result home history result ≡ act_of_words home history (map (λ word. word.now) words.now) }
     {
@@ -109,7 +109,7 @@ impl<'a> Line<'a> {
     }
 }
 
-/// What a command asks for that takes no arguments.
+/// Reads a command that takes no arguments.
 fn alone<'a>(command: &str) -> Option<Line<'a>>
     ensures { (home : Bytes) (history : History) → option_map (act_of home history) result ≡ option_map (λ row. row.1) (row_of command.now (lone_commands history)) }
 {
@@ -124,7 +124,7 @@ fn alone<'a>(command: &str) -> Option<Line<'a>>
     }
 }
 
-/// A line whose command takes no arguments.
+/// A line whose command takes no arguments, if it has none.
 fn with_no_word<'a>(line: Line<'a>, words: &[&str]) -> Result<Line<'a>, Status>
     ensures { (home : Bytes) (history : History) → act_of_result home history result ≡ after_no_word (map (λ word. word.now) words.now) (act_of home history line.entry) }
 {
@@ -134,7 +134,7 @@ fn with_no_word<'a>(line: Line<'a>, words: &[&str]) -> Result<Line<'a>, Status>
     }
 }
 
-/// What a command with arguments asks for that has no use for the host, or else one of those below.
+/// Reads a command with arguments that does not use the host, or else one of those below.
 fn on_the_disk<'a>(command: &str, words: &'a [&'a str]) -> Result<Line<'a>, Status>
     ensures { (home : Bytes) (history : History) → act_of_result home history result ≡ act_in (disk_commands history (map (λ word. word.now) words.now) ++ file_commands history (map (λ word. word.now) words.now) ++ host_commands home history (map (λ word. word.now) words.now)) command.now }
 {
@@ -171,8 +171,7 @@ fn on_the_disk<'a>(command: &str, words: &'a [&'a str]) -> Result<Line<'a>, Stat
     }
 }
 
-/// What a command asks for that takes a file from the host to the disk or back, or else one of
-/// those below.
+/// Reads a command that takes a file from the host to the disk or back, or else one of those below.
 fn with_a_file<'a>(command: &str, words: &[&'a str]) -> Result<Line<'a>, Status>
     ensures { (home : Bytes) (history : History) → act_of_result home history result ≡ act_in (file_commands history (map (λ word. word.now) words.now) ++ host_commands home history (map (λ word. word.now) words.now)) command.now }
 {
@@ -193,7 +192,7 @@ fn with_a_file<'a>(command: &str, words: &[&'a str]) -> Result<Line<'a>, Status>
     }
 }
 
-/// What a command asks for that fetches or stores a block, the image or the session.
+/// Reads a command that fetches or stores a block, the image or the session.
 fn with_the_host<'a>(command: &str, words: &[&'a str]) -> Result<Line<'a>, Status>
     ensures { (home : Bytes) (history : History) → act_of_result home history result ≡ act_in (host_commands home history (map (λ word. word.now) words.now)) command.now }
 {
@@ -226,7 +225,7 @@ fn with_the_host<'a>(command: &str, words: &[&'a str]) -> Result<Line<'a>, Statu
     }
 }
 
-/// Exactly one word.
+/// Exactly one argument.
 fn one_word<'a>(words: &[&'a str]) -> Result<&'a str, Status>
     ensures { words_or_refusal (λ word. word.now) result ≡ one_word (map (λ word. word.now) words.now) }
 {
@@ -237,7 +236,7 @@ fn one_word<'a>(words: &[&'a str]) -> Result<&'a str, Status>
     }
 }
 
-/// Exactly two words.
+/// Exactly two arguments.
 fn two_words<'a>(words: &[&'a str]) -> Result<(&'a str, &'a str), Status>
     ensures { words_or_refusal (λ pair. (pair.0.now, pair.1.now)) result ≡ word_and one_word (map (λ word. word.now) words.now) }
 {
@@ -248,7 +247,7 @@ fn two_words<'a>(words: &[&'a str]) -> Result<(&'a str, &'a str), Status>
     }
 }
 
-/// Exactly three words.
+/// Exactly three arguments.
 fn three_words<'a>(words: &[&'a str]) -> Result<(&'a str, &'a str, &'a str), Status>
     ensures { words_or_refusal (λ three. (three.0.now, (three.1.now, three.2.now))) result ≡ word_and (word_and one_word) (map (λ word. word.now) words.now) }
 {
@@ -259,7 +258,7 @@ fn three_words<'a>(words: &[&'a str]) -> Result<(&'a str, &'a str, &'a str), Sta
     }
 }
 
-/// One word or none.
+/// No argument, or one.
 fn at_most_one<'a>(words: &[&'a str]) -> Result<Option<&'a str>, Status>
     ensures { words_or_refusal (option_map (λ word. word.now)) result ≡ at_most_one (map (λ word. word.now) words.now) }
 {
@@ -270,7 +269,7 @@ fn at_most_one<'a>(words: &[&'a str]) -> Result<Option<&'a str>, Status>
     }
 }
 
-/// One word, and perhaps another.
+/// One argument, and perhaps another.
 fn one_or_two<'a>(words: &[&'a str]) -> Result<(&'a str, Option<&'a str>), Status>
     ensures { words_or_refusal (λ pair. (pair.0.now, option_map (λ word. word.now) pair.1)) result ≡ word_and at_most_one (map (λ word. word.now) words.now) }
 {
@@ -282,7 +281,7 @@ fn one_or_two<'a>(words: &[&'a str]) -> Result<(&'a str, Option<&'a str>), Statu
     }
 }
 
-/// One word or more, up to as many as a line holds.
+/// One argument or more, up to as many as a line has.
 fn some_words<'a>(words: &'a [&'a str]) -> Result<&'a [&'a str], Status>
     ensures { words_or_refusal (λ some. map (λ word. word.now) some.now) result ≡ some_words (map (λ word. word.now) words.now) }
 {

@@ -11,20 +11,20 @@ use itoa::Buffer;
 use petscii::to_text;
 use std::alloc::{AllocError, Global};
 
-/// The places of the disk's name.
+/// How many places the disk's name takes.
 const DISK_NAME_PLACES: u8 = 16;
 
-/// The places of a file's size.
+/// How many places a file's size takes.
 const SIZE_PLACES: u8 = 5;
 
-/// The places of a file's name with its quotes.
+/// How many places a file's name takes with its quotes.
 const FILE_NAME_PLACES: u8 = 18;
 
 /// The lines that show a directory (1541 User's Guide, "Viewing the directory"): the disk's name
 /// with its id and its DOS version, a line for each file, and the number of free blocks. Names are
-/// in text form and are filled with spaces; what follows a longer one stands further to the right.
+/// in text form and are filled with spaces; what follows a longer one is further to the right.
 ///
-/// An `Err` comes only where there is no memory for the text.
+/// An `Err` comes only if there is no memory for the text.
 #[tactic(auto, unfolding(crate::specs::ListingText::listing_text, crate::specs::ListingText::free_line))]
 pub(crate) fn listing_text(alloc: Global, listing: &Listing) -> Result<Vec<u8>, AllocError>
     ensures { IfOk result (λ text. text.items ≡ listing_text (shown_listing listing.now)) }
@@ -39,7 +39,7 @@ pub(crate) fn listing_text(alloc: Global, listing: &Listing) -> Result<Vec<u8>, 
     Ok(text)
 }
 
-/// Adds the line of the disk's name.
+/// Appends the line of the disk's name.
 #[tactic(auto, unfolding(crate::specs::ListingText::header_line))]
 fn push_header(alloc: Global, text: &mut Vec<u8>, listing: &Listing) -> Result<(), AllocError>
     ensures { OnOk result (text.new.items ≡ text.old.items ++ header_line (shown_listing listing.now)) }
@@ -53,7 +53,7 @@ fn push_header(alloc: Global, text: &mut Vec<u8>, listing: &Listing) -> Result<(
     text.extend_from_slice(b"\n")
 }
 
-/// Adds the text form of the disk's name, filled up to its places.
+/// Appends the text form of the disk's name, filled up to its places.
 fn push_disk_name(alloc: Global, text: &mut Vec<u8>, name: &[u8]) -> Result<(), AllocError>
     ensures { OnOk result (text.new.items ≡ text.old.items ++ padded_text 16 (spelling name.now)) }
 {
@@ -61,7 +61,7 @@ fn push_disk_name(alloc: Global, text: &mut Vec<u8>, name: &[u8]) -> Result<(), 
     push_padded(text, name.as_slice(), DISK_NAME_PLACES)
 }
 
-/// Adds the text form of bytes.
+/// Appends the text form of bytes.
 fn push_text_form(alloc: Global, text: &mut Vec<u8>, bytes: &[u8]) -> Result<(), AllocError>
     ensures { OnOk result (text.new.items ≡ text.old.items ++ spelling bytes.now) }
 {
@@ -69,7 +69,7 @@ fn push_text_form(alloc: Global, text: &mut Vec<u8>, bytes: &[u8]) -> Result<(),
     text.extend_from_slice(form.as_slice())
 }
 
-/// Adds the line of a file.
+/// Appends the line of a file.
 #[tactic(auto, unfolding(crate::specs::ListingText::row_line))]
 fn push_row(alloc: Global, text: &mut Vec<u8>, row: &Row) -> Result<(), AllocError>
     ensures { OnOk result (text.new.items ≡ text.old.items ++ row_line (shown_row row.now)) }
@@ -83,7 +83,7 @@ fn push_row(alloc: Global, text: &mut Vec<u8>, row: &Row) -> Result<(), AllocErr
     text.extend_from_slice(b"\n")
 }
 
-/// Adds a file's name in text form, between quotes, filled up to its places.
+/// Appends a file's name in text form, between quotes, filled up to its places.
 fn push_file_name(alloc: Global, text: &mut Vec<u8>, name: &[u8]) -> Result<(), AllocError>
     ensures { OnOk result (text.new.items ≡ text.old.items ++ padded_text 18 (codes "\"" ++ spelling name.now ++ codes "\"")) }
 {
@@ -101,7 +101,7 @@ fn quoted(alloc: Global, name: &[u8]) -> Result<Vec<u8>, AllocError>
     Ok(text)
 }
 
-/// What stands before a file's kind: a space, or `*` where the file is not closed.
+/// The mark before a file's kind: a space, or `*` if the file is not closed.
 fn closed_mark(closed: bool) -> &'static [u8]
     ensures { result.now ≡ (if closed then codes " " else codes "*") }
 {
@@ -121,14 +121,14 @@ fn kind_text(kind: Kind) -> &'static [u8]
     }
 }
 
-/// What stands after a file's kind: `<` where the file is locked.
+/// The mark after a file's kind: `<` if the file is locked.
 fn lock_mark(locked: bool) -> &'static [u8]
     ensures { result.now ≡ (if locked then codes "<" else []) }
 {
     if locked { b"<" } else { b"" }
 }
 
-/// Adds a file's size, from the left of its places on.
+/// Appends a file's size, at the left of its places.
 fn push_size(text: &mut Vec<u8>, blocks: u16) -> Result<(), AllocError>
     ensures { OnOk result (text.new.items ≡ text.old.items ++ padded_text 5 (decimal blocks)) }
 {
@@ -136,7 +136,7 @@ fn push_size(text: &mut Vec<u8>, blocks: u16) -> Result<(), AllocError>
     push_padded(text, buffer.format(blocks).as_bytes(), SIZE_PLACES)
 }
 
-/// Adds a number in decimal.
+/// Appends a number in decimal.
 fn push_number(text: &mut Vec<u8>, number: u32) -> Result<(), AllocError>
     ensures { OnOk result (text.new.items ≡ text.old.items ++ decimal number) }
 {
@@ -144,7 +144,7 @@ fn push_number(text: &mut Vec<u8>, number: u32) -> Result<(), AllocError>
     text.extend_from_slice(buffer.format(number).as_bytes())
 }
 
-/// Adds bytes, and spaces up to a number of places.
+/// Appends bytes, and spaces up to a number of places.
 fn push_padded(text: &mut Vec<u8>, bytes: &[u8], places: u8) -> Result<(), AllocError>
     ensures { OnOk result (text.new.items ≡ text.old.items ++ padded_text places bytes.now) }
 {

@@ -13,7 +13,7 @@ use std::io::Write;
 #[derive(Drop)]
 pub enum Output {
     Nothing,
-    /// The sixteen lines that show a block of the present image. Its number costs less to hand on
+    /// The sixteen lines that show a block of the present image. Its number costs less to pass on
     /// than its bytes.
     Block(BlockNo),
     /// Other lines.
@@ -23,7 +23,7 @@ pub enum Output {
 impl Output {
     ghost use Rattle.script_commands.specs.Response.{output_bytes};
 
-    /// Writes the output, where this is the present image.
+    /// Writes the output, for this as the present image.
     fn write<W: Write>(
         &self,
         output: &mut OutputStream<'_, W>,
@@ -70,8 +70,7 @@ impl Response {
         }
     }
 
-    /// What a line answers: the response of an accepted one, or the status of a refusal with no
-    /// output.
+    /// The response to a line: that of an accepted one, or the status of a refusal with no output.
     pub(crate) fn of(answer: Result<Response, Status>) -> Response
         ensures { (image : List (List ℕ)) → shown_answer image result ≡ answer_of image answer }
     {
@@ -92,8 +91,8 @@ impl Response {
         }
     }
 
-    /// Writes the output and the status line, where this is the present image. Where a write fails,
-    /// a part of them is written.
+    /// Writes the output and the status line, for this as the present image. If a write fails, a
+    /// part of them was written.
     pub fn write<W: Write>(
         &self,
         output: &mut OutputStream<'_, W>,

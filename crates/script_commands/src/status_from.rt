@@ -25,7 +25,7 @@ pub(crate) fn of_fault(fault: HostFault) -> Status
     }
 }
 
-/// The status of a fault of a word in text form.
+/// The status of a fault of an argument in text form.
 pub(crate) fn of_text_fault(fault: TextFault) -> Status
     ensures { result ≡ status_of_text fault }
 {
