@@ -1,4 +1,4 @@
--- What comes before what is said of a refused line, by what was found.
+-- The beginning of the explanation of a refused line, by what was found.
 use Rattle.std.proofs.Common.{◌≡◌, ℕ, Bool, true, List, Option, None, Some, IfSome, ◌∙◌, inl, inr, codes}
 use Rattle.std.specs.Option.{option_map_or}
 use Rattle.script_text.specs.HeldLine.{Says}

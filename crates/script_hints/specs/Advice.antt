@@ -15,7 +15,7 @@ use Rattle.script_hints.specs.declared.advice.Advice.{Advice}
 use Rattle.script_hints.specs.declared.advice.Piece.{Piece as CodePiece}
 use Rattle.script_hints.specs.declared.advice.Piece.TheVariants as code
 
--- a piece of what is told: a text, or a word of the line
+-- a piece of the advice: a text, or an argument of the line
 pub data Piece : Type 0 where
   Text : Bytes → Piece
   Word : Piece
@@ -24,7 +24,7 @@ pub data Piece : Type 0 where
   Third : Piece
   Fourth : Piece
 
--- the same as the code has it
+-- a piece of the code as one of the definitions
 abbrev pub piece_of : CodePiece → Piece
 piece_of (code.Text text) = Text text.now
 piece_of code.Word = Word
@@ -36,7 +36,7 @@ piece_of code.Fourth = Fourth
 abbrev pub pieces : Advice → List Piece
 pieces advice = map piece_of advice.pieces
 
--- the bytes of a piece, of these words
+-- the bytes of a piece, by the arguments of the line
 abbrev pub said_piece : Said → Piece → Bytes
 said_piece said (Text text) = text
 said_piece said Word = said.word
@@ -53,35 +53,35 @@ two_pieces before piece between other after = Text before ∷ piece ∷ Text bet
 abbrev pub one_piece : Bytes → Piece → Bytes → List Piece
 one_piece before piece after = two_pieces before piece after (Text []) []
 
--- a text alone
+-- only a text
 abbrev pub plain_pieces : Bytes → List Piece
 plain_pieces text = two_pieces text (Text []) [] (Text []) []
 
--- the second word of a line; the first where that is empty
+-- the second argument of a line; the first if that is empty
 abbrev pub second_or_first : Said → Piece
 second_or_first said = if length said.second == 0 then First else Second
 
--- the word of a line that gives the name of a file on the disk
+-- the argument of a line that is the name of a file on the disk
 abbrev pub file_piece : Said → Command → Piece
 file_piece said Rename = Second
 file_piece said Crunch = second_or_first said
 file_piece said Write = second_or_first said
 file_piece said command = First
 
--- the word of a line that gives the name of a file of the host
+-- the argument of a line that is the name of a file of the host
 abbrev pub host_piece : Said → Command → Piece
 host_piece said Read = second_or_first said
 host_piece said command = First
 
--- the first word of a line that is one too many, where so many may follow its command
+-- the first argument of a line that is one too many, for a command that takes at most n
 abbrev pub surplus_piece : ℕ → Piece
 surplus_piece most = if most == 0 then First else if most == 1 then Second else if most == 2 then Third else Fourth
 
--- of the words of a track and a sector the first that is no number
+-- the first of the arguments for a track and a sector that is no number
 abbrev pub not_number : Bytes → Piece → Piece → Piece
 not_number track first second = option_map_or (λ _. second) (number_of track) first
 
--- a line of as many words as its command takes, of which one is not what that takes
+-- a line with the right number of arguments, one of which its command does not take
 abbrev pub wrong_line : Said → Command → List Piece
 wrong_line said Block = one_piece (codes "\"") (not_number said.first First Second) (codes "\" is not a number from 0 to 255: block T S")
 wrong_line said BlockRead = one_piece (codes "\"") (not_number said.second Second Third) (codes "\" is not a number from 0 to 255")
@@ -90,7 +90,7 @@ wrong_line said Format = one_piece (codes "\"") First (codes "\" has no comma be
 wrong_line said Write = one_piece (codes "\"") Second (codes "\" does not end with a file type (p, s or u): write HOST NAME,T")
 wrong_line said command = one_piece (codes "type the line like this: ") (Text (usage command)) []
 
--- a line whose words are not what its command takes
+-- a line whose arguments are not what its command takes
 abbrev pub wrong_words : Said → Command → List Piece
 wrong_words said command =
     if said.count == 0 then plain_pieces (codes "quotes may only enclose a whole argument, and only printable ASCII is allowed")
@@ -98,7 +98,7 @@ wrong_words said command =
     then two_pieces (codes "\"") (surplus_piece (most_words command)) (codes "\" is one argument too many: ") (Text (usage command)) []
     else wrong_line said command
 
--- a line in which a word cannot be a name
+-- a line in which an argument cannot be a name
 abbrev pub wrong_name : Said → Command → List Piece
 wrong_name said BlockRead = one_piece (codes "\"") First (codes "\" is not a valid name of a host file, which has 1 to 255 characters")
 wrong_name said BlockWrite = one_piece (codes "\"") First (codes "\" is not a valid name of a host file, which has 1 to 255 characters")
@@ -113,17 +113,17 @@ wrong_name said Read = two_pieces (codes "\"") First (codes "\" is not a valid n
 wrong_name said Rename = two_pieces (codes "\"") First (codes "\" or \"") Second (codes "\" is not a valid name on a disk, which has 1 to 16 characters without * ? = : , and quotes")
 wrong_name said command = two_pieces (codes "\"") (file_piece said command) (codes "\" does not give a valid name on a disk, which has 1 to 16 characters without * ? = : , and quotes, or the host cannot have a file \"") First (codes "\"")
 
--- a line that lacks a word
+-- a line in which an argument is missing
 abbrev pub missing_word : Said → Command → List Piece
 missing_word said Save = plain_pieces (codes "the session began without an image file, so save takes a name: save HOST")
 missing_word said command = one_piece (codes "an argument is missing: ") (Text (usage command)) []
 
--- a line that names a block which the disk hasn't
+-- a line that names a block that the disk doesn't have
 abbrev pub wrong_block : Said → Command → List Piece
 wrong_block said Block = two_pieces (codes "the disk has no track ") First (codes " with a sector ") Second (codes ": sectors are numbered from 0, and there are 21 on tracks 1 to 17, 19 on 18 to 24, 18 on 25 to 30, then 17")
 wrong_block said command = two_pieces (codes "the disk has no track ") Second (codes " with a sector ") Third (codes ": sectors are numbered from 0, and there are 21 on tracks 1 to 17, 19 on 18 to 24, 18 on 25 to 30, then 17")
 
--- a line whose host file has the fault of this number
+-- a line whose host file has the fault with this number
 abbrev pub wrong_host_file : Said → Command → ℕ → List Piece
 wrong_host_file said command fault =
     if said.count == 1 then plain_pieces (codes "the image file cannot be written")
@@ -131,7 +131,7 @@ wrong_host_file said command fault =
     else if fault == 3 then one_piece (codes "the file \"") (host_piece said command) (codes "\" has more than 1048576 bytes")
     else one_piece (codes "the file \"") (host_piece said command) (codes "\" cannot be read or written")
 
--- what is told of a line of a command that was refused with a status
+-- the advice about a line of a command that was refused with a status
 abbrev pub advice_by : Said → Command → Status → List Piece
 advice_by said command SyntaxError = wrong_words said command
 advice_by said command UnknownCommand = two_pieces (codes "there is no command \"") Word (codes "\"") (Text (hint_text (hint_of said.word))) []
@@ -155,10 +155,10 @@ advice_by said command OutOfMemory = plain_pieces (codes "out of memory")
 advice_by said command Done = plain_pieces []
 advice_by said command (FilesScratched count) = plain_pieces []
 
--- what is told of a line of these words that was refused with a status
+-- the advice about a line with these arguments that was refused with a status
 abbrev pub advice : Said → Status → List Piece
 advice said status = advice_by said (command_of said.word) status
 
--- the words of it, with the line's end
+-- the advice as bytes, with the line end
 abbrev pub advice_words : Said → List Piece → Bytes
 advice_words said told = flat_map (said_piece said) told ++ codes "\n"

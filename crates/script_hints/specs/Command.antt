@@ -1,4 +1,4 @@
--- The commands of a line: their words, how many more follow, and how the line is typed.
+-- The commands of a line: their names, how many arguments follow, and how the line is typed.
 use Rattle.std.specs.Prelude.{ℕ, List, [], ◌∷◌, find, codes}
 use Rattle.std.specs.Option.{option_map_or}
 use Rattle.std.specs.Str.{bytes_eq}
@@ -6,7 +6,7 @@ use Rattle.d64_image.specs.Disk.{Bytes}
 use Rattle.script_hints.specs.declared.command.Command.{Command}
 use Rattle.script_hints.specs.declared.command.Command.TheVariants.{Block, BlockRead, BlockWrite, Crunch, Delete, Format, ListHistory, Keep, ListDirectory, Name, Petcat, Quit, Read, Redo, Rename, Save, ShowText, Undo, Validate, Write, Unknown}
 
--- the words of the commands
+-- the names of the commands
 abbrev pub command_words : List (Bytes × Command)
 command_words =
     (codes "block", Block)
@@ -31,11 +31,11 @@ command_words =
     ∷ (codes "write", Write)
     ∷ []
 
--- the command that a word stands for
+-- the command with a name
 abbrev pub command_of : Bytes → Command
 command_of word = option_map_or (λ row. row.1) (find (λ row. bytes_eq word row.0) command_words) Unknown
 
--- the most words that follow the word of a command
+-- the most arguments that a command takes
 abbrev pub most_words : Command → ℕ
 most_words Block = 2
 most_words BlockRead = 3

@@ -1,4 +1,4 @@
--- When refused lines are named by their numbers, and what comes before what is wrong with one.
+-- When refused lines are named by their numbers, and the beginning of their explanation.
 use Rattle.std.specs.Prelude.{◌≡◌, ℕ, Bool, true, false, if◌then◌else◌, ◌⊎◌, codes}
 use Rattle.d64_image.specs.Disk.{Bytes}
 use Rattle.script_text.specs.RawLines.{is_too_long, text_of}
@@ -6,16 +6,16 @@ use Rattle.script_run.specs.declared.manners.Refusals.{Refusals}
 use Rattle.script_run.specs.declared.manners.Refusals.TheVariants.{GoOn, Stop}
 use Rattle.script_hints.specs.LineStart.{line_start}
 
--- a refused line ends its script
+-- whether a refused line ends its script
 abbrev pub stops_at_refusal : Refusals → Bool
 stops_at_refusal GoOn = false
 stops_at_refusal Stop = true
 
--- the text of a raw line that is shown: of one that is too long its first bytes
+-- the text of a raw line that is shown: if it is too long, its first bytes
 abbrev pub named_text : Bytes → Bytes → Bytes
 named_text raw first = if is_too_long raw then first else text_of raw
 
--- what may come before what is wrong with a line of this number and text: the program's name, or,
--- where lines are named by their numbers, the line too; without memory for that it is left out
+-- what may come before the explanation of a line with this number and text: the program's name, and
+-- if lines are named by their numbers the line too, unless there is no memory for that
 abbrev pub MayStart : Bool → ℕ → Bytes → Bytes → Type 0
 MayStart is_numbered number text start = (start ≡ codes "d64sh: ") ⊎ ((is_numbered ≡ true) × (start ≡ line_start number text))

@@ -1,4 +1,4 @@
--- What the numbers of faults stand for.
+-- Plain texts for the numbers of faults.
 use Rattle.std.specs.Prelude.{ℕ, ◌==◌, if◌then◌else◌, codes}
 use Rattle.d64_image.specs.Disk.{Bytes}
 use Rattle.cbm_text.specs.Causes.{cause_words}

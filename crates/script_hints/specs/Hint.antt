@@ -1,4 +1,4 @@
--- What stands here for the commands of `c1541`, and for other words that people try.
+-- The hints for the commands of `c1541`, and for other names that people try.
 use Rattle.std.specs.Prelude.{List, [], ◌∷◌, find, codes}
 use Rattle.std.specs.Option.{option_map_or}
 use Rattle.std.specs.Str.{bytes_eq}
@@ -6,7 +6,7 @@ use Rattle.d64_image.specs.Disk.{Bytes}
 use Rattle.script_hints.specs.declared.hint.Hint.{Hint}
 use Rattle.script_hints.specs.declared.hint.Hint.TheVariants.{Fault, Image, Map, CopyBlock, FillBlock, ShowBlock, ChangeBlock, Folder, Chain, Copy, Directory, Entry, End, Extract, Help, Check, Scratch, ShowText, Version, Absent, Unknown}
 
--- the words that are no commands here
+-- the names that are no commands here
 abbrev pub hint_words : List (Bytes × Hint)
 hint_words =
     (codes "@", Fault)
@@ -51,11 +51,11 @@ hint_words =
     ∷ (codes "zcreate", Absent)
     ∷ []
 
--- what a word asks for
+-- what a name asks for
 abbrev pub hint_of : Bytes → Hint
 hint_of word = option_map_or (λ row. row.1) (find (λ row. bytes_eq word row.0) hint_words) Unknown
 
--- what stands for it here
+-- the text of a hint
 abbrev pub hint_text : Hint → Bytes
 hint_text Fault = codes "; delete, rename, format and validate do what it did"
 hint_text Image = codes "; name the image at the start: d64sh shell IMAGE"

@@ -1,4 +1,4 @@
--- What of a session is held by the host, and when changes are not saved.
+-- What the host has of a session, and when changes are not saved.
 use Rattle.std.specs.Prelude.{Bool, true, not, if◌then◌else◌, ◌==◌, length, Option, Some, None, codes}
 use Rattle.std.specs.Str.{bytes_eq}
 use Rattle.sha2.specs.Sha256.{sha256}
@@ -10,36 +10,36 @@ use Rattle.script_hints.specs.declared.command.Command.{Command}
 use Rattle.script_hints.specs.declared.command.Command.TheVariants.{BlockRead, Keep, Read, Save}
 use Rattle.script_hints.specs.declared.kept.Kept.{Kept}
 
--- what an accepted line does to the files that may hold the image: it stores the image in one, or
--- something else, or neither
+-- the effect of an accepted line on the files that may have the image: it stores the image in one,
+-- or something else, or neither
 pub data Effect : Type 0 where
   Holds : Bytes → Effect
   Replaces : Bytes → Effect
   Nothing : Effect
 
--- an image that the file of a name holds
+-- an image that the file with a name has
 abbrev pub kept_in : Disk → Bytes → Kept
 kept_in image name = record { image = sha256 (bytes_of image); file = sha256 name }
 
--- what is held after something else was stored in the file of a name: nothing where that one held
--- it
+-- what the host has after something else was stored in the file with a name: nothing if that one
+-- had the image
 abbrev pub unless_replaced : Option Kept → Bytes → Option Kept
 unless_replaced None name = None
 unless_replaced (Some kept) name = if bytes_eq kept.file (sha256 name) then None else Some kept
 
--- what is held after an accepted line that left an image
+-- what the host has after an accepted line that left an image
 abbrev pub kept_after : Option Kept → Effect → Disk → Option Kept
 kept_after kept (Holds name) image = Some (kept_in image name)
 kept_after kept (Replaces name) image = unless_replaced kept name
 kept_after kept Nothing image = kept
 
--- the image is not what is held
+-- whether the host has another image, or none
 abbrev pub is_unsaved : Option Kept → Disk → Bool
 is_unsaved None image = true
 is_unsaved (Some kept) image = not (bytes_eq kept.image (sha256 (bytes_of image)))
 
--- what an accepted line of a command does, where `save` stores under the first name by default, and
--- `read` under the second
+-- the effect of an accepted line of a command, by the names under which `save` and `read` store by
+-- default
 abbrev pub effect_by : Bytes → Bytes → Said → Command → Effect
 effect_by home found said Save = Holds (if length said.first == 0 then home else said.first)
 effect_by home found said Keep = Holds said.first
@@ -47,10 +47,10 @@ effect_by home found said Read = Replaces (if length said.second == 0 then found
 effect_by home found said BlockRead = Replaces said.first
 effect_by home found said command = Nothing
 
--- what an accepted line of these words does
+-- the effect of an accepted line with these arguments
 abbrev pub effect_of : Bytes → Bytes → Said → Effect
 effect_of home found said = effect_by home found said (command_of said.word)
 
--- the line that tells that changes are not saved
+-- the line that says that changes are not saved
 abbrev pub unsaved_line : Bytes
 unsaved_line = codes "d64sh: changes are not saved\n"

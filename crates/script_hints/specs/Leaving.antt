@@ -1,4 +1,4 @@
--- What becomes of changes that are not saved where a session is left.
+-- What happens to changes that are not saved when a session is left.
 use Rattle.std.specs.Prelude.{◌≡◌, ◌≢◌, [], ◌++◌, false, option_map, codes}
 use Rattle.std.specs.FinMap.{insert}
 use Rattle.d64_image.specs.Disk.{Bytes}
@@ -18,7 +18,7 @@ kept_line name =
     codes "d64sh: changes are not saved; they are kept in "
     ++ (shown_name name ++ (codes " (d64sh shell --resume " ++ (shown_name name ++ codes ")\n")))
 
--- the session is kept beside its image, at a name at which nothing was, and this line says so
+-- the session is kept beside its image, under a name that nothing had, and this line says so
 pub record IsKeptUnder (old : HostState) (home : Bytes) (history : History) (line : Bytes) (new : HostState) : Type 0 where
   pub named : home ≢ []
   pub fresh : Looks old.files (session_name home) false

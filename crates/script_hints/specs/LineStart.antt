@@ -1,4 +1,4 @@
--- What comes before what is wrong with a refused line of a script.
+-- The beginning of the explanation of a refused line of a script.
 use Rattle.std.specs.Prelude.{ℕ, ◌++◌, codes, decimal}
 use Rattle.d64_image.specs.Disk.{Bytes}
 use Rattle.host_names.specs.Shown.{shown_name}
@@ -8,7 +8,7 @@ use Rattle.out_messages.specs.ShownStart.{shown_start}
 abbrev pub shown_line : Bytes → Bytes
 shown_line text = shown_name text
 
--- what comes before what is wrong with the line of this number and text: the number of the line, and
--- its first characters
+-- the beginning of the explanation of the line with this number and text: the number of the line,
+-- and its first characters
 unfoldable pub line_start : ℕ → Bytes → Bytes
 line_start number text = codes "d64sh: line " ++ (decimal number ++ (codes ": " ++ (shown_start text ++ codes ": ")))

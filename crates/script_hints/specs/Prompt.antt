@@ -8,7 +8,7 @@ use Rattle.host_names.specs.Shown.{shown_name}
 abbrev pub name_in_prompt : Bytes → Bytes
 name_in_prompt home = if length home == 0 then codes "d64sh" else shown_name (after_slash home)
 
--- what comes after the name
+-- the mark after the name
 abbrev pub mark : Bool → Bytes
 mark is_unsaved = if is_unsaved then codes "*> " else codes "> "
 

@@ -1,10 +1,10 @@
--- The words of a line, as far as there is something to say of them.
+-- The parts of a line that an explanation needs.
 use Rattle.std.specs.Prelude.{ℕ, List, [], ◌∷◌, length, drop, if◌then◌else◌, unwrap_or}
 use Rattle.d64_image.specs.Disk.{Bytes}
 use Rattle.script_text.specs.RawLines.{is_too_long, text_of}
 use Rattle.script_text.specs.Words.{words_of}
 
--- the words of a line; those that it hasn't are empty
+-- the command and the arguments of a line; a missing one is empty
 pub record Said : Type 0 where
   pub word : Bytes
   pub first : Bytes
@@ -13,12 +13,12 @@ pub record Said : Type 0 where
   pub fourth : Bytes
   pub count : ℕ
 
--- the first of some words; empty where there is none
+-- the first of some arguments; empty if there is none
 abbrev pub first_of : List Bytes → Bytes
 first_of [] = []
 first_of (word ∷ words) = word
 
--- what these words say
+-- the parts of a line with these arguments
 abbrev pub said_of : List Bytes → Said
 said_of words = record {
   word = first_of words;
@@ -29,10 +29,10 @@ said_of words = record {
   count = length words;
 }
 
--- what the words of a text say: nothing where it has a byte or a quote that no line holds
+-- the parts of a text: nothing if it has a byte or a quote that no line has
 abbrev pub said_in : Bytes → Said
 said_in text = said_of (unwrap_or (words_of text) [])
 
--- what a line says: nothing where it is too long
+-- the parts of a line: nothing if it is too long
 abbrev pub said_by : Bytes → Said
 said_by line = if is_too_long line then said_of [] else said_in (text_of line)

@@ -16,33 +16,33 @@ use Rattle.script_text.specs.declared.status.Status.TheVariants.{BasicText}
 use Rattle.script_hints.specs.Advice.{advice, advice_words}
 use Rattle.script_hints.specs.Said.{Said}
 
--- the line has a fault of this number, and is the line of this number
+-- whether a faulty line has a fault with this number, and is the line with this number
 abbrev pub is_fault : FaultyLine → ℕ → ℕ → Bool
 is_fault faulty fault line = (fault_number faulty.fault == fault) && option_map_or (λ number. number == line) (fault_line faulty.fault) false
 
--- this is wrong with the first one of faulty lines, which has such a fault
+-- this is wrong with the first faulty line, which has such a fault
 abbrev pub HasCauseFirst : List FaultyLine → ℕ → ℕ → Cause → Type 0
 HasCauseFirst lines fault line cause =
     (first : FaultyLine) × (more : List FaultyLine) × (lines ≡ first ∷ more) × (is_fault first fault line ≡ true) × (cause ≡ first.cause)
 
--- the same of those of a text
+-- this is wrong with the first faulty line of a text, which has such a fault
 abbrev pub IsFirstCause : Bytes → ℕ → ℕ → Cause → Type 0
 IsFirstCause text fault line cause = (lines : List FaultyLine) × AreFaultyIn program_start text lines × HasCauseFirst lines fault line cause
 
--- the same of the text that the host has under a name, which was refused with a status
+-- this is wrong with the text that the host has under a name, which was refused with a status
 abbrev pub IsFoundCause : HostState → Bytes → Status → Cause → Type 0
 IsFoundCause host name (BasicText fault line) cause = (text : Bytes) × Fetches host.files name host_file_limit (Ok text) × IsFirstCause text fault line cause
 IsFoundCause host name status cause = ⊥
 
--- after the start of a line, what is wrong with the text of this name
+-- the beginning of a line, and then what is wrong with the text of this name
 unfoldable pub line_about : Bytes → Bytes → Cause → Bytes
 line_about start name cause = ((((start ++ codes "the text \"") ++ name) ++ codes "\" is not a program: ") ++ cause_text cause) ++ codes "\n"
 
--- the line of what is found so
+-- the line about what is wrong with such a text
 abbrev pub IsFoundLine : HostState → Bytes → Bytes → Status → Bytes → Type 0
 IsFoundLine host start name status line = (cause : Cause) × IsFoundCause host name status cause × (line ≡ line_about start name cause)
 
--- what may be said of a line of these words that was refused with a status, after a start: what is
--- found to be wrong with its text; in place of that, and of all other lines, the advice
+-- what may be said about a line with these arguments that was refused with a status, after a
+-- beginning: what was found to be wrong with its text, or else, and for all other lines, the advice
 abbrev pub MaySay : HostState → Bytes → Said → Status → Bytes → Type 0
 MaySay host start said status line = IsFoundLine host start said.first status line ⊎ (line ≡ start ++ advice_words said (advice said status))

@@ -1,4 +1,4 @@
--- Why a file gives no session to begin with.
+-- Why no session begins with a file.
 use Rattle.std.specs.Prelude.{◌≡◌, ◌==◌, ◌||◌, if◌then◌else◌, ℕ, List, ◌++◌, length, Option, Some, Result, Ok, Err, codes}
 use Rattle.std.specs.Option.{option_map_or}
 use Rattle.d64_image.specs.Disk.{Bytes}
@@ -10,29 +10,30 @@ use Rattle.out_messages.specs.FaultLines.{line_about}
 use Rattle.out_messages.specs.Guesses.{guess_of, guess_text}
 use Rattle.out_messages.specs.Words.{count_of}
 
--- what came of a file: its bytes, or why it was refused
+-- what came of a file: its bytes, or its fault
 abbrev pub Contents : Type 0
 Contents = Result Bytes HostFault
 
--- the same as the code has it, where this gives the bytes
+-- what came of a file of the code, as one of the definitions
 abbrev pub contents_by : {B : Type 0} → (B → Bytes) → Result B HostFault → Contents
 contents_by bytes_of (Ok bytes) = Ok (bytes_of bytes)
 contents_by bytes_of (Err fault) = Err fault
 
--- a file for which there is no guess: an image with one more byte for each block, or none at all
+-- a file for which there is no guess: an image with one more byte for each block, or no image at
+-- all
 abbrev pub other_look : ℕ → List ℕ
 other_look len = if len == 175531 || len == 197376 then codes "an image with error bytes" else codes "not a disk image"
 
--- what a file whose length no image has looks like
+-- what a file looks like whose length no image has
 abbrev pub look_of : Bytes → List ℕ
 look_of bytes = option_map_or guess_text (guess_of bytes) (other_look (length bytes))
 
--- what is said of a file with these bytes
+-- what is said about a file with these bytes
 unfoldable pub unfit_text : Bytes → List ℕ
 unfit_text bytes =
     look_of bytes ++ (codes ", " ++ (count_of (length bytes) (codes "byte") ++ codes "; d64sh edits images of 174848 and 196608 bytes"))
 
--- the line says why the file of this name gives no session, of a host of these files
+-- the line says why no session begins with the file of this name, on a host with these files
 abbrev pub IsUnfitLine : Option Files → Bytes → Contents → List ℕ → Type 0
 IsUnfitLine files name (Ok bytes) line = line ≡ line_about name (unfit_text bytes)
 IsUnfitLine files name (Err fault) line = (reason : Reason) × IsReason files name fault (Some reason) × (line ≡ line_about name (reason_text reason))

@@ -9,7 +9,7 @@ use crate::said::Said;
 use script_text::number::number;
 use script_text::status::Status;
 
-/// A piece of what is told: a text, or a word of the line.
+/// A piece of the advice: a text, or an argument of the line.
 #[derive(Clone, Copy)]
 pub(crate) enum Piece {
     Text(&'static [u8]),
@@ -21,7 +21,7 @@ pub(crate) enum Piece {
 }
 
 impl Piece {
-    /// Its bytes, of these words.
+    /// The piece's bytes, by the arguments of the line.
     pub(crate) fn of<'a>(self, said: &Said<'a>) -> &'a [u8]
         ensures { result.now ≡ said_piece said.now (piece_of self) }
     {
@@ -36,14 +36,14 @@ impl Piece {
     }
 }
 
-/// What is told of a line.
+/// The advice about a refused line.
 #[derive(Clone, Copy)]
 pub(crate) struct Advice {
     pub(crate) pieces: [Piece; 5],
 }
 
 impl Advice {
-    /// A text alone.
+    /// Only a text.
     fn plain(text: &'static [u8]) -> Advice
         ensures { pieces result ≡ plain_pieces text.now }
     {
@@ -78,7 +78,7 @@ impl Advice {
         }
     }
 
-    /// What is told of a line of these words that was refused with this status.
+    /// The advice about a line with these arguments that was refused with this status.
     pub(crate) fn of(said: &Said<'_>, status: &Status) -> Advice
         ensures { pieces result ≡ advice said.now status.now }
     {
@@ -148,7 +148,7 @@ impl Advice {
     }
 }
 
-/// The word of a line that gives the name of a file on the disk.
+/// The argument of a line that is the name of a file on the disk.
 fn file_piece(said: &Said<'_>, command: Command) -> Piece
     ensures { piece_of result ≡ file_piece said.now command }
 {
@@ -165,7 +165,7 @@ fn file_piece(said: &Said<'_>, command: Command) -> Piece
     }
 }
 
-/// The word of a line that gives the name of a file of the host.
+/// The argument of a line that is the name of a file of the host.
 fn host_piece(said: &Said<'_>, command: Command) -> Piece
     ensures { piece_of result ≡ host_piece said.now command }
 {
@@ -181,7 +181,7 @@ fn host_piece(said: &Said<'_>, command: Command) -> Piece
     }
 }
 
-/// The first word of a line that is one too many, where so many may follow its command.
+/// The first argument of a line that is one too many, for a command that takes at most this many.
 fn surplus_piece(most: usize) -> Piece
     ensures { piece_of result ≡ surplus_piece most }
 {
@@ -193,7 +193,7 @@ fn surplus_piece(most: usize) -> Piece
     }
 }
 
-/// Of a track and a sector the first that is no number: this one is the word of the track.
+/// The first of a track and a sector that is no number. `first` is the argument of the track.
 fn not_number(track: &[u8], first: Piece, second: Piece) -> Piece
     ensures { piece_of result ≡ not_number track.now (piece_of first) (piece_of second) }
 {
@@ -203,7 +203,7 @@ fn not_number(track: &[u8], first: Piece, second: Piece) -> Piece
     }
 }
 
-/// A line whose words are not what its command takes.
+/// A line whose arguments are not what its command takes.
 fn wrong_words(said: &Said<'_>, command: Command) -> Advice
     ensures { pieces result ≡ wrong_words said.now command }
 {
@@ -240,7 +240,7 @@ fn wrong_host_file(said: &Said<'_>, command: Command, fault: u8) -> Advice
     }
 }
 
-/// A line of as many words as its command takes, of which one is not what that takes.
+/// A line with the right number of arguments, one of which its command does not take.
 fn wrong_line(said: &Said<'_>, command: Command) -> Advice
     ensures { pieces result ≡ wrong_line said.now command }
 {
@@ -273,7 +273,7 @@ fn wrong_line(said: &Said<'_>, command: Command) -> Advice
     }
 }
 
-/// A line in which a word cannot be a name.
+/// A line in which an argument cannot be a name.
 fn wrong_name(said: &Said<'_>, command: Command) -> Advice
     ensures { pieces result ≡ wrong_name said.now command }
 {
@@ -327,7 +327,7 @@ fn wrong_name(said: &Said<'_>, command: Command) -> Advice
     }
 }
 
-/// A line that lacks a word.
+/// A line in which an argument is missing.
 fn missing_word(said: &Said<'_>, command: Command) -> Advice
     ensures { pieces result ≡ missing_word said.now command }
 {
@@ -343,7 +343,7 @@ fn missing_word(said: &Said<'_>, command: Command) -> Advice
     }
 }
 
-/// A line that names a block which the disk hasn't.
+/// A line that names a block that the disk doesn't have.
 fn wrong_block(said: &Said<'_>, command: Command) -> Advice
     ensures { pieces result ≡ wrong_block said.now command }
 {

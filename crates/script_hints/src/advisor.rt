@@ -1,4 +1,5 @@
-//! Who says to a person what is wrong with a refused line, and what becomes of changes that are not
+//! The observer that explains refused lines to a person, and what happens to changes that are not
+//! saved.
 //! saved.
 ghost use Rattle.std.specs.Prelude.{◌≡◌, ◌⊎◌, ℕ, List, [], Some, None, IfSome, if◌then◌else◌, ◌++◌, ◌&&◌, ◌||◌, codes, not, false, true};
 ghost use Rattle.host_storage.specs.Files.{HostState};
@@ -43,34 +44,34 @@ use std::alloc::Global;
 use std::io::Write;
 use std::mem;
 
-/// The line that says that the last image is held by no file.
+/// The line that says that no file has the last image.
 const UNSAVED: &[u8] = b"d64sh: changes are not saved\n";
 
-/// Says on an output what is wrong with each refused line: with the number of the line where the
-/// arguments give the script or end it at refusals, and else where lines are typed at a terminal.
-/// There it writes the prompt, too, and says what is shown nowhere else: the commands, which line
-/// was taken back, and what becomes of changes that are not saved.
+/// Explains each refused line on an output: with the number of the line if the script is an
+/// argument or ends at refusals, and otherwise if lines are typed at a terminal. There it also
+/// writes the prompt, and says what nothing else shows: the commands, which line was undone, and
+/// what happens to changes that are not saved.
 #[derive(Drop)]
 pub struct Advisor<'w, W: Write, H: Host> {
     alloc: Global,
     output: OutputStream<'w, W>,
-    /// Where a session is kept that is left with changes.
+    /// The host on which a session is kept that is left with changes.
     host: H,
     /// Whether the input and the output are a terminal.
     is_terminal: bool,
-    /// Whether it is said there why no session begins.
+    /// Whether it explains there why no session begins.
     is_shown: bool,
-    /// The line that says it.
+    /// The line with that explanation.
     unfit: Option<Vec<u8>>,
     /// Whether lines are typed there.
     is_typed: bool,
     /// Whether refused lines are named by their numbers.
     is_numbered: bool,
-    /// How many lines of the script have come.
+    /// How many lines of the script were read.
     lines: usize,
-    /// The first bytes of the line that comes, where lines are named by their numbers.
+    /// The first bytes of the line that is being read, if lines are named by their numbers.
     first_bytes: ArrayVec<u8, LINE_BYTES>,
-    /// Whether the prompt was the last that was written.
+    /// Whether the prompt was written last.
     is_prompting: bool,
     /// Whether the session was left by `quit`, or by the script's end.
     is_left: bool,
@@ -85,7 +86,7 @@ pub struct Advisor<'w, W: Write, H: Host> {
 }
 
 impl<'w, W: Write, H: Host> Advisor<'w, W, H> {
-    /// One who speaks on this writer, which may be a terminal at which lines are typed.
+    /// An observer on this writer, which may be a terminal at which lines are typed.
     pub fn new(alloc: Global, is_terminal: bool, writer: &'w mut W, host: H) -> Advisor<'w, W, H>
         ensures lent { result.output.writer.ghost_name ≡ writer.entry.ghost_name }
         ensures same { result.output.writer.now ≡ writer.old }
@@ -112,7 +113,7 @@ impl<'w, W: Write, H: Host> Advisor<'w, W, H> {
         }
     }
 
-    /// It is to be said why no session begins, where none does.
+    /// Lets it explain why no session begins, if none does.
     pub fn explain_misses(&mut self)
         ensures output { self.new.output ≡ self.old.output }
         ensures shown { self.new.is_shown ≡ true }
@@ -120,7 +121,7 @@ impl<'w, W: Write, H: Host> Advisor<'w, W, H> {
         self.is_shown = true;
     }
 
-    /// Says why no session began, where that is known.
+    /// Says why no session began, if that is known.
     pub fn end_without_session(&mut self)
         ensures lent { self.new.output.writer.ghost_name ≡ self.old.output.writer.ghost_name }
         ensures told { Writes
@@ -131,7 +132,7 @@ impl<'w, W: Write, H: Host> Advisor<'w, W, H> {
         let _ = self.output.write(bytes_of(&self.unfit, b""));
     }
 
-    /// The session begins: of that nothing is said.
+    /// Notes that the session begins, and says nothing about it.
     pub fn begin_with(&mut self, opening: &Opening<'_>, session: &Session)
         ensures output { self.new.output ≡ self.old.output }
         ensures typed { self.new.is_typed ≡ (self.old.is_terminal && not opening.now.is_given) }
@@ -149,7 +150,7 @@ impl<'w, W: Write, H: Host> Advisor<'w, W, H> {
         }
     }
 
-    /// Asks for the next line, where this is the image.
+    /// Asks for the next line, with this as the present image.
     pub fn ask_with(&mut self, image: &Image)
         ensures lent { self.new.output.writer.ghost_name ≡ self.old.output.writer.ghost_name }
         ensures asked { Writes
@@ -164,7 +165,7 @@ impl<'w, W: Write, H: Host> Advisor<'w, W, H> {
         self.is_prompting = true;
     }
 
-    /// What an answered line does to what is held; and where it was refused, what is wrong is said.
+    /// Follows a line that has run, and explains it if it was refused.
     pub fn tell(&mut self, home: &str, line: &HeldLine, status: &Status, image: &Image)
         ensures lent { self.new.output.writer.ghost_name ≡ self.old.output.writer.ghost_name }
         ensures typed { self.new.is_typed ≡ self.old.is_typed }
@@ -198,7 +199,7 @@ impl<'w, W: Write, H: Host> Advisor<'w, W, H> {
         }
     }
 
-    /// Holds the first bytes of the line that comes.
+    /// Keeps the first bytes of the line that is being read.
     fn hold(&mut self, bytes: &[u8]) {
         let room = LINE_BYTES - self.first_bytes.len();
         let _ = self
@@ -206,8 +207,8 @@ impl<'w, W: Write, H: Host> Advisor<'w, W, H> {
             .try_extend_from_slice(&bytes[..bytes.len().min(room)]);
     }
 
-    /// What comes before what is wrong with a line, if lines are named by their numbers. Of one that
-    /// is too long the first bytes are shown.
+    /// The beginning of the explanation of a line, if lines are named by their numbers. Of a line
+    /// that is too long it has the first bytes.
     fn start_of(&self, line: &HeldLine) -> Option<Vec<u8>>
         ensures { IfSome result (λ start. (self.now.is_numbered ≡ true)
             × ((raw : List ℕ) → Says line.now raw → start.items ≡ line_start self.now.lines (named_text raw self.now.first_bytes.items))) }
@@ -222,8 +223,8 @@ impl<'w, W: Write, H: Host> Advisor<'w, W, H> {
         }
     }
 
-    /// The session ends: where its image is not what is held, that is said, and it is kept where it
-    /// was left by `quit` or by the end of what is typed.
+    /// Ends the session: if its image is not the one that a file has, it says so, and keeps the
+    /// session if it was left by `quit` or by the end of what is typed.
     pub fn end_with(&mut self, home: &str, session: &Session)
         ensures lent { self.new.output.writer.ghost_name ≡ self.old.output.writer.ghost_name }
         ensures told { is_unsaved self.old.kept (present_image session.now) ≡ true → (line : List ℕ)
@@ -245,8 +246,8 @@ impl<'w, W: Write, H: Host> Advisor<'w, W, H> {
         let _ = self.output.write(bytes_of(&kept, UNSAVED));
     }
 
-    /// Follows a session along an accepted line: its changes, of which it says which one was taken
-    /// back or made again, and its end.
+    /// Follows a session along an accepted line: its changes, of which it says which one was undone
+    /// or redone, and its end.
     fn follow(&mut self, line: &HeldLine, session: &Session)
         ensures { self.new.output.writer.ghost_name ≡ self.old.output.writer.ghost_name }
     {
@@ -263,7 +264,7 @@ impl<'w, W: Write, H: Host> Advisor<'w, W, H> {
         self.past = past;
     }
 
-    /// Says which line was taken back or made again.
+    /// Says which line was undone or redone.
     fn name_change(&mut self, start: &[u8], line: Option<&[u8]>)
         ensures { self.new.output.writer.ghost_name ≡ self.old.output.writer.ghost_name }
     {
@@ -272,7 +273,7 @@ impl<'w, W: Write, H: Host> Advisor<'w, W, H> {
 }
 
 impl<'w, W: Write, H: Host> Advisor<'w, W, H> {
-    /// Says what more there is to say of a line that left this image.
+    /// Says what else there is to say about a line that left this image.
     fn explain(&mut self, line: &HeldLine, status: &Status, image: &Image)
         ensures { self.new.output.writer.ghost_name ≡ self.old.output.writer.ghost_name }
     {
@@ -287,7 +288,7 @@ impl<'w, W: Write, H: Host> Advisor<'w, W, H> {
     }
 }
 
-/// The bytes of a text, or these where there is none.
+/// The bytes of a text, or these if there is none.
 fn bytes_of<'a>(text: &'a Option<Vec<u8>>, other: &'a [u8]) -> &'a [u8]
     ensures { result.now ≡ option_map_or (λ bytes. bytes.items) text.now other.now }
 {
@@ -297,7 +298,7 @@ fn bytes_of<'a>(text: &'a Option<Vec<u8>>, other: &'a [u8]) -> &'a [u8]
     }
 }
 
-/// Whether a line asks what can be typed.
+/// Whether a line asks which commands there are.
 fn asks_for_help(line: &HeldLine, status: &Status) -> bool {
     match *status {
         Status::UnknownCommand => matches!(Hint::of(Said::of(line).word), Hint::Help),
@@ -371,7 +372,7 @@ impl<'w, W: Write, H: Host> Listener for Advisor<'w, W, H> {
     }
 }
 
-/// Writes what is wrong with a line after the start of what is said.
+/// Writes what is wrong with a line after the beginning of the explanation.
 fn write_advice<W: Write>(
     output: &mut OutputStream<'_, W>,
     start: &[u8],
@@ -391,7 +392,7 @@ fn write_advice<W: Write>(
     output.write(b"\n")
 }
 
-/// Writes which line was taken back or made again.
+/// Writes which line was undone or redone.
 fn write_past<W: Write>(
     output: &mut OutputStream<'_, W>,
     start: &[u8],

@@ -30,7 +30,7 @@ pub(crate) enum Command {
 }
 
 impl Command {
-    /// The command that a word stands for.
+    /// The command with this name.
     pub(crate) fn of(word: &str) -> Command
         ensures { result ≡ command_of word.now }
     {
@@ -59,7 +59,7 @@ impl Command {
         }
     }
 
-    /// The most words that follow its own.
+    /// The most arguments that it takes.
     pub(crate) fn most_words(self) -> usize
         ensures { result ≡ most_words self }
     {

@@ -1,4 +1,4 @@
-//! What the numbers of faults stand for.
+//! Plain texts for the numbers of faults.
 ghost use Rattle.std.specs.Prelude.{◌≡◌};
 ghost use Rattle.script_hints.specs.Faults.{basic_fault, condition_text, list_fault};
 

@@ -1,12 +1,12 @@
-//! The files of a disk that an argument of a line means.
+//! The files of a disk that an argument of a line may mean.
 
 use d64_files::{Directory, Entry, Pattern};
 use d64_image::Image;
 use petscii::{from_text, to_text};
 use std::alloc::Global;
 
-/// The name of the first file that a word of a line finds, in text form, where there is one, and
-/// memory for it: `read` stores by default in the host file of this name.
+/// The name of the first file that an argument of a line finds, in text form, if there is one, and
+/// memory for it: `read` stores by default in the host file with this name.
 pub(crate) fn default_name(alloc: Global, image: &Image, word: &[u8]) -> Option<Vec<u8>> {
     let Ok(bytes) = from_text(alloc, word) else {
         return None;
@@ -23,17 +23,17 @@ pub(crate) fn default_name(alloc: Global, image: &Image, word: &[u8]) -> Option<
     }
 }
 
-/// The files that a word of a line may mean.
+/// The files that an argument of a line may mean.
 #[derive(Drop)]
 pub(crate) struct Found<'a> {
     /// The first file whose name it matches.
     pub(crate) entry: Option<Entry<'a>>,
-    /// The first file whose name is the word in other letters.
+    /// The first file whose name is the argument in other letters.
     pub(crate) in_other_letters: Option<Entry<'a>>,
 }
 
 impl<'a> Found<'a> {
-    /// The files of a disk that a word may mean; none where there is no memory.
+    /// Finds the files of a disk that an argument may mean; no file if there is no memory.
     pub(crate) fn of(alloc: Global, image: &'a Image, word: &[u8]) -> Found<'a> {
         let nothing = Found {
             entry: None,
@@ -73,7 +73,7 @@ fn is_in_other_letters(name: &[u8], other: &[u8]) -> bool {
             == small_letter(*another))
 }
 
-/// The small letter of PETSCII in the place of a capital; any other byte as it is.
+/// The small letter of PETSCII for a capital; any other byte as it is.
 fn small_letter(byte: u8) -> u8 {
     match byte {
         0xc1..=0xda => byte - 0x80,

@@ -1,4 +1,4 @@
-//! The commands, as they are shown where help is asked for.
+//! The commands, as `help` shows them.
 
 /// A row for each command, as `d64sh help shell` has them.
 pub(crate) const ROWS: &[u8] = b"\

@@ -1,8 +1,8 @@
-//! What d64sh has for the commands of `c1541`, and for other words that people try.
+//! The hints for the commands of `c1541`, and for other names that people try.
 ghost use Rattle.std.specs.Prelude.{◌≡◌};
 ghost use Rattle.script_hints.specs.Hint.{hint_of, hint_text};
 
-/// What a word that is no command asks for.
+/// What a name that is no command asks for.
 #[derive(Clone, Copy)]
 pub(crate) enum Hint {
     Fault,
@@ -30,7 +30,7 @@ pub(crate) enum Hint {
 }
 
 impl Hint {
-    /// What a word asks for.
+    /// What a name asks for.
     pub(crate) fn of(word: &str) -> Hint
         ensures { result ≡ hint_of word.now }
     {
@@ -79,7 +79,7 @@ impl Hint {
         }
     }
 
-    /// What stands for it here.
+    /// The text of the hint.
     pub(crate) fn text(self) -> &'static [u8]
         ensures { result.now ≡ hint_text self }
     {

@@ -1,4 +1,4 @@
-//! What of a session is held by the host.
+//! What the host has of a session.
 ghost use Rattle.std.specs.Prelude.{◌≡◌};
 ghost use Rattle.script_hints.specs.Kept.{effect_of, is_unsaved, kept_after, kept_in, unless_replaced};
 
@@ -7,7 +7,7 @@ use crate::said::Said;
 use d64_image::Image;
 use sha2::{Digest, Sha256};
 
-/// The image that the host holds, and the name of the file that holds it, each by its digest.
+/// The image that the host has, and the name of its file, each by its digest.
 #[derive(Clone, Copy)]
 pub(crate) struct Kept {
     image: [u8; 32],
@@ -15,7 +15,7 @@ pub(crate) struct Kept {
 }
 
 impl Kept {
-    /// An image that the file of this name holds.
+    /// An image that the file with this name has.
     pub(crate) fn of(image: &Image, name: &[u8]) -> Kept
         ensures { result ≡ kept_in image.now name.now }
     {
@@ -26,8 +26,8 @@ impl Kept {
     }
 }
 
-/// What is held after an accepted line of these words, which left this image, where `save` stores
-/// under `home` by default, and `read` under `found`.
+/// What the host has after an accepted line with these arguments, which left this image. `save`
+/// stores under `home` by default, and `read` under `found`.
 pub(crate) fn kept_after(
     kept: Option<Kept>,
     home: &str,
@@ -58,7 +58,7 @@ pub(crate) fn kept_after(
     }
 }
 
-/// What is held after something else was stored in the file of this name.
+/// What the host has after something else was stored in the file with this name.
 fn unless_replaced(kept: Option<Kept>, name: &[u8]) -> Option<Kept>
     ensures { result ≡ unless_replaced kept name.now }
 {
@@ -74,7 +74,7 @@ fn unless_replaced(kept: Option<Kept>, name: &[u8]) -> Option<Kept>
     }
 }
 
-/// Whether nothing holds this image.
+/// Whether no file has this image.
 pub(crate) fn is_unsaved(kept: Option<Kept>, image: &Image) -> bool
     ensures { result ≡ is_unsaved kept image.now }
 {

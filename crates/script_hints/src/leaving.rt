@@ -1,4 +1,4 @@
-//! What becomes of changes that are not saved where a session is left.
+//! What happens to changes that are not saved when a session is left.
 ghost use Rattle.std.specs.Prelude.{◌≡◌, IfOk, IfSome};
 ghost use Rattle.script_hints.specs.Leaving.{IsKeptUnder, kept_line, session_name};
 
@@ -7,8 +7,8 @@ use host_names::push_shown;
 use host_storage::Host;
 use std::alloc::{AllocError, Global};
 
-/// Stores a session under its image's name with `.session` added, where there is an image and
-/// nothing is at that name, and returns the line that says so.
+/// Stores a session under its image's name with `.session` added, if there is an image and nothing
+/// has that name, and returns the line that says so.
 pub(crate) fn keep_session<H: Host>(
     alloc: Global,
     host: &mut H,
@@ -48,7 +48,7 @@ fn session_name(alloc: Global, home: &str) -> Result<String, AllocError>
     Ok(name)
 }
 
-/// The line that says that changes are kept in the file of this name.
+/// The line that says that changes are kept in the file with this name.
 fn kept_line(alloc: Global, name: &[u8]) -> Result<Vec<u8>, AllocError>
     ensures { IfOk result (λ line. line.items ≡ kept_line name.now) }
 {

@@ -1,4 +1,4 @@
-//! What comes before what is wrong with a refused line of a script: its number, and its first
+//! The beginning of the explanation of a refused line of a script: its number, and its first
 //! characters.
 ghost use Rattle.std.specs.Prelude.{◌≡◌, ◌++◌, codes, decimal, IfOk};
 ghost use Rattle.out_messages.specs.ShownStart.{shown_start};
@@ -8,7 +8,7 @@ use host_names::push_shown;
 use out_messages::{push_number, shown_start};
 use std::alloc::{AllocError, Global};
 
-/// What comes before what is wrong with the line of this number and text.
+/// The beginning of the explanation of the line with this number and text.
 #[tactic(auto, unfolding(crate::specs::LineStart::line_start))]
 pub(crate) fn line_start(alloc: Global, number: usize, text: &[u8]) -> Result<Vec<u8>, AllocError>
     ensures { IfOk result (λ start. start.items ≡ line_start number text.now) }

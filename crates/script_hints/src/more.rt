@@ -1,5 +1,5 @@
-//! What more there is to say of a line where lines are typed: which command or name was meant, why
-//! nothing was deleted, what is gone, and where a file was stored that may be in the way.
+//! What else there is to say about a line that is typed: which command or name was meant, why
+//! nothing was deleted, what is gone, and the file of the host that may be in the way.
 
 use crate::command::Command;
 use crate::found::{Found, default_name};
@@ -12,7 +12,8 @@ use out_messages::{push_count, push_quoted};
 use script_text::status::Status;
 use std::alloc::{AllocError, Global};
 
-/// What more there is to say of a line of this text and these words that left this image, where so many files were there before.
+/// What else there is to say about a line with this text and these arguments that left this image,
+/// on a disk that listed this many files before.
 pub(crate) fn more_about(
     alloc: Global,
     text: &[u8],
@@ -43,7 +44,7 @@ pub(crate) fn more_about(
     }
 }
 
-/// Adds what a byte comes from that no line has.
+/// Appends where a byte comes from that no line has.
 fn push_odd(line: &mut Vec<u8>, text: &[u8]) -> Result<(), AllocError> {
     for byte in text {
         let what: &[u8] = match *byte {
@@ -58,7 +59,7 @@ fn push_odd(line: &mut Vec<u8>, text: &[u8]) -> Result<(), AllocError> {
     Ok(())
 }
 
-/// Adds which command is near to the word.
+/// Appends the command whose name is near.
 fn push_near(line: &mut Vec<u8>, near: Option<&[u8]>) -> Result<(), AllocError> {
     match near {
         Some(command) => {
@@ -70,7 +71,7 @@ fn push_near(line: &mut Vec<u8>, near: Option<&[u8]>) -> Result<(), AllocError> 
     }
 }
 
-/// Adds which file has this name in other letters.
+/// Appends the file that has this name in other letters.
 fn push_meant(line: &mut Vec<u8>, found: &Found<'_>) -> Result<(), AllocError> {
     match &found.in_other_letters {
         Some(entry) => {
@@ -82,7 +83,7 @@ fn push_meant(line: &mut Vec<u8>, found: &Found<'_>) -> Result<(), AllocError> {
     }
 }
 
-/// Adds why no file was deleted.
+/// Appends why no file was deleted.
 fn push_undeleted(line: &mut Vec<u8>, found: &Found<'_>) -> Result<(), AllocError> {
     line.extend_from_slice(b"d64sh: nothing was deleted: ")?;
     match &found.entry {
@@ -95,7 +96,7 @@ fn push_undeleted(line: &mut Vec<u8>, found: &Found<'_>) -> Result<(), AllocErro
     push_meant(line, found)
 }
 
-/// Why `delete` leaves a file.
+/// Why `delete` keeps a file.
 fn why_kept(entry: &Entry<'_>) -> &'static [u8] {
     if entry.locked() {
         b" is locked\n"
@@ -104,7 +105,7 @@ fn why_kept(entry: &Entry<'_>) -> &'static [u8] {
     }
 }
 
-/// Adds under which name a file was stored that may be in the way there.
+/// Appends the name under which a file was stored, which may be in the way there.
 fn push_place(line: &mut Vec<u8>, name: &Option<Vec<u8>>) -> Result<(), AllocError> {
     match name {
         Some(name) if matches!(name.first(), Some(b'.' | b'-')) => {
@@ -116,7 +117,7 @@ fn push_place(line: &mut Vec<u8>, name: &Option<Vec<u8>>) -> Result<(), AllocErr
     }
 }
 
-/// Adds how many files are gone.
+/// Appends how many files are gone.
 fn push_gone(line: &mut Vec<u8>, files: usize) -> Result<(), AllocError> {
     line.extend_from_slice(b"d64sh: ")?;
     push_count(line, files, b"file")?;

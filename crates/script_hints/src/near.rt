@@ -1,6 +1,6 @@
-//! The command whose name is near to a word that is none.
+//! The command whose name is near one that is no command.
 
-/// The first command to which a word is near.
+/// The first command whose name is near.
 pub(crate) fn near_command(word: &[u8]) -> Option<&'static [u8]> {
     let words: [&'static [u8]; 20] = [
         b"block",
@@ -32,7 +32,7 @@ pub(crate) fn near_command(word: &[u8]) -> Option<&'static [u8]> {
     None
 }
 
-/// Whether a word is near to a command.
+/// Whether a name is near that of a command.
 fn is_near(word: &[u8], command: &[u8]) -> bool {
     let mut left = word;
     let mut right = command;
@@ -49,8 +49,8 @@ fn is_near(word: &[u8], command: &[u8]) -> bool {
     right.len() <= 1
 }
 
-/// Whether two texts that begin with other characters differ in one, which one may lack, or in two
-/// that are exchanged.
+/// Whether two texts with different first characters differ in one character, which one of them may
+/// lack, or in two that are exchanged.
 fn differs_once(left: &[u8], right: &[u8]) -> bool {
     let ([_, more @ ..], [_, rest @ ..]) = (left, right) else {
         return false;

@@ -3,8 +3,8 @@
 use crate::line_start::shown_line;
 use std::alloc::{AllocError, Global};
 
-/// The lines that made changes one after another, as they are shown, from the change of some number
-/// on. What there was no memory for is not there.
+/// The lines that made the changes from some number on, as they are shown. A line for which there
+/// was no memory is missing.
 #[derive(Drop)]
 pub(crate) struct Past {
     alloc: Global,
@@ -22,13 +22,14 @@ impl Past {
         }
     }
 
-    /// The line that made the change of this number, counted from 0.
+    /// The line that made the change with this number, counted from 0.
     pub(crate) fn line_of(&self, number: usize) -> Option<&[u8]> {
         let place = number.checked_sub(self.first)?;
         self.lines.get(place).map(|line| line.as_slice())
     }
 
-    /// Takes the line that made the change of this number: what was made after it before is gone.
+    /// Keeps the line that made the change with this number. The lines of later changes are
+    /// dropped.
     pub(crate) fn record(&mut self, number: usize, line: &[u8]) {
         let place = match number.checked_sub(self.first) {
             Some(place) if place <= self.lines.len() => place,
@@ -41,7 +42,7 @@ impl Past {
         let _ = self.push(line);
     }
 
-    /// Adds a line.
+    /// Appends a line.
     fn push(&mut self, line: &[u8]) -> Result<(), AllocError> {
         let shown = shown_line(self.alloc, line)?;
         match self.lines.push(shown) {

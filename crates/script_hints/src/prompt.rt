@@ -9,7 +9,7 @@ use script_text::output::{OutputStream, WriteFault};
 use std::alloc::{AllocError, Global};
 use std::io::Write;
 
-/// The name in the prompt of a session whose image lies in this host file, or in none.
+/// The name in the prompt of a session whose image is in this host file, or in none.
 pub(crate) fn prompt_name(alloc: Global, home: &str) -> Result<Vec<u8>, AllocError>
     ensures { IfOk result (λ name. name.items ≡ name_in_prompt home.now) }
 {
@@ -48,7 +48,7 @@ pub(crate) fn write_prompt<W: Write>(
     output.write(mark(is_unsaved))
 }
 
-/// What comes after the name.
+/// The mark after the name.
 fn mark(is_unsaved: bool) -> &'static [u8]
     ensures { result.now ≡ mark is_unsaved }
 {

@@ -1,4 +1,4 @@
-//! The parts of a line, as far as there is something to say of them.
+//! The parts of a line that an explanation needs.
 ghost use Rattle.std.specs.Prelude.{◌≡◌, ◌≤◌, ℕ, List, [], All, length, drop};
 ghost use Rattle.script_text.specs.HeldLine.{Says};
 ghost use Rattle.script_text.specs.Words.{IsPrintable};
@@ -9,16 +9,16 @@ use script_text::words::Words;
 use std::marker::Model;
 use std::str;
 
-/// The words of a line; those that it hasn't are empty.
+/// The command and the arguments of a line; a missing one is empty.
 #[derive(Drop)]
 pub(crate) struct Said<'a> {
-    /// The word of the command.
+    /// The command.
     pub(crate) word: &'a str,
     pub(crate) first: &'a [u8],
     pub(crate) second: &'a [u8],
     pub(crate) third: &'a [u8],
     pub(crate) fourth: &'a [u8],
-    /// How many words the line has, its command counted.
+    /// How many arguments the line has, counting the command.
     pub(crate) count: usize,
 }
 
@@ -31,7 +31,7 @@ impl<'a> Model for Said<'a> {
 }
 
 impl<'a> Said<'a> {
-    /// No words.
+    /// A line with nothing on it.
     fn nothing() -> Said<'a>
         ensures { result ≡ said_of [] }
     {
@@ -45,8 +45,8 @@ impl<'a> Said<'a> {
         }
     }
 
-    /// The words of a line that has come to its end: none where it is too long, or where a byte or
-    /// a quote stands that no line holds.
+    /// The parts of a line that was read to its end; nothing if it is too long, or has a byte or a
+    /// quote that no line has.
     pub(crate) fn of(line: &'a HeldLine) -> Said<'a>
         ensures { (raw : List ℕ) → Says line.now raw → result ≡ said_by raw }
     {
@@ -56,7 +56,7 @@ impl<'a> Said<'a> {
         }
     }
 
-    /// The words of a text: none where a byte or a quote stands that no line holds.
+    /// The parts of a text; nothing if it has a byte or a quote that no line has.
     fn in_text(text: &'a [u8]) -> Said<'a>
         requires { length text.now ≤ 1024 }
         ensures { result ≡ said_in text.now }
@@ -67,7 +67,7 @@ impl<'a> Said<'a> {
         }
     }
 
-    /// These words.
+    /// The parts of a line with these arguments.
     fn of_words(words: Words<'a>) -> Said<'a>
         requires { All (All IsPrintable) words }
         ensures { result ≡ said_of words.entry }
@@ -89,7 +89,7 @@ impl<'a> Said<'a> {
     }
 }
 
-/// The next word, which is empty where there is none.
+/// The next argument, which is empty if there is none.
 fn next_word<'a>(words: &mut Words<'a>) -> &'a [u8]
     ensures word { result.now ≡ first_of words.old }
     ensures rest { words.new ≡ drop 1 words.old }
@@ -100,7 +100,7 @@ fn next_word<'a>(words: &mut Words<'a>) -> &'a [u8]
     }
 }
 
-/// A word, whose bytes are ASCII, as a text.
+/// An argument, whose bytes are ASCII, as a text.
 fn as_text(word: &[u8]) -> &str
     requires { All IsPrintable word.now }
     ensures { result.now ≡ word.now }

@@ -1,4 +1,4 @@
-//! What is wrong with the text of a refused `crunch`, which is read again for that.
+//! What is wrong with the text of a refused `crunch`, which is read again for this.
 ghost use Rattle.std.specs.Prelude.{◌≡◌, IfOk, IfSome};
 ghost use Rattle.host_storage.specs.Files.{HostState};
 ghost use Rattle.script_hints.specs.TextCause.{HasCauseFirst, IsFirstCause, IsFoundCause, IsFoundLine, is_fault, line_about};
@@ -9,13 +9,13 @@ use script_text::status::Status;
 use std::alloc::{AllocError, Global};
 use std::str;
 
-/// The most bytes of a text, and where `crunch` has a program loaded.
+/// The most bytes of a text, and the address at which `crunch` has a program loaded.
 const HOST_FILE_BYTES: usize = 1_048_576;
 
 const PROGRAM_START: u16 = 0x0801;
 
-/// The line about the text in the host file of this name that was refused with this status: after
-/// this start, what is wrong with it, if it is still there and there is memory.
+/// The line about the text in the host file with this name that was refused with this status: after
+/// this beginning, what is wrong with it, if it is still there and there is memory.
 pub(crate) fn text_line<H: Host>(
     alloc: Global,
     host: &mut H,
@@ -47,7 +47,7 @@ fn line_about(alloc: Global, start: &[u8], name: &[u8], cause: Cause) -> Result<
     Ok(line)
 }
 
-/// What is wrong with the text in the host file of this name that was refused with this status.
+/// What is wrong with the text in the host file with this name that was refused with this status.
 fn text_cause<H: Host>(alloc: Global, host: &mut H, name: &[u8], status: &Status) -> Option<Cause>
     ensures { IfSome result (IsFoundCause (H.state host.old) name.now status.now) }
 {
@@ -64,7 +64,8 @@ fn text_cause<H: Host>(alloc: Global, host: &mut H, name: &[u8], status: &Status
     }
 }
 
-/// A name of a host file that can be read twice: what a device gives it gives once.
+/// The name of a host file that can be read twice: not a device, whose content can be read only
+/// once.
 fn read_name(name: &[u8]) -> Option<&str>
     ensures { IfSome result (λ text. text.now ≡ name.now) }
 {
@@ -74,8 +75,8 @@ fn read_name(name: &[u8]) -> Option<&str>
     }
 }
 
-/// What is wrong with the first faulty line of a text, if that has a fault of this number on the line
-/// of this number.
+/// What is wrong with the first faulty line of a text, if that has a fault with this number on the
+/// line with this number.
 fn first_cause(alloc: Global, text: &[u8], fault: u8, line: u32) -> Option<Cause>
     ensures { IfSome result (IsFirstCause text.now fault line) }
 {
@@ -85,7 +86,7 @@ fn first_cause(alloc: Global, text: &[u8], fault: u8, line: u32) -> Option<Cause
     cause_in(found.lines.as_slice(), fault, line)
 }
 
-/// The cause of the first one of faulty lines, if that has such a fault.
+/// The cause of the first faulty line, if it has such a fault.
 fn cause_in(lines: &[FaultyLine<'_>], fault: u8, line: u32) -> Option<Cause>
     ensures { IfSome result (HasCauseFirst lines.now fault line) }
 {
@@ -101,7 +102,7 @@ fn cause_in(lines: &[FaultyLine<'_>], fault: u8, line: u32) -> Option<Cause>
     }
 }
 
-/// Whether a faulty line has a fault of this number, and is the line of this number.
+/// Whether a faulty line has a fault with this number, and is the line with this number.
 fn is_fault(faulty: &FaultyLine<'_>, fault: u8, line: u32) -> bool
     ensures { result ≡ is_fault faulty.now fault line }
 {

@@ -1,4 +1,4 @@
-//! Why a file gives no session to begin with.
+//! Why no session begins with a file.
 ghost use Rattle.std.specs.Prelude.{◌≡◌, IfOk, IfSome};
 ghost use Rattle.out_messages.specs.FaultLines.{line_about};
 ghost use Rattle.script_hints.specs.Unfit.{IsUnfitLine, contents_by, look_of, unfit_text};
@@ -9,9 +9,9 @@ use out_messages::{guess_of, guess_text, push_count};
 use program_batch::reason_of;
 use std::alloc::{AllocError, Global};
 
-/// The line that says why the file of this name gives no session: it has these bytes, of which
-/// there are as many as no image has, or it cannot be read. None where the host knows no reason, or
-/// there is no memory for the line.
+/// The line that says why no session begins with the file of this name: it has these bytes, as many
+/// as no image has, or it can't be read. None if the host knows no reason, or there is no memory
+/// for the line.
 pub(crate) fn unfit_line<H: Host>(
     alloc: Global,
     host: &H,
@@ -32,7 +32,7 @@ pub(crate) fn unfit_line<H: Host>(
     }
 }
 
-/// What a file with these bytes is that no session begins with, and what is edited.
+/// What a file with these bytes is, with which no session begins, and what is edited.
 #[tactic(auto, unfolding(crate::specs::Unfit::unfit_text))]
 fn unfit_text(alloc: Global, bytes: &[u8]) -> Result<Vec<u8>, AllocError>
     ensures { IfOk result (λ text. text.items ≡ unfit_text bytes.now) }
@@ -45,7 +45,7 @@ fn unfit_text(alloc: Global, bytes: &[u8]) -> Result<Vec<u8>, AllocError>
     Ok(text)
 }
 
-/// What a file whose length no image has looks like.
+/// What a file looks like whose length no image has.
 fn look_of(bytes: &[u8]) -> &'static [u8]
     ensures { result.now ≡ look_of bytes.now }
 {
