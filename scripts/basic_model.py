@@ -19,7 +19,7 @@ class Fault(Exception):
 
 
 def read_text(text):
-    """The bytes of a text; None where it has a fault."""
+    """The bytes of a text; None if it has a fault."""
     data = bytearray()
     while text:
         length = text.find(b"}") + 1 if text[:1] == b"{" else 1
@@ -55,7 +55,7 @@ def data_length(data):
 
 
 def crunched(data):
-    """The crunched bytes of a line; None where a byte cannot stand there."""
+    """The crunched bytes of a line; None if a byte cannot be there."""
     codes = bytearray()
     while data:
         word = next((word for word in WORDS if data.startswith(word)), None)

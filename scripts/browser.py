@@ -1,4 +1,4 @@
-"""A browser without a window: Chromium, which is told what to do through a pair of pipes, an object of JSON each time, and answers through them.
+"""A browser without a window: Chromium, which takes commands and returns results through a pair of pipes, as objects of JSON.
 
 It has a folder of its own, which goes with it, and each address that isn't a file's is refused, since its proxy isn't there.
 """
@@ -19,7 +19,7 @@ WORDS = ("--headless=new", "--no-sandbox", "--disable-gpu", "--disable-dev-shm-u
 
 
 def chromium():
-    """The path of Chromium, or None where it isn't installed."""
+    """The path of Chromium, or None if it isn't installed."""
     return next(filter(None, map(shutil.which, NAMES)), None)
 
 
@@ -28,7 +28,7 @@ class Silence(Exception):
 
 
 class Browser:
-    """A page in a browser, and what the browser told since the page was opened: each as the name of what happened, and its members."""
+    """A page in a browser, and what the browser reported since the page was opened: the events, each with its name and its members."""
 
     def __init__(self):
         self.folder = tempfile.TemporaryDirectory(ignore_cleanup_errors=True)
@@ -56,7 +56,7 @@ class Browser:
         self.folder.cleanup()
 
     def ask(self, what, **members):
-        """Has the browser do something, and returns its answer."""
+        """Has the browser do something, and returns the result."""
         self.count += 1
         request = {"id": self.count, "method": what, "params": members, **({"sessionId": self.page} if self.page else {})}
         os.write(self.output, json.dumps(request).encode() + b"\x00")

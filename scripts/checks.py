@@ -32,7 +32,7 @@ SHORT = [
 
 OF_PAGES = ("scripts/manual-page", "scripts/check-pages", "scripts/crates-listed")
 
-# The scripts that are run on the program, with it as their only word. Each ends with status 0 where all is well.
+# The scripts that are run on the program, with it as their only argument. Each ends with status 0 if all is well.
 SWEEPS = [
     "scripts/terminal",
     "scripts/limits",

@@ -48,7 +48,7 @@ def read_crates():
 
 
 def below(crates, name):
-    """All crates that a crate stands on."""
+    """All crates that a crate uses, also through others."""
     return {it for library in crates[name] for it in (library, *below(crates, library))}
 
 
@@ -87,9 +87,9 @@ def rt(crate, *words, top=TOP, **how):
 
 
 def in_order(crates, wanted, call):
-    """Calls a function for each wanted crate once it was true for those of them that the crate stands on, as many side by side as there is room for,
+    """Calls a function for each wanted crate once it was true for those of them that the crate uses, as many side by side as there is room for,
     and that with the longest chain above it first. The function also gets how many jobs are for the crate: more than one if fewer crates can be checked
-    than there is room for. Yields each crate as it ends with what the call returned, or None where a crate below it was false."""
+    than there is room for. Yields each crate as it ends with what the call returned, or None if a crate below it was false."""
     lines, most = chains(crates, wanted), at_once()
     left, ended, running = sorted(lines, key=lambda it: -lines[it]), {}, {}
     with concurrent.futures.ThreadPoolExecutor(most) as pool:
@@ -120,7 +120,7 @@ def link_or_copy(source, target):
 
 
 def read(*path):
-    """What a file of the repository holds, or nothing where there is none."""
+    """The text of a file of the repository, or nothing if there is no such file."""
     try:
         with open(os.path.join(TOP, *path), "rb") as file:
             return file.read()
@@ -189,7 +189,7 @@ def room_for(what):
 @contextlib.contextmanager
 def set_apart(crates, name):
     """The top of a repository of a crate and those below it alone, to which the crate's own work moves for that time: so that rt, which lets nobody
-    else work in a library while it checks what stands on it, can check several such crates side by side."""
+    else work in a library while it checks what uses it, can check several such crates side by side."""
     mine = os.path.join(TOP, "crates", name, "out")
     with room_for("set-apart") as room:
         take_copy({name, *below(crates, name)}, TOP, room)

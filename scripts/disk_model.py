@@ -1,5 +1,5 @@
 """A plain model of disks and of the shell's lines, written from the specification and not from the code. It is slow and simple: an image is its
-bytes, whose number tells its kind, a session a list of images, and each line is worked out anew.
+bytes, whose number gives its kind, a session a list of images, and each line is worked out anew.
 """
 import functools
 from collections import Counter
@@ -28,7 +28,7 @@ TEXTS = {
 
 
 class Refused(Exception):
-    """A line that is refused, with its number and what stands behind it."""
+    """A line that is refused, with its number and what comes after it."""
 
     def __init__(self, number, first=0, second=0):
         super().__init__(number)
@@ -62,7 +62,7 @@ def matches(pattern, name):
 # Disks
 
 class Slot:
-    """The 32 bytes of a slot of the directory, and where they stand."""
+    """The 32 bytes of a slot of the directory, and where they are."""
 
     def __init__(self, block, place, data):
         self.block, self.place, self.data = block, place, data
@@ -87,7 +87,7 @@ def filled(name):
 
 
 def entry_of(track):
-    """Where a track's entry stands in the map's block: those of tracks 36 to 40 stand apart."""
+    """The place of a track's entry in the map's block: those of tracks 36 to 40 are apart."""
     return 4 * track if track <= 35 else 0xC0 + 4 * (track - 36)
 
 
@@ -284,7 +284,7 @@ def formatted(name, disk_id, tracks=35):
     return disk.with_free(set(disk.pairs) - {MAP, DIRECTORY})
 
 
-# The order of search, on both kinds: where there are 35 tracks no block of another is free
+# The order of search, on both kinds: if there are 35 tracks no block of another is free
 
 def along(tracks):
     return [(track, sector) for track in tracks for sector in range(SECTORS[track])]
@@ -321,7 +321,7 @@ def first_of(order, free):
 
 
 def plan(free, count):
-    """The blocks of a file of so many, or None where too few are free."""
+    """The blocks of a file of this many, or None if too few are free."""
     left, blocks = set(free), []
     while len(blocks) < count:
         block = first_of(next_order(blocks[-1]) if blocks else FIRST_ORDER, left)

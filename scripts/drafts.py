@@ -13,7 +13,7 @@ FIRST_BYTES = (b"", b"GCR-1541\x00", b"PK\x03\x04", b"\x1f\x8b\x08")
 # Dumps in the making
 
 class File:
-    """A file in the making: where its slot stands, and its blocks."""
+    """A file in the making: the place of its slot, and its blocks."""
 
     def __init__(self, slot, kind, data, side):
         self.slot, self.kind, self.data, self.side = slot, kind, data, side
@@ -49,7 +49,7 @@ class Draft:
         self.image[start:start + len(values)] = values
 
     def taken(self, count):
-        """So many blocks that nobody has, which are theirs now."""
+        """This many blocks that nobody has, which are theirs now."""
         blocks = [self.left.pop() for _ in range(count)]
         for pair in blocks:
             self.put(pair, 0, *self.chance.randbytes(BLOCK))
@@ -87,7 +87,7 @@ class Draft:
         return File(self.entry(type_byte, *data[0], *self.name(), *tail, *size.to_bytes(2, "little")), kind, data, side)
 
     def mark(self, kept=None):
-        """Writes the map: of the blocks that nobody has some are marked used, or so many."""
+        """Writes the map: of the blocks that nobody has some are marked used, or this many."""
         kept = self.chance.choice((0, 0, 1, 30)) if kept is None else kept
         free, head = set(self.left[kept:]), BLOCK * PLACES[MAP]
         for track in range(1, self.tracks + 1):
@@ -291,7 +291,7 @@ def intact(chance):
 
 
 def lost(chance, loss):
-    """An intact disk without read codes that lost what matters most, and that nobody told so."""
+    """An intact disk without read codes that lost what matters most, and whose dump does not say so."""
     draft = Draft(chance, has_codes=False)
     draft.mark(0)
     loss(draft)

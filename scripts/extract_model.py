@@ -119,7 +119,7 @@ def lines(form, name, rows):
 
 
 def told_in(form):
-    """How names of the host stand in a form."""
+    """The names of the host as a form has them."""
     return model.in_json if form == "json" else model.in_csv
 
 
@@ -128,7 +128,7 @@ def header(form):
 
 
 def error_lines(form, name, error, length=None):
-    """What is printed of an image that isn't answered, for this error."""
+    """What is printed of an image that isn't reported, for this error."""
     image = told_in(form)(name)
     if form == "csv":
         return model.csv_line([image, *[None] * (len(COLUMNS) - 1), error])
@@ -142,6 +142,6 @@ def unread(form, name, data):
 
 
 def is_text_line(line, file, path):
-    """Whether a line of text may tell of a file: it is one of `files`, and then says where the file was written, or that it was not."""
+    """Whether a line of text may be about a file: it is one of `files`, and then says where the file was written, or that it was not."""
     end = ", not written" if path is None else f" -> {model.shown(path)}"
     return line.endswith(end) and model.is_file_line(line[:-len(end)], file)

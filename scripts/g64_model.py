@@ -14,7 +14,7 @@ def number(data):
 
 
 def entry(file, k):
-    """The bytes of entry k, or none where there is no such track."""
+    """The bytes of entry k, or no bytes if there is no such track."""
     if k >= file[9]:
         return b""
     offset = number(file[12 + 4 * k:16 + 4 * k])
@@ -55,7 +55,7 @@ class Circle:
         return self.starts[(self.starts.index(start) + 1) % len(self.starts)]
 
     def headers(self, track=None, sector=None):
-        """The headers, rising; those that name a block, where one is given."""
+        """The headers, rising; those that name a block, if one is given."""
         for start in self.starts:
             if self.value(start, 0) == 8:
                 named = (self.value(start, 3), self.value(start, 2))
@@ -70,7 +70,7 @@ class Circle:
         return self.value(start, 5), self.value(start, 4)
 
     def data(self, start):
-        """Bytes 1 to 256 of what follows a header, or None where that is no data block; and
+        """Bytes 1 to 256 of what follows a header, or None if that is no data block; and
         whether all have values and the checksum is right."""
         follows = self.after(start)
         if self.value(follows, 0) != 7:

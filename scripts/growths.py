@@ -1,4 +1,4 @@
-"""Programs that are refused memory: what scripts/refused_growths.c is told, and what it tells."""
+"""Programs that are refused memory: the settings for scripts/refused_growths.c, and what it reports."""
 import os
 import shutil
 import struct
@@ -14,14 +14,14 @@ Growths = namedtuple("Growths", "asked refused asked_again")
 
 
 def compiled(name, work):
-    """Compiles scripts/NAME.c to a library to be preloaded, and answers its path."""
+    """Compiles scripts/NAME.c to a library to be preloaded, and returns its path."""
     library = os.path.join(work, f"{name}.so")
     subprocess.run(["cc", "-O1", "-shared", "-fPIC", "-o", library, os.path.join(HERE, f"{name}.c"), "-ldl"], check=True)
     return library
 
 
 def room_in_memory():
-    """A folder in memory, where the system has one: files there are stored without waiting for a disk that others keep busy. None where it has none."""
+    """A folder in memory, if the system has one: files there are stored without waiting for a disk that others keep busy. None if it has none."""
     return "/dev/shm" if os.access("/dev/shm", os.W_OK | os.X_OK) and shutil.disk_usage("/dev/shm").free > LEAST_ROOM else None
 
 

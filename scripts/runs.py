@@ -8,7 +8,7 @@ SECONDS = 120
 
 
 def ran(program, folder, *words):
-    """The status, the output and the faults of a run, or None where it doesn't end."""
+    """The status, the output and the faults of a run, or None if it doesn't end."""
     try:
         done = subprocess.run([program, *words], cwd=folder, stdin=subprocess.DEVNULL, capture_output=True, timeout=SECONDS, check=False)
     except subprocess.TimeoutExpired:

@@ -57,7 +57,7 @@ class Reading:
         return int.from_bytes(self.take(count), "little")
 
     def record(self, size):
-        """A record of an image of so many bytes: places of blocks, and their bytes."""
+        """A record of an image of n bytes: places of blocks, and their bytes."""
         blocks, last = [], -1
         for _ in range(self.number(2)):
             place = self.number(2)
@@ -93,7 +93,7 @@ def resumed(file):
 
 
 def of_size(size, most=None):
-    """A session file of so many bytes, an odd number: the first block of a blank image is written again and again, at most so many times where that is given;
+    """A session file of this many bytes, an odd number: the first block of a blank image is written again and again, at most a number of times if that is given;
     the other changes are of no block, and all is undone."""
     room = (size - len(kept([bytes(SIZES[35])], 0))) // 2
     written = room // 130 if most is None else min(most, room // 130)

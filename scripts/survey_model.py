@@ -53,21 +53,21 @@ def pair_text(pair):
 
 
 def told_owners(owners):
-    """The members of an object that tell of some owners."""
+    """The members of an object about some owners."""
     told = [{key: value for key, value in owner._asdict().items() if value is not None} for owner in owners[:MOST_OWNERS]]
     return {"owners": told, **({"more": len(owners) - MOST_OWNERS} if len(owners) > MOST_OWNERS else {})}
 
 
 @functools.lru_cache(64)
 def dumped(data):
-    """The bytes of the dump that a file is, those of a D64; None where it is none."""
+    """The bytes of the dump that a file is, those of a D64; None if it is no dump."""
     if len(data) in KINDS_OF_DUMPS:
         return data
     return g64_model.read(data) if g64_model.is_g64(data) else None
 
 
 class Survey:
-    """What there is to tell of a dump."""
+    """All that is reported about a dump."""
 
     def __init__(self, data):
         data = dumped(data)
@@ -178,7 +178,7 @@ class Survey:
         return slot.kind == USR and slot.data[0x18] != 0 and self.disk.holds(slot.side)
 
     def why(self, slot):
-        """The words that say why a slot's file isn't whole, or that this isn't known; None where it isn't looked at."""
+        """The text that says why a slot's file isn't whole, or that this isn't known; None if it isn't examined."""
         if slot.kind == DEL:
             return None
         ways = self.ways_of(slot).values()
@@ -191,7 +191,7 @@ class Survey:
 
     @functools.cached_property
     def all_why(self):
-        """The words of each used slot, in order."""
+        """The text about each used slot, in order."""
         return [self.why(slot) for _, slot in self.entries]
 
     @property
@@ -221,7 +221,7 @@ class Survey:
         return self.is_list_cut or self.not_whole > 0
 
     def content(self, slot):
-        """How many bytes the content of a slot's file has, and its digest, or None twice where it has none."""
+        """How many bytes the content of a slot's file has, and its digest, or None twice if it has no content."""
         way = self.ways_of(slot).get("data")
         if way is None or way.end != "end":
             return None, None
@@ -329,7 +329,7 @@ def in_csv(name):
 # Lines
 
 def json_line(members):
-    """An object: JSON escapes controls below a space by itself, and the rest of what is hidden stands in names of the host alone."""
+    """An object: JSON escapes controls below a space by itself, and the rest of what is hidden is in names of the host alone."""
     return HIDDEN.sub(lambda it: f"\\u{ord(it[0]):04x}", json.dumps(members, ensure_ascii=False, separators=(",", ":"))) + "\n"
 
 
@@ -351,7 +351,7 @@ def files_header():
 
 
 def error_of(data):
-    """Why a file isn't answered, if so: it is None where it cannot be read."""
+    """Why a file isn't reported, if so: it is None if it cannot be read."""
     if data is None or len(data) > LIMIT:
         return "cannot be read"
     return None if dumped(data) else "bad G64" if g64_model.is_g64(data) else "wrong length"
@@ -382,7 +382,7 @@ def check_csv(name, data, digest=False):
 
 
 def error_json(name, data):
-    """The line in JSON of a file that isn't answered."""
+    """The line in JSON about a file that isn't reported."""
     error = error_of(data)
     return json_line({"image": in_json(name), "error": error, **({"length": len(data)} if error == "wrong length" else {})})
 
@@ -446,7 +446,7 @@ def status_of_diff(old, new):
 
 
 def error_line(name, data):
-    """The line on the standard error of a file that isn't answered, but for what it seems to be, or nothing."""
+    """The line on the standard error about a file that isn't reported, except for what it seems to be, or nothing."""
     error = error_of(data)
     return f"d64sh: {shown(name)}: {error}{f' {len(data)}' if error == 'wrong length' else ''}\n" if error else ""
 
@@ -461,7 +461,7 @@ def status_of(all_data, command="check"):
 # Texts, which are free but for these
 
 def text_lines(data):
-    """How many lines tell of a dump, beside one of the blocks that are marked used and belong to nobody."""
+    """How many lines there are about a dump, beside one about the blocks that are marked used and belong to nobody."""
     survey = survey_of(data)
     return 1 + len(lines_of_faults(survey)) + len(survey.errors) + survey.not_whole
 
@@ -477,7 +477,7 @@ def lines_of_faults(survey):
 
 
 def is_fault_line(line, told):
-    """Whether a line may tell of a fault: it has the track, the name or the block. Of the faults beyond the tenth it is their line."""
+    """Whether a line may be about a fault: it has the track, the name or the block. Of the faults beyond the tenth it is their line."""
     if isinstance(told, str):
         return line == told
     what = {1: f'track {told.get("track")}:', 2: "the directory", 3: f'"{told.get("name")}"', 4: f'"{told.get("name")}"'}.get(told["condition"])
@@ -485,13 +485,13 @@ def is_fault_line(line, told):
 
 
 def is_of_unowned(line, data):
-    """Whether a line may tell of the blocks that are marked used and belong to nobody, which the first line doesn't say: it may be left out."""
+    """Whether a line may be about the blocks that are marked used and belong to nobody, which the first line doesn't say: it may be left out."""
     told = survey_of(data).told()
     return told["amiss"] and "unowned" not in survey_of(data).doubts and told["unowned"] > 0 and numbers_in(line)[:1] == [told["unowned"]]
 
 
 def is_first_line(line, name, data):
-    """Whether a line may be the first that tells of a dump."""
+    """Whether a line may be the first about a dump."""
     survey, told = survey_of(data), survey_of(data).told()
     is_clean = told["sound"] and not survey.errors and not survey.not_whole
     line, doubtful, doubts = line.partition(f", {'but' if is_clean else 'and'} doubtful: ")
@@ -512,7 +512,7 @@ def are_doubts(text, survey):
 
 
 def is_file_line(line, file):
-    """Whether a line of text may tell of a file: its size, name and kind, and whether it is whole."""
+    """Whether a line of text may be about a file: its size, name and kind, and whether it is whole."""
     begin = f'{file["size"]:>5} "{file["name"]}"'
     rest = line[len(begin):].split(maxsplit=1)
     return line.startswith(begin) and len(rest) == 2 and rest[0] == (file["kind"] or "???") and (rest[1].split(",")[0] == "whole") == (file["whole"] is True)
@@ -548,7 +548,7 @@ def without_guesses(faults):
 
 
 def first_difference(came, wanted):
-    """Where two texts differ first, or None."""
+    """The place at which two texts first differ, or None."""
     if came == wanted:
         return None
     at = next((place for place, (one, other) in enumerate(zip(came, wanted)) if one != other), min(len(came), len(wanted)))

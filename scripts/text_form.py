@@ -26,7 +26,7 @@ UNITS = {**{f"{{${byte:02x}}}": byte for byte in range(256)}, **{spell(byte): by
 
 
 def from_text(text):
-    """The bytes of a text, or None where it has a fault."""
+    """The bytes of a text, or None if it has a fault."""
     data = bytearray()
     while text:
         length = text.find("}") + 1 if text[0] == "{" else 1

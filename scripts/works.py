@@ -1,4 +1,4 @@
-"""The works by which the program is measured: the files that they take, and of each its words and its script."""
+"""The works by which the program is measured: the files that they take, and of each its arguments and its script."""
 import os
 import subprocess
 import tempfile
@@ -10,7 +10,7 @@ import session_model
 MANY = 10_000
 FILES = 144
 
-# One process: what it does, its words, its standard input, and the files that it makes, which must not be there.
+# One process: what it does, its arguments, its standard input, and the files that it makes, which must not be there.
 Work = namedtuple("Work", "name words script made", defaults=("", ()))
 
 
@@ -53,7 +53,7 @@ def make_disks(program, folder):
 
 
 def make_session(folder, size):
-    """A session file of so many bytes, with as many changes of one block as that holds."""
+    """A session file of this many bytes, with as many changes of one block as that holds."""
     with open(os.path.join(folder, "session"), "wb") as file:
         file.write(session_model.of_size(size))
 
@@ -76,7 +76,7 @@ def disk_works(program):
 
 
 def instructions(work, folder, passed=()):
-    """How many instructions one process of a work takes, by valgrind; None where that is not there."""
+    """How many instructions one process of a work takes, by valgrind; None if that is not there."""
     if not which("valgrind"):
         return None
     for name in work.made:
