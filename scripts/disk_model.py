@@ -385,7 +385,7 @@ class Shell:
 
     @classmethod
     def started(cls, words, files, folders=()):
-        """The shell that begins where these words follow `shell`: that of an image, a blank one, or the session of a file, if it is one."""
+        """The shell that begins where these arguments follow `shell`: that of an image, a blank one, or the session of a file, if it is one."""
         if words[:1] == ["--resume"]:
             images, cursor = session_model.resumed(files[words[1]])
             shell = cls(images[0], files, folders, "".join(words[2:]))
