@@ -1,5 +1,5 @@
-//! The text of a script and of its output: its lines, the words and numbers in them, the status
-//! lines, and the lines that show a block.
+//! The text of a script and of its output: its lines, words and numbers, the status lines, and the
+//! lines that show a block.
 //!
 //! Images, sessions and hosts are the subject of other crates.
 #![tactic(auto)]
