@@ -66,9 +66,9 @@ shrinks_from (word ∷ words) token text code rest somes found some =
 pub token_shrinks : (text : List ℕ) (code : ℕ) (rest : List ℕ) → token_from 128 keywords text ≡ Some (code, rest) → 0 < length text → length rest < length text
 token_shrinks text code rest found some = shrinks_from keywords 128 text code rest some_bytes found some
 
--- ---- the word of a token
+-- ---- the keyword of a token
 
--- the text begins with the word of a row of the table
+-- the text begins with the keyword of a row of the table
 pub record BeginsWithRow (words : List (List ℕ)) (token code : ℕ) (text rest : List ℕ) : Type 0 where
   pub row : ℕ
   pub word : List ℕ
@@ -129,11 +129,11 @@ first_of [] text = None
 first_of (token ∷ tokens) text =
     option_map_or (λ (word : List ℕ). cond (starts_with nat_eq text word) (Some (token, drop (length word) text)) (first_of tokens text)) (keyword token) (first_of tokens text)
 
--- these are the words of the tokens from one on
+-- these are the keywords of the tokens from one on
 abbrev AreWordsFrom : ℕ → List (List ℕ) → Type 0
 AreWordsFrom token words = (k code : ℕ) (word : List ℕ) → code ≡ token + k → slice_get words k ≡ Some word → keyword code ≡ Some word
 
--- a text begins with no key word that begins with another byte
+-- a text begins with no keyword that begins with another byte
 first_among : (words : List (List ℕ)) (token first : ℕ) (rest : List ℕ) → AreWordsFrom token words → list_all (λ word. nat_lt 0 (length word)) words ≡ true
     → token_from token words (first ∷ rest) ≡ first_of (tokens_with first token words) (first ∷ rest)
 first_among [] token first rest are somes = refl
@@ -153,7 +153,7 @@ first_among ((byte ∷ bytes) ∷ words) token first rest are somes =
         let other : nat_eq byte first ≡ false = ne_eqb byte first (λ same. eqb-false first byte at (sym same)) in
         rw other later
 
--- the table's words are those of the tokens from $80 on
+-- the table's keywords are those of the tokens from $80 on
 keyword_words : AreWordsFrom 128 keywords
 unfolding keyword
 keyword_words k code word at is = of_test (nat_le 128 code) refl
@@ -165,7 +165,7 @@ keyword_words k code word at is = of_test (nat_le 128 code) refl
     of_test true high = row
     of_test false high = let low : code < 128 = leb-false 128 code high in absurd (omega (arith, at))
 
--- so only the words that begin with a text's first byte can be its first token
+-- so only the keywords that begin with a text's first byte can be its first token
 pub token_by_first : (text : List ℕ) (first : ℕ) → 1 ≤ length text → first ≡ get_or text 0 0 → token_from 128 keywords text ≡ first_of (tokens_with first 128 keywords) text
 token_by_first [] first some is = absurd (omega arith)
 token_by_first (byte ∷ rest) first some is = subst (λ (n : ℕ). token_from 128 keywords (byte ∷ rest) ≡ first_of (tokens_with n 128 keywords) (byte ∷ rest)) (sym is) (first_among keywords 128 byte rest keyword_words some_bytes)

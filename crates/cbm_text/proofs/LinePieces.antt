@@ -303,7 +303,7 @@ plain_expanded : (code : ℕ) (rest : List ℕ) → IsNoOpener code → expanded
 unfolding expanded_from
 plain_expanded code rest opens = ap (λ (m : Mode). text_of_code Free code ++ expanded_from m rest) (stays_free code opens)
 
--- an opener stands for its key word, and what is kept behind it for itself
+-- an opener stands for its keyword, and what is kept behind it for itself
 opener_expanded : (opener : Opener) (run rest : List ℕ) → RunsOn (mode_in opener []) run rest → expanded_bytes (code_of opener ∷ (run ++ rest)) ≡ opening opener ++ run ++ expanded_bytes rest
 unfolding expanded_from
 opener_expanded opener run rest runs =

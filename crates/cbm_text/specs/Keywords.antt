@@ -20,18 +20,18 @@ keywords =
 unfoldable pub keyword : ℕ → Option (List ℕ)
 keyword token = if nat_le 128 token then slice_get keywords (token - 128) else None
 
--- The first of some key words with which a text begins: its token, counted from that of the first
--- key word, and what follows it.
+-- The first of some keywords with which a text begins: its token, counted from that of the first
+-- keyword, and what follows it.
 abbrev pub token_from : ℕ → List (List ℕ) → List ℕ → Option (ℕ × List ℕ)
 token_from token [] text = None
 token_from token (word ∷ words) text = if starts_with nat_eq text word then Some (token, drop (length word) text) else token_from (token + 1) words text
 
--- Whether a key word begins with a byte.
+-- Whether a keyword begins with a byte.
 abbrev pub begins_with : ℕ → List ℕ → Bool
 begins_with first [] = false
 begins_with first (byte ∷ rest) = first == byte
 
--- The tokens of those key words that begin with a byte, counted from that of the first one.
+-- The tokens of those keywords that begin with a byte, counted from that of the first one.
 abbrev pub tokens_with : ℕ → ℕ → List (List ℕ) → List ℕ
 tokens_with first token [] = []
 tokens_with first token (word ∷ words) = if begins_with first word then token ∷ tokens_with first (token + 1) words else tokens_with first (token + 1) words

@@ -1,4 +1,4 @@
--- who owns which blocks after the writing of a file, and what the slots show
+-- who owns which blocks after writing a file, and what the slots show
 use Rattle.std.proofs.Common.{◌≡◌, ◌≢◌, ℕ, ◌+◌, ◌<◌, ◌≤◌, Bool, false, not, cond, eqb, eq-eqb, nat_eq, List, [], ◌∷◌, ◌++◌, length, map, get_or, Option, Some, None, refl, sym, ap, ◌∙◌, subst, inl, inr, arith}
 use Rattle.std.specs.Prelude.{All, IfSome, replicate, slice_get}
 use Rattle.std.specs.List.{list_any, flat_map, IsDistinct}
@@ -50,7 +50,7 @@ empty_owns image = owned_by-unused image empty_slot empty_is_unused
 empty_shows : (image : List (List ℕ)) → slot_view image empty_slot ≡ None
 empty_shows image = slot_view-unused image empty_slot empty_is_unused
 
--- the writing of a file of one of the kinds that own their chain
+-- writing a file of one of the kinds that own their chain
 module _ (image other : List (List ℕ)) (name : List ℕ) (kind : Kind) (bytes taken grown : List ℕ)
     (sound : IsSound image) (short : length name ≤ 16) (owner : kind ≢ Del)
     (file : Takes image taken (length bytes)) (dir : Grows image grown)

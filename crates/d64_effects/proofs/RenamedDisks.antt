@@ -207,11 +207,11 @@ there_is : (test : List ℕ → Bool) (cells : List (List ℕ)) (place : Option 
 there_is test cells None e = tt
 there_is test cells (Some slot) e = (position-Some test cells slot [] e).0
 
--- the slots after the renaming of a file
+-- the slots after renaming a file
 abbrev named_cells : List (List ℕ) → List ℕ → List ℕ → List (List ℕ)
 named_cells image old new = named_in (slots image) (first_of_name old (slots image)) new
 
--- the renaming of a file on a sound image
+-- renaming a file on a sound image
 module _ (image : List (List ℕ)) (old new : List ℕ) (is : IsImage image) (good : IsName new) (sound : IsSound image) where
   there : IfSome (first_of_name old (slots image)) (λ slot. slot < length (slots image))
   there = there_is (has_name old) (slots image) (first_of_name old (slots image)) refl

@@ -1,4 +1,4 @@
--- lists with one more row: in the place of one that is there, or as the first of eight more
+-- lists with one more row: in place of one that is there, or as the first of eight more
 use Rattle.std.proofs.Common.{◌≡◌, ℕ, suc, ◌+◌, ◌<◌, Bool, true, false, cond, List, [], ◌∷◌, ◌++◌, length, map, drop, get_or, set, Option, Some, None, refl, sym, ap, ap₂, ◌∙◌, subst, arith}
 use Rattle.std.specs.Prelude.{All, IfSome, position, replicate, option_map}
 use Rattle.std.specs.List.{flat_map, position_from}
@@ -9,7 +9,7 @@ use Rattle.std.proofs.lemmas.List.Folds.{flat_map-map}
 use Rattle.std.proofs.lemmas.Iterator.Adapters.{position_from-zero}
 use Rattle.d64_effects.proofs.Occurrences.{occurs, occurs-append, occurs-set, joined}
 
--- rows with a new one in the place of another, or as the first of eight more, of which the others
+-- rows with a new one in place of another, or as the first of eight more, of which the others
 -- are blank
 abbrev pub with_row : {A : Type 0} → List A → Option ℕ → A → A → List A
 with_row rows (Some place) new blank = set rows place new

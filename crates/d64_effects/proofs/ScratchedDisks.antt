@@ -43,14 +43,14 @@ altered image cells (slot ∷ others) is some distinct fit members changed =
     remapped image (with_cleared image (slot ∷ others)) cells (with_freed (free_blocks image) (given_by image (slot ∷ others))) is some changed
     (map_not_listed image distinct) members
 
--- the slots after the deleting of files, and the blocks that they give back
+-- the slots after deleting files, and the blocks that they give back
 abbrev cells_left : List (List ℕ) → List (List ℕ) → List (List ℕ)
 cells_left image patterns = map (cleared_if (is_scratched_slot patterns)) (slots image)
 
 abbrev given_back : List (List ℕ) → List (List ℕ) → List ℕ
 given_back image patterns = given_by image (scratched_slots image patterns)
 
--- the deleting of files on a sound image
+-- deleting files on a sound image
 module _ (image patterns : List (List ℕ)) (is : IsImage image) (sound : IsSound image) where
   some : directory image ≢ []
   some = has_directory image sound

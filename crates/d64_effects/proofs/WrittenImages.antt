@@ -1,4 +1,4 @@
--- the image after the writing of a file: its blocks, its directory, its map
+-- the image after writing a file: its blocks, its directory, its map
 use Rattle.std.proofs.Common.{◌≡◌, ◌≢◌, ℕ, ◌+◌, ◌<◌, ◌≤◌, true, not, nat_eq, List, [], ◌∷◌, ◌++◌, length, map, take, drop, get_or, Option, refl, sym, ap, ◌∙◌, subst, inl, inr, arith}
 use Rattle.std.specs.Prelude.{replicate}
 use Rattle.std.specs.List.{list_any}
@@ -33,7 +33,7 @@ use Rattle.d64_effects.proofs.Occurrences.{occurs, occurs-append, occurs-present
 use Rattle.d64_effects.proofs.Rows.{with_row}
 use Rattle.d64_effects.proofs.TakenBlocks.{free_is_block, Takes, takes, Grows, grows, occurs-owned, owned_once, owned_not_taken, owned_not_grown, grown_not_taken, contains-blocks_without}
 
--- what the writing of a file leaves
+-- what writing a file leaves
 pub record LeftByWriting (image other : List (List ℕ)) (place : Option ℕ) (taken grown entry bytes : List ℕ) : Type 0 where
   pub is_image : IsImage other
   pub long : length other ≡ length image
@@ -205,7 +205,7 @@ few_taken count taken bytes fits =
 abbrev pub file_entry : List ℕ → Kind → List ℕ → List ℕ
 file_entry name kind taken = entry_bytes name kind (get_or taken 0 0) (length taken)
 
--- the writing of a file into blocks that it may take
+-- writing a file into blocks that it may take
 file_leaves : (image : List (List ℕ)) (name : List ℕ) (kind : Kind) (bytes taken : List ℕ) → IsImage image → IsName name → AreBytes bytes
     → IsSound image → HasRoom image (length bytes)
     → Takes image taken (length bytes)

@@ -1,4 +1,4 @@
--- A dump in the place of another one, by what was refused and what was filled
+-- A dump in place of another one, by what was refused and what was filled
 use Rattle.std.proofs.Common.{◌≡◌, ℕ, Bool, true, false, not, Option, Some, None, Result, Ok, Err, refl, sym, ap, ◌∙◌}
 use Rattle.std.specs.Prelude.{OnOk, if◌then◌else◌, is_some}
 use Rattle.d64_survey.specs.Dump.{DumpView, wrong_length}

@@ -176,7 +176,7 @@ counted block (o ∷ owned) = by_test (eqb block o.0) (counted block owned)
 pub owners-counted : (image : List (List ℕ)) (block : ℕ) → length (owners_of image block) ≡ times (blocks_owned image) block
 owners-counted image block = counted block (owners image)
 
--- a block that isn't among others comes no time, and one that is comes at least once
+-- a block that isn't in a list is not counted in it, and one that is in it is counted at least once
 absent : (bs : List ℕ) (block : ℕ) → list_any (eqb block) bs ≡ ltb 0 (times bs block)
 absent [] block = refl
 absent (b ∷ bs) block = by_test (eqb block b) (absent bs block)
@@ -185,7 +185,7 @@ absent (b ∷ bs) block = by_test (eqb block b) (absent bs block)
     by_test true e = let some : 0 < length (b ∷ filter (eqb block) bs) = omega arith in sym (lt-ltb 0 (length (b ∷ filter (eqb block) bs)) some)
     by_test false e = e
 
--- if no block comes twice, each comes at most once
+-- if no block comes twice, each is counted at most once
 no_twice : (bs : List ℕ) (block : ℕ) → has_repeats bs ≡ false → ltb 1 (times bs block) ≡ false
 no_twice [] block e = refl
 no_twice (b ∷ bs) block e =

@@ -22,7 +22,7 @@ cell_there image blocks slot block d within found =
     slice_get-get_or (slots_in image blocks) slot [] inside
     ∙ ap (λ (bytes : List ℕ). Some bytes) (slot_at_place image blocks slot within ∙ ap (λ (b : ℕ). cell (sector_at image b) (slot % 8)) same)
 
--- and there is None if there is no such block
+-- and None if there is no such block
 no_cell : (image : List (List ℕ)) (blocks : List ℕ) (slot : ℕ) → length blocks ≤ slot / 8 → slice_get (slots_in image blocks) slot ≡ None
 no_cell image blocks slot past =
     let long = length-slots_in image blocks in

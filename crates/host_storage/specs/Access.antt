@@ -1,4 +1,4 @@
--- Who may use a file in the place of another one.
+-- Who may use a file in place of another one.
 use Rattle.std.specs.Prelude.{ℕ, ◌+◌, ◌*◌, ◌/◌, ◌%◌, Bool, if◌then◌else◌, bit_and}
 
 -- the permissions in a mode of the owner of a file, its group, and all others: three bits each

@@ -1,4 +1,4 @@
-//! Who may use a new file in the place of an old one: its owner, its group and its permissions.
+//! Who may use a new file in place of an old one: its owner, its group and its permissions.
 
 ghost use Rattle.std.specs.Prelude.{◌≡◌, ◌↔◌, true, bit_and};
 ghost use Rattle.host_storage.specs.Access.{kept_mode};

@@ -55,7 +55,7 @@ pub enum Obstacle {
     NoPermission,
 }
 
-/// What prevents the writing of a file or a folder, as far as a host knows.
+/// What prevents writing a file or a folder, as far as a host knows.
 #[derive(Clone, Copy, Debug, PartialEq, Eq)]
 pub enum WriteObstacle {
     /// The folder that should have it does not exist.
