@@ -105,7 +105,7 @@ wrong_name said BlockWrite = one_piece (codes "\"") First (codes "\" is not a va
 wrong_name said Keep = one_piece (codes "\"") First (codes "\" is not a valid name of a host file, which has 1 to 255 characters")
 wrong_name said Save = one_piece (codes "\"") First (codes "\" is not a valid name of a host file, which has 1 to 255 characters")
 wrong_name said Format = one_piece (codes "\"") First (codes "\" is not a valid name of 1 to 16 characters and an id of 2, without * ? = : and quotes")
-wrong_name said Name = one_piece (codes "\"") First (codes "\" is no name of 1 to 16 characters, with an id of 2 after a comma or without one, without * ? = : and quotes")
+wrong_name said Name = one_piece (codes "\"") First (codes "\" is not a valid name of 1 to 16 characters, alone or with an id of 2 after a comma, without * ? = : and quotes")
 wrong_name said Petcat = one_piece (codes "\"") First (codes "\" is not a valid name, which has 1 to 16 characters without = : , and quotes")
 wrong_name said ShowText = one_piece (codes "\"") First (codes "\" is not a valid name, which has 1 to 16 characters without = : , and quotes")
 wrong_name said Delete = one_piece (codes "one of the names from \"") First (codes "\" on is not valid: a name has 1 to 16 characters without = : , and quotes")

@@ -291,7 +291,7 @@ fn wrong_name(said: &Said<'_>, command: Command) -> Advice
         Command::Name => Advice::one(
             b"\"",
             Piece::First,
-            b"\" is no name of 1 to 16 characters, with an id of 2 after a comma or without one, without * ? = : and quotes",
+            b"\" is not a valid name of 1 to 16 characters, alone or with an id of 2 after a comma, without * ? = : and quotes",
         ),
         Command::Petcat | Command::ShowText => Advice::one(
             b"\"",
