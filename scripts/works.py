@@ -69,7 +69,7 @@ def disk_works(program):
         Work("all its files read", [*shell, "full.d64"], "".join(f"read file{number} /dev/null\n" for number in range(FILES))),
         Work("the map of that disk", [program, "map", "full.d64"]),
         Work("the same as a picture", [program, "map", "--format", "svg", "full.d64"]),
-        Work("what is changed where a file goes, one comes and one is renamed", [program, "diff", "full.d64", "changed.d64"]),
+        Work("what changed: one file gone, one new and one renamed", [program, "diff", "full.d64", "changed.d64"]),
         Work("a save over a file", shell, "save kept.d64\n"),
         Work("a save in a new file", shell, "save made.d64\n", ("made.d64",)),
     ]
