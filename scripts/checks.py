@@ -20,6 +20,7 @@ TEXTS = [
     ["scripts/check-pages", "--names", *PAGES],
     ["scripts/manual-page", "docs/MANUAL.md", "docs/d64sh.1"],
     ["scripts/same-words"],
+    ["scripts/plain-words"],
     ["scripts/completions", "--try", "packaging/completions"],
 ]
 
@@ -30,7 +31,7 @@ SHORT = [
     ["scripts/manual-texts", PROGRAM],
 ]
 
-OF_PAGES = ("scripts/manual-page", "scripts/check-pages", "scripts/crates-listed")
+OF_PAGES = ("scripts/manual-page", "scripts/check-pages", "scripts/crates-listed", "scripts/plain-words")
 
 # The scripts that are run on the program, with it as their only argument. Each ends with status 0 if all is well.
 SWEEPS = [
