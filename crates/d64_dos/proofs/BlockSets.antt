@@ -78,7 +78,7 @@ none_freed free given next n so absent q =
         ∙ ap (λ (b : Bool). b || set.contains free q) (none (ltb q n) ∙ sym gone)
     by_number false e = refl
 
--- at last all
+-- at last all of them
 pub all_freed : (free given next : set.FinSet nat_cmp) (n : ℕ) (blocks : List ℕ) → n ≡ BLOCKS → MembersAreBlocks given
     → given ≡ set.from_list blocks → FreedBelow free given next n → next ≡ with_freed free blocks
 all_freed free given next n blocks all legal listed so = same_set nat_cmp_total nat_cmp-IsAntisymmetric next (with_freed free blocks) (λ q.

@@ -30,7 +30,7 @@ taken_where_found name cells found e =
     position_from-zero-is : (rows : List (List ℕ)) → position_from (has_name name) 0 rows ≡ position (has_name name) rows
     position_from-zero-is rows = sym (position_from-zero (has_name name) rows)
 
--- the names alone decide on a sound disk
+-- only the names decide on a sound disk
 pub refused_by_names : (image : List (List ℕ)) (old new : List ℕ) (found : Option ℕ) (taken : Bool) → None ≡ first_fault image sound_conditions
     → found ≡ first_of_name old (slots image) → taken ≡ is_name_taken new (slots image)
     → cond (is_some found) (cond taken (Some Exists) None) (Some NotFound) ≡ rename_refusal image old new

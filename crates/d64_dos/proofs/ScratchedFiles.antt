@@ -1,4 +1,4 @@
--- the image without the files that patterns scratch, from what was found of them
+-- the image without the files that patterns delete, from what was found of them
 use Rattle.std.proofs.Common.{◌≡◌, ℕ, ◌==◌, true, false, List, [], ◌∷◌, length, refl, sym, ap, ap₂, ◌∙◌, arith}
 use Rattle.std.proofs.lemmas.Bool.{eqb-true, eqb-false}
 use Rattle.std.specs.List.{flat_map}

@@ -162,7 +162,7 @@ no_fault_after : (writable : Bool) (fault : Option DirFault) (more : Option Refu
 no_fault_after false fault more h = absurd (cc)
 no_fault_after true fault more h = no_fault_before fault more h
 
--- a write is accepted on a sound image alone
+-- a write is accepted only on a sound image
 written_from_sound : (image : List (List ℕ)) (name : List ℕ) (kind : Kind) (bytes : ℕ) → write_refusal image name kind bytes ≡ None → IsSound image
 unfolding write_refusal
 written_from_sound image name kind bytes h =

@@ -1,4 +1,4 @@
--- what the commands make of the directory's list of names and contents
+-- the effect of the commands on the directory's list of names and contents
 use Rattle.std.proofs.Common.{◌≡◌, ℕ, suc, Bool, true, false, not, cond, List, [], ◌∷◌, length, map, Option, Some, None, refl, sym, ap, ◌∙◌, subst}
 use Rattle.std.specs.Prelude.{position, filter, option_map, bytes_eq}
 use Rattle.std.specs.List.{filter_map, cons_option}

@@ -138,7 +138,7 @@ directory-from_Chain image blocks h = directory-is_chain image ∙ chain-is imag
 pub link_same : (image other : List (List ℕ)) (block : ℕ) → sector_at other block ≡ sector_at image block → link_at other block ≡ link_at image block
 link_same image other block e = ap (λ (bytes : List ℕ). (get_or bytes 0 0, get_or bytes 1 0)) e
 
--- the directory needs the links of its blocks alone
+-- the directory needs only the links of its blocks
 pub directory-same : (image other : List (List ℕ)) → directory image ≢ [] → length other ≡ length image
     → ((block : ℕ) → list_any (eqb block) (directory image) ≡ true → link_at other block ≡ link_at image block) → directory other ≡ directory image
 directory-same image other some long alike =
@@ -149,7 +149,7 @@ pub directory-of_slot : (image : List (List ℕ)) (slot : ℕ) → slot < length
 directory-of_slot image slot there none =
     let e : length (slots image) ≡ 0 = ap (λ (blocks : List ℕ). length (slots_in image blocks)) none in absurd (omega arith)
 
--- the slots of blocks need these blocks alone
+-- the slots of blocks need only these blocks
 pub slots-same : (image other : List (List ℕ)) (blocks : List ℕ)
     → ((block : ℕ) → list_any (eqb block) blocks ≡ true → sector_at other block ≡ sector_at image block) → slots_in other blocks ≡ slots_in image blocks
 slots-same image other [] alike = refl
@@ -310,7 +310,7 @@ written_slots image slot entry is some there full =
           ∙ sym (get_or-set_other (slots image) slot place new [] other)
     ])
 
--- the slots are as before but for the one that holds the entry, past its first two bytes
+-- the slots are as before except for the one that has the entry, past its first two bytes
 pub slots-with_entry : (image : List (List ℕ)) (slot : ℕ) (entry : List ℕ) → IsImage image → directory image ≢ [] → slot < length (slots image)
     → length entry ≡ 30
     → slots (with_entry image slot entry) ≡ set (slots image) slot (take 2 (get_or (slots image) slot []) ++ entry)

@@ -268,7 +268,7 @@ cells-beyond_link bytes part long two =
     ∙ cell-beyond_link bytes part i long two small
     ∙ sym (get_or-map (drop 2) (cells bytes) i [] [] (omega arith) ∙ ap (drop 2) (get_or-cells bytes i [] small)))
 
--- the slots of blocks beyond their first two bytes need those of each block alone
+-- the slots of blocks beyond their first two bytes need only those of each block
 pub slots-beyond_links : (image other : List (List ℕ)) (blocks : List ℕ)
     → ((block : ℕ) → list_any (eqb block) blocks ≡ true → map (drop 2) (cells (sector_at other block)) ≡ map (drop 2) (cells (sector_at image block)))
     → map (drop 2) (slots_in other blocks) ≡ map (drop 2) (slots_in image blocks)

@@ -37,7 +37,7 @@ use Rattle.d64_files.proofs.WrittenBytes.{length-filled_field}
 use Rattle.d64_effects.proofs.Frames.{slot_view-unused}
 use Rattle.d64_effects.proofs.Places.{directory_start-place}
 
--- the blank image with the map's block alone
+-- the blank image with only the map's block
 length-labelled : (count : ℕ) (size : IsSize count) (name id : List ℕ) → length (with_sector (blank_disk count) map_block (header name id)) ≡ count
 length-labelled count size name id = sym (length-set (with_sector (blank_disk count) map_block (header name id)) directory_start empty_directory) ∙ length-parts count size name id
 

@@ -50,7 +50,7 @@ chain-same image other start some long agree =
     chain-is other start (chain image start) (kept image other start (chain image start) (is_chain image start (chain image start) refl some) long
     (λ block found. ap (λ (bytes : List ℕ). (get_or bytes 0 0, get_or bytes 1 0)) (agree block (occurs-present block (chain image start) found))))
 
--- the block of a track and a sector, in images as long as one another
+-- the block of a track and a sector, in images of the same length
 block_in-same : (image other : List (List ℕ)) (track sector : ℕ) → length other ≡ length image → block_in other track sector ≡ block_in image track sector
 unfolding block_in
 block_in-same image other track sector long =

@@ -15,7 +15,7 @@ abbrev pub with_row : {A : Type 0} → List A → Option ℕ → A → A → Lis
 with_row rows (Some place) new blank = set rows place new
 with_row rows None new blank = rows ++ (new ∷ replicate 7 blank)
 
--- what a function makes of each row
+-- a function of each row
 pub map-with_row : {A B : Type 0} (f : A → B) (rows : List A) (place : Option ℕ) (new blank : A)
     → map f (with_row rows place new blank) ≡ with_row (map f rows) place (f new) (f blank)
 map-with_row f rows (Some place) new blank = map-set f rows place new
@@ -65,13 +65,13 @@ position-map f passes test rows agree =
 abbrev pub bare : List ℕ → List ℕ
 bare part = 0 ∷ 0 ∷ part
 
--- a function that needs what follows the link alone
+-- a function that needs only what follows the link
 pub map-bare : {A : Type 0} (f : List ℕ → A) (cells : List (List ℕ)) → ((cell other : List ℕ) → drop 2 cell ≡ drop 2 other → f cell ≡ f other)
     → map f cells ≡ map (λ part. f (bare part)) (map (drop 2) cells)
 map-bare f [] alike = refl
 map-bare f (cell ∷ cells) alike = ap₂ (λ b bs. b ∷ bs) (alike cell (bare (drop 2 cell)) refl) (map-bare f cells alike)
 
--- so of slots that are others with a new one but for their links
+-- so it is of slots that are others with a new one, except for their links
 pub map-slots : {A : Type 0} (f : List ℕ → A) (cells others : List (List ℕ)) (place : Option ℕ) (entry : List ℕ)
     → ((cell other : List ℕ) → drop 2 cell ≡ drop 2 other → f cell ≡ f other)
     → map (drop 2) others ≡ with_row (map (drop 2) cells) place entry (replicate 30 0)

@@ -147,7 +147,7 @@ held_within image block next e =
           let both : Broken ≡ To next = sym is ∙ e in cc
     ]
 
--- a link leads to blocks of the image alone
+-- a link leads only to blocks of the image
 leads_within : (image : List (List ℕ)) (ends : Bool) (block : Option ℕ) (next : ℕ) → cond ends End (link_to (option_and_then (held_block image) block)) ≡ To next → next < length image
 leads_within image true block next e = cc
 leads_within image false None next e = cc
@@ -241,13 +241,13 @@ chain-none image start none = by_list (chain image start) (λ some. none (chain 
     by_list [] h = refl
     by_list (block ∷ blocks) h = absurd (h (λ (e : block ∷ blocks ≡ []). cc))
 
--- images as long as one another lead alike by a link
+-- images of the same length lead to the same block by a link
 pub led_by-alike : (image other : List (List ℕ)) (link : ℕ × ℕ) → length other ≡ length image → led_by other link ≡ led_by image link
 unfolding led_by block_in
 led_by-alike image other link long =
     ap (λ (n : ℕ). cond (eqb link.0 0) End (link_to (option_and_then (λ block. cond (ltb block n) (Some block) None) (block_of link.0 link.1)))) long
 
--- a chain needs its own links alone
+-- a chain needs only its own links
 pub kept : (image other : List (List ℕ)) (start : ℕ) (blocks : List ℕ) → Chain image start blocks → length other ≡ length image
     → ((q : ℕ) → list_any (eqb q) blocks ≡ true → link_at other q ≡ link_at image q) → Chain other start blocks
 unfolding Chain
@@ -286,7 +286,7 @@ stands q others found =
     let same : q ≡ p.1 = eqb-true q p.1 p.4 in
     (p.0, p.2, subst (λ (b : ℕ). get_or others p.0 b ≡ b) (sym same) p.3)
 
--- a chain needs the links of its blocks, by their places, alone
+-- a chain needs only the links of its blocks, by their places
 pub kept_by_blocks : (image other : List (List ℕ)) (start : ℕ) (blocks : List ℕ) → Chain image start blocks → length other ≡ length image
     → LinkedAlike image other blocks → Chain other start blocks
 kept_by_blocks image other start blocks h long alike = kept image other start blocks h long (λ q found. alike q (stands q blocks found))

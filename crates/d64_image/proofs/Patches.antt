@@ -539,7 +539,7 @@ unfolding changed_blocks
 rises-changed_blocks before after =
     changed-from (λ block. not (pointwise nat_eq (sector_at before block) (sector_at after block))) before 0 (length before) (length before) (omega arith)
 
--- so a patch that is a difference has blocks of the image alone
+-- so a patch that is a difference has only blocks of the image
 pub rises-difference : (image : List (List ℕ)) (patch : Kept) → patch ≡ changed_blocks (restored_image image patch) image → RisesBetween 0 (length image) patch
 rises-difference image patch e =
     subst (λ (n : ℕ). RisesBetween 0 n patch) (length-restored_image patch image)

@@ -216,7 +216,7 @@ without_bit-fits words block are within =
     below : (n : ℕ) → 2 ^ 32 - 1 - n < 2 ^ 32
     below n = omega arith
 
--- what the word with the bit of a block makes of the set
+-- the set of the words with the bit of a block
 pub inserted : (words : List ℕ) (block : ℕ) → AreWords words → block < BLOCKS
     → marked_blocks (set words (block / 32) (with_bit (get_or words (block / 32) 0) (block % 32))) ≡ blocks.insert (marked_blocks words) block
 inserted words block are within =

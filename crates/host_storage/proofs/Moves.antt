@@ -1,4 +1,4 @@
--- What a new path of a folder makes of a host's files, entry by entry.
+-- A host's files after a folder gets a new path, entry by entry.
 use Rattle.std.proofs.Common.{◌≡◌, ◌≢◌, ℕ, Bool, true, false, nat_eq, List, [], ◌∷◌, ◌++◌, map, length, drop, String, Vec, BTreeMap, string_bytes, if◌then◌else◌, refl, sym, ap, ◌∙◌, subst, Less, Option, Some, None, Bor}
 use Rattle.std.specs.Ordering.{nat_cmp}
 use Rattle.std.specs.BTreeMap.{IsOrdered, get_by_text}

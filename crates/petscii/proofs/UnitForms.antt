@@ -102,7 +102,7 @@ form_of_spelling : (b : ℕ) (unit : List ℕ) → unit ≡ spell b → HasForm 
 form_of_spelling b unit same (inl (c, is, spelled)) = inl (c, is, same ∙ spelled)
 form_of_spelling b unit same (inr (name, names, spelled)) = inr (name, subst (λ (cs : List ℕ). Names cs b) (sym (small_name name b names)) names, same ∙ spelled)
 
--- a name that is a spelling but for its capitals names the byte
+-- a name that is a spelling except for its capitals names the byte
 form_of_capitals : (b : ℕ) (name : List ℕ) → braced_name (str_to_ascii_lowercase name) ≡ spell b → HasForm b (spell b) → Names (str_to_ascii_lowercase name) b
 form_of_capitals b name same (inl (c, is, spelled)) = absurd (braced_not_one (str_to_ascii_lowercase name) c (same ∙ spelled))
 form_of_capitals b name same (inr (known, names, spelled)) = subst (λ (cs : List ℕ). Names cs b) (sym (braced_once (str_to_ascii_lowercase name) known (same ∙ spelled))) names

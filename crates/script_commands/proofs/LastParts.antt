@@ -1,4 +1,4 @@
--- The part of a word after its last byte that passes a test.
+-- The part of an argument after its last byte that passes a test.
 use Rattle.std.proofs.Common.{◌≡◌, ℕ, ◌-◌, ◌≤◌, Bool, true, false, not, List, [], ◌∷◌, ◌++◌, length, drop, sym, ap, subst, ◌∙◌, append_assoc, length-append, arith}
 use Rattle.std.specs.Bool.{MatchBool}
 use Rattle.std.specs.List.{IsAfterLastMatch, after_last, suffix_len}
@@ -12,13 +12,13 @@ after_last-from test word place within after =
     suffix_len_is (λ byte. not (test byte)) word place 0 within (λ k low high. ap not (after.0 k 0 low high)) (λ some. ap not (after.1 some 0)) in
     ap (λ n. drop n word) (omega (arith, size))
 
--- a word and its end
+-- an argument and its end
 is_end : (before part : List ℕ) → drop (length (before ++ part) - length part) (before ++ part) ≡ part
 is_end before part =
     let size : length (before ++ part) - length part ≡ length before = omega (arith, length-append before part) in
     ap (λ n. drop n (before ++ part)) size ∙ drop-append_seam before part
 
--- a word is a part, or ends with a part after one byte more
+-- an argument is a part, or ends with a part after one byte more
 part_of : (whole : Bool) (word rest part : List ℕ) → MatchBool whole (word ≡ part) ((byte : ℕ) × (word ≡ rest ++ byte ∷ part)) → drop (length word - length part) word ≡ part
 part_of true word rest part same = subst (λ (w : List ℕ). drop (length w - length part) w ≡ part) (sym same) (is_end [] part)
 part_of false word rest part (byte, cut) =

@@ -40,14 +40,14 @@ not_spelled test word bytes one read fails others spelled =
     let passes : test bytes ≡ true = ap test (sym same) ∙ spelled.1 in
     cc
 
--- a word was read, and what its bytes ask for was done
+-- an argument was read, and what its bytes ask for was done
 pub Does-read : (test : List ℕ → Bool) (word : List ℕ) (next : List ℕ → Act Ending) (bytes : List ℕ) (host : HostState) (history : History)
     (answer : LineAnswer) (after : World)
     → Reads test word (Ok bytes) → Does (next bytes) (record { host = host; history = history }) answer after
     → Does (Then (Text test word) next) (record { host = host; history = history }) answer after
 Does-read test word next bytes host history answer after read done = Does-given (Text test word) next bytes host host history answer after (read, refl) done
 
--- a word was not read
+-- an argument was not read
 pub Does-unread : (test : List ℕ → Bool) (word : List ℕ) (next : List ℕ → Act Ending) (status : Status) (host : HostState) (history : History)
     → Reads test word (Err status)
     → Does (Then (Text test word) next) (record { host = host; history = history }) (plain_answer status) (record { host = host; history = history })
@@ -55,7 +55,7 @@ unfolding Does
 Does-unread test word next status host history (inl bad) = inl (Err status, host, (bad.0, bad.1, refl), (refl, refl))
 Does-unread test word next status host history (inr memory) = inr (ap plain_answer memory, refl)
 
--- one word more was read
+-- one more argument was read
 pub ReadsEach-more : (test : List ℕ → Bool) (words : List (Bor (List ℕ))) (place : ℕ) (word : Bor (List ℕ)) (texts : List (List ℕ)) (bytes : List ℕ)
     → place < length words → AllZip (IsSpelled test) (take place (map (λ word. word.now) words)) texts → IsSpelled test (get_or words place word).now bytes
     → AllZip (IsSpelled test) (take (place + 1) (map (λ word. word.now) words)) (texts ++ bytes ∷ [])
@@ -65,7 +65,7 @@ ReadsEach-more test words place word texts bytes inside read next =
     let more : take (place + 1) lists ≡ take place lists ++ get_or lists place word.now ∷ [] = take_more lists place word.now (omega (arith, length-map words (λ (word : Bor (List ℕ)). word.now))) in
     rw (more, at) (AllZip-push (IsSpelled test) (take place lists) texts _ bytes read next)
 
--- a word was not read
+-- an argument was not read
 pub ReadsEach-stopped : (test : List ℕ → Bool) (words : List (Bor (List ℕ))) (place : ℕ) (word : Bor (List ℕ)) (texts : List (List ℕ)) (status : Status)
     → place < length words → AllZip (IsSpelled test) (take place (map (λ word. word.now) words)) texts → Reads test (get_or words place word).now (Err status)
     → ReadsEach test (map (λ word. word.now) words) (Err status)

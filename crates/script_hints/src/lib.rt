@@ -1,5 +1,5 @@
 //! Plain English for a person beside the status lines of a script: the prompt, `help`, what is
-//! wrong with a refused line, and what becomes of changes that are not saved.
+//! wrong with a refused line, and what happens to changes that are not saved.
 #![tactic(auto)]
 
 mod advice;

@@ -155,7 +155,7 @@ words_within_printable (suc size) (b ∷ rest) h =
 pub is_printable-true : (b : ℕ) → is_printable b ≡ true → IsPrintable b
 is_printable-true b h = grind (arith, nat_tests)
 
--- the words of a line have printable bytes alone
+-- the words of a line have only printable bytes
 words_of-all_printable : (line : List ℕ) → IfSome (words_of line) (All (All IsPrintable))
 unfolding words_of split_words
 words_of-all_printable line =

@@ -75,7 +75,7 @@ pub fn is_too_long(line: &[u8]) -> bool
     before_end(line).len() > LINE_BYTES
 }
 
-/// Whether the text has no command: it is empty, spaces alone, or a comment after spaces.
+/// Whether the text has no command: it is empty, only spaces, or a comment after spaces.
 pub fn is_skipped(text: &[u8]) -> bool
     ensures { result ≡ is_skipped text.now }
 {

@@ -3,7 +3,7 @@ use Rattle.cbm_text.specs.declared.faulty_text.FaultyLine.{FaultyLine}
 use Rattle.cbm_text.proofs.FaultyTexts.{full}
 use Rattle.cbm_text.proofs.faulty_text.noted.Goals as goal
 
--- as many are kept as are wanted
+-- as many are kept as asked for
 pub returns-else-len-most : goal.returns-else-len-most
 returns-else-len-most c =
     let line : FaultyLine = record { fault = c.in-Err.fault; cause = c.in_ok-cause.cause; text = c.args.text } in
