@@ -83,7 +83,7 @@ const SHELL_USAGE: &str = "d64sh shell [-e] [-c LINE].. [--tracks N] [IMAGE]
 
 const SHELL_DETAILS: &str = "In:      the script on the standard input, one line a command
 Out:     what each command shows, and a status line for each, `00, OK,00,00`
-         where it was accepted
+         if it was accepted
 Example: d64sh shell -c list disk.d64
 
 Lines:   format NAME,ID         make the disk empty
@@ -114,8 +114,8 @@ const PETCAT_USAGE: &str = "d64sh petcat [-o FILE] [FILE]";
 
 const PETCAT_DETAILS: &str =
     "In:      a program as the machine saves it, from FILE or the standard input
-Out:     its lines as text on the standard output, where codes that are no
-         characters of a keyboard stand in braces, such as {clr}
+Out:     its lines as text on the standard output, with codes that no key
+         types in braces, such as {clr}
 Example: d64sh petcat hello.prg -o hello.bas
 
 With --output, FILE is written whole or not at all.
@@ -131,7 +131,7 @@ Out:     the program as the machine loads it, on the standard output
 Example: d64sh crunch hello.bas -o hello.prg
 
 With --output, FILE is written whole or not at all, and what is wrong with the
-text is told as NAME:LINE: and why.
+text is reported as NAME:LINE: and why.
 
 The manual says more: `man d64sh`, or docs/MANUAL.md beside the source.";
 
@@ -193,7 +193,7 @@ const MAP_DETAILS: &str =
     "In:      an image of 35 or 40 tracks, with or without the read codes of its
          blocks: a file of 174,848, 175,531, 196,608 or 197,376 bytes
 Out:     a line a track with a character a sector, and what each character
-         stands for; with --format svg a picture, with a colour for each file
+         means; with --format svg a picture, with a colour for each file
 Exit:    0 nothing is amiss; 1 the image has a fault, a read error or a file
          that isn't whole; 2 an argument is wrong, the file is no image, or
          reading or writing failed
