@@ -47,7 +47,7 @@ state_class (Some false) = codes " class=\"broken\""
 unfoldable pub state_cell : Disk → Bytes → List Flaw → List ℕ
 state_cell image cell flaws = text_in (codes "td") (state_class (wholeness_by cell flaws)) (state_words image cell flaws)
 
--- the size that the directory has
+-- the size that the directory gives
 unfoldable pub size_cell : Bytes → List ℕ
 size_cell cell = text_in (codes "td") [] (decimal (size_of cell))
 

@@ -132,7 +132,7 @@ fn push_state_cell(
     )
 }
 
-/// Appends the size that the directory has.
+/// Appends the size that the directory gives.
 #[tactic(auto, unfolding(crate::specs::Files::size_cell))]
 fn push_size_cell(out: &mut Vec<u8>, entry: &Entry, text: &mut Vec<u8>) -> Result<(), AllocError>
     ensures { OnOk result (out.new.items ≡ out.old.items ++ size_cell entry.now.bytes) }

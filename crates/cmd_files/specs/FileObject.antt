@@ -45,7 +45,7 @@ abbrev pub type_members : FileRowView → List Field
 type_members row =
     (codes "kind", kind_value row.kind) ∷ (codes "type", numeral row.type_byte) ∷ (codes "closed", boolean row.closed) ∷ (codes "locked", boolean row.locked) ∷ []
 
--- the size that the directory has, the pair of the first block, and the length of a record
+-- the size that the directory gives, the pair of the first block, and the length of a record
 abbrev pub entry_members : FileRowView → List Field
 entry_members row =
     (codes "size", numeral row.size) ∷ (codes "first", string (pair_text row.first)) ∷ (codes "record", numeral_or_null row.record_length) ∷ []

@@ -45,7 +45,7 @@ name_fields row = spelling (name_in row.field) ∷ encode_lower row.field ∷ []
 abbrev pub type_fields : FileRowView → List (List ℕ)
 type_fields row = option_map_or kind_letters row.kind [] ∷ decimal row.type_byte ∷ truth_text row.closed ∷ truth_text row.locked ∷ []
 
--- the size that the directory has, the pair of the first block, and the length of a record
+-- the size that the directory gives, the pair of the first block, and the length of a record
 abbrev pub entry_fields : FileRowView → List (List ℕ)
 entry_fields row = decimal row.size ∷ pair_text row.first ∷ decimal_or_empty row.record_length ∷ []
 

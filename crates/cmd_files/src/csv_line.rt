@@ -113,7 +113,7 @@ fn push_type(line: &mut ByteRecord, row: &FileRow) -> Result<(), AllocError>
     push_boolean(line, row.locked)
 }
 
-/// Appends the size that the directory has, the pair of the first block, and the length of a
+/// Appends the size that the directory gives, the pair of the first block, and the length of a
 /// record, to a row.
 fn push_entry(line: &mut ByteRecord, row: &FileRow) -> Result<(), AllocError>
     requires { partial_of line.old ≡ [] }

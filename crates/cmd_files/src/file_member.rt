@@ -80,7 +80,7 @@ fn put_type(writer: &mut Writer, row: &FileRow) -> Result<(), AllocError>
     put_boolean(writer, "locked", row.locked)
 }
 
-/// Prints the size that the directory has, the pair of the first block, and the length of a record.
+/// Prints the size that the directory gives, the pair of the first block, and the length of a record.
 fn put_entry(writer: &mut Writer, row: &FileRow) -> Result<(), AllocError>
     ensures before { writer.new.before ≡ writer.old.before }
     ensures tokens { OnOk result (writer.new.tokens ≡ writer.old.tokens ++ member_tokens (entry_members row.now)) }

@@ -128,7 +128,7 @@ fn push_state(out: &mut Vec<u8>, row: &FileRow) -> Result<(), AllocError>
     out.extend_from_slice(locked_text(row.locked))
 }
 
-/// Appends the size that the directory has, right-aligned.
+/// Appends the size that the directory gives, right-aligned.
 fn push_size(out: &mut Vec<u8>, size: u16) -> Result<(), AllocError>
     ensures { OnOk result (out.new.items ≡ out.old.items ++ right_in 5 (decimal size)) }
 {
@@ -145,7 +145,7 @@ fn push_name(scratch: &mut Vec<u8>, out: &mut Vec<u8>, name: &[u8]) -> Result<()
     push_left(out, NAME_COLUMNS, scratch.as_slice())
 }
 
-/// Appends the text of a file: the size that the directory has, the name, the kind, whether it is
+/// Appends the text of a file: the size that the directory gives, the name, the kind, whether it is
 /// whole or what is wrong with it, and whether it is locked.
 #[tactic(auto, unfolding(crate::specs::FileTable::file_text))]
 pub(crate) fn push_file_text(

@@ -26,7 +26,7 @@ kind_letters Rel = codes "rel"
 abbrev pub letters_of : Bytes → List ℕ
 letters_of cell = if has_kind cell then kind_letters (kind_of cell) else codes "???"
 
--- the size that the directory has, and how many blocks there are
+-- the size that the directory gives, and how many blocks there are
 unfoldable pub size_text : ℕ → ℕ → List ℕ
 size_text shown there = codes "the directory says " ++ (count_of shown (codes "block") ++ (codes ", " ++ (decimal there ++ (if there == 1 then codes " is there" else codes " are there"))))
 

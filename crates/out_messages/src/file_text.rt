@@ -70,7 +70,7 @@ fn is_there(there: usize) -> &'static [u8]
     }
 }
 
-/// Appends the size that the directory has, and how many blocks there are.
+/// Appends the size that the directory gives, and how many blocks there are.
 #[tactic(auto, unfolding(crate::specs::FileText::size_text))]
 fn push_size(out: &mut Vec<u8>, shown: usize, there: usize) -> Result<(), AllocError>
     ensures { OnOk result (out.new.items ≡ out.old.items ++ size_text shown there) }
