@@ -3,6 +3,7 @@ pub mod StartLists
 pub mod StartPairs
 pub mod DataBlocks
 pub mod HeaderSearches
+pub mod SoundNames
 pub mod Files
 pub mod DumpBlocks
 pub mod SoundHeaders

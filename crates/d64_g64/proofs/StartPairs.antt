@@ -43,7 +43,7 @@ length-with_next first (start ∷ []) = refl
 length-with_next first (start ∷ next ∷ rest) = ap suc (length-with_next first (next ∷ rest))
 
 -- the pairs of all starts from a place on
-drop-paired : (starts : List ℕ) (place : ℕ) → place < length starts
+pub drop-paired : (starts : List ℕ) (place : ℕ) → place < length starts
     → drop place (paired starts) ≡ (get_or starts place 0, next_of starts place) ∷ drop (suc place) (paired starts)
 drop-paired [] place h = absurd (omega arith)
 drop-paired (first ∷ rest) place h = drop-with_next first (first ∷ rest) place h
@@ -63,8 +63,9 @@ pair_later p starts place h fails =
     ∙ ap (λ (b : Bool). cond b (Some (get_or starts place 0, next_of starts place)) (find p (drop (suc place) (paired starts)))) fails
     ∙ ap (λ (x : ℕ). find p (drop x (paired starts))) e
 
-pub no_pair_left : (p : ℕ × ℕ → Bool) (starts : List ℕ) (place : ℕ) → length starts ≤ place → find p (drop place (paired starts)) ≡ None
-no_pair_left p starts place h = ap (find p) (all starts place h)
+-- after the last one there is no pair
+pub no_pairs_left : (starts : List ℕ) (place : ℕ) → length starts ≤ place → drop place (paired starts) ≡ []
+no_pairs_left starts place h = all starts place h
   where
     drop-of-nil : (place : ℕ) → let none : List (ℕ × ℕ) = [] in drop place none ≡ []
     drop-of-nil zero = refl
@@ -78,3 +79,6 @@ no_pair_left p starts place h = ap (find p) (all starts place h)
     all : (starts : List ℕ) (place : ℕ) → length starts ≤ place → drop place (paired starts) ≡ []
     all [] place h = drop-of-nil place
     all (first ∷ rest) place h = past (with_next first (first ∷ rest)) place (let e = length-with_next first (first ∷ rest) in omega (arith, e, h))
+
+pub no_pair_left : (p : ℕ × ℕ → Bool) (starts : List ℕ) (place : ℕ) → length starts ≤ place → find p (drop place (paired starts)) ≡ None
+no_pair_left p starts place h = ap (find p) (no_pairs_left starts place h)

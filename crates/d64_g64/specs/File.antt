@@ -23,22 +23,27 @@ entries file = slice_index file 9
 unfoldable pub is_g64 : Bytes → Bool
 is_g64 file = nat_le 12 (length file) && (slice_index file 8 == 0) && nat_le (12 + 8 * entries file) (length file)
 
--- the place of a whole track's length, from 0: entry 0 is for track 1, entry 2 for track 2
+-- where the length of an entry's track stands, from 0
 unfoldable pub offset_of : Bytes → ℕ → ℕ
-offset_of file number = number_of_four file (4 + 8 * number)
+offset_of file entry = number_of_four file (12 + 4 * entry)
 
--- whether the file has the track: it has its entry, which isn't 0, and the two bytes of its length
+-- the file has the track of an entry: the entry is there and isn't 0, and the two bytes of the
+-- track's length are there
 unfoldable pub has_track : Bytes → ℕ → Bool
-has_track file number =
-    nat_lt (2 * number - 2) (entries file) && not (offset_of file number == 0) && nat_le (offset_of file number + 2) (length file)
+has_track file entry =
+    nat_lt entry (entries file) && not (offset_of file entry == 0) && nat_le (offset_of file entry + 2) (length file)
 
 -- count bytes from a place on; bytes past the file's end are 0
 abbrev pub padded : Bytes → ℕ → ℕ → Bytes
 padded file place count = take count (drop place file) ++ replicate (count - (length file - place)) 0
 
--- the bytes of a whole track; no bytes if there is no such track
-unfoldable pub track_of : Bytes → ℕ → Bytes
-track_of file number =
-    if has_track file number
-    then padded file (offset_of file number + 2) (number_of_two file (offset_of file number))
+-- the bytes of an entry's track; no bytes where there is no such track
+unfoldable pub entry_bytes : Bytes → ℕ → Bytes
+entry_bytes file entry =
+    if has_track file entry
+    then padded file (offset_of file entry + 2) (number_of_two file (offset_of file entry))
     else []
+
+-- the bytes of a whole track: entry 0 is track 1, entry 2 track 2
+unfoldable pub track_of : Bytes → ℕ → Bytes
+track_of file number = entry_bytes file (2 * number - 2)

@@ -8,3 +8,4 @@ pub mod Dump
 pub mod Fault
 pub mod Laws
 pub mod DumpOf
+pub mod SoundNames

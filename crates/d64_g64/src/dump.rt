@@ -33,9 +33,9 @@ const DIRECTORY_TRACK: u8 = 18;
 
 /// The track that is read: its bytes and its starts.
 #[derive(Drop)]
-struct Track {
-    bytes: Vec<u8>,
-    starts: Vec<u32>,
+pub(crate) struct Track {
+    pub(crate) bytes: Vec<u8>,
+    pub(crate) starts: Vec<u32>,
 }
 
 /// What was read of a disk, block by block.
@@ -46,7 +46,7 @@ struct Blocks {
 }
 
 /// Reads the disk's id.
-fn read_id(file: &[u8], track: &mut Track) -> Result<Option<Id>, AllocError>
+pub(crate) fn read_id(file: &[u8], track: &mut Track) -> Result<Option<Id>, AllocError>
     requires { is_g64 file.now ≡ true }
     ensures { IfOk result (λ id. id ≡ id_in file.now) }
 {

@@ -1,6 +1,6 @@
 //! G64 files and the places of their tracks.
 ghost use Rattle.std.specs.Prelude.{◌≡◌, ℕ, ◌+◌, ◌-◌, ◌*◌, ◌<◌, ◌≤◌, true, length, OnOk, if◌then◌else◌, Some, None};
-ghost use Rattle.d64_g64.specs.File.{begins_as_g64, number_of_two, number_of_four, is_g64, entries, offset_of, has_track, padded, track_of};
+ghost use Rattle.d64_g64.specs.File.{begins_as_g64, number_of_two, number_of_four, is_g64, entries, offset_of, has_track, padded, entry_bytes, track_of};
 
 use std::alloc::AllocError;
 
@@ -29,27 +29,26 @@ fn number_of_two(file: &[u8], place: usize) -> usize
     usize::from(file[place]) + 256 * usize::from(file[place + 1])
 }
 
-/// The place of the length of a whole track, from 0, as its entry has it.
+/// Where the length of an entry's track stands, from 0.
 #[tactic(auto, unfolding(crate::specs::File::offset_of))]
-fn offset_of(file: &[u8], number: u8) -> usize
-    requires { 4 + 8 * number + 4 ≤ length file.now }
-    ensures value { result ≡ offset_of file.now number }
+fn offset_of(file: &[u8], entry: u8) -> usize
+    requires { 12 + 4 * entry + 4 ≤ length file.now }
+    ensures value { result ≡ offset_of file.now entry }
     ensures below { result < 4294967296 }
 {
-    let place = 4 + 8 * usize::from(number);
+    let place = 12 + 4 * usize::from(entry);
     number_of_two(file, place) + 65536 * number_of_two(file, place + 2)
 }
 
-/// Whether the file has a whole track.
-fn has_track(file: &[u8], number: u8) -> bool
+/// Whether the file has the track of an entry, from 0.
+fn has_track(file: &[u8], entry: u8) -> bool
     requires file { is_g64 file.now ≡ true }
-    requires number { (1 ≤ number) × (number < 41) }
-    ensures { result ≡ has_track file.now number }
+    ensures { result ≡ has_track file.now entry }
 {
-    if 2 * number - 2 >= file[9] {
+    if entry >= file[9] {
         return false;
     }
-    let offset = offset_of(file, number);
+    let offset = offset_of(file, entry);
     offset != 0 && offset + 2 <= file.len()
 }
 
@@ -76,17 +75,28 @@ fn copy_padded(
     copy.resize(count, 0)
 }
 
-/// Copies the bytes of a whole track, or no bytes if the file has no such track.
+/// Copies the bytes of an entry's track, none where the file has no such track. Entries count from
+/// 0: entry 0 is track 1, entry 1 the half track behind it.
+pub(crate) fn copy_entry(copy: &mut Vec<u8>, file: &[u8], entry: u8) -> Result<(), AllocError>
+    requires file { is_g64 file.now ≡ true }
+    ensures copied { OnOk result (copy.new.items ≡ entry_bytes file.now entry) }
+    ensures short { OnOk result (length copy.new.items < 65536) }
+{
+    if !has_track(file, entry) {
+        copy.clear();
+        return Ok(());
+    }
+    let offset = offset_of(file, entry);
+    copy_padded(copy, file, offset + 2, number_of_two(file, offset))
+}
+
+/// Copies the bytes of a whole track, none where the file has no such track.
+#[tactic(auto, unfolding(crate::specs::File::track_of))]
 pub(crate) fn copy_track(copy: &mut Vec<u8>, file: &[u8], number: u8) -> Result<(), AllocError>
     requires file { is_g64 file.now ≡ true }
     requires number { (1 ≤ number) × (number < 41) }
     ensures copied { OnOk result (copy.new.items ≡ track_of file.now number) }
     ensures short { OnOk result (length copy.new.items < 65536) }
 {
-    if !has_track(file, number) {
-        copy.clear();
-        return Ok(());
-    }
-    let offset = offset_of(file, number);
-    copy_padded(copy, file, offset + 2, number_of_two(file, offset))
+    copy_entry(copy, file, 2 * number - 2)
 }

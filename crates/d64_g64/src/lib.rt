@@ -13,10 +13,12 @@ mod fault;
 mod file;
 mod header;
 pub mod laws;
+mod naming;
 mod refilling;
 mod start;
 
 pub use dump::read_g64;
 pub use fault::G64Fault;
 pub use file::begins_as_g64;
+pub use naming::list_names_on;
 pub use refilling::{is_dump, refill_from};

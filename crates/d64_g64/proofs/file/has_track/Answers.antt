@@ -6,20 +6,20 @@ use Rattle.d64_g64.proofs.file.has_track.Goals as goal
 pub bounds-file-9 : goal.bounds-file-9
 bounds-file-9 c = let long = long_enough c.args.file.now c.requires.file in omega (arith, long.0)
 
-pub returns-then-number-file : goal.returns-then-number-file
-returns-then-number-file c = lacks_entry c.args.file.now c.args.number c.if-number-file.true
+pub returns-then-entry-file : goal.returns-then-entry-file
+returns-then-entry-file c = lacks_entry c.args.file.now c.args.entry c.if-entry-file.true
 
 pub offset_of-offset-requires : goal.offset_of-offset-requires
-offset_of-offset-requires c = let long = long_enough c.args.file.now c.requires.file in omega (arith, long.1, c.if-number-file.false, c.requires.number.0)
+offset_of-offset-requires c = let long = long_enough c.args.file.now c.requires.file in omega (arith, long.1, c.if-entry-file.false)
 
 pub returns-then-offset-ne0 : goal.returns-then-offset-ne0
 returns-then-offset-ne0 c =
     ap (λ (b : Bool). not b && leb (c.offset_of-offset.result + 2) (length c.args.file.now)) (sym (ne_eqb c.offset_of-offset.result 0 c.if-offset-ne0.true))
-    ∙ has_entry c.args.file.now c.args.number c.offset_of-offset.result c.if-number-file.false c.offset_of-offset.ensures.value
+    ∙ has_entry c.args.file.now c.args.entry c.offset_of-offset.result c.if-entry-file.false c.offset_of-offset.ensures.value
 
 pub returns-else-offset-ne0 : goal.returns-else-offset-ne0
 returns-else-offset-ne0 c =
     let zero : nat_eq c.offset_of-offset.result 0 ≡ true = eq-eqb _ _ c.if-offset-ne0.false in
     ap not zero
     ∙ sym (ap (λ (b : Bool). not b && leb (c.offset_of-offset.result + 2) (length c.args.file.now)) zero)
-    ∙ has_entry c.args.file.now c.args.number c.offset_of-offset.result c.if-number-file.false c.offset_of-offset.ensures.value
+    ∙ has_entry c.args.file.now c.args.entry c.offset_of-offset.result c.if-entry-file.false c.offset_of-offset.ensures.value
