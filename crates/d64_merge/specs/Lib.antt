@@ -1,0 +1,4 @@
+pub mod Copies
+pub mod Choices
+pub mod Merged
+pub mod Left
