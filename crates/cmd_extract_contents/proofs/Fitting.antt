@@ -3,7 +3,7 @@ use Rattle.std.proofs.Common.{◌≡◌, ℕ, ◌+◌, ◌-◌, ◌≤◌, nat_l
 use Rattle.std.specs.Prelude.{is_some, unwrap_or}
 use Rattle.std.proofs.lemmas.Bool.{leb-true}
 use Rattle.std.proofs.lemmas.List.Sums.{sum_by-cons}
-use Rattle.cmd_extract_contents.specs.Portions.{Portion, portion}
+use Rattle.cmd_extract_contents.specs.Portions.{Portion}
 use Rattle.cmd_extract_contents.specs.Limits.{left_after, portion_within, written_portions, byte_count}
 use Rattle.cmd_extract_contents.specs.ExtractLaws.{WrittenFits}
 
@@ -22,9 +22,8 @@ one_fits (Some left) (Some file) = by_test (nat_le (length file.bytes) left) lef
 
 pub all_fit : WrittenFits
 unfolding written_portions
-all_fit with_parts image left [] = omega arith
-all_fit with_parts image left (cell ∷ cells) =
-    let file = portion with_parts image cell in
+all_fit left [] = omega arith
+all_fit left (file ∷ files) =
     let first = portion_within left file in
-    let later = written_portions with_parts image (left_after left file) cells in
-    omega (arith, sum_by-cons byte_count first later, one_fits left file, all_fit with_parts image (left_after left file) cells)
+    let later = written_portions (left_after left file) files in
+    omega (arith, sum_by-cons byte_count first later, one_fits left file, all_fit (left_after left file) files)

@@ -1,5 +1,5 @@
 -- What follows from the definition of what is written.
-use Rattle.std.specs.Prelude.{◌≡◌, ℕ, ◌≤◌, Bool, true, false, if◌then◌else◌, List, Option, Some, None, is_some, IfSome, unwrap_or}
+use Rattle.std.specs.Prelude.{◌≡◌, ℕ, ◌≤◌, true, false, if◌then◌else◌, List, Option, Some, None, is_some, IfSome, unwrap_or}
 use Rattle.d64_image.specs.Disk.{Disk, Bytes}
 use Rattle.d64_files.specs.Slot.{is_used, is_closed}
 use Rattle.d64_files.specs.Reading.{file_refusal, file_content}
@@ -22,7 +22,7 @@ NothingOfUnclosed = (image : Disk) (cell : Bytes) → is_closed cell ≡ false �
 abbrev pub PartsChangeNoContent : Type 0
 PartsChangeNoContent = (image : Disk) (cell : Bytes) → IfSome (portion false image cell) (λ (file : Portion). portion true image cell ≡ Some file)
 
--- the files that are written have together no more bytes than they may
+-- the files that are written, of whatever there is to write, have together at most as many bytes
+-- as they may have
 abbrev pub WrittenFits : Type 0
-WrittenFits =
-    (with_parts : Bool) (image : Disk) (left : Option ℕ) (cells : List Bytes) → byte_counts (written_portions with_parts image left cells) ≤ unwrap_or left 0
+WrittenFits = (left : Option ℕ) (portions : List (Option Portion)) → byte_counts (written_portions left portions) ≤ unwrap_or left 0

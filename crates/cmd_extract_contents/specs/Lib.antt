@@ -1,3 +1,4 @@
 pub mod Portions
+pub mod RowPortions
 pub mod Limits
 pub mod ExtractLaws

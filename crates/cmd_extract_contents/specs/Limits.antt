@@ -1,8 +1,7 @@
 -- How much is written of an image.
-use Rattle.std.specs.Prelude.{ℕ, ◌-◌, nat_le, Bool, if◌then◌else◌, List, [], ◌∷◌, length, sum_by, Option, Some, None, is_some}
+use Rattle.std.specs.Prelude.{ℕ, ◌-◌, nat_le, if◌then◌else◌, List, [], ◌∷◌, length, sum_by, Option, Some, None, is_some}
 use Rattle.std.specs.Option.{option_map_or}
-use Rattle.d64_image.specs.Disk.{Disk, Bytes}
-use Rattle.cmd_extract_contents.specs.Portions.{Portion, portion}
+use Rattle.cmd_extract_contents.specs.Portions.{Portion}
 
 -- the most bytes that the files of an image may have together
 abbrev pub limit : ℕ
@@ -14,25 +13,25 @@ abbrev pub remaining_bytes : Option ℕ → ℕ → Option ℕ
 remaining_bytes None count = None
 remaining_bytes (Some left) count = if nat_le count left then Some (left - count) else None
 
--- the same after what there is to write of a slot, if anything
+-- the same after what there is to write of a file, if anything
 abbrev pub left_after : Option ℕ → Option Portion → Option ℕ
 left_after left None = left
 left_after left (Some portion) = remaining_bytes left (length portion.bytes)
 
--- what is written, of what there is to write of a slot: nothing if that is too much
+-- what is written, of what there is to write of a file: nothing where that is too much
 abbrev pub portion_within : Option ℕ → Option Portion → Option Portion
 portion_within left portion = if is_some (left_after left portion) then portion else None
 
--- what is written of slots, one after another, if their files may have this many bytes
-unfoldable pub written_portions : Bool → Disk → Option ℕ → List Bytes → List (Option Portion)
-written_portions with_parts image left [] = []
-written_portions with_parts image left (cell ∷ cells) =
-    portion_within left (portion with_parts image cell) ∷ written_portions with_parts image (left_after left (portion with_parts image cell)) cells
+-- what is written, of what there is to write of files, one after another, where they may have so
+-- many bytes
+unfoldable pub written_portions : Option ℕ → List (Option Portion) → List (Option Portion)
+written_portions left [] = []
+written_portions left (portion ∷ portions) = portion_within left portion ∷ written_portions (left_after left portion) portions
 
--- how many bytes are written of a slot
+-- how many bytes are written of a file
 abbrev pub byte_count : Option Portion → ℕ
 byte_count portion = option_map_or (λ (portion : Portion). length portion.bytes) portion 0
 
--- how many bytes are written of each of some slots
+-- how many are written of files
 abbrev pub byte_counts : List (Option Portion) → ℕ
 byte_counts portions = sum_by byte_count portions

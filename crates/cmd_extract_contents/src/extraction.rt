@@ -1,11 +1,13 @@
 //! The extraction of an image, file by file.
 ghost use Rattle.std.specs.Prelude.{◌≡◌, not, is_some, Some, None, IfOk, OnOk, option_map};
 ghost use Rattle.cmd_extract_contents.specs.Portions.{Portion, portion_at};
+ghost use Rattle.cmd_extract_contents.specs.RowPortions.{row_portion};
 ghost use Rattle.cmd_extract_contents.specs.Limits.{remaining_bytes, left_after, portion_within};
 
 use crate::extent::Extent;
-use crate::finding::put_portion;
+use crate::finding::{put_deleted, put_portion};
 use d64_files::SlotNo;
+use d64_leftovers::Row;
 use d64_survey::Survey;
 use std::alloc::AllocError;
 use std::marker::Model;
@@ -67,16 +69,49 @@ impl ContentExtraction {
         let Some(entry) = survey.entry(slot) else {
             return Ok(None);
         };
-        match put_portion(bytes, survey.image(), &entry, with_parts)? {
+        let found = put_portion(bytes, survey.image(), &entry, with_parts)?;
+        Ok(self.within(found, bytes))
+    }
+
+    /// Puts what is written of the next row's file into a list, in the place of what that had, and
+    /// says how much of the file that is, as `next` does.
+    pub fn next_row(
+        &mut self,
+        survey: &Survey,
+        row: &Row,
+        with_parts: bool,
+        bytes: &mut Vec<u8>,
+    ) -> Result<Option<Extent>, AllocError>
+        ensures written { IfOk result (λ extent. option_map (λ extent. record { bytes = bytes.new.items; extent = extent }) extent
+            ≡ portion_within self.old (row_portion with_parts survey.now row.now)) }
+        ensures left { OnOk result (self.new ≡ left_after self.old (row_portion with_parts survey.now row.now)) }
+    {
+        match row {
+            Row::File(file) => self.next(survey, SlotNo::at(file.slot), with_parts, bytes),
+            Row::Deleted(file) => {
+                let found = put_deleted(bytes, survey.image(), file, with_parts)?;
+                Ok(self.within(found, bytes))
+            }
+        }
+    }
+
+    /// What is written of a file of which this was found, with these bytes: nothing if they are too
+    /// many.
+    fn within(&mut self, found: Option<Extent>, bytes: &[u8]) -> Option<Extent>
+        ensures written { option_map (λ extent. record { bytes = bytes.now; extent = extent }) result
+            ≡ portion_within self.old (option_map (λ extent. record { bytes = bytes.now; extent = extent }) found) }
+        ensures left { self.new ≡ left_after self.old (option_map (λ extent. record { bytes = bytes.now; extent = extent }) found) }
+    {
+        match found {
             Some(extent) => {
                 self.left = less(self.left, bytes.len());
                 if self.left.is_some() {
-                    Ok(Some(extent))
+                    Some(extent)
                 } else {
-                    Ok(None)
+                    None
                 }
             }
-            None => Ok(None),
+            None => None,
         }
     }
 

@@ -3,12 +3,16 @@ ghost use Rattle.std.specs.Prelude.{◌≡◌, if◌then◌else◌, Some, None, 
 ghost use Rattle.std.specs.Option.{option_and_then};
 ghost use Rattle.d64_survey.specs.Way.{way};
 ghost use Rattle.d64_inventory.specs.Contents.{content_along, content_of};
-ghost use Rattle.cmd_extract_contents.specs.Portions.{Portion, found_along, part_of, portion};
+ghost use Rattle.cmd_extract_contents.specs.Portions.{Portion, written_as, found_along, part_of, portion};
+ghost use Rattle.cmd_extract_contents.specs.RowPortions.{deleted_portion};
+ghost use Rattle.cmd_extract_contents.specs.declared.extent.Extent.TheVariants.{Content};
 
 use crate::data::{push_all, push_data};
 use crate::extent::Extent;
 use d64_files::{BlockList, Entry};
 use d64_image::Image;
+use d64_leftovers::DeletedRow;
+use d64_scratched::is_lost;
 use d64_survey::{data_pair, walk};
 use std::alloc::AllocError;
 
@@ -83,9 +87,51 @@ fn put_part(bytes: &mut Vec<u8>, image: &Image, entry: &Entry) -> Result<bool, A
     put_found_from(bytes, image, track, sector)
 }
 
-/// Replaces a list's contents by what there is to write of the file of an entry, and returns how
-/// much of the file that is, or None if there is nothing: its content, or, if it has none and parts
-/// are wanted, what is there of it.
+/// Puts what there is to write of a deleted file into a list, in the place of what that had, and
+/// says how much of the file that is, or None if there is nothing: its content if it isn't lost, and
+/// else, if parts are wanted too, what is there of it.
+pub(crate) fn put_deleted(
+    bytes: &mut Vec<u8>,
+    image: &Image,
+    row: &DeletedRow,
+    with_parts: bool,
+) -> Result<Option<Extent>, AllocError>
+    ensures { IfOk result (λ extent. option_map (λ extent. record { bytes = bytes.new.items; extent = extent }) extent ≡ deleted_portion with_parts image.now row.now) }
+{
+    let (track, sector) = row.first;
+    if !is_lost(row.losses.as_slice()) {
+        return put_deleted_content(bytes, image, track, sector);
+    }
+    if !with_parts {
+        return Ok(None);
+    }
+    if put_found_from(bytes, image, track, sector)? {
+        Ok(Some(Extent::Part))
+    } else {
+        Ok(None)
+    }
+}
+
+/// Puts the content along the way from a track and a sector into a list, in the place of what that
+/// had, and says that it is a content, or None if there is none.
+fn put_deleted_content(
+    bytes: &mut Vec<u8>,
+    image: &Image,
+    track: u8,
+    sector: u8,
+) -> Result<Option<Extent>, AllocError>
+    ensures { IfOk result (λ extent. option_map (λ extent. record { bytes = bytes.new.items; extent = extent }) extent ≡ written_as Content (content_along image.now (way image.now (track, sector)))) }
+{
+    if put_content_from(bytes, image, track, sector)? {
+        Ok(Some(Extent::Content))
+    } else {
+        Ok(None)
+    }
+}
+
+/// Puts what there is to write of the file of an entry into a list, in the place of what that had,
+/// and says how much of the file that is, or None where there is nothing: its content, and where it
+/// has none, if parts are wanted too, what is there of it.
 pub(crate) fn put_portion(
     bytes: &mut Vec<u8>,
     image: &Image,

@@ -76,8 +76,8 @@ impl ContentTable {
         }
     }
 
-    /// The length and the digest of the content along the way from a track and a sector.
-    fn content_from(&mut self, image: &Image, track: u8, sector: u8) -> Option<Content>
+    /// What is told of the content along the way from a track and a sector.
+    pub(crate) fn content_from(&mut self, image: &Image, track: u8, sector: u8) -> Option<Content>
         requires { TellsContents image.now self.old.contents }
         ensures content { result ≡ digested_along image.now (way image.now (track, sector)) }
         ensures kept { TellsContents image.now self.new.contents }

@@ -2,15 +2,17 @@
 ghost use Rattle.std.specs.Prelude.{◌≡◌, Some, None, length, count_by, if◌then◌else◌};
 ghost use Rattle.std.specs.FinSet as set;
 ghost use Rattle.d64_files.specs.Slot.{is_used, kind_of, field_of};
+ghost use Rattle.d64_survey.specs.Way.{way};
 ghost use Rattle.d64_survey.specs.Owners.{way_slots};
 ghost use Rattle.d64_survey.specs.Inspection.{slot_cell};
 ghost use Rattle.d64_survey.specs.declared.read_error.ReadError.{ReadError};
+ghost use Rattle.d64_inventory.specs.Contents.{digested_along};
 ghost use Rattle.d64_inventory.specs.Rows.{known_kind, record_length_by, row_of, row_at};
 
 use crate::conditions::conditions;
 use crate::content_table::ContentTable;
 use crate::file_blocks::FileBlocks;
-use crate::row::FileRow;
+use crate::row::{Content, FileRow};
 use d64_files::{Entry, Kind, SLOTS_PER_BLOCK, SlotNo};
 use d64_image::{BLOCK_BYTES, BlockSet};
 use d64_map::free_set;
@@ -109,7 +111,7 @@ impl<'a> Inventory<'a> {
     }
 
     /// How many slots the directory's way has.
-    pub(crate) fn slot_count(&self) -> usize
+    pub fn slot_count(&self) -> usize
         ensures { result ≡ length (way_slots self.now.image) }
     {
         SLOTS_PER_BLOCK * self.inspection.survey().directory().len()
@@ -127,7 +129,17 @@ impl<'a> Inventory<'a> {
         }
     }
 
-    /// The row of an entry of the dump's image, or None if its slot isn't used.
+    /// What is told of the content along the way from a track and a sector, or None if that isn't a
+    /// whole chain. It is digested only where what is told of it isn't kept for its first block.
+    pub fn content_along(&mut self, track: u8, sector: u8) -> Option<Content>
+        ensures content { result ≡ digested_along self.old.image (way self.old.image (track, sector)) }
+        ensures same { self.new ≡ self.old }
+    {
+        self.contents
+            .content_from(self.inspection.image(), track, sector)
+    }
+
+    /// What is told of an entry of the dump's image, or None where its slot isn't used.
     fn row_of_used(&mut self, entry: &Entry) -> Option<FileRow>
         requires { slot_cell self.old.image entry.now.slot ≡ Some entry.now.bytes }
         ensures row { result ≡ (if is_used entry.now.bytes then Some (row_of self.old (entry.now.slot, entry.now.bytes)) else None) }

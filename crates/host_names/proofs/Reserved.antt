@@ -9,7 +9,7 @@ use Rattle.std.proofs.lemmas.Bool.{cases_eq, both_ways, false_from_ne_true, ne_e
 use Rattle.std.proofs.lemmas.List.{map-append, length-append}
 use Rattle.std.proofs.lemmas.List.Folds.{list_all-append}
 use Rattle.host_names.specs.declared.ending.Ending.{Ending}
-use Rattle.host_names.specs.declared.ending.Ending.TheVariants.{Del, Seq, Prg, Usr, Rel}
+use Rattle.host_names.specs.declared.ending.Ending.TheVariants.{Del, Seq, Prg, Usr, Rel, Deleted, Orphan}
 use Rattle.host_names.specs.HostName.{full_stop, underscore, is_same_name, before_dot, device_name, without_last_spaces, devices, ports, is_port, is_reserved, allowed_name, unhidden_name, closed_name, filled_name, unreserved_name, stem, ending_text, part_text, tail, mark, numbered_name}
 use Rattle.host_names.specs.TakenNames.{first_free, next_name}
 use Rattle.host_names.proofs.SameNames.{lower_from_same}
@@ -120,6 +120,8 @@ before_tail Seq is_part = before_stop 46 (codes "seq" ++ part_text is_part) refl
 before_tail Prg is_part = before_stop 46 (codes "prg" ++ part_text is_part) refl
 before_tail Usr is_part = before_stop 46 (codes "usr" ++ part_text is_part) refl
 before_tail Rel is_part = before_stop 46 (codes "rel" ++ part_text is_part) refl
+before_tail Deleted is_part = before_stop 46 (codes "deleted" ++ part_text is_part) refl
+before_tail Orphan is_part = before_stop 46 (codes "orphan" ++ part_text is_part) refl
 
 -- ---- names
 

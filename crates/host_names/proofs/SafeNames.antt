@@ -11,7 +11,7 @@ use Rattle.host_names.specs.TakenNames.{first_free, next_name}
 use Rattle.host_names.specs.Laws.{AreCounted, StaysInFolder, IsPrinted, EndsWith}
 use Rattle.host_names.proofs.Numbers.{IsDigit, digits, first_mark, other_mark}
 use Rattle.host_names.proofs.Search.{first_free_within}
-use Rattle.host_names.proofs.Tails.{each_tail, length-tail}
+use Rattle.host_names.proofs.Tails.{each_tail, long_tail}
 
 -- a list that passes a test
 pub all_from_test : (P : ℕ → Type 0) (test : ℕ → Bool) → ((byte : ℕ) → test byte ≡ true → P byte) → (bytes : List ℕ) → list_all test bytes ≡ true → All P bytes
@@ -84,7 +84,7 @@ tail_allowed : (ending : Ending) (is_part : Bool) → All IsAllowed (tail ending
 unfolding tail ending_text part_text is_forbidden forbidden_characters
 tail_allowed ending is_part =
     all_from_test IsAllowed is_allowed (λ byte passes. not-true (is_forbidden byte) passes) (tail ending is_part)
-    (each_tail (λ bytes. list_all is_allowed bytes) refl refl refl refl refl refl refl refl refl refl ending is_part)
+    (each_tail (λ bytes. list_all is_allowed bytes) refl refl refl refl refl refl refl refl refl refl refl refl refl refl ending is_part)
 
 second_false : (a b : Bool) → not (a && b) ≡ true → a ≡ true → b ≡ false
 second_false true true is passes = absurd (cc)
@@ -128,7 +128,7 @@ tail_printed : (ending : Ending) (is_part : Bool) → All IsPrinted (tail ending
 unfolding tail ending_text part_text
 tail_printed ending is_part =
     all_from_test IsPrinted is_printed printed_from_test (tail ending is_part)
-    (each_tail (λ bytes. list_all is_printed bytes) refl refl refl refl refl refl refl refl refl refl ending is_part)
+    (each_tail (λ bytes. list_all is_printed bytes) refl refl refl refl refl refl refl refl refl refl refl refl refl refl ending is_part)
 
 -- each byte of the name of a printed text is printed
 pub name_printed : (taken : List (List ℕ)) (text : List ℕ) (ending : Ending) (is_part : Bool) → AreCounted taken → All IsPrinted text
@@ -161,14 +161,9 @@ name_ends taken text ending is_part =
     let number = first_free taken (stem text) back in
     (stem text ++ mark number, sym (append_assoc (stem text) (mark number) back))
 
-four_or_nine : (is_part : Bool) → 4 ≤ (if is_part then 9 else 4)
-four_or_nine true = omega arith
-four_or_nine false = omega arith
-
 pub name_stays : (taken : List (List ℕ)) (text : List ℕ) (ending : Ending) (is_part : Bool) → AreCounted taken → StaysInFolder (next_name taken text ending is_part)
 name_stays taken text ending is_part counted =
     let name = next_name taken text ending is_part in
     let ends = name_ends taken text ending is_part in
-    let long : 4 ≤ length (tail ending is_part) = omega (arith, length-tail ending is_part, four_or_nine is_part) in
-    stays_from_length name (omega (arith, ap length ends.1, length-append ends.0 (tail ending is_part)))
+    stays_from_length name (omega (arith, long_tail ending is_part, ap length ends.1, length-append ends.0 (tail ending is_part)))
     (All-weaker IsAllowed (λ byte. byte ≢ slash) not_slash name (name_allowed taken text ending is_part counted))

@@ -4,7 +4,7 @@ use Rattle.std.specs.Int.{is_in_range}
 use Rattle.std.specs.List.{list_any, before_first}
 use Rattle.std.specs.Str.{str_eq_ignore_ascii_case}
 use Rattle.host_names.specs.declared.ending.Ending.{Ending}
-use Rattle.host_names.specs.declared.ending.Ending.TheVariants.{Del, Seq, Prg, Usr, Rel}
+use Rattle.host_names.specs.declared.ending.Ending.TheVariants.{Del, Seq, Prg, Usr, Rel, Deleted, Orphan}
 
 -- ` `, `.`, `/` and `_`
 abbrev pub space : ℕ
@@ -95,13 +95,15 @@ unreserved_name name = if is_reserved (device_name name) then underscore ∷ nam
 unfoldable pub stem : List ℕ → List ℕ
 stem text = unreserved_name (filled_name (closed_name (unhidden_name (allowed_name text))))
 
--- the ending by the kind of a file
+-- the ending by the kind of a file, or by why it has none
 unfoldable pub ending_text : Ending → List ℕ
 ending_text Del = codes ".del"
 ending_text Seq = codes ".seq"
 ending_text Prg = codes ".prg"
 ending_text Usr = codes ".usr"
 ending_text Rel = codes ".rel"
+ending_text Deleted = codes ".deleted"
+ending_text Orphan = codes ".orphan"
 
 -- the text after the ending: `.part` if the file is written in part
 unfoldable pub part_text : Bool → List ℕ

@@ -4,7 +4,7 @@ ghost use Rattle.host_names.specs.HostName.{ending_text, tail};
 
 use std::alloc::AllocError;
 
-/// The ending of a file's host name, by its kind.
+/// The ending of a file's host name: by its kind, or by why it has none.
 #[derive(Clone, Copy, Debug, PartialEq, Eq)]
 pub enum Ending {
     Del,
@@ -12,6 +12,10 @@ pub enum Ending {
     Prg,
     Usr,
     Rel,
+    /// That of a deleted file.
+    Deleted,
+    /// That of a chain of blocks that no slot leads to.
+    Orphan,
 }
 
 impl Ending {
@@ -26,6 +30,8 @@ impl Ending {
             Ending::Prg => b".prg",
             Ending::Usr => b".usr",
             Ending::Rel => b".rel",
+            Ending::Deleted => b".deleted",
+            Ending::Orphan => b".orphan",
         }
     }
 }

@@ -1,0 +1,3 @@
+pub mod DeletedRows
+pub mod FileRows
+pub mod RowLists

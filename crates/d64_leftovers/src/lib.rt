@@ -1,0 +1,17 @@
+//! What is left over on a disk beside its files: a row for each deleted file, in one list with the
+//! rows of files.
+#![tactic(auto)]
+
+mod deleted_files;
+mod deleted_row;
+mod row;
+mod row_laws;
+mod row_list;
+mod selection;
+mod source;
+
+pub use deleted_row::DeletedRow;
+pub use row::Row;
+pub use row_laws::files_alone_are_the_inventory;
+pub use row_list::RowList;
+pub use selection::Selection;

@@ -1,0 +1,27 @@
+//! `Row`: what is told of a file that is there, or of a deleted one.
+ghost use Rattle.std.specs.Prelude.{◌≡◌};
+ghost use Rattle.d64_leftovers.specs.Rows.{is_deleted};
+
+use crate::deleted_row::DeletedRow;
+use d64_inventory::FileRow;
+
+/// What is told of a file.
+#[derive(Debug, Drop)]
+pub enum Row {
+    /// Of the file of a used slot.
+    File(FileRow),
+    /// Of the deleted file of a scratched slot.
+    Deleted(DeletedRow),
+}
+
+impl Row {
+    /// Whether the file was deleted.
+    pub fn is_deleted(&self) -> bool
+        ensures { result ≡ is_deleted self.now }
+    {
+        match self {
+            Row::File(_) => false,
+            Row::Deleted(_) => true,
+        }
+    }
+}

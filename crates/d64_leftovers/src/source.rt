@@ -1,0 +1,131 @@
+//! What the rows of a dump are made of.
+ghost use Rattle.std.specs.Prelude.{◌≡◌, true, Some, None, length, if◌then◌else◌, ◌&&◌};
+ghost use Rattle.d64_files.specs.Slot.{is_used};
+ghost use Rattle.d64_survey.specs.Owners.{way_slots};
+ghost use Rattle.d64_survey.specs.Inspection.{slot_cell};
+ghost use Rattle.d64_scratched.specs.Scratched.{is_scratched};
+ghost use Rattle.d64_inventory.specs.Rows.{row_of};
+ghost use Rattle.d64_leftovers.specs.Deleted.{deleted_row};
+ghost use Rattle.d64_leftovers.specs.Rows.{row_of_slot};
+ghost use Rattle.d64_leftovers.specs.Sources.{row_at};
+ghost use Rattle.d64_leftovers.specs.declared.row.Row.TheVariants.{File, Deleted};
+
+use crate::deleted_files::DeletedFiles;
+use crate::row::Row;
+use crate::selection::Selection;
+use d64_files::{Entry, SlotNo};
+use d64_inventory::Inventory;
+use d64_scratched::is_scratched;
+use d64_survey::Inspection;
+use std::marker::Model;
+
+/// What the rows of a dump are made of.
+///
+/// In clauses it is the dump, and which rows are wanted.
+#[derive(Drop)]
+pub(crate) struct Source<'a> {
+    inspection: &'a Inspection<'a>,
+    inventory: Inventory<'a>,
+    with_files: bool,
+    /// None if deleted files aren't wanted.
+    deleted: Option<DeletedFiles<'a>>,
+}
+
+impl<'a> Model for Source<'a> {
+    ghost use Rattle.std.specs.Prelude.{◌≡◌, IfSome, is_some};
+    ghost use Rattle.d64_leftovers.specs.Sources.{SourceView};
+
+    ghost Value = { SourceView };
+
+    ghost view = { λ source. record {
+      dump = source.inspection.now;
+      wanted = record { files = source.with_files; deleted = is_some source.deleted };
+    } };
+
+    ghost invariant = { λ source. (source.inventory ≡ source.inspection.now)
+        × IfSome source.deleted (λ deleted. deleted ≡ source.inspection.now) };
+}
+
+impl<'a> Source<'a> {
+    /// What the wanted rows of a dump are made of.
+    pub(crate) fn of(inspection: &'a Inspection<'a>, wanted: Selection) -> Source<'a>
+        ensures { result ≡ record { dump = inspection.now; wanted = wanted } }
+    {
+        let deleted = if wanted.deleted {
+            Some(DeletedFiles::of(inspection))
+        } else {
+            None
+        };
+        Source {
+            inspection,
+            inventory: Inventory::of(inspection),
+            with_files: wanted.files,
+            deleted,
+        }
+    }
+
+    /// How many slots the directory's way has.
+    pub(crate) fn slot_count(&self) -> usize
+        ensures { result ≡ length (way_slots self.now.dump.image) }
+    {
+        self.inventory.slot_count()
+    }
+
+    /// The row of the file of a used slot, if files are wanted.
+    fn file_row(&mut self, entry: &Entry) -> Option<Row>
+        requires slot { slot_cell self.old.dump.image entry.now.slot ≡ Some entry.now.bytes }
+        requires used { is_used entry.now.bytes ≡ true }
+        ensures row { result ≡ (if self.old.wanted.files then Some (File (row_of self.old.dump (entry.now.slot, entry.now.bytes))) else None) }
+        ensures same { self.new ≡ self.old }
+    {
+        if !self.with_files {
+            return None;
+        }
+        match self.inventory.row(entry.slot()) {
+            Some(row) => Some(Row::File(row)),
+            None => None,
+        }
+    }
+
+    /// The row of the deleted file of a slot that isn't used, if deleted files are wanted, and the
+    /// slot is scratched.
+    fn deleted_row(&mut self, entry: &Entry) -> Option<Row>
+        ensures row { result ≡ (if self.old.wanted.deleted && is_scratched entry.now.bytes then Some (Deleted (deleted_row self.old.dump (entry.now.slot, entry.now.bytes))) else None) }
+        ensures same { self.new ≡ self.old }
+    {
+        match &self.deleted {
+            Some(files) => {
+                if is_scratched(entry) {
+                    Some(Row::Deleted(files.row(&mut self.inventory, entry)))
+                } else {
+                    None
+                }
+            }
+            None => None,
+        }
+    }
+
+    /// The row of an entry of the dump's image, or None if that isn't wanted.
+    fn row_of_entry(&mut self, entry: &Entry) -> Option<Row>
+        requires { slot_cell self.old.dump.image entry.now.slot ≡ Some entry.now.bytes }
+        ensures row { result ≡ row_of_slot self.old.wanted self.old.dump (entry.now.slot, entry.now.bytes) }
+        ensures same { self.new ≡ self.old }
+    {
+        if entry.used() {
+            self.file_row(entry)
+        } else {
+            self.deleted_row(entry)
+        }
+    }
+
+    /// The row of a slot, or None if the directory's way has no such slot, or its row isn't wanted.
+    pub(crate) fn row(&mut self, slot: SlotNo) -> Option<Row>
+        ensures row { result ≡ row_at self.old slot }
+        ensures same { self.new ≡ self.old }
+    {
+        match self.inspection.survey().entry(slot) {
+            Some(entry) => self.row_of_entry(&entry),
+            None => None,
+        }
+    }
+}
