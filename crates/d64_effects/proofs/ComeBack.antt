@@ -18,7 +18,7 @@ use Rattle.d64_map.specs.Map.{map_block, free_blocks, is_entry, map_byte, map_fo
 use Rattle.d64_map.proofs.Maps.{elsewhere, sector_at-with_map-other}
 use Rattle.d64_files.specs.Writing.{written_at}
 use Rattle.d64_files.proofs.WrittenBytes.{length-written_at}
-use Rattle.d64_files.specs.Clearing.{with_cleared_slot}
+use Rattle.d64_files.specs.Clearing.{with_cleared_slot, closed_type, with_type}
 use Rattle.d64_files.specs.Directory.{directory, slots, slot_owns, owned_blocks}
 use Rattle.d64_files.specs.Ownership.{roots, chain_at, owned_by, HasItsChains}
 use Rattle.d64_files.specs.Slot.{type_byte, is_used, first_pair}
@@ -30,11 +30,11 @@ use Rattle.d64_files.proofs.SlotLists.{slot_at_place}
 use Rattle.d64_effects.specs.Clear.{with_freed}
 use Rattle.d64_effects.specs.Delete.{is_scratched_slot, scratched_slots, without_files, scratched_disk}
 use Rattle.d64_effects.specs.Laws.{IsWritable}
-use Rattle.d64_effects.specs.Undelete.{cell_at, chain_left, closed_type, with_type, undeleted_disk, CanComeBack}
+use Rattle.d64_effects.specs.Undelete.{cell_at, chain_left, undeleted_disk, CanComeBack}
 use Rattle.d64_effects.specs.UndeleteLaws.{DeletedFileComesBack}
-use Rattle.d64_effects.specs.View.{IsSound}
+use Rattle.d64_effects.specs.View.{IsSound, view}
 use Rattle.d64_effects.specs.Write.{blocks_without}
-use Rattle.d64_effects.proofs.AlteredDisks.{Altered, remapped, map_not_listed}
+use Rattle.d64_effects.proofs.AlteredDisks.{Altered, remapped, map_not_listed, view_after}
 use Rattle.d64_effects.proofs.ClearedDisks.{contains-with_freed, is_used-cleared}
 use Rattle.d64_effects.proofs.Clearing.{slots_where-are_slots}
 use Rattle.d64_effects.proofs.DirectoryEntries.{get_or-written_before, get_or-written_within, get_or-written_past, get_or-cell, slot_block-is_held, slot_block-within, slot_place, block_at}
@@ -316,3 +316,36 @@ comes-back image patterns slot kind is sound writable typed_so one =
       subst (λ (disk : List (List ℕ)). CanComeBack disk slot) (sym same) (can_come_back image slot kind is sound writable there typed_so),
       ap (λ (disk : List (List ℕ)). undeleted_disk disk slot kind) same ∙ deleted-comes_back image slot kind is sound writable there typed_so,
     )
+
+-- what is left of the file: its slot, of which the type byte is cleared, and its chain
+pub record LeftBehind (image deleted : List (List ℕ)) (slot : ℕ) : Type 0 where
+  pub there : slot < length (slots image)
+  pub long : length (cell_at image slot) ≡ 32
+  pub entries : slots deleted ≡ set (slots image) slot (written_at (cell_at image slot) 2 (0 ∷ []))
+  pub chain : chain_left deleted slot ≡ chain_left image slot
+
+pub left_behind : (image : List (List ℕ)) (patterns : List (List ℕ)) (slot : ℕ) (kind : Kind)
+    → IsImage image → IsSound image → IsWritable kind → type_byte (cell_at image slot) ≡ closed_type kind → scratched_slots image patterns ≡ slot ∷ []
+    → LeftBehind image (scratched_disk image patterns) slot
+unfolding scratched_disk
+left_behind image patterns slot kind is sound writable typed_so one =
+    let there : slot < length (slots image) =
+    All-head (λ number. number < length (slots image)) slot [] (subst (All (λ number. number < length (slots image))) one (slots_where-are_slots (is_scratched_slot patterns) (slots image))) in
+    let same : without_files image (scratched_slots image patterns) ≡ with_map (with_cleared_slot image slot) (with_freed (free_blocks image) (chain_left image slot)) =
+    ap (without_files image) one ∙ ap (λ (blocks : List ℕ). with_map (with_cleared_slot image slot) (with_freed (free_blocks image) blocks)) (given image slot kind is sound writable there typed_so) in
+    record {
+      there = there;
+      long = long image slot kind is sound writable there typed_so;
+      entries = ap slots same ∙ (deleted image slot kind is sound writable there typed_so).entries;
+      chain = ap (λ (disk : List (List ℕ)). chain_left disk slot) same ∙ chain_after image slot kind is sound writable there typed_so;
+    }
+
+-- a sound image whose map is written anew shows what it did
+pub map_anew-shows : (image : List (List ℕ)) → IsImage image → IsSound image → view (with_map image (free_blocks image)) ≡ view image
+unfolding view
+map_anew-shows image is sound =
+    let no_repeats : IsDistinct nat_eq (owned_blocks image) = sound CrossLinked (omega arith) (omega arith) in
+    let same : SlotsChanged image image (slots image) = record { is_image = is; long = refl; blocks = refl; entries = refl; kept = λ block absent. refl } in
+    view_after image (with_map image (free_blocks image)) (slots image) (free_blocks image) is (has_directory image sound) no_repeats
+    (remapped image image (slots image) (free_blocks image) is (has_directory image sound) same (map_not_listed image no_repeats) (λ q member. free_is_block image q member))
+    (sound NoChain (omega arith) (omega arith)) (λ q. omega arith)

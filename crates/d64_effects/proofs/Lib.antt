@@ -19,6 +19,7 @@ pub mod Clearing
 pub mod AlteredDisks
 pub mod RenamedDisks
 pub mod NamedDisks
+pub mod TypeBytes
 pub mod UndeletedDisks
 pub mod ComeBack
 pub mod ClearedDisks

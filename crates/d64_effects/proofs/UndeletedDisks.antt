@@ -5,11 +5,12 @@ use Rattle.std.specs.List.{flat_map, list_any, IsDistinct}
 use Rattle.std.specs.Option.{option_map_or}
 use Rattle.std.specs.FinSet as set
 use Rattle.std.proofs.lemmas.Bool.{cases_lt, and_right}
-use Rattle.std.proofs.lemmas.List.{map-set, get_or-map, get_or-drop, drop-drop, drop_at, length-take-le, length-append, length-map}
+use Rattle.std.proofs.lemmas.List.{map-set, get_or-map, length-map}
 use Rattle.std.proofs.lemmas.List.Elements.{All-nil, All-cons, All-set, All-get_or}
 use Rattle.d64_image.specs.Image.{IsImage}
 use Rattle.d64_map.specs.Map.{free_blocks}
 use Rattle.d64_files.specs.Chain.{chain, block_in}
+use Rattle.d64_files.specs.Clearing.{closed_type, with_type}
 use Rattle.d64_files.specs.Directory.{directory, slots, owned_blocks}
 use Rattle.d64_files.specs.FileData.{data_along}
 use Rattle.d64_files.specs.Ownership.{roots, roots_of, chain_at, owned_by, HasItsChains}
@@ -20,13 +21,12 @@ use Rattle.d64_files.specs.declared.kind.Kind.{Kind}
 use Rattle.d64_files.specs.declared.kind.Kind.TheVariants.{Del, Seq, Prg, Usr, Rel}
 use Rattle.d64_files.proofs.Chains.{distinct, is_chain}
 use Rattle.d64_effects.specs.Laws.{IsWritable, UndeletedIsImage, UndeletedIsSound, UndeletedShows}
-use Rattle.d64_effects.specs.Undelete.{cell_at, chain_left, closed_type, with_type, undeleted_disk, CanComeBack}
+use Rattle.d64_effects.specs.Undelete.{cell_at, chain_left, undeleted_disk, CanComeBack}
 use Rattle.d64_effects.specs.View.{FileView, IsSound, disk_field, disk_id, view, slot_view}
 use Rattle.d64_effects.specs.ViewAfter.{file_back, undeleted_view}
 use Rattle.d64_effects.specs.Write.{blocks_without}
 use Rattle.d64_effects.proofs.AlteredDisks.{Altered, remapped, map_not_listed, held_by, sound_held, view_held}
 use Rattle.d64_effects.proofs.CellFields.{owned_by-unused}
-use Rattle.d64_effects.proofs.DirectoryEntries.{get_or-written_within}
 use Rattle.d64_effects.proofs.FormattedDisks.{view_of}
 use Rattle.d64_effects.proofs.Frames.{shown}
 use Rattle.d64_effects.proofs.NewDirectory.{has_directory}
@@ -34,6 +34,7 @@ use Rattle.d64_effects.proofs.Occurrences.{occurs, occurs-set, occurs-distinct, 
 use Rattle.d64_effects.proofs.Rows.{joined-map}
 use Rattle.d64_effects.proofs.SlotChanges.{SlotsChanged, slots_sized, slot_changed}
 use Rattle.d64_effects.proofs.TakenBlocks.{occurs-owned, owned_once, owned_not_free, contains-blocks_without}
+use Rattle.d64_effects.proofs.TypeBytes.{type_byte-typed, first_pair-typed, size_of-typed, field_of-typed}
 use Rattle.d64_effects.proofs.WrittenImages.{left_are_blocks}
 
 -- no block comes twice in a chain
@@ -74,19 +75,7 @@ retyped cell kind = written_at cell 2 (closed_type kind ∷ [])
 
 module _ (cell : List ℕ) (kind : Kind) (long : length cell ≡ 32) (writable : IsWritable kind) where
   type_is : type_byte (retyped cell kind) ≡ closed_type kind
-  type_is = get_or-written_within cell (closed_type kind ∷ []) 2 0 (omega arith) (omega arith)
-
-  -- all beyond it stays
-  beyond : drop 3 (retyped cell kind) ≡ drop 3 cell
-  unfolding written_at
-  beyond =
-      ap (drop 3) (sym (append_assoc (take 2 cell) (closed_type kind ∷ []) (drop 3 cell)))
-      ∙ drop_at (take 2 cell ++ closed_type kind ∷ []) (drop 3 cell) 3 (length-append (take 2 cell) (closed_type kind ∷ []) ∙ (let l = length-take-le 2 cell (omega arith) in omega arith))
-
-  byte_is : (k place : ℕ) → place ≡ 3 + k → get_or (retyped cell kind) place 0 ≡ get_or cell place 0
-  byte_is k place e =
-      ap (λ (n : ℕ). get_or (retyped cell kind) n 0) e ∙ sym (get_or-drop 3 (retyped cell kind) k 0) ∙ ap (λ (bytes : List ℕ). get_or bytes k 0) beyond
-      ∙ get_or-drop 3 cell k 0 ∙ ap (λ (n : ℕ). get_or cell n 0) (sym e)
+  type_is = type_byte-typed cell (closed_type kind) long
 
   is_typed : Typed (closed_type kind) kind
   is_typed = typed kind writable
@@ -107,13 +96,13 @@ module _ (cell : List ℕ) (kind : Kind) (long : length cell ≡ 32) (writable :
   now_unlocked = ap (λ (byte : ℕ). has_bit byte 6) type_is ∙ is_typed.unlocked
 
   same_pair : first_pair (retyped cell kind) ≡ first_pair cell
-  same_pair = ap₂ (λ (track sector : ℕ). (track, sector)) (byte_is 0 3 refl) (byte_is 1 4 refl)
+  same_pair = first_pair-typed cell (closed_type kind) long
 
   same_size : size_of (retyped cell kind) ≡ size_of cell
-  same_size = ap₂ (λ (low high : ℕ). low + 256 * high) (byte_is 27 0x1E refl) (byte_is 28 0x1F refl)
+  same_size = size_of-typed cell (closed_type kind) long
 
   same_field : field_of (retyped cell kind) ≡ field_of cell
-  same_field = ap (take 16) (sym (drop-drop 2 3 (retyped cell kind)) ∙ ap (drop 2) beyond ∙ drop-drop 2 3 cell)
+  same_field = field_of-typed cell (closed_type kind) long
 
   pub now_roots : roots (retyped cell kind) ≡ first_pair cell ∷ []
   now_roots =

@@ -3,11 +3,12 @@ use Rattle.std.specs.Prelude.{◌≡◌, ℕ, List, [], ◌∷◌}
 use Rattle.d64_image.specs.Disk.{Disk, Bytes}
 use Rattle.d64_image.specs.Image.{IsImage}
 use Rattle.d64_map.specs.Map.{free_blocks, with_map}
+use Rattle.d64_files.specs.Clearing.{closed_type}
 use Rattle.d64_files.specs.Slot.{type_byte}
 use Rattle.d64_files.specs.declared.kind.Kind.{Kind}
 use Rattle.d64_effects.specs.Delete.{scratched_slots, scratched_disk}
 use Rattle.d64_effects.specs.Laws.{IsWritable}
-use Rattle.d64_effects.specs.Undelete.{CanComeBack, cell_at, closed_type, undeleted_disk}
+use Rattle.d64_effects.specs.Undelete.{CanComeBack, cell_at, undeleted_disk}
 use Rattle.d64_effects.specs.View.{IsSound}
 
 -- if one file was deleted, a closed one that isn't locked, it can come back, and with its kind the

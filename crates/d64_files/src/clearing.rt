@@ -4,7 +4,7 @@
 //! They write through a patch, so that their changes can be undone.
 ghost use Rattle.std.specs.Prelude.{◌≡◌, ◌+◌, ◌<◌, ◌≤◌, length, OnOk};
 ghost use Rattle.d64_image.specs.Patch.{IsPatchOf, restored_image};
-ghost use Rattle.d64_files.specs.Clearing.{with_cleared_slot, with_name};
+ghost use Rattle.d64_files.specs.Clearing.{with_cleared_slot, with_name, with_type};
 ghost use Rattle.d64_files.specs.Directory.{slots};
 ghost use Rattle.d64_files.specs.Name.{filled_field};
 ghost use Rattle.d64_files.specs.Writing.{with_bytes, slot_block, slot_start};
@@ -12,9 +12,11 @@ ghost use Rattle.d64_files.specs.Writing.{with_bytes, slot_block, slot_start};
 use crate::block_bytes::write_at;
 use crate::directory_blocks::block_of_slot;
 use crate::entry::{SLOT_BYTES, SlotNo};
+use crate::kind::Kind;
 use crate::label::MAX_LEN;
 use crate::name::{FILLER, Name};
 use crate::slots::SLOTS_PER_BLOCK;
+use crate::writing::CLOSED;
 use d64_image::{Image, Patch};
 use std::alloc::AllocError;
 
@@ -68,6 +70,27 @@ pub fn clear_slot(image: &mut Image, patch: &mut Patch, slot: SlotNo) -> Result<
     ensures held { IsPatchOf image.old patch.old → IsPatchOf image.new patch.new }
 {
     write_in_slot(image, patch, slot, 0, &[0])
+}
+
+/// Makes the file of a slot of the directory a closed one of this kind, which isn't locked: the type
+/// byte becomes $80 and the kind's number. The rest of its entry stays, and so does every other byte
+/// of the image.
+///
+/// Refused where there is no memory to keep the bytes of the slot's block; then the image stays.
+/// The caller knows that the directory has that slot.
+#[tactic(auto, unfolding(crate::specs::Clearing::with_type))]
+pub fn set_type(
+    image: &mut Image,
+    patch: &mut Patch,
+    slot: SlotNo,
+    kind: Kind,
+) -> Result<(), AllocError>
+    requires { slot < length (slots image.old) }
+    ensures typed { OnOk result (image.new ≡ with_type image.old slot kind) }
+    ensures back { restored_image image.new patch.new ≡ restored_image image.old patch.old }
+    ensures held { IsPatchOf image.old patch.old → IsPatchOf image.new patch.new }
+{
+    write_in_slot(image, patch, slot, 0, &[CLOSED + kind.number()])
 }
 
 /// Writes a name into the field of a slot of the directory, filled with shifted spaces. Every other

@@ -27,7 +27,7 @@ mod writing;
 pub use block_bytes::write_at;
 pub use block_list::BlockList;
 pub use chain::block_in;
-pub use clearing::{clear_slot, set_name};
+pub use clearing::{clear_slot, set_name, set_type};
 pub use dir_fault::DirFault;
 pub use directory_blocks::{DIRECTORY_SECTOR, Directory};
 pub use entry::{Entry, SlotNo};

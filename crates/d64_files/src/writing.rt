@@ -25,7 +25,7 @@ use std::alloc::AllocError;
 const DATA_BYTES: usize = BLOCK_BYTES - 2;
 
 /// The bit of the type byte that says that a file is closed.
-const CLOSED: u8 = 0x80;
+pub(crate) const CLOSED: u8 = 0x80;
 
 /// How many bytes of an entry come between its name and its size: those of a REL file's side blocks
 /// and records, and others without a use here.

@@ -321,7 +321,7 @@ each_fails test (b ∷ bs) block none among =
     ]
 
 -- a block that has an owner comes among those that have one
-owned_among : (image : List (List ℕ)) (block : ℕ) → is_owned image block ≡ list_any (eqb block) (blocks_owned image)
+pub owned_among : (image : List (List ℕ)) (block : ℕ) → is_owned image block ≡ list_any (eqb block) (blocks_owned image)
 owned_among image block = ap (ltb 0) (owners-counted image block) ∙ sym (absent (blocks_owned image) block)
 
 and_false : (t : Bool) → (t && false) ≡ false
