@@ -4,9 +4,12 @@ pub mod Spaces
 pub mod Blanks
 pub mod Refusals
 pub mod ListedRows
+pub mod SameWords
+pub mod Restored
 pub mod Steps
 pub mod FormattedListings
 pub mod BlockSets
 pub mod ClearedSlots
 pub mod ScratchedFiles
 pub mod RenamedFiles
+pub mod BroughtBack

@@ -1,5 +1,5 @@
 -- accepted file commands leave sound disks
-use Rattle.std.proofs.Common.{◌≡◌, ◌≢◌, ℕ, ◌||◌, Bool, true, false, not, cond, leb, List, [], length, Option, Some, None, refl, sym, ap, subst, arith}
+use Rattle.std.proofs.Common.{◌≡◌, ◌≢◌, ℕ, ◌||◌, Bool, true, false, not, cond, leb, List, [], length, Option, Some, None, refl, sym, ap, ◌∙◌, subst, arith}
 use Rattle.std.specs.Prelude.{is_some, Result, Ok, Err, IfOk, OnOk, OnErr}
 use Rattle.std.specs.Option.{option_map, option_or}
 use Rattle.std.proofs.lemmas.Bool.{and_parts}
@@ -24,18 +24,21 @@ use Rattle.d64_effects.proofs.FormattedDisks.{holds-formatted_disk, view-formatt
 use Rattle.d64_effects.proofs.NamedDisks.{named-is_image, named-is_sound, named-shows}
 use Rattle.d64_effects.proofs.RenamedDisks.{renamed-is_image, renamed-is_sound, renamed-shows}
 use Rattle.d64_effects.proofs.ScratchedDisks.{scratched-is_image, scratched-is_sound, scratched-shows, scratched-are_counted}
+use Rattle.d64_effects.proofs.UndeletedDisks.{undeleted-is_image, undeleted-is_sound, undeleted-shows}
 use Rattle.d64_effects.proofs.ValidatedDisks.{validated-is_image, validated-is_sound, validated-shows}
 use Rattle.d64_effects.proofs.WrittenDisks.{written-is_image, written-is_sound, written-shows}
 use Rattle.d64_image.specs.Image.{IsImage}
 use Rattle.d64_image.specs.Patch.{Kept, restored_image}
-use Rattle.d64_dos.specs.Change.{Change, Format, Write, Delete, Rename, Name, Validate, BlockWrite}
+use Rattle.d64_dos.specs.Change.{Change, Format, Write, Delete, Undelete, Rename, Name, Validate, BlockWrite}
 use Rattle.d64_dos.specs.Command.{image_after, reply_to, refusal_of, IsFileCommand, LeavesSound, StartsFrom}
 use Rattle.d64_dos.specs.FileRefusals.{rename_refusal, validate_refusal}
 use Rattle.d64_dos.specs.Refusal.{refused_by}
 use Rattle.d64_dos.specs.Step.{FileCommandsKeepDisksSound, IsMade, Leaves}
 use Rattle.d64_dos.specs.declared.command.Reply.{Reply}
 use Rattle.d64_dos.specs.declared.command.Reply.TheVariants.{Scratched}
+use Rattle.d64_dos.specs.Undelete.{slot_to_undelete, disk_with_file_back}
 use Rattle.d64_dos.specs.WriteRefusal.{has_room, is_writable, write_refusal}
+use Rattle.d64_dos.proofs.Restored.{chosen, can_come_back, undeletable, some_slot, disk_back, view_back}
 use Rattle.d64_dos.specs.declared.refusal.Refusal.{Refusal}
 use Rattle.d64_dos.specs.declared.refusal.Refusal.TheVariants.{Exists, WrongType, NotFound, Directory, DiskFull}
 
@@ -57,7 +60,7 @@ accepted image name kind bytes h =
     none_applies (is_writable kind) (is_name_taken name (slots image)) (has_room image bytes) (first_fault image sound_conditions) h
 
 -- files of such a kind are SEQ, PRG or USR
-writable : (kind : Kind) → is_writable kind ≡ true → IsWritable kind
+pub writable : (kind : Kind) → is_writable kind ≡ true → IsWritable kind
 writable Del h = absurd (cc)
 writable Seq h = (λ e. cc, λ e. cc)
 writable Prg h = (λ e. cc, λ e. cc)
@@ -122,6 +125,17 @@ keeps_sound image (Delete patterns) is made none from = record {
   sound = scratched-is_sound image patterns is from;
   shows = (ap Scratched (scratched-are_counted image patterns), scratched-shows image patterns is from);
 }
+keeps_sound image (Undelete name kind) is made none from =
+    let passes = undeletable image name kind none in
+    let kinds = writable kind passes.writable in
+    let slot = some_slot (slot_to_undelete image name) passes.left in
+    let can = can_come_back image name slot.0 (chosen image name slot.0 slot.1) in
+    let disk = disk_back image name kind slot.0 slot.1 in
+    record {
+      is_image = subst IsImage (sym disk) (undeleted-is_image image slot.0 kind is from kinds can);
+      sound = subst IsSound (sym disk) (undeleted-is_sound image slot.0 kind is from kinds can);
+      shows = (refl, ap view disk ∙ undeleted-shows image slot.0 kind is from kinds can ∙ sym (view_back image (view image) name kind slot.0 slot.1));
+    }
 keeps_sound image (Rename old new) is made none from = record {
   is_image = renamed-is_image image old new is made.1 from;
   sound = renamed-is_sound image old new is made.1 from;
@@ -146,6 +160,7 @@ pub starts_from_sound : (image : List (List ℕ)) (change : Change) → IsFileCo
 starts_from_sound image (Format name id) is sound = tt
 starts_from_sound image (Write name kind bytes) is sound = sound
 starts_from_sound image (Delete patterns) is sound = sound
+starts_from_sound image (Undelete name kind) is sound = sound
 starts_from_sound image (Rename old new) is sound = sound
 starts_from_sound image (Name name id) is sound = sound
 starts_from_sound image Validate is sound = tt
@@ -184,6 +199,7 @@ starts_from_accepted : (image : List (List ℕ)) (change : Change) (known : Bool
 starts_from_accepted image (Format name id) known sure is none = tt
 starts_from_accepted image (Write name kind bytes) known sure is none = written_from_sound image name kind (length bytes) none
 starts_from_accepted image (Delete patterns) known sure is none = (sound_tells image).0.0 (none_found (first_fault image sound_conditions) none)
+starts_from_accepted image (Undelete name kind) known sure is none = (sound_tells image).0.0 (undeletable image name kind none).sound
 starts_from_accepted image (Rename old new) known sure is none = renamed_from_sound image old new none
 starts_from_accepted image (Name name id) known sure is none = sure is
 starts_from_accepted image Validate known sure is none = tt

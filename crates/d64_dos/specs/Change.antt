@@ -14,7 +14,9 @@ pub data Change : Type 0 where
   Write : Bytes → Kind → Bytes → Change
   -- deletes the files that these patterns match
   Delete : List Bytes → Change
-  -- gives the first file with this name that one
+  -- a deleted file again, of this kind
+  Undelete : Bytes → Kind → Change
+  -- the first file of this name under that one
   Rename : Bytes → Bytes → Change
   -- gives the disk this name, and this id, if there is one
   Name : Bytes → Option Bytes → Change
@@ -28,6 +30,7 @@ abbrev pub change_of : Command → Change
 change_of (commands.Format name id) = Format name id
 change_of (commands.Write name kind bytes) = Write name kind bytes.items
 change_of (commands.Delete patterns) = Delete patterns.items
+change_of (commands.Undelete name kind) = Undelete name kind
 change_of (commands.Rename old new) = Rename old new
 change_of (commands.Name name id) = Name name id
 change_of commands.Validate = Validate

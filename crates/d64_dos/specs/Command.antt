@@ -9,11 +9,12 @@ use Rattle.d64_effects.specs.DiskName.{named_disk}
 use Rattle.d64_effects.specs.Format.{formatted_disk}
 use Rattle.d64_effects.specs.Rename.{renamed_disk}
 use Rattle.d64_effects.specs.Validate.{validated_disk}
-use Rattle.d64_effects.specs.View.{View, IsSound}
+use Rattle.d64_effects.specs.View.{View, IsSound, view}
 use Rattle.d64_effects.specs.ViewAfter.{formatted_view, written_view, scratched_view, renamed_view, named_view, validated_view}
 use Rattle.d64_effects.specs.Write.{written_disk}
-use Rattle.d64_dos.specs.Change.{Change, Format, Write, Delete, Rename, Name, Validate, BlockWrite}
+use Rattle.d64_dos.specs.Change.{Change, Format, Write, Delete, Undelete, Rename, Name, Validate, BlockWrite}
 use Rattle.d64_dos.specs.FileRefusals.{unsound_refusal, rename_refusal, validate_refusal}
+use Rattle.d64_dos.specs.Undelete.{undelete_refusal, disk_with_file_back, view_with_file_back}
 use Rattle.d64_dos.specs.WriteRefusal.{write_refusal}
 use Rattle.d64_dos.specs.declared.command.Reply.{Reply}
 use Rattle.d64_dos.specs.declared.command.Reply.TheVariants.{Done, Scratched}
@@ -24,12 +25,12 @@ pub data Start : Type 0 where
   AnyDisk : Start
   SoundDisk : Start
 
--- what a file command promises of a disk: for which disks it holds, and, by what the disk shows,
--- the reply and what it shows then
+-- what a file command promises of a disk: from which disks on, and, of what the disk shows, what is
+-- answered and what it shows then, for which only a file that comes back needs the disk itself
 pub record Promise : Type 0 where
   pub start : Start
   pub reply : View → Reply
-  pub shows : View → View
+  pub shows : Disk → View → View
 
 -- a command: for an image, the first refusal that applies, the image after it, in which every byte
 -- that the command does not name is unchanged, and the reply; and the block that a command names by
@@ -64,6 +65,12 @@ row (Delete patterns) = record {
   reply = λ image. Scratched (scratched_count image patterns);
   block = None;
 }
+row (Undelete name kind) = record {
+  refusal = λ image. undelete_refusal image name kind;
+  effect = λ image. disk_with_file_back image name kind;
+  reply = λ image. Done;
+  block = None;
+}
 row (Rename old new) = record {
   refusal = λ image. rename_refusal image old new;
   effect = λ image. renamed_disk image old new;
@@ -91,13 +98,14 @@ row (BlockWrite at block) = record {
 
 -- what a command promises of the disk's files; a command that is no file command promises nothing
 abbrev pub promise_of : Change → Option Promise
-promise_of (Format name id) = Some (record { start = AnyDisk; reply = λ old. Done; shows = λ old. formatted_view old.count name id })
-promise_of (Write name kind bytes) = Some (record { start = SoundDisk; reply = λ old. Done; shows = λ old. written_view old name kind bytes })
+promise_of (Format name id) = Some (record { start = AnyDisk; reply = λ old. Done; shows = λ image old. formatted_view old.count name id })
+promise_of (Write name kind bytes) = Some (record { start = SoundDisk; reply = λ old. Done; shows = λ image old. written_view old name kind bytes })
 promise_of (Delete patterns) =
-    Some (record { start = SoundDisk; reply = λ old. Scratched (scratched_of old patterns); shows = λ old. scratched_view old patterns })
-promise_of (Rename old new) = Some (record { start = SoundDisk; reply = λ shown. Done; shows = λ shown. renamed_view shown old new })
-promise_of (Name name id) = Some (record { start = SoundDisk; reply = λ shown. Done; shows = λ shown. named_view shown name id })
-promise_of Validate = Some (record { start = AnyDisk; reply = λ old. Done; shows = validated_view })
+    Some (record { start = SoundDisk; reply = λ old. Scratched (scratched_of old patterns); shows = λ image old. scratched_view old patterns })
+promise_of (Undelete name kind) = Some (record { start = SoundDisk; reply = λ old. Done; shows = λ image old. view_with_file_back image old name kind })
+promise_of (Rename old new) = Some (record { start = SoundDisk; reply = λ shown. Done; shows = λ image shown. renamed_view shown old new })
+promise_of (Name name id) = Some (record { start = SoundDisk; reply = λ shown. Done; shows = λ image shown. named_view shown name id })
+promise_of Validate = Some (record { start = AnyDisk; reply = λ old. Done; shows = λ image old. validated_view old })
 promise_of (BlockWrite at block) = None
 
 -- the first refusal of a command that applies to the image; None if the command is accepted
@@ -136,5 +144,6 @@ abbrev pub StartsFrom : Change → Disk → Type 0
 StartsFrom change image = MatchOption (promise_of change) ⊥ (λ promise. IsStart promise.start image)
 
 -- what a disk shows before a file command, the reply, and what it shows after it
-abbrev pub ViewStep : View → Change → Reply → View → Type 0
-ViewStep old change reply new = MatchOption (promise_of change) ⊥ (λ promise. (reply ≡ promise.reply old) × (new ≡ promise.shows old))
+abbrev pub ViewStep : Disk → Change → Reply → View → Type 0
+ViewStep image change reply new =
+    MatchOption (promise_of change) ⊥ (λ promise. (reply ≡ promise.reply (view image)) × (new ≡ promise.shows image (view image)))

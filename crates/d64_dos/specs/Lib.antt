@@ -8,3 +8,6 @@ pub mod FileRefusals
 pub mod WriteRefusal
 pub mod Space
 pub mod Step
+pub mod Undelete
+pub mod Restoring
+pub mod UndeleteLaws

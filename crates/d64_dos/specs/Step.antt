@@ -5,7 +5,7 @@ use Rattle.d64_files.specs.Name.{IsName}
 use Rattle.d64_image.specs.Image.{IsImage}
 use Rattle.d64_effects.specs.Laws.{AreTwoBytes, AreBytes}
 use Rattle.d64_effects.specs.View.{IsSound, view}
-use Rattle.d64_dos.specs.Change.{Change, Format, Write, Delete, Rename, Name, Validate, BlockWrite}
+use Rattle.d64_dos.specs.Change.{Change, Format, Write, Delete, Undelete, Rename, Name, Validate, BlockWrite}
 use Rattle.d64_dos.specs.Command.{image_after, reply_to, refusal_of, StartsFrom, ViewStep}
 use Rattle.d64_dos.specs.declared.command.Reply.{Reply}
 
@@ -13,13 +13,14 @@ use Rattle.d64_dos.specs.declared.command.Reply.{Reply}
 pub record Leaves (image : Disk) (change : Change) (reply : Reply) (next : Disk) : Type 0 where
   pub is_image : IsImage next
   pub sound : IsSound next
-  pub shows : ViewStep (view image) change reply (view next)
+  pub shows : ViewStep image change reply (view next)
 
 -- a command as any caller can make it: names are names, and bytes are bytes
 abbrev pub IsMade : Change → Type 0
 IsMade (Format name id) = IsName name × AreTwoBytes id
 IsMade (Write name kind bytes) = IsName name × AreBytes bytes
 IsMade (Delete patterns) = Unit {0}
+IsMade (Undelete name kind) = IsName name
 IsMade (Rename old new) = IsName old × IsName new
 IsMade (Name name id) = IsName name × IfSome id AreTwoBytes
 IsMade Validate = Unit {0}

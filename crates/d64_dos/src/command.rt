@@ -14,6 +14,7 @@ use crate::disk_name::name_disk;
 use crate::format::format;
 use crate::refusal::Refusal;
 use crate::rename::rename;
+use crate::undelete::undelete;
 use crate::validate::validate;
 use crate::write::write;
 use d64_files::{Kind, Name, Pattern};
@@ -42,7 +43,15 @@ pub enum Command {
     Delete {
         patterns: Vec<Pattern>,
     },
-    /// Gives the first used slot with one name another (1541 User's Guide, "Rename"). Every other
+    /// Brings back a deleted file of exactly this name as a closed one of this kind, which isn't
+    /// locked: the first scratched slot of the name whose file is whole, else the first whose file
+    /// isn't lost, is used again, and the blocks of its chain aren't free. Its kind is the caller's to
+    /// know: the drive's delete clears it. No other byte changes.
+    Undelete {
+        name: Name,
+        kind: Kind,
+    },
+    /// Gives the first used slot of one name another (1541 User's Guide, "Rename"). Every other
     /// byte of its entry stays, and the file may be locked or unclosed.
     Rename {
         old: Name,
@@ -80,6 +89,7 @@ impl Command {
                 bytes: _,
             }
             | Command::Delete { patterns: _ }
+            | Command::Undelete { name: _, kind: _ }
             | Command::Rename { old: _, new: _ }
             | Command::Validate => true,
         }
@@ -102,14 +112,18 @@ pub enum Reply {
 /// image is unchanged, and the patch is empty. A format, a name of the disk and a block write have
 /// no refusal of their own. The others have these, in order:
 ///
-/// - A write: `WrongType` if the kind is DEL or REL; `Directory` with the first condition of a
-///   sound image that fails; `Exists` if a used slot has exactly the name; `DiskFull` if fewer
-///   blocks outside track 18 are free than the file takes, or no slot is empty and no block of
-///   track 18 is free.
-/// - A deletion: `Directory`, as for a write.
-/// - A renaming: `Directory`, as for a write; `NotFound` if no used slot has the old name; `Exists`
-///   if one has the new name, also if it is the same name.
-/// - A validation: `Directory` with the first condition that fails of those on the directory, the
+/// - A write `WrongType`, where the kind is DEL or REL; `Directory` with the first condition of a
+///   sound image that fails; `Exists`, where a used slot has exactly the name; `DiskFull`, where
+///   fewer blocks outside track 18 are free than the file takes, or no slot is empty and no block
+///   of track 18 is free.
+/// - A deletion `Directory`, as a write.
+/// - The bringing back of a file `WrongType` and `Directory`, as a write; `NotFound`, where no
+///   scratched slot has the name; `Exists`, where a used one has it; `Lost`, where each scratched
+///   slot of the name has lost its file: its way is no chain, or hasn't as many blocks as the slot
+///   shows, or a block of it is owned or marked as used.
+/// - A renaming `Directory`, as a write; `NotFound`, where no used slot has the old name; `Exists`,
+///   where one has the new name, be it the same.
+/// - A validation `Directory` with the first condition that fails of those on the directory, the
 ///   files and their chains.
 ///
 /// The image keeps its number of tracks. An accepted file command leaves a sound disk, which shows
@@ -180,6 +194,9 @@ fn known_command(command: &Command)
             let _ = name.bytes();
             known_bytes(bytes);
         }
+        Command::Undelete { name, kind: _ } => {
+            let _ = name.bytes();
+        }
         Command::Rename { old, new } => {
             let _ = old.bytes();
             let _ = new.bytes();
@@ -236,6 +253,10 @@ fn carried_out(
         Command::Delete { patterns } => {
             let count = scratch(image, patch, patterns, is_sound)?;
             Ok(Reply::Scratched(count))
+        }
+        Command::Undelete { name, kind } => {
+            undelete(image, patch, name, *kind, is_sound)?;
+            Ok(Reply::Done)
         }
         Command::Rename { old, new } => {
             rename(image, patch, old, new, is_sound)?;

@@ -18,6 +18,7 @@ mod refusal;
 mod rename;
 mod row;
 mod sound_disk;
+mod undelete;
 mod validate;
 mod write;
 

@@ -22,6 +22,9 @@ pub enum Refusal {
     /// The disk fails this condition of a sound disk.
     #[error("{0}")]
     Directory(DirFault),
+    /// Each scratched slot of the name has lost its file.
+    #[error("what was deleted under this name is lost")]
+    Lost,
     /// Too few blocks outside track 18 are free, or there is no slot for the entry and no block of
     /// track 18 for one more.
     #[error("there is no room on the disk or in its directory")]

@@ -48,7 +48,7 @@ struct Space {
 }
 
 /// Whether files of a kind can be written.
-fn is_writable(kind: Kind) -> bool
+pub(crate) fn is_writable(kind: Kind) -> bool
     ensures { result ≡ is_writable kind }
 {
     match kind {

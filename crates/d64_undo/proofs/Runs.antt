@@ -7,7 +7,7 @@ use Rattle.d64_dos.specs.Refusal.{cause_of}
 use Rattle.d64_undo.specs.History.{History}
 use Rattle.d64_undo.specs.Request.{Asked, Apply, Undo, Redo, IsAskedOf, Step, Run, HasMemory}
 use Rattle.d64_dos.specs.declared.refusal.Refusal.{Refusal}
-use Rattle.d64_dos.specs.declared.refusal.Refusal.TheVariants.{NotClosed, NotFound, Exists, WrongType, Directory, DiskFull, Memory}
+use Rattle.d64_dos.specs.declared.refusal.Refusal.TheVariants.{NotClosed, NotFound, Exists, WrongType, Directory, Lost, DiskFull, Memory}
 use Rattle.d64_undo.specs.declared.request.Answer.{Answer}
 use Rattle.d64_undo.specs.declared.request.Answer.TheVariants.{Accepted, Refused, Undone, Redone, NothingToUndo, NothingToRedo}
 
@@ -34,6 +34,7 @@ refusal_by-cause_of NotFound = refl
 refusal_by-cause_of Exists = refl
 refusal_by-cause_of WrongType = refl
 refusal_by-cause_of (Directory fault) = refl
+refusal_by-cause_of Lost = refl
 refusal_by-cause_of DiskFull = refl
 refusal_by-cause_of Memory = refl
 

@@ -5,7 +5,7 @@ ghost use Rattle.d64_dos.specs.Change.{change_of};
 ghost use Rattle.d64_dos.specs.Command.{IsWithin};
 
 use d64_dos::{Command, Refusal, Reply, apply};
-use d64_files::{DirFault, Kind, Name};
+use d64_files::{DirFault, Kind, Name, Pattern};
 use d64_image::{BlockNo, Image, Patch};
 use std::test::Fail;
 
@@ -93,6 +93,40 @@ fn the_patch_of_a_write_leads_back_and_on(rt: HostRuntime) -> Result<(), Fail> {
     Ok(())
 }
 
+/// The command that deletes all files.
+fn delete_all(rt: &HostRuntime) -> Result<Command, Fail>
+    ensures { IfOk result (λ command. (image : List (List ℕ)) → IsWithin image (change_of command)) }
+{
+    Ok(Command::Delete {
+        patterns: vec![in rt.alloc(); Pattern::new(b"*")?]?,
+    })
+}
+
+/// The command that brings `X` back as a program.
+fn undelete_x() -> Result<Command, Fail>
+    ensures { IfOk result (λ command. (image : List (List ℕ)) → IsWithin image (change_of command)) }
+{
+    Ok(Command::Undelete {
+        name: Name::new(b"X")?,
+        kind: Kind::Prg,
+    })
+}
+
+#[test]
+fn a_deleted_file_comes_back(rt: HostRuntime) -> Result<(), Fail> {
+    let mut image = fresh(&rt)?;
+    let command = write_x(&rt)?;
+    run(&rt, &mut image, &command)?;
+    let before = image.try_clone(rt.alloc())?;
+    let command = delete_all(&rt)?;
+    run(&rt, &mut image, &command)?;
+    let command = undelete_x()?;
+    let patch = run(&rt, &mut image, &command)?;
+    assert_eq!(rt; patch.len(), 2);
+    assert!(rt; image.bytes() == before.bytes());
+    Ok(())
+}
+
 #[test]
 fn refusals_say_what_is_wrong(rt: HostRuntime) -> Result<(), Fail> {
     let texts = [
@@ -112,6 +146,10 @@ fn refusals_say_what_is_wrong(rt: HostRuntime) -> Result<(), Fail> {
         (
             Refusal::Directory(DirFault::UnknownKind),
             "a directory entry has a file type that there isn't: set its type byte to one of $80 to $84, or to $00 to free it",
+        ),
+        (
+            Refusal::Lost,
+            "what was deleted under this name is lost",
         ),
         (
             Refusal::DiskFull,

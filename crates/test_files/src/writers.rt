@@ -7,6 +7,7 @@ use crate::damage::{held, put_parts};
 use d64_files::{
     Kind, Name, Pattern, SlotNo, blocks_for, clear_slot, dir_last, empty_directory, find,
     first_empty, grow, is_taken, put_chain, put_entry, set_name,
+    set_type,
 };
 use d64_image::{BlockNo, Image, Patch};
 use std::test::Fail;
@@ -179,6 +180,19 @@ fn names_a_slot(rt: HostRuntime) -> Result<(), Fail> {
     assert_eq!(rt; &sector[0x22..0x26], b"\xC2\x11\x00X".as_slice());
     assert_eq!(rt; &sector[0x26..0x35], [0xA0; 15].as_slice());
     assert_eq!(rt; sector[0x35], 1);
+    Ok(())
+}
+
+#[test]
+fn types_a_slot(rt: HostRuntime) -> Result<(), Fail> {
+    let mut image = one_file(&rt)?;
+    let slot = used_slot(&image)?;
+    let before = *bytes_of(&image, block(18, 1)?)?;
+    set_type(&mut image, &mut Patch::new(rt.alloc()), slot, Kind::Seq)?;
+    let after = bytes_of(&image, block(18, 1)?)?;
+    assert_eq!(rt; after[0x22], 0x81);
+    assert_eq!(rt; &after[..0x22], &before[..0x22]);
+    assert_eq!(rt; &after[0x23..], &before[0x23..]);
     Ok(())
 }
 
