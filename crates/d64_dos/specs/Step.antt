@@ -15,7 +15,7 @@ pub record Leaves (image : Disk) (change : Change) (reply : Reply) (next : Disk)
   pub sound : IsSound next
   pub shows : ViewStep image change reply (view next)
 
--- a command as any caller can make it: names are names, and bytes are bytes
+-- a command that a caller can make: its names are valid, and its bytes are below 256
 abbrev pub IsMade : Change → Type 0
 IsMade (Format name id) = IsName name × AreTwoBytes id
 IsMade (Write name kind bytes) = IsName name × AreBytes bytes

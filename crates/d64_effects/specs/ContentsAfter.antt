@@ -24,7 +24,7 @@ is_scratched_row patterns row = is_scratched patterns row.closed row.locked row.
 abbrev pub row_named : ListedFile → Bytes → ListedFile
 row_named row name = record row { name = name }
 
--- a list in which the first file of a name gets another
+-- a list in which the first file with a name gets another name
 abbrev pub renamed_rows : List ListedFile → Bytes → Bytes → List ListedFile
 renamed_rows [] old new = []
 renamed_rows (row ∷ rows) old new = if bytes_eq row.name old then row_named row new ∷ rows else row ∷ renamed_rows rows old new

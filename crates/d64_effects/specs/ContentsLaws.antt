@@ -70,19 +70,19 @@ WrittenDiskLists =
     → files_of (written_disk image name kind bytes)
     ≡ list_with (files_of image) (first_vacant (view image)) (new_row name kind bytes (blocks_for (length bytes)))
 
--- a sound disk without deleted files lists the others
+-- a sound disk from which files are deleted lists the others
 abbrev pub ScratchedDiskLists : Type 0
 ScratchedDiskLists =
     (image : Disk) (patterns : List Bytes)
     → IsImage image → IsSound image → files_of (scratched_disk image patterns) ≡ filter (λ row. not (is_scratched_row patterns row)) (files_of image)
 
--- a sound disk with a renamed file lists its other name
+-- a sound disk on which a file is renamed lists it under its new name
 abbrev pub RenamedDiskLists : Type 0
 RenamedDiskLists =
     (image : Disk) (old new : Bytes)
     → IsImage image → IsName new → IsSound image → files_of (renamed_disk image old new) ≡ renamed_rows (files_of image) old new
 
--- a sound disk with another name lists the same files
+-- a sound disk that is given another name lists the same files
 abbrev pub NamedDiskLists : Type 0
 NamedDiskLists =
     (image : Disk) (name : Bytes) (id : Option Bytes)

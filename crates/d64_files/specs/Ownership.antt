@@ -19,7 +19,8 @@ roots_of Prg cell = first_pair cell ∷ []
 roots_of Usr cell = first_pair cell ∷ []
 roots_of Rel cell = first_pair cell ∷ option_to_list (side_pair cell)
 
--- the same for any slot: a file that isn't closed has no chain
+-- the track and the sector from which each chain of a slot's file leads; a file that isn't closed
+-- has no chain
 abbrev pub roots : Bytes → List (ℕ × ℕ)
 roots cell = if is_closed cell then roots_of (kind_of cell) cell else []
 

@@ -4,7 +4,8 @@ use Rattle.std.specs.List.{range_with_len}
 use Rattle.d64_image.specs.Disk.{Bytes}
 use Rattle.d64_g64.specs.Circle.{bits_from}
 
--- the place count bits before another one, counted from two rounds further on
+-- the place this many bits before another one; two rounds of the track are added, so that it is
+-- never below 0
 abbrev pub before : Bytes → ℕ → ℕ → ℕ
 before track place count = place + 16 * length track - count
 

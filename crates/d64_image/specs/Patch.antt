@@ -40,7 +40,7 @@ unfoldable pub with_kept : Kept → ℕ → Bytes → Kept
 with_kept patch block bytes =
     if is_kept patch block then patch else insert patch (count_by (λ entry. nat_lt entry.0 block) patch) (block, bytes)
 
--- the same blocks, each with the bytes that an image has there
+-- the blocks of a patch, each with the bytes that an image has there
 unfoldable pub taken_blocks : Disk → Kept → Kept
 taken_blocks image patch = map (λ entry. (entry.0, sector_at image entry.0)) patch
 

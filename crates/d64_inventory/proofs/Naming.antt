@@ -109,7 +109,7 @@ any_where : (f : Fault → Bool) (there : Bool) (fault : Fault) → list_any f (
 any_where f true fault = or_none (f fault)
 any_where f false fault = refl
 
--- faults if there are some
+-- faults if there are any
 any_so : {X : Type 0} (f : Fault → Bool) (there : X → Bool) (fault : X → Fault) (xs : List X)
     → list_any f (flat_map (λ x. where_so (there x) (fault x)) xs) ≡ list_any (λ x. there x && f (fault x)) xs
 any_so f there fault xs =

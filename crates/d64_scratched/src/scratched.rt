@@ -99,7 +99,7 @@ impl<'s, 'a> ScratchedSlots<'s, 'a> {
     }
 
     /// Why the file of a scratched slot of the image isn't whole, in order, by the dump's read
-    /// codes, if it has some. It walks the way once more.
+    /// codes, if it has any. It walks the way once more.
     pub fn losses(&self, codes: Option<&[u8]>, entry: &Entry) -> ArrayVec<Loss, LOSSES>
         ensures { result.items ≡ losses self.now (option_map (λ codes. codes.now) codes.entry) entry.now.slot entry.now.bytes }
     {

@@ -8,7 +8,7 @@ use Rattle.d64_image.specs.declared.image.ImageFault.TheVariants as image_faults
 use Rattle.d64_survey.specs.declared.dump.DumpFault.{DumpFault}
 use Rattle.d64_survey.specs.declared.dump.DumpFault.TheVariants.{WrongLength, Memory}
 
--- an image, and the read codes of its blocks in order, if it has some
+-- an image, and the read codes of its blocks in order, if it has any
 pub record DumpView : Type 0 where
   pub image : Disk
   pub codes : Option Bytes

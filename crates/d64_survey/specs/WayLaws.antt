@@ -26,6 +26,6 @@ WayLiesInImage = (image : Disk) (pair : ℕ × ℕ) → All (λ block. block < l
 abbrev pub WayFitsImage : Type 0
 WayFitsImage = (image : Disk) (pair : ℕ × ℕ) → length (way image pair).0 ≤ length image
 
--- ways from pairs of the same block are the same way
+-- pairs that name the same block lead the same way
 abbrev pub WaysFromABlockAreOne : Type 0
 WaysFromABlockAreOne = (image : Disk) (pair other : ℕ × ℕ) (block : ℕ) → block_at image pair ≡ Some block → block_at image other ≡ Some block → way image pair ≡ way image other

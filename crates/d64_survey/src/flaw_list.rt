@@ -130,7 +130,7 @@ fn flaw_if(list: &mut ArrayVec<Flaw, FLAWS>, flaw: Flaw, is_asked: bool)
 }
 
 impl Survey<'_> {
-    /// Why the file of a slot is not whole, by the dump's read codes, if it has some. The list is
+    /// Why the file of a slot is not whole, by the dump's read codes, if it has any. The list is
     /// empty for a DEL entry.
     pub fn why(&self, codes: Option<&[u8]>, entry: &Entry) -> ArrayVec<Flaw, FLAWS>
         ensures { result.items ≡ why self.now (option_map (λ codes. codes.now) codes.entry) entry.now.bytes }

@@ -93,7 +93,7 @@ impl WayTable {
         }
     }
 
-    /// What the ways of all slots of a survey show, by the dump's read codes, if it has some. It
+    /// What the ways of all slots of a survey show, by the dump's read codes, if it has any. It
     /// walks the way from a block once.
     pub(crate) fn of(survey: &Survey, codes: Option<&[u8]>) -> WayTable
         ensures { TellsWays survey.now (option_map (λ codes. codes.now) codes.entry) result.ways }

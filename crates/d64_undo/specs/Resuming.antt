@@ -53,7 +53,7 @@ abbrev pub AreStarted : Option FileParts → Type 0
 AreStarted None = Unit {0}
 AreStarted (Some parts) = IsStarted parts
 
--- bytes are the last ones of others
+-- the second bytes end with the first
 abbrev pub IsEndOf : Bytes → Bytes → Type 0
 IsEndOf rest bytes = (front : Bytes) × (bytes ≡ front ++ rest)
 
