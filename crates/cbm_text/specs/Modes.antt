@@ -36,7 +36,8 @@ unfoldable pub free_code : List ℕ → Option (ℕ × List ℕ)
 free_code [] = None
 free_code (byte ∷ rest) = option_map_or (λ found. Some found) (token_from 128 keywords (byte ∷ rest)) (option_map_or (λ code. Some (code, rest)) (single_code byte) None)
 
--- The same at any place: if it is not free, the first byte is kept.
+-- The first crunched byte of a text at any place, and what follows it: at a place that is not free
+-- the first byte is kept.
 abbrev pub first_code : Mode → List ℕ → Option (ℕ × List ℕ)
 first_code Free text = free_code text
 first_code kept [] = None
