@@ -32,11 +32,11 @@ abbrev pub NamesAreTakenByHosts : Type 0
 NamesAreTakenByHosts = (taken : List (List ℕ)) (text : List ℕ) (ending : Ending) (is_part : Bool) → AreCounted taken
     → IsTakenByHosts (next_name taken text ending is_part)
 
--- a byte of printed ASCII, as each byte of a text form is
+-- a byte is printable ASCII, as each byte of a text form is
 abbrev pub IsPrinted : ℕ → Type 0
 IsPrinted byte = (32 ≤ byte) × (byte < 127)
 
--- the name made of a printed text is printed
+-- a name made from printable ASCII is printable ASCII
 abbrev pub NamesArePrinted : Type 0
 NamesArePrinted = (taken : List (List ℕ)) (text : List ℕ) (ending : Ending) (is_part : Bool) → AreCounted taken
     → All IsPrinted text → All IsPrinted (next_name taken text ending is_part)

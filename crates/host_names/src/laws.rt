@@ -2,8 +2,8 @@
 ghost use Rattle.host_names.specs.Laws.{NamesStayInTheirFolder, NamesAreTakenByHosts, NamesArePrinted, NamesKeepTheirEnding, NamesAreFree, NoTwoNamesAreTheSame, FoldersLeadDown, ImagesStayInTheirFolder};
 ghost use Rattle.host_names.specs.Shown.{NoNameMakesALine};
 
-/// Each name of a file names something in the folder that it is in, and each host accepts it. It is
-/// printed ASCII if the text of which it is made is, as each text form is.
+/// Each name of a file stays in its folder, and each host accepts it. It is printable ASCII if the
+/// text from which it is made is, as each text form is.
 #[inline]
 pub fn names_are_safe()
     ensures stays { NamesStayInTheirFolder }
