@@ -67,7 +67,7 @@ with_reason reason line =
     if length line == 0 then line
     else take (length line - 1) line ++ (codes " (" ++ (reason_text reason ++ (hint_of reason ++ codes ")\n")))
 
--- the same if the reason is known
+-- a line with the reason in brackets, if that is known
 abbrev pub with_known_reason : Option Reason → List ℕ → List ℕ
 with_known_reason None line = line
 with_known_reason (Some reason) line = with_reason reason line

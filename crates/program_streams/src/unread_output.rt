@@ -7,7 +7,7 @@ ghost use Rattle.std.specs.Io.KnownBytes.{WriteAppends, Keeps};
 use std::cell::Cell;
 use std::io::{self, ErrorKind, Write};
 
-/// The output. If that is wanted, a flag is set once its reader has gone.
+/// The output. If it marks, it sets a flag once a write finds that its reader has gone.
 #[derive(Drop)]
 pub struct MarkingWriter<'a, W> {
     is_unread: &'a Cell<bool>,
@@ -16,7 +16,7 @@ pub struct MarkingWriter<'a, W> {
 }
 
 impl<'a, W> MarkingWriter<'a, W> {
-    /// Returns a writer to the output.
+    /// Returns a writer to the output; `is_marking` says whether it sets the flag.
     pub fn new(is_unread: &'a Cell<bool>, is_marking: bool, writer: W) -> MarkingWriter<'a, W>
         ensures marking { result.is_marking ≡ is_marking }
         ensures writer { result.writer ≡ writer }
