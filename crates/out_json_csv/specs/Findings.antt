@@ -55,7 +55,7 @@ fault_members image (MarkedFree block) = block_members image block
 abbrev pub fault_object : Disk → Fault → Json
 fault_object image fault = object_of ((codes "condition", numeral (number fault)) ∷ fault_members image fault)
 
--- a read error, with the owners of its block, if it has some
+-- a read error, with the owners of its block, if it has any
 abbrev pub read_error_object : Disk → ReadError → Json
 read_error_object image error =
     object_of

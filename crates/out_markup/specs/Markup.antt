@@ -26,7 +26,7 @@ escaped_byte byte = option_map_or (λ entity. entity) (entity_in entities byte) 
 unfoldable pub escaped_text : List ℕ → List ℕ
 escaped_text text = flat_map escaped_byte text
 
--- the same as far as it fits into this many bytes; if it does not, `..` follows
+-- a text as it is written, as far as it fits into this many bytes; if it does not, `..` follows
 unfoldable pub escaped_within : ℕ → List ℕ → List ℕ
 escaped_within room [] = []
 escaped_within room (byte ∷ text) =

@@ -38,7 +38,7 @@ faults_text count = if count == 0 then codes "sound" else count_of count (codes 
 abbrev pub joining : Bool → List ℕ
 joining is_contrast = if is_contrast then codes ", but " else codes ", "
 
--- how many more things are wrong, if there are some
+-- how many more things are wrong, if there are any
 unfoldable pub and_so_many : Bool → ℕ → List ℕ → List ℕ
 and_so_many is_contrast count noun = if count == 0 then [] else joining is_contrast ++ count_of count noun
 
@@ -75,7 +75,7 @@ most_lines = 10
 unfoldable pub more_text : ℕ → List ℕ
 more_text count = codes "and " ++ (decimal count ++ codes " more of these")
 
--- the line for the faults beyond the first, if there are some
+-- the line for the faults beyond the first, if there are any
 unfoldable pub more_line : ℕ → List ℕ
 more_line count = if nat_lt most_lines count then line_below (more_text (count - most_lines)) else []
 
@@ -95,7 +95,7 @@ fault_lines image list = flat_map (λ condition. first_lines image (faults_of li
 unfoldable pub read_error_lines : Disk → List ReadError → List ℕ
 read_error_lines image list = flat_map (λ error. line_below (read_error_text image error)) list
 
--- the line for this many blocks that nothing owns, if there are some
+-- the line for this many blocks that nothing owns, if there are any
 unfoldable pub unowned_by : ℕ → List ℕ
 unowned_by count = if count == 0 then [] else line_below (unowned_text count)
 

@@ -26,7 +26,7 @@ abbrev pub are_many : Part → Bool
 are_many Data = false
 are_many Side = true
 
--- the verb for a chain, or for chains
+-- the verb for how a chain ends, in the singular or the plural
 abbrev pub breaks_text : Bool → List ℕ
 breaks_text many = if many then codes " break off: " else codes " breaks off: "
 
@@ -36,7 +36,7 @@ loops_text many = if many then codes " loop: " else codes " loops: "
 abbrev pub ends_text : Bool → List ℕ
 ends_text many = if many then codes " are whole" else codes " is whole"
 
--- a chain leads off the disk, or chains do
+-- a chain leads off the disk
 unfoldable pub off_text : Bool → LastBlock → ℕ × ℕ → List ℕ
 off_text many at pair = breaks_text many ++ (last_text at ++ (codes " leads to " ++ (pair_text pair ++ codes ", which is not on the disk")))
 
@@ -55,7 +55,7 @@ unfoldable pub count_text : ℕ → ℕ → ℕ → List ℕ
 count_text track count marked =
     codes "track " ++ (decimal track ++ (codes ": the map counts " ++ (count_of count (codes "free block") ++ (codes " and marks " ++ decimal marked))))
 
--- a type byte without a kind
+-- that the type byte of a slot is of no kind
 unfoldable pub kind_text : Disk → ℕ → ℕ → List ℕ
 kind_text image slot type = file_part image slot Data ++ (codes " has the type byte " ++ (decimal type ++ codes ", which is no kind of file"))
 
@@ -76,7 +76,7 @@ fault_text image (MarkedFree block) = owned_text image block (codes " is marked 
 unfoldable pub status_text : Option ℕ → List ℕ
 status_text status = option_map_or (λ number. codes ", drive error " ++ decimal number) status []
 
--- the owners of a block, if it has some
+-- the owners of a block, if it has any
 unfoldable pub belonging_text : Disk → ℕ → List ℕ
 belonging_text image block =
     if length (owners_of image block) == 0 then codes ", belongs to no file" else codes ", belongs to " ++ block_owners image block

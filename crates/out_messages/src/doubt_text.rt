@@ -93,7 +93,7 @@ fn doubtful_words(is_clean: bool) -> &'static [u8]
     }
 }
 
-/// Appends these doubts of an image, if there are some. The image is clean if nothing else is
+/// Appends these doubts of an image, if there are any. The image is clean if nothing else is
 /// wrong.
 #[tactic(auto, unfolding(crate::specs::DoubtText::doubts_text))]
 fn push_list(

@@ -32,7 +32,7 @@ fn are_many(part: Part) -> bool
     }
 }
 
-/// Returns the verb for a chain that leads off the disk, or for several.
+/// Returns the verb for a chain that leads off the disk; `many` asks for the plural.
 fn breaks_text(many: bool) -> &'static [u8]
     ensures { result.now ≡ breaks_text many }
 {
@@ -43,21 +43,21 @@ fn breaks_text(many: bool) -> &'static [u8]
     }
 }
 
-/// Returns the verb for a chain that leads back, or for several.
+/// Returns the verb for a chain that leads back; `many` asks for the plural.
 fn loops_text(many: bool) -> &'static [u8]
     ensures { result.now ≡ loops_text many }
 {
     if many { b" loop: " } else { b" loops: " }
 }
 
-/// Returns the verb for a chain that is whole, or for several.
+/// Returns the verb for a chain that is whole; `many` asks for the plural.
 fn ends_text(many: bool) -> &'static [u8]
     ensures { result.now ≡ ends_text many }
 {
     if many { b" are whole" } else { b" is whole" }
 }
 
-/// Appends that a chain leads off the disk, or that chains do.
+/// Appends that a chain leads off the disk; `many` asks for the plural.
 #[tactic(auto, unfolding(crate::specs::FaultText::off_text))]
 fn push_off(
     out: &mut Vec<u8>,
@@ -76,7 +76,7 @@ fn push_off(
     Ok(())
 }
 
-/// Appends that a chain leads back to a block of its own, or that chains do.
+/// Appends that a chain leads back to a block of its own; `many` asks for the plural.
 #[tactic(auto, unfolding(crate::specs::FaultText::loop_text))]
 fn push_loop(
     out: &mut Vec<u8>,
@@ -206,7 +206,7 @@ pub fn push_status(out: &mut Vec<u8>, status: Option<u8>) -> Result<(), AllocErr
     }
 }
 
-/// Appends the owners of a block, if it has some.
+/// Appends the owners of a block, if it has any.
 #[tactic(auto, unfolding(crate::specs::FaultText::belonging_text))]
 fn push_belonging(out: &mut Vec<u8>, survey: &Survey, block: BlockNo) -> Result<(), AllocError>
     ensures { OnOk result (out.new.items ≡ out.old.items ++ belonging_text survey.now block) }

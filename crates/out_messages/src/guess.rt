@@ -9,15 +9,15 @@ pub enum Guess {
     Empty,
     /// An image of 36 tracks, with read codes or without them.
     Tracks36,
-    /// The same of 37 tracks.
+    /// An image of 37 tracks, with read codes or without them.
     Tracks37,
-    /// The same of 38 tracks.
+    /// An image of 38 tracks, with read codes or without them.
     Tracks38,
-    /// The same of 39 tracks.
+    /// An image of 39 tracks, with read codes or without them.
     Tracks39,
-    /// The same of 41 tracks.
+    /// An image of 41 tracks, with read codes or without them.
     Tracks41,
-    /// The same of 42 tracks.
+    /// An image of 42 tracks, with read codes or without them.
     Tracks42,
     /// An image of a 1571 disk, with read codes or without them.
     Disk1571,

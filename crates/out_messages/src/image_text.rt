@@ -62,7 +62,7 @@ fn joining(is_contrast: bool) -> &'static [u8]
     if is_contrast { b", but " } else { b", " }
 }
 
-/// Appends how many more things are wrong, if there are some.
+/// Appends how many more things are wrong, if there are any.
 #[tactic(auto, unfolding(crate::specs::CheckText::and_so_many))]
 fn push_and(
     out: &mut Vec<u8>,
@@ -170,7 +170,7 @@ fn push_more(out: &mut Vec<u8>, count: usize) -> Result<(), AllocError>
     Ok(())
 }
 
-/// Appends the line for the faults beyond those that have a line each, if there are some.
+/// Appends the line for the faults beyond those that have a line each, if there are any.
 #[tactic(auto, unfolding(crate::specs::CheckText::more_line, crate::specs::Words::line_below))]
 fn push_more_line(out: &mut Vec<u8>, count: usize) -> Result<(), AllocError>
     ensures { OnOk result (out.new.items ≡ out.old.items ++ more_line count) }
@@ -238,7 +238,7 @@ fn push_error_lines(
     Ok(())
 }
 
-/// Appends the line for `count` blocks that nothing owns, if there are some.
+/// Appends the line for `count` blocks that nothing owns, if there are any.
 #[tactic(auto, unfolding(crate::specs::CheckText::unowned_by, crate::specs::Words::line_below))]
 fn push_unowned(out: &mut Vec<u8>, count: usize) -> Result<(), AllocError>
     ensures { OnOk result (out.new.items ≡ out.old.items ++ unowned_by count) }
@@ -251,7 +251,7 @@ fn push_unowned(out: &mut Vec<u8>, count: usize) -> Result<(), AllocError>
     out.extend_from_slice(LINE_END)
 }
 
-/// Appends the line for the blocks that nothing owns, if there are some and something is wrong. If
+/// Appends the line for the blocks that nothing owns, if there are any and something is wrong. If
 /// they are a doubt, the image's line names them.
 #[tactic(auto, unfolding(crate::specs::CheckText::unowned_line))]
 fn push_unowned_line(out: &mut Vec<u8>, inspection: &Inspection) -> Result<(), AllocError>
