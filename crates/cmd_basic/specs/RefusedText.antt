@@ -22,7 +22,7 @@ unfoldable pub faulty_line : Option (List ℕ) → FaultyLine → List ℕ
 faulty_line name line =
     refusal_line name (fault_line line.fault) (status_of_basic line.fault) (cause_text line.cause) ++ indented (shown_start line.text.now)
 
--- how many of this many faulty lines are not printed, if there are some
+-- how many of this many faulty lines are not printed, if there are any
 unfoldable pub more_lines : ℕ → List ℕ
 more_lines count = if nat_le count most_lines then [] else codes "    and " ++ (count_of (count - most_lines) (codes "more faulty line") ++ codes "\n")
 

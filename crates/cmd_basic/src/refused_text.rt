@@ -86,7 +86,7 @@ fn push_indented(out: &mut Vec<u8>, text: &[u8]) -> Result<(), AllocError>
     out.extend_from_slice(b"\n")
 }
 
-/// Appends how many of `count` faulty lines are not printed, if there are some.
+/// Appends how many of `count` faulty lines are not printed, if there are any.
 #[tactic(auto, unfolding(crate::specs::RefusedText::more_lines))]
 fn push_more_lines(out: &mut Vec<u8>, count: usize) -> Result<(), AllocError>
     ensures { OnOk result (out.new.items ≡ out.old.items ++ more_lines count) }

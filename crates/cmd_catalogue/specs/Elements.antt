@@ -6,7 +6,7 @@ use Rattle.out_markup.specs.Markup.{attribute, element, escaped_text}
 unfoldable pub text_in : List ℕ → List ℕ → List ℕ → List ℕ
 text_in name attributes text = element name attributes (escaped_text text)
 
--- the same on a line of its own
+-- such an element on a line of its own
 unfoldable pub text_line : List ℕ → List ℕ → List ℕ → List ℕ
 text_line name attributes text = text_in name attributes text ++ codes "\n"
 

@@ -45,7 +45,7 @@ fn push_opening(out: &mut Vec<u8>) -> Result<(), AllocError>
     out.extend_from_slice(OPENING)
 }
 
-/// Appends the end of its head.
+/// Appends the end of the page's head.
 #[tactic(auto, unfolding(crate::specs::Head::head_end))]
 fn push_head_end(out: &mut Vec<u8>) -> Result<(), AllocError>
     ensures { OnOk result (out.new.items ≡ out.old.items ++ head_end) }

@@ -109,7 +109,7 @@ fn push_section_rules(out: &mut Vec<u8>) -> Result<(), AllocError>
     out.extend_from_slice(SECTION_RULES)
 }
 
-/// Appends the rules of the texts in them.
+/// Appends the rules of the texts in a section.
 #[tactic(auto, unfolding(crate::specs::Style::label_rules))]
 fn push_label_rules(out: &mut Vec<u8>) -> Result<(), AllocError>
     ensures { OnOk result (out.new.items ≡ out.old.items ++ label_rules) }

@@ -85,7 +85,7 @@ other_codes old new = filter (has_other_code old.codes new.codes) (range_with_le
 unfoldable pub changed_codes : DumpView → DumpView → Blocks
 changed_codes old new = if is_some old.codes && is_some new.codes then other_codes old new else []
 
--- the change of blocks, if there are some
+-- the change of blocks, if there are any
 abbrev pub where_any : (Blocks → DumpChange) → Blocks → List DumpChange
 where_any change [] = []
 where_any change (block ∷ blocks) = change (block ∷ blocks) ∷ []

@@ -23,7 +23,7 @@ use Rattle.cmd_diff.specs.ChangeText.{blocks_line, change_lines, heading}
 abbrev pub Contents : Type 0
 Contents = Result Bytes (Option Reason)
 
--- the same for a value of the code, by the bytes that it holds
+-- what is read of a file, by the bytes of the value that holds them
 abbrev pub contents_by : {B : Type 0} → (B → Bytes) → Result B (Option Reason) → Contents
 contents_by bytes_of (Ok bytes) = Ok (bytes_of bytes)
 contents_by bytes_of (Err reason) = Err reason

@@ -219,7 +219,7 @@ fn print_block_list(
     }
 }
 
-/// Appends what is printed of blocks, if there are some.
+/// Appends what is printed of blocks, if there are any.
 fn print_blocks(
     form: DiffForm,
     heading: &[u8],

@@ -13,7 +13,7 @@ abbrev pub remaining_bytes : Option ℕ → ℕ → Option ℕ
 remaining_bytes None count = None
 remaining_bytes (Some left) count = if nat_le count left then Some (left - count) else None
 
--- the same after what there is to write of a file, if anything
+-- how many bytes later files may have after what there is to write of a slot, if anything
 abbrev pub left_after : Option ℕ → Option Portion → Option ℕ
 left_after left None = left
 left_after left (Some portion) = remaining_bytes left (length portion.bytes)

@@ -18,7 +18,7 @@ pub record Portion : Type 0 where
   pub bytes : Bytes
   pub extent : Extent
 
--- these bytes, if there are some, as what is written of a file
+-- these bytes, if there are any, as what is written of a file
 abbrev pub written_as : Extent → Option Bytes → Option Portion
 written_as extent bytes = option_map (λ bytes. record { bytes = bytes; extent = extent }) bytes
 
@@ -44,6 +44,6 @@ unfoldable pub portion : Bool → Disk → Bytes → Option Portion
 portion with_parts image cell =
     option_or (written_as Content (content_of image cell)) (if with_parts then written_as Part (part_of image cell) else None)
 
--- the same for the slot with this number; None if the directory has no such slot
+-- what is written of the file of the slot with this number; None if the directory has no such slot
 abbrev pub portion_at : Bool → Disk → ℕ → Option Portion
 portion_at with_parts image slot = option_and_then (portion with_parts image) (slot_cell image slot)

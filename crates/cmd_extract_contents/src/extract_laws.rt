@@ -14,7 +14,7 @@ pub fn contents_are_written()
     contents_are_what_is_read();
 }
 
-/// The same contents are written with parts.
+/// A file that has content is written alike, whether or not parts are wanted.
 pub fn parts_change_no_content()
     ensures { PartsChangeNoContent }
 {}

@@ -90,7 +90,7 @@ placed_row image file =
 unfoldable pub file_rows : Disk → List ℕ
 file_rows image = flat_map (placed_row image) (take shown_files (enumerate_from 0 (files_of image)))
 
--- how many of this many files are not shown, if there are some
+-- how many of this many files are not shown, if there are any
 unfoldable pub more_row : ℕ → ℕ → List ℕ
 more_row tracks count =
     if nat_lt shown_files count

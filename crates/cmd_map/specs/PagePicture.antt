@@ -29,12 +29,12 @@ use Rattle.cmd_map.specs.Svg.{title, page, front, view_box, height}
 unfoldable pub step_from : List ℕ → ℕ → List ℕ
 step_from steps block = codes "M" ++ (decimal (pair_at block).1 ++ (codes " " ++ (decimal (pair_at block).0 ++ steps)))
 
--- the same, if the block is in a region
+-- the steps from a block, if it is in a region
 unfoldable pub step_in : Disk → Region → List ℕ → ℕ → List ℕ
 step_in image region steps block =
     if is_in region (slice_get (owners_of image block) 0) (set.contains (free_blocks image) block) then step_from steps block else []
 
--- the same for all blocks
+-- the steps from each block of a region
 unfoldable pub steps_in : Disk → Region → List ℕ → List ℕ
 steps_in image region steps = flat_map (step_in image region steps) (range_with_len 0 (length image))
 

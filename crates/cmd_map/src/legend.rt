@@ -103,7 +103,7 @@ fn row_x(place: usize) -> usize
     }
 }
 
-/// Returns its y coordinate, in the picture of a disk with this many tracks.
+/// Returns the y coordinate of the row at a place, in the picture of a disk with this many tracks.
 #[tactic(auto, unfolding(crate::specs::Legend::row_y))]
 fn row_y(tracks: u8, place: usize) -> usize
     requires { place ≤ 144 }
@@ -184,7 +184,7 @@ fn push_file_rows(out: &mut Vec<u8>, inspection: &Inspection) -> Result<(), Allo
     Ok(())
 }
 
-/// Appends how many of `count` files are not shown, if there are some.
+/// Appends how many of `count` files are not shown, if there are any.
 #[tactic(auto, unfolding(crate::specs::Legend::more_row))]
 fn push_more_row(out: &mut Vec<u8>, tracks: u8, count: usize) -> Result<(), AllocError>
     ensures { OnOk result (out.new.items ≡ out.old.items ++ more_row tracks count) }
