@@ -19,7 +19,7 @@ pub struct Asked {
     pub after_end: bool,
 }
 
-/// A reader that gives its bytes some at a time, and then ends or fails.
+/// A reader that gives its bytes a few at a time, and then ends or fails.
 #[derive(Drop)]
 pub struct Pieces<'a> {
     left: &'a [u8],
