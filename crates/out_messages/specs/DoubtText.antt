@@ -21,15 +21,15 @@ unowned_text count = count_of count (codes "block") ++ unowned_words count
 -- the directory's
 abbrev pub blank_text : Bool → Bool → List ℕ
 blank_text map directory =
-    if map then (if directory then codes "the blocks 18/0 and 18/1, of map and directory, are blank" else codes "the map's block is blank")
+    if map then (if directory then codes "the map's block and the directory's first block are blank" else codes "the map's block is blank")
     else codes "the directory's first block is blank"
 
 -- a doubt
 unfoldable pub doubt_text : Disk → Doubt → List ℕ
-doubt_text image Version = codes "the version byte is not that of a 1541's disk"
+doubt_text image Version = codes "the version byte is not that of a 1541 disk"
 doubt_text image Blank = blank_text (is_blank image map_block) (is_blank image directory_block)
 doubt_text image Unowned = unowned_text (unowned_count image)
-doubt_text image Filler = codes "a block is filled with -=[BAD SECTOR]=-, which copiers write for what they could not read"
+doubt_text image Filler = codes "a block is filled with -=[BAD SECTOR]=-, which copy programs write for a block that they could not read"
 
 -- a doubt that is not the first
 unfoldable pub next_doubt : Disk → Doubt → List ℕ

@@ -57,7 +57,7 @@ count_text track count marked =
 
 -- that the type byte of a slot is of no kind
 unfoldable pub kind_text : Disk → ℕ → ℕ → List ℕ
-kind_text image slot type = file_part image slot Data ++ (codes " has the type byte " ++ (decimal type ++ codes ", which is no kind of file"))
+kind_text image slot type = file_part image slot Data ++ (codes " has the type byte " ++ (decimal type ++ codes ", which is not a file type"))
 
 -- a block, this text, and the owners of the block
 abbrev pub owned_text : Disk → ℕ → List ℕ → List ℕ

@@ -40,7 +40,7 @@ fn blank_text(image: &Image) -> &'static [u8]
         return b"the directory's first block is blank";
     }
     if is_blank(image, directory_block()) {
-        b"the blocks 18/0 and 18/1, of map and directory, are blank"
+        b"the map's block and the directory's first block are blank"
     } else {
         b"the map's block is blank"
     }
@@ -52,13 +52,11 @@ fn push_doubt(out: &mut Vec<u8>, all: &Inspection, doubt: Doubt) -> Result<(), A
     ensures { OnOk result (out.new.items ≡ out.old.items ++ doubt_text all.now.image doubt) }
 {
     match doubt {
-        Doubt::Version => {
-            out.extend_from_slice(b"the version byte is not that of a 1541's disk")
-        }
+        Doubt::Version => { out.extend_from_slice(b"the version byte is not that of a 1541 disk") }
         Doubt::Blank => out.extend_from_slice(blank_text(all.image())),
         Doubt::Unowned => push_unowned_text(out, all.unowned()),
         Doubt::Filler => out.extend_from_slice(
-            b"a block is filled with -=[BAD SECTOR]=-, which copiers write for what they could not read",
+            b"a block is filled with -=[BAD SECTOR]=-, which copy programs write for a block that they could not read",
         ),
     }
 }

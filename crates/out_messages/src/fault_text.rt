@@ -132,7 +132,7 @@ fn push_type(
     push_part(out, survey, slot, Part::Data)?;
     out.extend_from_slice(b" has the type byte ")?;
     push_number(out, usize::from(type_byte))?;
-    out.extend_from_slice(b", which is no kind of file")?;
+    out.extend_from_slice(b", which is not a file type")?;
     Ok(())
 }
 

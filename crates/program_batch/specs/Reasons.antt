@@ -28,7 +28,7 @@ reason_text Full = codes "the disk is full"
 
 -- what can be done, if the reason does not make it plain
 abbrev pub hint_of : Reason → List ℕ
-hint_of Folder = codes "; of the images in it: find FOLDER -name '*.d64' | d64sh check --files-from -"
+hint_of Folder = codes "; for the images in it: find FOLDER -name '*.d64' | d64sh check --files-from -"
 hint_of reason = []
 
 -- the reason for an obstacle at a path

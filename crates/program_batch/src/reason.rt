@@ -61,7 +61,7 @@ impl Reason {
     {
         match self {
             Reason::Folder => {
-                b"; of the images in it: find FOLDER -name '*.d64' | d64sh check --files-from -"
+                b"; for the images in it: find FOLDER -name '*.d64' | d64sh check --files-from -"
             }
             _ => b"",
         }

@@ -9,6 +9,6 @@ use Rattle.out_messages.proofs.fault_text.push_type.Goals as goal
 pub returns : goal.returns
 unfolding kind_text
 returns c =
-    join4 c.args.out.now.items (file_part c.args.survey.now c.args.slot Data) (codes " has the type byte ") (decimal c.args.type_byte) (codes ", which is no kind of file")
+    join4 c.args.out.now.items (file_part c.args.survey.now c.args.slot Data) (codes " has the type byte ") (decimal c.args.type_byte) (codes ", which is not a file type")
     c.push_part.new.out.items c.extend_from_slice.new.self.items c.push_number.new.out.items c.extend_from_slice-2.new.self.items
     c.in_ok-push_part.ensures c.in_ok-extend_from_slice.ensures.items (search rules) c.in_ok-extend_from_slice-2.ensures.items
