@@ -36,7 +36,7 @@ bytes_printed Text (block ∷ blocks) = sym (append-nil (change_lines (BlocksCha
 bytes_printed Json (block ∷ blocks) = sym (append-nil (line_of (change_object (BlocksChanged (block ∷ blocks)))))
 
 -- blocks with another read code
-pub codes_printed : (form : DiffForm) (blocks : List ℕ) → printed_blocks form (codes "blocks with another read code:") (codes "codes") blocks ≡ printed_changes form (where_any CodesChanged blocks)
+pub codes_printed : (form : DiffForm) (blocks : List ℕ) → printed_blocks form (codes "blocks whose read codes differ:") (codes "codes") blocks ≡ printed_changes form (where_any CodesChanged blocks)
 unfolding printed_changes
 codes_printed form [] = refl
 codes_printed Text (block ∷ blocks) = sym (append-nil (change_lines (CodesChanged (block ∷ blocks))))

@@ -70,7 +70,7 @@ change_lines (Added new) = new_line (file_line new)
 change_lines (Removed old) = old_line (file_line old)
 change_lines (FileChanged old new) = both_lines (file_line old) (file_line new)
 change_lines (BlocksChanged blocks) = blocks_line (codes "blocks that differ:") blocks
-change_lines (CodesChanged blocks) = blocks_line (codes "blocks with another read code:") blocks
+change_lines (CodesChanged blocks) = blocks_line (codes "blocks whose read codes differ:") blocks
 
 -- the names of the dumps, before all changes
 unfoldable pub heading : Bytes → Bytes → List ℕ

@@ -23,7 +23,7 @@ pub(crate) const NEW: &[u8] = b"+";
 /// What the line of blocks with other bytes begins with, and that of blocks with another read code.
 pub(crate) const OTHER_BYTES: &[u8] = b"blocks that differ:";
 
-pub(crate) const OTHER_CODES: &[u8] = b"blocks with another read code:";
+pub(crate) const OTHER_CODES: &[u8] = b"blocks whose read codes differ:";
 
 /// Returns what ends the disk's line.
 fn codes_text(has_codes: bool) -> &'static [u8]
