@@ -14,10 +14,10 @@ pub enum DirFault {
     #[error("the directory's chain from track 18, sector 1 is broken or loops: repair the links of its blocks")]
     NoDirectory,
     /// The low four bits of a slot's type byte are above 4.
-    #[error("a directory entry has a file type that there isn't: set its type byte to one of $80 to $84, or to $00 to free it")]
+    #[error("a directory entry has an unknown file type: set its type byte to one of $80 to $84, or to $00 to free it")]
     UnknownKind,
     /// A closed file has no chain of blocks from its first block, or from its first side block.
-    #[error("the blocks of a closed file are no whole chain: repair their links, or mark the file unclosed")]
+    #[error("the chain of a closed file is broken or loops: repair the links of its blocks, or mark the file as not closed")]
     NoChain,
     /// A block belongs to two files, or to a file and the directory or the map.
     #[error("a block belongs to two files or to a file and the directory: read what can be saved of both, and write it to a new disk")]

@@ -9,7 +9,7 @@ use thiserror::Error;
 #[derive(Clone, Copy, Debug, PartialEq, Eq, Error)]
 pub enum ResumeFault {
     /// A byte of the beginning isn't that of a session file, or no disk has as many tracks.
-    #[error("this is no session file")]
+    #[error("this is not a session file")]
     NotSession,
     /// The bytes end before a part of the file.
     #[error("the session file is cut short")]
@@ -22,7 +22,7 @@ pub enum ResumeFault {
     BadCursor,
     /// A record's blocks don't ascend, aren't those of the image, or have the bytes that the image
     /// has there already.
-    #[error("a record of the session file is no change of its image")]
+    #[error("a record of the session file does not fit its image")]
     BadRecord,
     /// There is no memory for the session.
     #[error("out of memory")]

@@ -145,7 +145,7 @@ fn refusals_say_what_is_wrong(rt: HostRuntime) -> Result<(), Fail> {
         ),
         (
             Refusal::Directory(DirFault::UnknownKind),
-            "a directory entry has a file type that there isn't: set its type byte to one of $80 to $84, or to $00 to free it",
+            "a directory entry has an unknown file type: set its type byte to one of $80 to $84, or to $00 to free it",
         ),
         (
             Refusal::Lost,

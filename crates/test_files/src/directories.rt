@@ -214,11 +214,11 @@ fn faults_say_what_to_do(rt: HostRuntime) -> Result<(), Fail> {
         ),
         (
             DirFault::UnknownKind,
-            "a directory entry has a file type that there isn't: set its type byte to one of $80 to $84, or to $00 to free it",
+            "a directory entry has an unknown file type: set its type byte to one of $80 to $84, or to $00 to free it",
         ),
         (
             DirFault::NoChain,
-            "the blocks of a closed file are no whole chain: repair their links, or mark the file unclosed",
+            "the chain of a closed file is broken or loops: repair the links of its blocks, or mark the file as not closed",
         ),
         (
             DirFault::CrossLinked,

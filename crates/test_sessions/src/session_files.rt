@@ -242,7 +242,7 @@ fn a_count_that_no_file_has_is_truncated(rt: HostRuntime) -> Result<(), Fail> {
 #[test]
 fn faults_say_what_is_wrong(rt: HostRuntime) -> Result<(), Fail> {
     let texts = [
-        (ResumeFault::NotSession, "this is no session file"),
+        (ResumeFault::NotSession, "this is not a session file"),
         (ResumeFault::Truncated, "the session file is cut short"),
         (
             ResumeFault::Trailing,
@@ -254,7 +254,7 @@ fn faults_say_what_is_wrong(rt: HostRuntime) -> Result<(), Fail> {
         ),
         (
             ResumeFault::BadRecord,
-            "a record of the session file is no change of its image",
+            "a record of the session file does not fit its image",
         ),
         (ResumeFault::Memory(AllocError), "out of memory"),
     ];
