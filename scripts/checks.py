@@ -44,6 +44,7 @@ SWEEPS = [
     "scripts/sweep-faults",
     "scripts/sweep-memory",
     "scripts/sweep-damage",
+    "scripts/sweep-undelete",
     "scripts/sweep-sessions",
     "scripts/sweep-surveys",
     "scripts/sweep-g64",

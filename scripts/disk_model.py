@@ -18,12 +18,13 @@ PAIRS = PAIRS_OF[35]
 PLACES = {pair: place for place, pair in enumerate(PAIRS_OF[40])}
 MAP, DIRECTORY = (18, 0), (18, 1)
 DEL, SEQ, PRG, USR, REL = range(5)
+KIND_LETTERS = {"s": SEQ, "p": PRG, "u": USR, "l": REL}
 FORBIDDEN = b'*?=:,"\x0d\xa0'
 
 TEXTS = {
     0: " OK", 1: "FILES SCRATCHED", 60: "WRITE FILE OPEN", 62: "FILE NOT FOUND", 63: "FILE EXISTS", 64: "FILE TYPE MISMATCH", 66: "ILLEGAL TRACK AND SECTOR",
     71: "DIR ERROR", 72: "DISK FULL", 80: "HOST FILE", 81: "NOTHING TO UNDO", 82: "NOTHING TO REDO", 83: "NOT ONE BLOCK",
-    84: "BASIC TEXT", 85: "NOT BASIC", **{number: "SYNTAX ERROR" for number in range(30, 35)}, 90: "OUT OF MEMORY",
+    84: "BASIC TEXT", 85: "NOT BASIC", 86: "FILE LOST", **{number: "SYNTAX ERROR" for number in range(30, 35)}, 90: "OUT OF MEMORY",
 }
 
 
@@ -68,6 +69,7 @@ class Slot:
         self.block, self.place, self.data = block, place, data
         self.kind, self.used, self.closed, self.locked = data[2] & 15, data[2] != 0, data[2] & 0x80 != 0, data[2] & 0x40 != 0
         self.first, self.side = tuple(data[3:5]), tuple(data[0x15:0x17])
+        self.scratched = not self.used and data[3] != 0
         self.name, self.size = up_to_filler(data[5:21]), int.from_bytes(data[30:32], "little")
 
     def roots(self):
@@ -137,6 +139,16 @@ class Disk:
                 return list(blocks)
             pair = tuple(link[:2])
         return None
+
+    def way(self, pair):
+        """The blocks to which one leads, each once, and whether the last of them is the end of a chain."""
+        blocks = {}
+        while self.holds(pair) and pair not in blocks:
+            link = blocks[pair] = self.block(pair)
+            if link[0] == 0:
+                return list(blocks), True
+            pair = tuple(link[:2])
+        return list(blocks), False
 
     def content(self, blocks):
         parts = [self.block(pair) for pair in blocks]
@@ -230,6 +242,34 @@ class Disk:
         for slot in slots:
             free.update(pair for root in slot.roots() for pair in self.chain(root))
         return self.without(slots).with_free(free) if slots else self, len(slots)
+
+    def left(self):
+        """Of a sound disk each scratched slot, by its number, with the words that say why its file isn't whole."""
+        owned, free, claimed, left = self.owned(), self.free(), set(), {}
+        for number, slot in enumerate(self.slots()):
+            if slot.scratched:
+                blocks, ends = self.way(slot.first)
+                holds = {"chain": not ends, "reused": not owned.isdisjoint(blocks), "marked": any(pair not in owned and pair not in free for pair in blocks),
+                         "size": ends and len(blocks) != slot.size, "claimed": not claimed.isdisjoint(blocks)}
+                left[number] = {word for word, so in holds.items() if so}
+                claimed.update(blocks)
+        return left
+
+    def undeleted(self, name, kind):
+        """The disk with a deleted file of a name again: the first that is whole, else the first that isn't lost."""
+        if kind == REL:
+            raise Refused(64)
+        self.refuse_unsound()
+        slots = self.slots()
+        if not any(slot.scratched and slot.name == name for slot in slots):
+            raise Refused(62)
+        if any(slot.used and slot.name == name for slot in slots):
+            raise Refused(63)
+        left = {number: why for number, why in self.left().items() if slots[number].name == name and why <= {"claimed"}}
+        if not left:
+            raise Refused(86)
+        slot = slots[min(left, key=lambda number: (len(left[number]), number))]
+        return self.with_bytes(slot, 2, bytes([0x80 + kind])).with_free(self.free() - set(self.way(slot.first)[0]))
 
     def renamed(self, old, new):
         self.refuse_unsound()
@@ -334,7 +374,7 @@ def plan(free, count):
 
 # Lines
 
-FEWEST_AND_MOST = {"format": (1, 1), "list": (0, 0), "read": (1, 2), "write": (1, 2), "crunch": (1, 2), "petcat": (1, 1), "type": (1, 1), "name": (1, 1), "delete": (1, 1_024), "rename": (2, 2), "validate": (0, 0),
+FEWEST_AND_MOST = {"format": (1, 1), "list": (0, 0), "read": (1, 2), "write": (1, 2), "crunch": (1, 2), "petcat": (1, 1), "type": (1, 1), "name": (1, 1), "delete": (1, 1_024), "undelete": (1, 1), "rename": (2, 2), "validate": (0, 0),
                    "block": (2, 2), "bread": (3, 3), "bwrite": (3, 3), "undo": (0, 0), "redo": (0, 0), "history": (0, 0), "save": (0, 1), "keep": (1, 1), "quit": (0, 0)}
 
 
@@ -367,6 +407,12 @@ def block_in(disk, track, sector):
     if not disk.holds(pair):
         raise Refused(66, *pair)
     return pair
+
+
+def kind_in(letter):
+    if letter not in KIND_LETTERS:
+        raise Refused(30)
+    return KIND_LETTERS[letter]
 
 
 def host_in(word):
@@ -454,11 +500,8 @@ class Shell:
     def do_write(self, disk, host, word=None):
         host_in(host)
         name, _, kind = (host.rpartition("/")[2], "", "p") if word is None else word.partition(",") if "," in word else (word, "", "p")
-        kinds = {"s": SEQ, "p": PRG, "u": USR, "l": REL}
-        if kind not in kinds:
-            raise Refused(30)
-        name = name_in(name)
-        self.add(disk.written(name, kinds[kind], self.fetch(host)))
+        kind, name = kind_in(kind), name_in(name)
+        self.add(disk.written(name, kind, self.fetch(host)))
 
     def do_crunch(self, disk, host, word=None):
         host_in(host)
@@ -487,6 +530,11 @@ class Shell:
         disk, count = disk.scratched(patterns)
         self.add(disk)
         return count
+
+    def do_undelete(self, disk, word):
+        name, comma, kind = word.partition(",")
+        kind, name = kind_in(kind if comma else "p"), name_in(name)
+        self.add(disk.undeleted(name, kind))
 
     def do_rename(self, disk, old, new):
         old, new = name_in(old), name_in(new)

@@ -2,7 +2,7 @@
 use Rattle.std.proofs.Common.{◌≡◌, ℕ, List, Option, Some, None, Ok, Err, inl, inr, refl, subst}
 use Rattle.d64_dos.specs.Refusal.{cause_of}
 use Rattle.d64_dos.specs.declared.refusal.Refusal.{Refusal}
-use Rattle.d64_dos.specs.declared.refusal.Refusal.TheVariants.{NotClosed, NotFound, Exists, WrongType, Directory, DiskFull, Memory}
+use Rattle.d64_dos.specs.declared.refusal.Refusal.TheVariants.{NotClosed, NotFound, Exists, WrongType, Directory, Lost, DiskFull, Memory}
 use Rattle.script_text.specs.declared.status.Status.{Status}
 use Rattle.script_text.specs.declared.status.Status.TheVariants.{OutOfMemory}
 use Rattle.script_commands.specs.Act.{Act, Give, Refuse, Then, ◌>>=◌, Call, Gives, Does, Ending, LineAnswer, World, plain_answer}
@@ -65,5 +65,6 @@ Does-not_allowed NotFound cause call next world is = by_cause NotFound cause (Th
 Does-not_allowed Exists cause call next world is = by_cause Exists cause (Then call next) world is
 Does-not_allowed WrongType cause call next world is = by_cause WrongType cause (Then call next) world is
 Does-not_allowed (Directory fault) cause call next world is = by_cause (Directory fault) cause (Then call next) world is
+Does-not_allowed Lost cause call next world is = by_cause Lost cause (Then call next) world is
 Does-not_allowed DiskFull cause call next world is = by_cause DiskFull cause (Then call next) world is
 Does-not_allowed Memory cause call next world is = Does-refuse_by cause (Then call next) world (plain_answer OutOfMemory) world is (Does-no_memory call next world)

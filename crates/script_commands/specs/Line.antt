@@ -15,7 +15,7 @@ use Rattle.d64_files.specs.Pattern.{is_pattern}
 use Rattle.d64_files.specs.declared.kind.Kind.TheVariants.{Prg}
 use Rattle.script_text.specs.Words.{words_of}
 use Rattle.petscii.specs.Spelling.{spelling}
-use Rattle.script_commands.specs.Arguments.{host_in, block_in, at_comma, can_be_id, name_word, name_and_kind_of}
+use Rattle.script_commands.specs.Arguments.{host_in, block_in, at_comma, can_be_id, name_word, name_and_kind_in, name_and_kind_of}
 use Rattle.script_commands.specs.FoundFile.{found_name, found_content, is_file_name}
 use Rattle.script_commands.specs.FileText.{file_text}
 use Rattle.script_commands.specs.HistoryText.{history_text}
@@ -31,7 +31,7 @@ use Rattle.d64_dos.specs.declared.command.Reply.TheVariants as replies
 use Rattle.d64_dos.specs.declared.refusal.Refusal.{Refusal}
 use Rattle.d64_dos.specs.declared.refusal.Refusal.TheVariants as refusals
 use Rattle.script_text.specs.declared.status.Status.{Status}
-use Rattle.script_text.specs.declared.status.Status.TheVariants.{Done, FilesScratched, SyntaxError, UnknownCommand, LongLine, BadName, MissingWord, WriteFileOpen, FileNotFound, FileExists, FileTypeMismatch, DirectoryError, DiskFull, NothingToUndo, NothingToRedo, NotOneBlock, OutOfMemory}
+use Rattle.script_text.specs.declared.status.Status.TheVariants.{Done, FilesScratched, SyntaxError, UnknownCommand, LongLine, BadName, MissingWord, WriteFileOpen, FileNotFound, FileExists, FileTypeMismatch, DirectoryError, DiskFull, NothingToUndo, NothingToRedo, NotOneBlock, FileLost, OutOfMemory}
 
 -- the status of a refusal of a command
 abbrev pub status_of_refusal : Refusal → Status
@@ -40,6 +40,7 @@ status_of_refusal refusals.NotFound = FileNotFound
 status_of_refusal refusals.Exists = FileExists
 status_of_refusal refusals.WrongType = FileTypeMismatch
 status_of_refusal (refusals.Directory fault) = DirectoryError (number_of fault)
+status_of_refusal refusals.Lost = FileLost
 status_of_refusal refusals.DiskFull = DiskFull
 status_of_refusal refusals.Memory = OutOfMemory
 
@@ -237,7 +238,14 @@ type_act history name = do
   pattern ← ask (Text is_pattern name)
   show_file history pattern
 
--- `undo`: goes to the image before
+-- `undelete`: a deleted file is brought back, of the name and the kind of a word
+abbrev pub undelete_act : History → Bytes → Act Ending
+undelete_act history word = do
+  file ← value_or_refusal (name_and_kind_in word)
+  name ← ask (Text is_name file.0)
+  run history (changes.Undelete name file.1)
+
+-- `undo`
 abbrev pub undo_act : History → Act Ending
 undo_act history = do
   need (nat_lt 0 history.cursor) NothingToUndo
@@ -283,6 +291,7 @@ disk_commands history words =
     ∷ (codes "petcat", one_word words >>= petcat_act history)
     ∷ (codes "rename", word_and one_word words >>= rename_act history)
     ∷ (codes "type", one_word words >>= type_act history)
+    ∷ (codes "undelete", one_word words >>= undelete_act history)
     ∷ []
 
 -- the commands that take a file from the host to the disk or back

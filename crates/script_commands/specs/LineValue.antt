@@ -4,9 +4,9 @@ use Rattle.d64_image.specs.Disk.{Bytes}
 use Rattle.d64_undo.specs.History.{History}
 use Rattle.script_text.specs.declared.status.Status.{Status}
 use Rattle.script_commands.specs.Act.{Act, Give, Refuse, Ending}
-use Rattle.script_commands.specs.Line.{block_act, block_read_act, block_write_act, crunch_act, delete_act, format_act, history_act, keep_act, list_act, name_act, petcat_act, quit_act, read_act, redo_act, rename_act, save_act, type_act, undo_act, validate_act, write_act}
+use Rattle.script_commands.specs.Line.{block_act, block_read_act, block_write_act, crunch_act, delete_act, format_act, history_act, keep_act, list_act, name_act, petcat_act, quit_act, read_act, redo_act, rename_act, save_act, type_act, undelete_act, undo_act, validate_act, write_act}
 use Rattle.script_commands.specs.declared.line.Line.{Line}
-use Rattle.script_commands.specs.declared.line.Line.TheVariants.{Block, BlockRead, BlockWrite, Crunch, Delete, Format, ListHistory, Keep, ListDirectory, Name, Petcat, Quit, Read, Redo, Rename, Save, ShowText, Undo, Validate, Write}
+use Rattle.script_commands.specs.declared.line.Line.TheVariants.{Block, BlockRead, BlockWrite, Crunch, Delete, Format, ListHistory, Keep, ListDirectory, Name, Petcat, Quit, Read, Redo, Rename, Save, ShowText, Undelete, Undo, Validate, Write}
 
 -- the act of a line
 abbrev pub act_of : Bytes → History → Line → Act Ending
@@ -27,6 +27,7 @@ act_of home history Redo = redo_act history
 act_of home history (Rename old new) = rename_act history (old.now, new.now)
 act_of home history (Save host) = save_act home history (option_map (λ word. word.now) host)
 act_of home history (ShowText name) = type_act history name.now
+act_of home history (Undelete name_and_kind) = undelete_act history name_and_kind.now
 act_of home history Undo = undo_act history
 act_of home history Validate = validate_act history
 act_of home history (Write host name) = write_act history (host.now, option_map (λ word. word.now) name)

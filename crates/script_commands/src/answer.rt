@@ -186,6 +186,7 @@ fn answer<H: Host>(
         Line::Rename { old, new } => handlers::rename(alloc, session, old, new),
         Line::Save { host: name } => handlers::save(alloc, host, home, session, name),
         Line::ShowText { name } => handlers::type_text(alloc, session, name),
+        Line::Undelete { name_and_kind } => handlers::undelete(alloc, session, name_and_kind),
         Line::Undo => handlers::undo(session),
         Line::Validate => handlers::validate(session),
         Line::Write { host: source, name } => handlers::write(alloc, host, session, source, name),

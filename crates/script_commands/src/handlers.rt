@@ -9,11 +9,11 @@ ghost use Rattle.script_commands.specs.Response.{Responds, RespondsAlone};
 ghost use Rattle.petscii.specs.Spelling.{spelling};
 ghost use Rattle.script_commands.specs.FoundFile.{is_file_name};
 ghost use Rattle.d64_undo.specs.History.{History, present_image};
-ghost use Rattle.script_commands.specs.Line.{put, host_file_limit, block_act, block_read_act, block_write_act, crunch_act, write_program, delete_act, format_act, history_act, keep_act, list_act, name_act, name_parts, petcat_act, show_program, quit_act, read_act, read_to, redo_act, rename_act, save_act, show_file, type_act, undo_act, validate_act, write_act, run, write_one_block};
+ghost use Rattle.script_commands.specs.Line.{put, host_file_limit, block_act, block_read_act, block_write_act, crunch_act, write_program, delete_act, format_act, history_act, keep_act, list_act, name_act, name_parts, petcat_act, show_program, quit_act, read_act, read_to, redo_act, rename_act, save_act, show_file, type_act, undelete_act, undo_act, validate_act, write_act, run, write_one_block};
 
 use crate::arguments::{
-    at_comma, block_in, host_in, id_in, name_and_kind_of, name_in, name_word, pattern_in,
-    patterns_in,
+    at_comma, block_in, host_in, id_in, name_and_kind_in, name_and_kind_of, name_in, name_word,
+    pattern_in, patterns_in,
 };
 use crate::file_text::file_text;
 use crate::history_text::history_text;
@@ -409,7 +409,17 @@ fn show_file(alloc: Global, session: &Session, pattern: &Pattern) -> Result<Resp
     Ok(Response::text(text))
 }
 
-/// `undo`: goes to the image before.
+/// `undelete`: a deleted file brought back. The word may be cut at its first comma, into the name and
+/// the letter of a kind.
+pub(crate) fn undelete(alloc: Global, session: &mut Session, word: &str) -> Result<Response, Status>
+    ensures { RespondsAlone (undelete_act session.old word.now) session.old result session.new }
+{
+    let (name, kind) = name_and_kind_in(word.as_bytes())?;
+    let name = name_in(alloc, name)?;
+    run_command(session, &Command::Undelete { name, kind })
+}
+
+/// `undo`: the image before.
 pub(crate) fn undo(session: &mut Session) -> Result<Response, Status>
     ensures { RespondsAlone (undo_act session.old) session.old result session.new }
 {

@@ -80,7 +80,11 @@ pub(crate) enum Line<'a> {
     ShowText {
         name: &'a str,
     },
-    /// `undo`: reverses the last command.
+    /// `undelete name[,t]`: brings a deleted file back.
+    Undelete {
+        name_and_kind: &'a str,
+    },
+    /// `undo`: takes the last command back.
     Undo,
     /// `validate`: drops the files that were never closed, and writes the map anew.
     Validate,
@@ -165,6 +169,10 @@ fn on_the_disk<'a>(command: &str, words: &'a [&'a str]) -> Result<Line<'a>, Stat
         },
         "type" => match one_word(words) {
             Ok(name) => Ok(Line::ShowText { name }),
+            Err(status) => Err(status),
+        },
+        "undelete" => match one_word(words) {
+            Ok(name_and_kind) => Ok(Line::Undelete { name_and_kind }),
             Err(status) => Err(status),
         },
         _ => with_a_file(command, words),

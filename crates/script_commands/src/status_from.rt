@@ -75,6 +75,7 @@ pub(crate) fn of_refusal(refusal: Refusal) -> Status
         Refusal::Directory(fault) => Status::DirectoryError {
             condition: fault.number(),
         },
+        Refusal::Lost => Status::FileLost,
         Refusal::DiskFull => Status::DiskFull,
         Refusal::Memory => Status::OutOfMemory,
     }

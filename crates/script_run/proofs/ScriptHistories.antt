@@ -33,7 +33,7 @@ use Rattle.script_text.specs.Words.{words_of}
 use Rattle.petscii.specs.Spelling.{spelling}
 use Rattle.script_commands.specs.Act.{printed_bytes, Act, Give, Refuse, Then, Call, Text, Fetch, Store, Crunch, Expand, Room, Gives, given_by, Ending, Does, LineAnswer, World, ◌>>=◌, value_or_refusal, need, each_text, plain_answer}
 use Rattle.host_storage.specs.Files.{HostState}
-use Rattle.script_commands.specs.Arguments.{host_in, block_in, at_comma, can_be_id, name_and_kind_of}
+use Rattle.script_commands.specs.Arguments.{host_in, block_in, at_comma, can_be_id, name_and_kind_in, name_and_kind_of}
 use Rattle.script_commands.specs.WordCounts.{no_word, one_word, at_most_one, word_and, some_words}
 use Rattle.script_commands.specs.FoundFile.{found_name, is_file_name}
 use Rattle.script_commands.specs.Line.{refuse_by, leave, run, commands, act_of_words, act_of_line, name_parts, read_to, save_act, undo_act, redo_act}
@@ -214,6 +214,9 @@ commands-lead IsOne home history first words keeps writes =
     (λ w old named new renamed. run-leads IsOne history (changes.Rename old new) (keeps _ (refl, (name-made old named, name-made new renamed)))))
     ⨾ (λ type. after_any IsOne history (one_word words) _
     (λ w pattern known. after_any IsOne history (refuse_by (read_refusal (present_image history) pattern)) _ (λ _ bytes given. inl refl)))
+    ⨾ (λ undelete. after_any IsOne history (one_word words) _
+    (λ w. after_any IsOne history (value_or_refusal (name_and_kind_in w)) _
+    (λ file name named. run-leads IsOne history (changes.Undelete name file.1) (keeps _ (refl, name-made name named)))))
     ⨾ (λ crunch. after_any IsOne history (word_and at_most_one words) _
     (λ w. after_any IsOne history (value_or_refusal (host_in w.0)) _
     (λ source name named text fetched file crunched.

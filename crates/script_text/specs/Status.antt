@@ -2,7 +2,7 @@
 use Rattle.std.specs.Prelude.{ℕ, nat_lt, Bool, if◌then◌else◌, List, [], ◌++◌, codes}
 use Rattle.std.specs.Fmt.{decimal}
 use Rattle.script_text.specs.declared.status.Status.{Status}
-use Rattle.script_text.specs.declared.status.Status.TheVariants.{Done, FilesScratched, SyntaxError, UnknownCommand, LongLine, BadName, MissingWord, WriteFileOpen, FileNotFound, FileExists, FileTypeMismatch, IllegalBlock, DirectoryError, DiskFull, HostFile, NothingToUndo, NothingToRedo, NotOneBlock, BasicText, NotBasic, OutOfMemory}
+use Rattle.script_text.specs.declared.status.Status.TheVariants.{Done, FilesScratched, SyntaxError, UnknownCommand, LongLine, BadName, MissingWord, WriteFileOpen, FileNotFound, FileExists, FileTypeMismatch, IllegalBlock, DirectoryError, DiskFull, HostFile, NothingToUndo, NothingToRedo, NotOneBlock, BasicText, NotBasic, FileLost, OutOfMemory}
 
 -- the number and the text of a status
 abbrev pub status_row : Status → ℕ × List ℕ
@@ -26,6 +26,7 @@ status_row NothingToRedo = (82, codes "NOTHING TO REDO")
 status_row NotOneBlock = (83, codes "NOT ONE BLOCK")
 status_row (BasicText fault line) = (84, codes "BASIC TEXT")
 status_row (NotBasic fault) = (85, codes "NOT BASIC")
+status_row FileLost = (86, codes "FILE LOST")
 status_row OutOfMemory = (90, codes "OUT OF MEMORY")
 
 -- the two numbers in the last columns of a status line

@@ -58,7 +58,9 @@ pub enum Status {
     BasicText { fault: u8, line: u32 },
     /// 85: the file isn't a BASIC program, because of this fault.
     NotBasic { fault: u8 },
-    /// 90: memory is out.
+    /// 86: what was deleted under this name can't be brought back.
+    FileLost,
+    /// 90: there is no memory.
     OutOfMemory,
 }
 
@@ -133,6 +135,7 @@ impl Status {
             Status::NotOneBlock => (83, b"NOT ONE BLOCK"),
             Status::BasicText { .. } => (84, b"BASIC TEXT"),
             Status::NotBasic { .. } => (85, b"NOT BASIC"),
+            Status::FileLost => (86, b"FILE LOST"),
             Status::OutOfMemory => (90, b"OUT OF MEMORY"),
         }
     }

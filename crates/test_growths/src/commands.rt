@@ -3,7 +3,7 @@
 use crate::disk::{block, changed_blocks, disk, format, same, ten_blocks, within, write};
 use crate::end::{Bench, End};
 use d64_dos::{Command, Refusal, Reply};
-use d64_files::{Name, Pattern, ReadFault, find};
+use d64_files::{Kind, Name, Pattern, ReadFault, find};
 use d64_image::{Image, Patch};
 use std::alloc::Global;
 use std::test::Fail;
@@ -23,6 +23,10 @@ pub fn command_of(alloc: Global, name: &str) -> Result<Command, Fail> {
         "Write" => write(alloc, b"Y", &ten_blocks(alloc)?),
         "Delete" => Ok(Command::Delete {
             patterns: vec![in alloc; Pattern::new(b"*")?]?,
+        }),
+        "Undelete" => Ok(Command::Undelete {
+            name: Name::new(b"C")?,
+            kind: Kind::Seq,
         }),
         "Rename" => Ok(Command::Rename {
             old: Name::new(b"A")?,

@@ -89,8 +89,8 @@ pub fn ten_blocks(alloc: Global) -> Result<Vec<u8>, Fail> {
     Ok(vec![in alloc; 7; 2540]?)
 }
 
-/// Returns a sound disk with the file `A` of ten blocks from 17/0 on, and the file `B` of one
-/// block, which was never closed.
+/// A sound disk with the file `A` of ten blocks from 17/0 on, the file `B` of one, which was never
+/// closed, and in the eighth slot what is left of the file `C` of one, which was deleted.
 pub fn disk(alloc: Global) -> Result<Image, Fail> {
     let mut image = Image::zeroed(alloc)?;
     make(alloc, &mut image, &format()?)?;
@@ -99,6 +99,10 @@ pub fn disk(alloc: Global) -> Result<Image, Fail> {
     let first = block_in(&image, 18, 1)?;
     let mut directory = *image.sector(first);
     directory[0x22] = 0x02;
+    directory[0xE3] = 1;
+    directory[0xE5] = b'C';
+    directory[0xE6..0xF5].fill(0xA0);
+    directory[0xFE] = 1;
     Patch::new(alloc).write(&mut image, first, &directory)?;
     Ok(image)
 }

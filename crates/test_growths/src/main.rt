@@ -44,6 +44,7 @@ fn end_of_call(bench: &Bench) -> Result<End, Fail> {
         "put_map" => writers::map(bench),
         "put_entry" => writers::entry(bench),
         "clear_slot" => writers::cleared_slot(bench),
+        "set_type" => writers::file_type(bench),
         "set_name" => writers::name(bench),
         "put_chain" => writers::chain(bench),
         "grow" => writers::growth(bench),

@@ -9,7 +9,7 @@ ghost use Rattle.d64_image.specs.Patch.{IsPatchOf};
 use crate::disk::{block, block_in, changed_blocks, disk, fresh, same};
 use crate::end::{Bench, End};
 use d64_files::{
-    Kind, Name, Pattern, SlotNo, clear_slot, find, grow, put_chain, put_entry, set_name,
+    Kind, Name, Pattern, SlotNo, clear_slot, find, grow, put_chain, put_entry, set_name, set_type,
 };
 use d64_image::{BlockSet, Image, Patch};
 use d64_map::put_map;
@@ -77,6 +77,16 @@ pub fn cleared_slot(bench: &Bench) -> Result<End, Fail> {
     let slot = slot_of_a(&image)?;
     bench.begin()?;
     let answer = clear_slot(&mut image, &mut patch, slot);
+    Ok(end_of(answer, &mut image, &mut patch, &before))
+}
+
+pub fn file_type(bench: &Bench) -> Result<End, Fail> {
+    let mut image = disk(bench.alloc())?;
+    let before = image.try_clone(bench.alloc())?;
+    let mut patch = fresh(bench.alloc(), &image);
+    let slot = slot_of_a(&image)?;
+    bench.begin()?;
+    let answer = set_type(&mut image, &mut patch, slot, Kind::Seq);
     Ok(end_of(answer, &mut image, &mut patch, &before))
 }
 

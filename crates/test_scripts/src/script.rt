@@ -115,6 +115,7 @@ fn shows_each_status(rt: HostRuntime) {
             "84,BASIC TEXT,01,01\n",
         ),
         (Status::NotBasic { fault: 1 }, "85,NOT BASIC,01,00\n"),
+        (Status::FileLost, "86,FILE LOST,00,00\n"),
         (Status::OutOfMemory, "90,OUT OF MEMORY,00,00\n"),
     ];
     for (status, line) in lines {

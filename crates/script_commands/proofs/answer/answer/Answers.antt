@@ -21,5 +21,8 @@ returns-in-Rename g c = rw c.in-Rename.is (c.rename.ensures _)
 pub returns-in-ShowText : goal.returns-in-ShowText
 returns-in-ShowText g c = rw c.in-ShowText.is (c.type_text.ensures _)
 
+pub returns-in-Undelete : goal.returns-in-Undelete
+returns-in-Undelete g c = rw c.in-Undelete.is (c.undelete.ensures _)
+
 pub returns-in-Validate : goal.returns-in-Validate
 returns-in-Validate g c = rw c.in-Validate.is (c.validate.ensures _)
