@@ -3,7 +3,8 @@ use Rattle.std.proofs.Common.{◌≡◌, ℕ, Bool, true, false, cond, List, Opt
 use Rattle.program_batch.specs.Reasons.{IsWriteReason}
 use Rattle.program_batch.specs.declared.reason.Reason.{Reason}
 use Rattle.host_storage.specs.Files.{HostState}
-use Rattle.d64_inventory.specs.Rows.{rows}
+use Rattle.d64_leftovers.specs.Rows.{rows}
+use Rattle.cmd_files.specs.Selections.{files_and}
 use Rattle.cmd_extract.specs.Setup.{TaskView}
 use Rattle.cmd_extract.specs.Paths.{path_inside, list_in}
 use Rattle.cmd_extract.specs.Progress.{Progress, first_progress}
@@ -62,10 +63,10 @@ unmade_below task path into host said reason is_into says why is =
 
 -- the image's folder was made
 pub made : (task : TaskView) (path : List ℕ) (old now : HostState) (said : Bool) → path ≡ task.partial → Says (NewFolder path) old said now → said ≡ true
-    → LeadsTo (folder_work task) old (files_work task (rows task.dump) (first_progress task)) now
+    → LeadsTo (folder_work task) old (files_work task (rows (files_and task.setup.form.leftovers) task.dump) (first_progress task)) now
 unfolding folder_work
 made task path old now said is_path says is_said =
-    asked (NewFolder task.partial) (λ is_made. cond is_made (files_work task (rows task.dump) (first_progress task)) (unmade_work task task.partial)) old now true
+    asked (NewFolder task.partial) (λ is_made. cond is_made (files_work task (rows (files_and task.setup.form.leftovers) task.dump) (first_progress task)) (unmade_work task task.partial)) old now true
     (subst (λ (s : Bool). Says (NewFolder task.partial) old s now) is_said (subst (λ (q : List ℕ). Says (NewFolder q) old said now) is_path says))
 
 -- or wasn't
@@ -73,7 +74,7 @@ pub not_made : (task : TaskView) (path : List ℕ) (old now : HostState) (said :
     → LeadsTo (folder_work task) old (unmade_work task task.partial) now
 unfolding folder_work
 not_made task path old now said is_path says is_said =
-    asked (NewFolder task.partial) (λ is_made. cond is_made (files_work task (rows task.dump) (first_progress task)) (unmade_work task task.partial)) old now false
+    asked (NewFolder task.partial) (λ is_made. cond is_made (files_work task (rows (files_and task.setup.form.leftovers) task.dump) (first_progress task)) (unmade_work task task.partial)) old now false
     (subst (λ (s : Bool). Says (NewFolder task.partial) old s now) is_said (subst (λ (q : List ℕ). Says (NewFolder q) old said now) is_path says))
 
 -- what comes after the look at the folder that isn't there

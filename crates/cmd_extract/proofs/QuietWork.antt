@@ -4,7 +4,8 @@ use Rattle.std.specs.Prelude.{is_some, nat_lt, length}
 use Rattle.std.specs.Str.{is_utf8}
 use Rattle.host_storage.specs.Files.{HostState}
 use Rattle.d64_survey.specs.Dump.{DumpView}
-use Rattle.d64_inventory.specs.Rows.{FileRowView, rows}
+use Rattle.d64_leftovers.specs.Rows.{rows}
+use Rattle.d64_leftovers.specs.declared.row.Row.{Row}
 use Rattle.cmd_extract_contents.specs.Portions.{Portion}
 use Rattle.cmd_extract_contents.specs.Limits.{portion_within}
 use Rattle.d64_g64.specs.DumpOf.{dump_of}
@@ -13,10 +14,11 @@ use Rattle.program_batch.specs.Answers.{Answer}
 use Rattle.program_batch.specs.declared.report.Verdict.TheVariants.{Clean, Amiss, Failed}
 use Rattle.host_names.specs.ImagePlace.{folders_of}
 use Rattle.d64_inventory.specs.ListingAmiss.{is_listing_amiss}
+use Rattle.cmd_files.specs.Selections.{files_and}
 use Rattle.cmd_extract.specs.Setup.{SetupView, TaskView}
 use Rattle.cmd_extract.specs.Paths.{path_inside, with_slash, list_in, path_in}
 use Rattle.cmd_extract.specs.Work.{Work, Done, Then, Why, Look, Rename, Does}
-use Rattle.cmd_extract.specs.Progress.{Progress, waiting_limit, first_progress, portion_of, host_name, told_progress, spent_progress, named_progress, written_progress, unwritten_progress, failed_at, put_progress, unput_progress, dropped_progress}
+use Rattle.cmd_extract.specs.Progress.{Progress, waiting_limit, first_progress, portion_of, row_name, told_progress, spent_progress, named_progress, written_progress, unwritten_progress, failed_at, put_progress, unput_progress, dropped_progress}
 use Rattle.cmd_extract.specs.declared.list_state.ListState.{ListState}
 use Rattle.cmd_extract.specs.declared.list_state.ListState.TheVariants.{New, Begun, GivenUp}
 use Rattle.program_batch.specs.declared.reason.Reason.{Reason}
@@ -102,18 +104,18 @@ listed_quiet task p quiet =
     (λ reason. named_quiet task (unput_progress task reason p) (λ unfailed. absurd (let e : true ≡ false = unfailed in cc))) (named_quiet task (dropped_progress p) quiet)
 
 -- one more file
-told_quiet : (task : TaskView) (row : FileRowView) (path : Option (List ℕ)) (p : Progress) → IsQuietSoFar p → IsQuietSoFar (told_progress task row path p)
+told_quiet : (task : TaskView) (row : Row) (path : Option (List ℕ)) (p : Progress) → IsQuietSoFar p → IsQuietSoFar (told_progress task row path p)
 unfolding told_progress
 told_quiet task row path p quiet = quiet
 
-file_quiet : (task : TaskView) (row : FileRowView) (p : Progress) (portion : Option Portion) (rest : Progress → Work) → IsQuietSoFar p → ((q : Progress) → IsQuietSoFar q → IsQuietWork (rest q))
+file_quiet : (task : TaskView) (row : Row) (p : Progress) (portion : Option Portion) (rest : Progress → Work) → IsQuietSoFar p → ((q : Progress) → IsQuietSoFar q → IsQuietWork (rest q))
     → IsQuietWork (file_work task row p portion rest)
 unfolding file_work IsQuietWork
 file_quiet task row p None rest quiet later = later (told_progress task row None p) (told_quiet task row None p quiet)
 file_quiet task row p (Some portion) rest quiet later = by_writing
   where
     file : List ℕ
-    file = host_name p.taken row portion.extent
+    file = row_name p.taken row portion.extent
 
     named : Progress
     named = named_progress file p
@@ -123,7 +125,7 @@ file_quiet task row p (Some portion) rest quiet later = by_writing
     by_writing false = λ reason. later (unwritten_progress task row file reason named)
         (told_quiet task row None (failed_at (path_in task.partial file) reason named) (λ unfailed. absurd (let e : true ≡ false = unfailed in cc)))
 
-files_quiet : (task : TaskView) (rows : List FileRowView) (p : Progress) → IsQuietSoFar p → IsQuietWork (files_work task rows p)
+files_quiet : (task : TaskView) (rows : List Row) (p : Progress) → IsQuietSoFar p → IsQuietWork (files_work task rows p)
 unfolding files_work
 files_quiet task [] p quiet = listed_quiet task (closed_progress task p) (closed_quiet task p quiet)
 files_quiet task (row ∷ rows) p quiet =
@@ -137,7 +139,7 @@ unmade_quiet task path = λ is_there reason clean. absurd (let e : Failed ≡ Cl
 
 folder_quiet : (task : TaskView) → IsQuietWork (folder_work task)
 unfolding folder_work IsQuietWork
-folder_quiet task true = files_quiet task (rows task.dump) (first_progress task) (λ unfailed. refl)
+folder_quiet task true = files_quiet task (rows (files_and task.setup.form.leftovers) task.dump) (first_progress task) (λ unfailed. refl)
 folder_quiet task false = unmade_quiet task task.partial
 
 after_quiet : (task : TaskView) (unmade : Option (List ℕ)) → IsQuietWork (folder_after task unmade)

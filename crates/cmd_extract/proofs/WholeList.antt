@@ -1,25 +1,28 @@
 -- The pieces of the list of an image's files are the lines of all rows.
-use Rattle.std.proofs.Common.{◌≡◌, ◌≢◌, ℕ, ◌+◌, Bool, true, false, cond, List, [], ◌∷◌, ◌++◌, length, drop, get_or, Option, Some, None, refl, sym, ap, ◌∙◌, subst, arith}
+use Rattle.std.proofs.Common.{◌≡◌, ◌≢◌, ℕ, Bool, true, false, cond, List, [], ◌∷◌, ◌++◌, length, Option, Some, None, refl, sym, ap, ◌∙◌}
 use Rattle.std.specs.Prelude.{⊤, bytes_eq, nat_lt, codes}
 use Rattle.std.proofs.lemmas.Bool.{false_from_ne_true}
-use Rattle.std.proofs.lemmas.List.{append_assoc, append_cancel_left, length-append}
+use Rattle.std.proofs.lemmas.List.{append_assoc, append_cancel_left}
 use Rattle.std.proofs.lemmas.Slice.Eq.{bytes_eq-Decides}
-use Rattle.std.proofs.Math.Seq.{drop-append_seam}
 use Rattle.petscii.specs.Spelling.{spelling}
 use Rattle.d64_files.specs.Name.{name_in}
-use Rattle.d64_inventory.specs.Rows.{FileRowView, rows}
+use Rattle.d64_leftovers.specs.Rows.{rows}
+use Rattle.d64_leftovers.specs.declared.row.Row.{Row}
+use Rattle.d64_leftovers.specs.declared.row.Row.TheVariants.{File, Deleted}
 use Rattle.cmd_extract_contents.specs.Portions.{Portion}
 use Rattle.cmd_extract_contents.specs.Limits.{portion_within}
 use Rattle.cmd_extract_contents.specs.declared.extent.Extent.{Extent}
 use Rattle.host_names.specs.declared.ending.Ending.{Ending}
-use Rattle.host_names.specs.HostName.{tail}
-use Rattle.host_names.proofs.Tails.{length-tail, first_of_tail}
+use Rattle.host_names.specs.declared.ending.Ending.TheVariants as endings
+use Rattle.host_names.specs.HostName.{ending_text, part_text, tail}
+use Rattle.host_names.specs.TakenNames.{next_name}
+use Rattle.host_names.proofs.Tails.{rests, not_ended}
 use Rattle.host_names.proofs.SafeNames.{name_ends}
-use Rattle.program_arguments.specs.declared.asked.Format.TheVariants.{Json}
-use Rattle.cmd_files.specs.Extracts.{printed_file}
+use Rattle.cmd_files.specs.Extracts.{as_json, printed_file}
+use Rattle.cmd_files.specs.Selections.{files_and}
 use Rattle.cmd_extract.specs.Setup.{TaskView}
 use Rattle.cmd_extract.specs.Paths.{path_in, with_slash, list_path}
-use Rattle.cmd_extract.specs.Progress.{Progress, waiting_limit, first_progress, portion_of, ending_by, is_part, host_name, told_progress, spent_progress, named_progress, written_progress, put_progress}
+use Rattle.cmd_extract.specs.Progress.{Progress, waiting_limit, first_progress, portion_of, ending_by, is_part, host_name, row_name, told_progress, spent_progress, named_progress, written_progress, put_progress}
 use Rattle.cmd_extract.specs.declared.list_state.ListState.{ListState}
 use Rattle.cmd_extract.specs.declared.list_state.ListState.TheVariants.{New, Begun, GivenUp}
 use Rattle.cmd_extract.specs.Work.{Work, Rename, Done, Then}
@@ -35,35 +38,23 @@ IsTried GivenUp = ⊥
 
 -- no name that ends as those of files do is that of the list
 not_the_list : (front : List ℕ) (ending : Ending) (in_part : Bool) → front ++ tail ending in_part ≢ codes "files.jsonl"
-not_the_list front ending in_part is = by_part in_part refl
-  where
-    starts : get_or (drop (length front) (codes "files.jsonl")) 0 0 ≡ 46
-    starts = ap (λ (t : List ℕ). get_or (drop (length front) t) 0 0) (sym is) ∙ ap (λ (t : List ℕ). get_or t 0 0) (drop-append_seam front (tail ending in_part)) ∙ first_of_tail ending in_part
-
-    sizes : length front + length (tail ending in_part) ≡ 11
-    sizes = sym (length-append front (tail ending in_part)) ∙ ap length is
-
-    by_length : (size : ℕ) → length front ≡ size → get_or (drop size (codes "files.jsonl")) 0 0 ≡ 46
-    by_length size is_size = subst (λ (n : ℕ). get_or (drop n (codes "files.jsonl")) 0 0 ≡ 46) is_size starts
-
-    by_part : (part : Bool) → part ≡ in_part → ⊥
-    by_part true is_true =
-        let long : length (tail ending in_part) ≡ 9 = length-tail ending in_part ∙ ap (λ (b : Bool). cond b 9 4) (sym is_true) in
-        let size : length front ≡ 2 = omega (arith, long, sizes) in
-        let letter : ◌≡◌ {A = ℕ} 108 46 = by_length 2 size in omega (arith, letter)
-    by_part false is_false =
-        let long : length (tail ending in_part) ≡ 4 = length-tail ending in_part ∙ ap (λ (b : Bool). cond b 9 4) (sym is_false) in
-        let size : length front ≡ 7 = omega (arith, long, sizes) in
-        let letter : ◌≡◌ {A = ℕ} 115 46 = by_length 7 size in omega (arith, letter)
+unfolding tail ending_text part_text rests
+not_the_list front ending in_part is = not_ended (codes "files.jsonl") front ending in_part refl refl is
 
 -- so the path of a file isn't that of the list
-other_path : (task : TaskView) (taken : List (List ℕ)) (row : FileRowView) (extent : Extent) → bytes_eq (list_path task) (path_in task.partial (host_name taken row extent)) ≡ false
-unfolding host_name
-other_path task taken row extent =
-    let ends = name_ends taken (spelling (name_in row.field)) (ending_by row.kind) (is_part extent) in
-    false_from_ne_true (bytes_eq (list_path task) (path_in task.partial (host_name taken row extent))) (λ same.
-    not_the_list ends.0 (ending_by row.kind) (is_part extent)
-    (sym ends.1 ∙ sym (append_cancel_left (with_slash task.partial) (codes "files.jsonl") (host_name taken row extent) ((bytes_eq-Decides (list_path task) (path_in task.partial (host_name taken row extent))).0 same))))
+other_named : (task : TaskView) (taken : List (List ℕ)) (text : List ℕ) (ending : Ending) (in_part : Bool)
+    → bytes_eq (list_path task) (path_in task.partial (next_name taken text ending in_part)) ≡ false
+other_named task taken text ending in_part =
+    let name = next_name taken text ending in_part in
+    let ends = name_ends taken text ending in_part in
+    false_from_ne_true (bytes_eq (list_path task) (path_in task.partial name)) (λ same.
+    not_the_list ends.0 ending in_part
+    (sym ends.1 ∙ sym (append_cancel_left (with_slash task.partial) (codes "files.jsonl") name ((bytes_eq-Decides (list_path task) (path_in task.partial name)).0 same))))
+
+other_path : (task : TaskView) (taken : List (List ℕ)) (row : Row) (extent : Extent) → bytes_eq (list_path task) (path_in task.partial (row_name taken row extent)) ≡ false
+unfolding host_name row_name
+other_path task taken (File row) extent = other_named task taken (spelling (name_in row.field)) (ending_by row.kind) (is_part extent)
+other_path task taken (Deleted row) extent = other_named task taken (spelling (name_in row.field)) endings.Deleted (is_part extent)
 
 -- what a work puts into the list
 abbrev into_list : TaskView → Work → List ℕ
@@ -86,10 +77,10 @@ put_into task Begun p rest tried = ap (λ (t : Bool). cond t p.lines [] ++ into_
 put_into task GivenUp p rest tried = absurd tried
 
 -- what the files of rows put into it
-abbrev HasLines : TaskView → List FileRowView → Progress → Type 0
+abbrev HasLines : TaskView → List Row → Progress → Type 0
 HasLines task later p = into_list task (files_work task later p) ≡ p.lines ++ lines_of task later p.left p.taken
 
-wait_into : (task : TaskView) (later : List FileRowView) (p : Progress) → IsTried p.list → ((q : Progress) → IsTried q.list → HasLines task later q)
+wait_into : (task : TaskView) (later : List Row) (p : Progress) → IsTried p.list → ((q : Progress) → IsTried q.list → HasLines task later q)
     → into_list task (wait_work task p (files_work task later)) ≡ p.lines ++ lines_of task later p.left p.taken
 unfolding wait_work
 wait_into task later p tried rest = by_length (nat_lt waiting_limit (length p.lines))
@@ -98,21 +89,21 @@ wait_into task later p tried rest = by_length (nat_lt waiting_limit (length p.li
     by_length true = put_into task p.list p (files_work task later) tried ∙ ap (λ (e : List ℕ). p.lines ++ e) (rest (put_progress p) tt)
     by_length false = rest p tried
 
-file_into : (task : TaskView) (row : FileRowView) (later : List FileRowView) (p : Progress) (portion : Option Portion) → IsTried p.list → ((q : Progress) → IsTried q.list → HasLines task later q)
+file_into : (task : TaskView) (row : Row) (later : List Row) (p : Progress) (portion : Option Portion) → IsTried p.list → ((q : Progress) → IsTried q.list → HasLines task later q)
     → into_list task (file_work task row p portion (λ (q : Progress). wait_work task q (files_work task later)))
-    ≡ p.lines ++ (printed_file Json task.name row (path_of task row p.taken portion) ++ lines_of task later p.left (taken_after row p.taken portion))
+    ≡ p.lines ++ (printed_file (as_json task.setup.form) task.name task.dump.image row (path_of task row p.taken portion) ++ lines_of task later p.left (taken_after row p.taken portion))
 unfolding file_work told_progress all_into
 file_into task row later p None tried rest =
     wait_into task later (told_progress task row None p) tried rest
-    ∙ append_assoc p.lines (printed_file Json task.name row None) (lines_of task later p.left p.taken)
+    ∙ append_assoc p.lines (printed_file (as_json task.setup.form) task.name task.dump.image row None) (lines_of task later p.left p.taken)
 file_into task row later p (Some portion) tried rest =
-    let file = host_name p.taken row portion.extent in
+    let file = row_name p.taken row portion.extent in
     let q = written_progress task row file (named_progress file p) in
     ap (λ (t : Bool). cond t portion.bytes [] ++ into_list task (wait_work task q (files_work task later))) (other_path task p.taken row portion.extent)
     ∙ wait_into task later q tried rest
-    ∙ append_assoc p.lines (printed_file Json task.name row (Some (path_in task.done file))) (lines_of task later p.left (p.taken ++ file ∷ []))
+    ∙ append_assoc p.lines (printed_file (as_json task.setup.form) task.name task.dump.image row (Some (path_in task.done file))) (lines_of task later p.left (p.taken ++ file ∷ []))
 
-files_into : (task : TaskView) (later : List FileRowView) (p : Progress) → IsTried p.list → HasLines task later p
+files_into : (task : TaskView) (later : List Row) (p : Progress) → IsTried p.list → HasLines task later p
 unfolding files_work lines_of closed_progress
 files_into task [] p tried =
     put_into task p.list (closed_progress task p) (name_work task) tried ∙ ap (λ (e : List ℕ). p.lines ++ e) (naming_none task (put_progress (closed_progress task p)))
@@ -121,4 +112,4 @@ files_into task (row ∷ later) p tried =
 
 pub list_is_whole : ListIsWhole
 unfolding folder_work all_into
-list_is_whole task = files_into task (rows task.dump) (first_progress task) tt
+list_is_whole task = files_into task (rows (files_and task.setup.form.leftovers) task.dump) (first_progress task) tt

@@ -1,14 +1,13 @@
 -- The list of an image's files, if every call is accepted.
 use Rattle.std.specs.Prelude.{ℕ, bytes_eq, if◌then◌else◌, List, [], ◌∷◌, ◌++◌, Option, Some, None, true}
-use Rattle.d64_inventory.specs.Rows.{FileRowView}
+use Rattle.d64_leftovers.specs.declared.row.Row.{Row}
 use Rattle.cmd_extract_contents.specs.Portions.{Portion}
 use Rattle.cmd_extract_contents.specs.Limits.{left_after, portion_within}
-use Rattle.program_arguments.specs.declared.asked.Format.TheVariants.{Json}
-use Rattle.cmd_files.specs.Extracts.{printed_file}
+use Rattle.cmd_files.specs.Extracts.{as_json, printed_file}
 use Rattle.cmd_extract.specs.Setup.{TaskView}
 use Rattle.cmd_extract.specs.Paths.{path_in}
 use Rattle.cmd_extract.specs.Work.{Work, Done, Then, Why, HostCall, Look, Folder, NewFolder, NewFile, MoreOfFile, Rename}
-use Rattle.cmd_extract.specs.Progress.{portion_of, host_name}
+use Rattle.cmd_extract.specs.Progress.{portion_of, row_name}
 
 -- the bytes that a call puts into the file at a path
 abbrev pub bytes_into : List ℕ → HostCall → List ℕ
@@ -26,20 +25,20 @@ all_into path (Then call next) = bytes_into path call ++ all_into path (next tru
 all_into path (Why next) = all_into path (next None)
 
 -- the path of the host file of a row in the finished folder, if there is something to write of it
-abbrev pub path_of : TaskView → FileRowView → List (List ℕ) → Option Portion → Option (List ℕ)
+abbrev pub path_of : TaskView → Row → List (List ℕ) → Option Portion → Option (List ℕ)
 path_of task row taken None = None
-path_of task row taken (Some portion) = Some (path_in task.done (host_name taken row portion.extent))
+path_of task row taken (Some portion) = Some (path_in task.done (row_name taken row portion.extent))
 
--- the host names that are taken after the file of a row
-abbrev pub taken_after : FileRowView → List (List ℕ) → Option Portion → List (List ℕ)
+-- the host names that are taken then
+abbrev pub taken_after : Row → List (List ℕ) → Option Portion → List (List ℕ)
 taken_after row taken None = taken
-taken_after row taken (Some portion) = taken ++ host_name taken row portion.extent ∷ []
+taken_after row taken (Some portion) = taken ++ row_name taken row portion.extent ∷ []
 
 -- the lines of rows, one after another, if later files may have this many bytes, and these names
 -- are taken
-unfoldable pub lines_of : TaskView → List FileRowView → Option ℕ → List (List ℕ) → List ℕ
+unfoldable pub lines_of : TaskView → List Row → Option ℕ → List (List ℕ) → List ℕ
 lines_of task [] left taken = []
 lines_of task (row ∷ rows) left taken =
     let portion = portion_within left (portion_of task row) in
-    printed_file Json task.name row (path_of task row taken portion)
+    printed_file (as_json task.setup.form) task.name task.dump.image row (path_of task row taken portion)
     ++ lines_of task rows (left_after left (portion_of task row)) (taken_after row taken portion)

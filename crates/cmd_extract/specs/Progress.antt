@@ -6,19 +6,21 @@ use Rattle.d64_files.specs.Name.{name_in}
 use Rattle.d64_files.specs.declared.kind.Kind.{Kind}
 use Rattle.d64_files.specs.declared.kind.Kind.TheVariants as kinds
 use Rattle.d64_inventory.specs.Rows.{FileRowView}
-use Rattle.cmd_extract_contents.specs.Portions.{Portion, portion_at}
+use Rattle.d64_leftovers.specs.declared.row.Row.{Row}
+use Rattle.d64_leftovers.specs.declared.row.Row.TheVariants.{File, Deleted}
+use Rattle.cmd_extract_contents.specs.Portions.{Portion}
+use Rattle.cmd_extract_contents.specs.RowPortions.{row_portion}
 use Rattle.cmd_extract_contents.specs.Limits.{limit, left_after}
 use Rattle.cmd_extract_contents.specs.declared.extent.Extent.{Extent}
 use Rattle.cmd_extract_contents.specs.declared.extent.Extent.TheVariants as extents
 use Rattle.host_names.specs.TakenNames.{next_name}
 use Rattle.host_names.specs.declared.ending.Ending.{Ending}
 use Rattle.host_names.specs.declared.ending.Ending.TheVariants as endings
-use Rattle.program_arguments.specs.declared.asked.Format.TheVariants.{Json}
 use Rattle.program_batch.specs.Reasons.{with_known_reason}
 use Rattle.program_batch.specs.declared.reason.Reason.{Reason}
 use Rattle.out_messages.specs.FaultLines.{unwritten_line}
 use Rattle.cmd_files.specs.Files.{before_rows}
-use Rattle.cmd_files.specs.Extracts.{printed_file}
+use Rattle.cmd_files.specs.Extracts.{as_json, printed_file}
 use Rattle.cmd_extract.specs.Setup.{TaskView}
 use Rattle.cmd_extract.specs.Paths.{path_in, list_path}
 use Rattle.cmd_extract.specs.declared.list_state.ListState.{ListState}
@@ -45,7 +47,7 @@ abbrev pub first_progress : TaskView → Progress
 first_progress task = record {
   left = Some limit;
   taken = [];
-  printed = before_rows task.setup.form task.name task.dump.image;
+  printed = before_rows task.setup.form.format task.name task.dump.image;
   lines = [];
   list = New;
   complaint = [];
@@ -69,23 +71,28 @@ abbrev pub is_part : Extent → Bool
 is_part extents.Content = false
 is_part extents.Part = true
 
--- the host name of the file of a row, if these are taken
+-- the host name of a file, where these are taken
 unfoldable pub host_name : List (List ℕ) → FileRowView → Extent → List ℕ
 host_name taken row extent = next_name taken (spelling (name_in row.field)) (ending_by row.kind) (is_part extent)
 
--- what there is to write of the file of a row
-abbrev pub portion_of : TaskView → FileRowView → Option Portion
-portion_of task row = portion_at task.setup.with_parts task.dump.image row.slot
+-- the host name of the file of a row: a deleted file has an ending that says so
+unfoldable pub row_name : List (List ℕ) → Row → Extent → List ℕ
+row_name taken (File row) extent = host_name taken row extent
+row_name taken (Deleted row) extent = next_name taken (spelling (name_in row.field)) endings.Deleted (is_part extent)
 
--- the line of a file was added, with the path of its host file, or None if no file was written
-unfoldable pub told_progress : TaskView → FileRowView → Option (List ℕ) → Progress → Progress
+-- what there is to write of the file of a row
+abbrev pub portion_of : TaskView → Row → Option Portion
+portion_of task row = row_portion task.setup.with_parts task.dump.image row
+
+-- a file was told of, with the path of its host file, or that none was written
+unfoldable pub told_progress : TaskView → Row → Option (List ℕ) → Progress → Progress
 told_progress task row path progress = record progress {
-  printed = progress.printed ++ printed_file task.setup.form task.name row path;
-  lines = progress.lines ++ printed_file Json task.name row path;
+  printed = progress.printed ++ printed_file task.setup.form task.name task.dump.image row path;
+  lines = progress.lines ++ printed_file (as_json task.setup.form) task.name task.dump.image row path;
 }
 
--- after this file fewer bytes are left for later ones
-abbrev pub spent_progress : TaskView → FileRowView → Progress → Progress
+-- of the files that may come after one, fewer bytes are left
+abbrev pub spent_progress : TaskView → Row → Progress → Progress
 spent_progress task row progress = record progress { left = left_after progress.left (portion_of task row) }
 
 -- a host name is taken
@@ -98,11 +105,11 @@ failed_at path reason progress =
     record progress { complaint = with_known_reason reason (progress.complaint ++ unwritten_line path); has_failed = true }
 
 -- the file of a row was written under a host name
-abbrev pub written_progress : TaskView → FileRowView → List ℕ → Progress → Progress
+abbrev pub written_progress : TaskView → Row → List ℕ → Progress → Progress
 written_progress task row file progress = told_progress task row (Some (path_in task.done file)) progress
 
--- the file of a row could not be written
-abbrev pub unwritten_progress : TaskView → FileRowView → List ℕ → Option Reason → Progress → Progress
+-- or it could not be
+abbrev pub unwritten_progress : TaskView → Row → List ℕ → Option Reason → Progress → Progress
 unwritten_progress task row file reason progress = told_progress task row None (failed_at (path_in task.partial file) reason progress)
 
 -- the lines that waited are in the list

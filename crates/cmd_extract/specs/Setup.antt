@@ -1,7 +1,7 @@
 -- The options of an extraction, and an image that is unpacked.
 use Rattle.std.specs.Prelude.{ℕ, Bool, List}
 use Rattle.d64_survey.specs.Dump.{DumpView}
-use Rattle.program_arguments.specs.declared.asked.Format.{Format}
+use Rattle.cmd_files.specs.declared.form.Form.{Form}
 
 -- the options: the folder below which all is written, whether parts are written too, whether
 -- complete images are skipped, and the form of the output
@@ -9,7 +9,7 @@ pub record SetupView : Type 0 where
   pub into : List ℕ
   pub with_parts : Bool
   pub skips : Bool
-  pub form : Format
+  pub form : Form
 
 -- an image that is unpacked: the options, the name of its file on the host, the dump that was read
 -- of it, and the paths of its folder once it is complete, and before

@@ -1,8 +1,9 @@
 -- What follows from the definition of how images are unpacked.
 use Rattle.std.specs.Prelude.{◌≡◌, false, [], Some}
 use Rattle.program_batch.specs.Answers.{KeepsQuiet}
-use Rattle.d64_inventory.specs.Rows.{rows}
+use Rattle.d64_leftovers.specs.Rows.{rows}
 use Rattle.cmd_extract_contents.specs.Limits.{limit}
+use Rattle.cmd_files.specs.Selections.{files_and}
 use Rattle.cmd_extract.specs.Setup.{SetupView, TaskView}
 use Rattle.cmd_extract.specs.Paths.{list_path}
 use Rattle.cmd_extract.specs.Unpacking.{folder_work}
@@ -16,4 +17,4 @@ CleanIsQuiet = (setup : SetupView) → setup.skips ≡ false → KeepsQuiet (unp
 
 -- if every call is accepted, the list of an image's files has the lines of all rows
 abbrev pub ListIsWhole : Type 0
-ListIsWhole = (task : TaskView) → all_into (list_path task) (folder_work task) ≡ lines_of task (rows task.dump) (Some limit) []
+ListIsWhole = (task : TaskView) → all_into (list_path task) (folder_work task) ≡ lines_of task (rows (files_and task.setup.form.leftovers) task.dump) (Some limit) []

@@ -3,13 +3,15 @@ use Rattle.std.specs.Prelude.{ℕ, Bool, true, false, nat_lt, if◌then◌else�
 use Rattle.std.specs.Str.{is_utf8}
 use Rattle.d64_image.specs.Disk.{Bytes}
 use Rattle.d64_survey.specs.Dump.{DumpView}
-use Rattle.d64_inventory.specs.Rows.{FileRowView, rows}
+use Rattle.d64_leftovers.specs.Rows.{rows}
+use Rattle.d64_leftovers.specs.declared.row.Row.{Row}
 use Rattle.d64_inventory.specs.ListingAmiss.{is_listing_amiss}
 use Rattle.cmd_extract_contents.specs.Portions.{Portion}
 use Rattle.cmd_extract_contents.specs.Limits.{portion_within}
 use Rattle.d64_g64.specs.DumpOf.{dump_of}
 use Rattle.out_messages.specs.FaultLines.{unread_line, wrong_length_line, unwritten_line, present_line, skipped_line, too_much_line}
 use Rattle.cmd_files.specs.Files.{after_rows}
+use Rattle.cmd_files.specs.Selections.{files_and}
 use Rattle.cmd_files.specs.Extracts.{printed_error, printed_length}
 use Rattle.program_batch.specs.Answers.{Answer}
 use Rattle.program_batch.specs.Reasons.{with_known_reason}
@@ -20,7 +22,7 @@ use Rattle.host_names.specs.ImagePlace.{folders_of}
 use Rattle.cmd_extract.specs.Setup.{SetupView, TaskView}
 use Rattle.cmd_extract.specs.Paths.{path_inside, with_slash, done_path, partial_path, path_in, list_in, list_path}
 use Rattle.cmd_extract.specs.Work.{Work, Done, Then, Why, Look, Folder, NewFolder, NewFile, MoreOfFile, Rename}
-use Rattle.cmd_extract.specs.Progress.{Progress, waiting_limit, first_progress, portion_of, host_name, told_progress, spent_progress, named_progress, written_progress, unwritten_progress, put_progress, unput_progress, dropped_progress}
+use Rattle.cmd_extract.specs.Progress.{Progress, waiting_limit, first_progress, portion_of, row_name, told_progress, spent_progress, named_progress, written_progress, unwritten_progress, put_progress, unput_progress, dropped_progress}
 use Rattle.cmd_extract.specs.declared.list_state.ListState.{ListState}
 use Rattle.cmd_extract.specs.declared.list_state.ListState.TheVariants.{New, Begun, GivenUp}
 
@@ -72,7 +74,7 @@ unfinished_answer progress = record { printed = progress.printed; complaint = pr
 -- all files have come: what comes after them is printed, and too many bytes are reported
 unfoldable pub closed_progress : TaskView → Progress → Progress
 closed_progress task progress = record progress {
-  printed = progress.printed ++ after_rows task.setup.form task.dump;
+  printed = progress.printed ++ after_rows task.setup.form.format task.dump;
   complaint = progress.complaint ++ (if is_some progress.left then [] else too_much_line task.name);
 }
 
@@ -108,24 +110,24 @@ wait_work task progress rest =
 abbrev pub list_work : TaskView → Progress → Work
 list_work task progress = put_work progress.list task progress (name_work task)
 
--- a file was written, or could not be; then comes the rest
-abbrev pub after_writing : TaskView → FileRowView → List ℕ → Progress → (Progress → Work) → Bool → Work
+-- a file was written, or wasn't, and then comes the rest
+abbrev pub after_writing : TaskView → Row → List ℕ → Progress → (Progress → Work) → Bool → Work
 after_writing task row file progress rest true = rest (written_progress task row file progress)
 after_writing task row file progress rest false = Why (λ reason. rest (unwritten_progress task row file reason progress))
 
--- a file is written under a host name that is taken; then comes the rest
-abbrev pub write_work : TaskView → FileRowView → List ℕ → Bytes → Progress → (Progress → Work) → Work
+-- a file is written under a host name that is taken, and then comes the rest
+abbrev pub write_work : TaskView → Row → List ℕ → Bytes → Progress → (Progress → Work) → Work
 write_work task row file bytes progress rest = Then (NewFile (path_in task.partial file) bytes) (after_writing task row file progress rest)
 
--- the file of a row is written, if there is something to write; then comes the rest
-unfoldable pub file_work : TaskView → FileRowView → Progress → Option Portion → (Progress → Work) → Work
+-- the file of a row is written, if there is something to write, and then comes the rest
+unfoldable pub file_work : TaskView → Row → Progress → Option Portion → (Progress → Work) → Work
 file_work task row progress None rest = rest (told_progress task row None progress)
 file_work task row progress (Some portion) rest =
-    let file = host_name progress.taken row portion.extent in
+    let file = row_name progress.taken row portion.extent in
     write_work task row file portion.bytes (named_progress file progress) rest
 
 -- the files of rows are written, one after another, and their lines in the list of the files
-unfoldable pub files_work : TaskView → List FileRowView → Progress → Work
+unfoldable pub files_work : TaskView → List Row → Progress → Work
 files_work task [] progress = list_work task (closed_progress task progress)
 files_work task (row ∷ rows) progress =
     file_work task row (spent_progress task row progress) (portion_within progress.left (portion_of task row))
@@ -140,7 +142,7 @@ unmade_work task path =
 -- the image's folder is made, and then its files
 unfoldable pub folder_work : TaskView → Work
 folder_work task =
-    Then (NewFolder task.partial) (λ is_made. if is_made then files_work task (rows task.dump) (first_progress task) else unmade_work task task.partial)
+    Then (NewFolder task.partial) (λ is_made. if is_made then files_work task (rows (files_and task.setup.form.leftovers) task.dump) (first_progress task) else unmade_work task task.partial)
 
 -- folders are made unless they exist, each in the one before it; then comes the rest, which gets
 -- the path of a folder that cannot be made

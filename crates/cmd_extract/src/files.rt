@@ -1,10 +1,13 @@
 //! The files of an image, one after another.
 ghost use Rattle.std.specs.Prelude.{◌≡◌, ◌∷◌, [], ◌++◌, ℕ, List, Option, Some, None, OnOk, if◌then◌else◌};
 ghost use Rattle.petscii.specs.Spelling.{spelling};
-ghost use Rattle.d64_inventory.specs.Rows.{rows};
+ghost use Rattle.d64_leftovers.specs.Rows.{rows};
+ghost use Rattle.cmd_files.specs.Selections.{files_and};
 ghost use Rattle.cmd_extract_contents.specs.Limits.{portion_within};
 ghost use Rattle.cmd_extract.specs.Work.{Work, Comes};
-ghost use Rattle.cmd_extract.specs.Progress.{Progress, waiting_limit, first_progress, portion_of, host_name, spent_progress, written_progress, unwritten_progress, put_progress};
+ghost use Rattle.d64_files.specs.Name.{name_in};
+ghost use Rattle.host_names.specs.TakenNames.{next_name};
+ghost use Rattle.cmd_extract.specs.Progress.{Progress, is_part, waiting_limit, first_progress, portion_of, row_name, spent_progress, written_progress, unwritten_progress, put_progress};
 ghost use Rattle.cmd_extract.specs.FilesNow.{progress_of};
 ghost use Rattle.cmd_extract.specs.Setup.{TaskView};
 ghost use Rattle.cmd_extract.specs.Paths.{list_path};
@@ -18,9 +21,9 @@ use crate::setup::Task;
 use crate::telling::Told;
 use cmd_extract_contents::{ContentExtraction, Extent};
 use cmd_files::print_after;
-use d64_files::{SlotNo, name_in};
-use d64_inventory::{FileRow, Rows};
-use host_names::TakenNames;
+use d64_files::name_in;
+use d64_leftovers::{Row, RowList};
+use host_names::{Ending, TakenNames};
 use host_storage::Host;
 use out_messages::too_much_line;
 use petscii::push_spelling;
@@ -50,20 +53,40 @@ pub(crate) struct Files {
     pub(crate) path: Vec<u8>,
 }
 
-/// Names the host file of a file of the image. The name is taken from then on.
-fn name_file(
+/// Names the host file of a file of which the name stands in this field. The name is taken from then
+/// on.
+fn take_name(
     taken: &mut TakenNames,
     text: &mut Vec<u8>,
-    row: &FileRow,
+    field: &[u8; 16],
+    ending: Ending,
     extent: Extent,
     name: &mut Vec<u8>,
 ) -> Result<(), AllocError>
-    ensures name { OnOk result (name.new.items ≡ host_name taken.old row.now extent) }
+    ensures name { OnOk result (name.new.items ≡ next_name taken.old (spelling (name_in field.now)) ending (is_part extent)) }
     ensures taken { OnOk result (taken.new ≡ taken.old ++ name.new.items ∷ []) }
 {
     text.clear();
-    push_spelling(text, name_in(&row.field))?;
-    taken.take(text, ending_by(row.kind), is_part(extent), name)
+    push_spelling(text, name_in(field))?;
+    taken.take(text, ending, is_part(extent), name)
+}
+
+/// Names the host file of the file of a row. The name is taken from then on.
+#[tactic(auto, unfolding(crate::specs::Progress::row_name, crate::specs::Progress::host_name))]
+fn name_file(
+    taken: &mut TakenNames,
+    text: &mut Vec<u8>,
+    row: &Row,
+    extent: Extent,
+    name: &mut Vec<u8>,
+) -> Result<(), AllocError>
+    ensures name { OnOk result (name.new.items ≡ row_name taken.old row.now extent) }
+    ensures taken { OnOk result (taken.new ≡ taken.old ++ name.new.items ∷ []) }
+{
+    match row {
+        Row::File(file) => take_name(taken, text, &file.field, ending_by(file.kind), extent, name),
+        Row::Deleted(file) => { take_name(taken, text, &file.field, Ending::Deleted, extent, name) }
+    }
 }
 
 impl Files {
@@ -89,8 +112,8 @@ impl Files {
         self.told.begin(task)
     }
 
-    /// Adds the line of a file that was written under its host name.
-    fn tell_written(&mut self, task: &Task, row: &FileRow) -> Result<(), AllocError>
+    /// Tells of a file that was written under the host name that it got.
+    fn tell_written(&mut self, task: &Task, row: &Row) -> Result<(), AllocError>
         ensures { OnOk result (progress_of self.new ≡ written_progress task.now row.now self.old.name.items (progress_of self.old)) }
     {
         put_path(&mut self.path, &task.done, &self.name)?;
@@ -102,7 +125,7 @@ impl Files {
     fn tell_unwritten(
         &mut self,
         task: &Task,
-        row: &FileRow,
+        row: &Row,
         reason: Option<Reason>,
     ) -> Result<(), AllocError>
         ensures { OnOk result (progress_of self.new ≡ unwritten_progress task.now row.now self.old.name.items reason (progress_of self.old)) }
@@ -116,7 +139,7 @@ impl Files {
     fn write_file<H: Host>(
         &mut self,
         task: &Task,
-        row: &FileRow,
+        row: &Row,
         host: &mut H,
     ) -> Result<(), AllocError>
         ensures { (rest : Progress → Work) → Comes result
@@ -136,19 +159,18 @@ impl Files {
     fn unpack_file<H: Host>(
         &mut self,
         task: &Task,
-        row: &FileRow,
+        row: &Row,
         host: &mut H,
     ) -> Result<(), AllocError>
         ensures { (rest : Progress → Work) → Comes result
             (file_work task.now row.now (spent_progress task.now row.now (progress_of self.old)) (portion_within self.old.extraction (portion_of task.now row.now)) rest) (H.state host.old)
             (rest (progress_of self.new)) (H.state host.new) }
     {
-        let slot = SlotNo::at(row.slot);
         let setup = task.setup;
         let with_parts = setup.with_parts;
         match self
             .extraction
-            .next(task.all.survey(), slot, with_parts, &mut self.bytes)?
+            .next_row(task.all.survey(), row, with_parts, &mut self.bytes)?
         {
             Some(extent) => {
                 name_file(&mut self.taken, &mut self.text, row, extent, &mut self.name)?;
@@ -213,7 +235,7 @@ impl Files {
     fn unpack_row<H: Host>(
         &mut self,
         task: &Task,
-        row: &FileRow,
+        row: &Row,
         host: &mut H,
     ) -> Result<(), AllocError>
         ensures { (rest : Progress → Work) → Comes result
@@ -231,11 +253,12 @@ impl Files {
         host: &mut H,
     ) -> Result<(), AllocError>
         ensures { Comes result
-            (files_work task.now (rows task.now.dump) (first_progress task.now)) (H.state host.old)
+            (files_work task.now (rows (files_and task.now.setup.form.leftovers) task.now.dump) (first_progress task.now)) (H.state host.old)
             (files_work task.now [] (progress_of self.new)) (H.state host.new) }
     {
         self.begin(task)?;
-        for row in Rows::of(task.all) {
+        let setup = task.setup;
+        for row in RowList::of(task.all, setup.form.wanted()) {
             self.unpack_row(task, &row, host)?;
         }
         Ok(())
@@ -246,7 +269,7 @@ impl Files {
         ensures { OnOk result (progress_of self.new ≡ closed_progress task.now (progress_of self.old)) }
     {
         let setup = task.setup;
-        print_after(setup.form, task.all, &mut self.told.printed)?;
+        print_after(setup.form.format, task.all, &mut self.told.printed)?;
         if self.extraction.is_over() {
             too_much_line(&mut self.told.complaint, task.name.as_bytes())?;
         }

@@ -1,7 +1,7 @@
 //! `Setup`: the options of `extract`; and `Task`: an image whose folder is to be made.
 
+use cmd_files::Form;
 use d64_survey::Inspection;
-use program_arguments::Format;
 use std::alloc::Global;
 use std::marker::Model;
 
@@ -14,8 +14,8 @@ pub struct Setup {
     pub with_parts: bool,
     /// Whether an image whose folder is complete is skipped.
     pub skips: bool,
-    /// The form of what is printed.
-    pub form: Format,
+    /// The form of what is printed, which also says what is wanted beside files.
+    pub form: Form,
 }
 
 impl Model for Setup {

@@ -1,8 +1,7 @@
 //! What is printed of the files of an image, collected as they are written.
 ghost use Rattle.std.specs.Prelude.{◌≡◌, ◌++◌, [], Option, option_map, false, true, OnOk};
 ghost use Rattle.cmd_files.specs.Files.{before_rows, after_rows};
-ghost use Rattle.cmd_files.specs.Extracts.{printed_file};
-ghost use Rattle.program_arguments.specs.declared.asked.Format.TheVariants.{Json as json_form};
+ghost use Rattle.cmd_files.specs.Extracts.{as_json, printed_file};
 ghost use Rattle.out_messages.specs.FaultLines.{unwritten_line};
 ghost use Rattle.program_batch.specs.Reasons.{with_known_reason};
 ghost use Rattle.cmd_extract.specs.declared.list_state.ListState.TheVariants.{New as not_there};
@@ -11,9 +10,8 @@ use crate::answering::add_unwritten;
 use crate::list_state::ListState;
 use crate::setup::Task;
 use cmd_files::{print_after, print_before, print_file};
-use d64_inventory::FileRow;
+use d64_leftovers::Row;
 use out_json_csv::Scratch;
-use program_arguments::Format;
 use program_batch::Reason;
 use std::alloc::{AllocError, Global};
 use std::mem;
@@ -52,7 +50,7 @@ impl Told {
 
     /// Begins with the files of an image, and forgets those before.
     pub(crate) fn begin(&mut self, task: &Task) -> Result<(), AllocError>
-        ensures printed { OnOk result (self.new.printed.items ≡ before_rows task.now.setup.form task.now.name task.now.dump.image) }
+        ensures printed { OnOk result (self.new.printed.items ≡ before_rows task.now.setup.form.format task.now.name task.now.dump.image) }
         ensures lines { OnOk result (self.new.lines.items ≡ []) }
         ensures list { OnOk result (self.new.list ≡ not_there) }
         ensures complaint { OnOk result (self.new.complaint.items ≡ []) }
@@ -65,7 +63,7 @@ impl Told {
         self.has_failed = false;
         let setup = task.setup;
         print_before(
-            setup.form,
+            setup.form.format,
             task.name.as_bytes(),
             task.all.image(),
             &mut self.printed,
@@ -76,11 +74,11 @@ impl Told {
     pub(crate) fn tell(
         &mut self,
         task: &Task,
-        row: &FileRow,
+        row: &Row,
         path: Option<&[u8]>,
     ) -> Result<(), AllocError>
-        ensures printed { OnOk result (self.new.printed.items ≡ self.old.printed.items ++ printed_file task.now.setup.form task.now.name row.now (option_map (λ p. p.now) path.entry)) }
-        ensures lines { OnOk result (self.new.lines.items ≡ self.old.lines.items ++ printed_file json_form task.now.name row.now (option_map (λ p. p.now) path.entry)) }
+        ensures printed { OnOk result (self.new.printed.items ≡ self.old.printed.items ++ printed_file task.now.setup.form task.now.name task.now.dump.image row.now (option_map (λ p. p.now) path.entry)) }
+        ensures lines { OnOk result (self.new.lines.items ≡ self.old.lines.items ++ printed_file (as_json task.now.setup.form) task.now.name task.now.dump.image row.now (option_map (λ p. p.now) path.entry)) }
         ensures list { self.new.list ≡ self.old.list }
         ensures complaint { self.new.complaint.items ≡ self.old.complaint.items }
         ensures failed { self.new.has_failed ≡ self.old.has_failed }
@@ -89,9 +87,11 @@ impl Told {
         let setup = task.setup;
         let form = setup.form;
         let printed = mem::replace(&mut self.printed, Vec::new(self.alloc));
-        self.printed = print_file(form, &mut self.scratch, name, row, path, printed)?;
+        let survey = task.all.survey();
+        self.printed = print_file(form, &mut self.scratch, name, survey, row, path, printed)?;
         let lines = mem::replace(&mut self.lines, Vec::new(self.alloc));
-        self.lines = print_file(Format::Json, &mut self.scratch, name, row, path, lines)?;
+        let json = form.as_json();
+        self.lines = print_file(json, &mut self.scratch, name, survey, row, path, lines)?;
         Ok(())
     }
 

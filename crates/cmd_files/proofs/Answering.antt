@@ -2,14 +2,14 @@
 use Rattle.std.proofs.Common.{◌≡◌, ℕ, List, Option, Some, sym, subst, Result}
 use Rattle.std.specs.Prelude.{IfOk}
 use Rattle.d64_survey.specs.Dump.{DumpView}
-use Rattle.program_arguments.specs.declared.asked.Format.{Format}
 use Rattle.program_batch.specs.Answers.{Answer}
 use Rattle.program_batch.specs.declared.report.Verdict.{Verdict}
 use Rattle.d64_g64.specs.DumpOf.{dump_of}
+use Rattle.cmd_files.specs.declared.form.Form.{Form}
 use Rattle.cmd_files.specs.Files.{answer_of, files_rule}
 
--- the result for a dump is the result for its bytes
-pub answered_by : {E : Type 0} (result : Result Verdict E) (answer : Verdict → Answer) (form : Format) (name bytes : List ℕ) (given : Option (List ℕ)) (dump : Option DumpView)
+-- an answer to the dump that bytes are is the answer to the bytes
+pub answered_by : {E : Type 0} (result : Result Verdict E) (answer : Verdict → Answer) (form : Form) (name bytes : List ℕ) (given : Option (List ℕ)) (dump : Option DumpView)
     → given ≡ Some bytes → dump_of bytes ≡ dump → IfOk result (λ verdict. answer verdict ≡ answer_of form name bytes dump)
     → IfOk result (λ verdict. answer verdict ≡ files_rule form name given)
 answered_by result answer form name bytes given dump is_given is_dump answered =

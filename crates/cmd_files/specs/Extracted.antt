@@ -1,46 +1,47 @@
--- What is printed of a used slot and the host file that it was written to, in each form.
+-- What is printed of a row and the host file that it was written to, in each form.
 use Rattle.std.specs.Prelude.{ℕ, List, [], ◌∷◌, ◌++◌, Option, Some, None, codes}
 use Rattle.std.specs.Option.{option_map_or}
 use Rattle.json.specs.Json.{Json, null}
-use Rattle.d64_image.specs.Disk.{Bytes}
-use Rattle.d64_inventory.specs.Rows.{FileRowView}
+use Rattle.d64_image.specs.Disk.{Disk, Bytes}
+use Rattle.d64_leftovers.specs.declared.row.Row.{Row}
+use Rattle.program_arguments.specs.declared.asked.Leftovers.{Leftovers}
 use Rattle.out_json_csv.specs.Rows.{host_field}
 use Rattle.out_json_csv.specs.Values.{Field, object_of}
 use Rattle.out_json_csv.specs.Unanswered.{host_value}
 use Rattle.host_names.specs.Shown.{shown_name}
-use Rattle.cmd_files.specs.FileObject.{file_members, place_members}
-use Rattle.cmd_files.specs.FileRow.{columns, name_alone, row_fields, row_with}
-use Rattle.cmd_files.specs.FileTable.{file_text}
+use Rattle.cmd_files.specs.RowObject.{row_members, leftover_members}
+use Rattle.cmd_files.specs.CsvRow.{columns, leftover_columns, name_alone, leftover_blanks, row_fields, leftover_fields, row_with}
+use Rattle.cmd_files.specs.RowText.{row_text}
 
 -- the member with the path of the host file; null if no file was written
 abbrev pub path_member : Option Bytes → Field
 path_member path = (codes "file", option_map_or host_value path null)
 
--- the object of a used slot of an image with this host name, and the path of its host file
-unfoldable pub extracted_object : Bytes → FileRowView → Option Bytes → Json
-extracted_object name row path = object_of (place_members name row ++ (file_members row ++ path_member path ∷ []))
+-- the object of a row of an image with this host name, and the path of its host file
+unfoldable pub extracted_object : Leftovers → Bytes → Row → Option Bytes → Json
+extracted_object leftovers name row path = object_of (row_members name row ++ (path_member path ∷ leftover_members leftovers row))
 
 -- the field with the path of the host file; empty if no file was written
 abbrev pub path_field : Option Bytes → List ℕ
 path_field path = option_map_or host_field path []
 
--- the row of such a slot: the path comes before the error, which is empty
-unfoldable pub extracted_row : Bytes → FileRowView → Option Bytes → List ℕ
-extracted_row name row path = row_with (row_fields name row ++ path_field path ∷ []) []
+-- the row of CSV of it: the path stands before what is left over and the error, which it has not
+unfoldable pub extracted_row : Leftovers → Bytes → Row → Option Bytes → List ℕ
+extracted_row leftovers name row path = row_with (row_fields name row ++ (path_field path ∷ leftover_fields leftovers row)) []
 
 -- the path of the host file, at the end of a line for people
 abbrev pub path_text : Option Bytes → List ℕ
 path_text None = codes ", not written"
 path_text (Some path) = codes " -> " ++ shown_name path
 
--- the line of such a slot
-unfoldable pub extracted_line : FileRowView → Option Bytes → List ℕ
-extracted_line row path = file_text row ++ (path_text path ++ codes "\n")
+-- the line of it
+unfoldable pub extracted_line : Disk → Row → Option Bytes → List ℕ
+extracted_line image row path = row_text image row ++ (path_text path ++ codes "\n")
 
 -- the header row
-unfoldable pub extracted_header : List ℕ
-extracted_header = row_with (columns ++ codes "file" ∷ []) (codes "error")
+unfoldable pub extracted_header : Leftovers → List ℕ
+extracted_header leftovers = row_with (columns ++ (codes "file" ∷ leftover_columns leftovers)) (codes "error")
 
--- a row with only a name and an error
-unfoldable pub unextracted_row : Bytes → List ℕ → List ℕ
-unextracted_row name error = row_with (name_alone name ++ [] ∷ []) error
+-- a row with a name and an error alone
+unfoldable pub unextracted_row : Leftovers → Bytes → List ℕ → List ℕ
+unextracted_row leftovers name error = row_with (name_alone name ++ ([] ∷ leftover_blanks leftovers)) error

@@ -1,5 +1,5 @@
 -- What is printed of a used slot as JSON.
-use Rattle.std.specs.Prelude.{Bool, List, [], ◌∷◌, ◌++◌, map, Option, codes}
+use Rattle.std.specs.Prelude.{ℕ, Bool, List, [], ◌∷◌, ◌++◌, map, Option, codes}
 use Rattle.std.specs.Option.{option_map_or}
 use Rattle.json.specs.Json.{Json, boolean, null, string}
 use Rattle.hex.specs.Hex.{encode_lower}
@@ -9,10 +9,9 @@ use Rattle.d64_files.specs.declared.kind.Kind.{Kind}
 use Rattle.d64_survey.specs.declared.flaw.Flaw.{Flaw}
 use Rattle.d64_inventory.specs.Rows.{FileRowView}
 use Rattle.d64_inventory.specs.declared.row.Content.{Content}
-use Rattle.out_json_csv.specs.Values.{Field, object_of, array_of, numeral, numeral_or_null}
+use Rattle.out_json_csv.specs.Values.{Field, array_of, numeral, numeral_or_null}
 use Rattle.out_json_csv.specs.Names.{name_value}
 use Rattle.out_json_csv.specs.Pairs.{pair_text}
-use Rattle.out_json_csv.specs.Unanswered.{image_member}
 use Rattle.out_messages.specs.FileText.{kind_letters}
 use Rattle.cmd_files.specs.FlawWords.{flaw_word}
 
@@ -36,27 +35,27 @@ digest_value content = option_map_or (λ content. string (encode_lower content.d
 abbrev pub flaw_value : Flaw → Json
 flaw_value flaw = string (flaw_word flaw)
 
--- the name, and the field in which it is
-abbrev pub name_members : FileRowView → List Field
-name_members row = (codes "name", name_value (name_in row.field)) ∷ (codes "field", string (encode_lower row.field)) ∷ []
+-- the name, and the field that it stands in
+abbrev pub name_members : Bytes → List Field
+name_members field = (codes "name", name_value (name_in field)) ∷ (codes "field", string (encode_lower field)) ∷ []
 
--- the kind, and the type byte with its bits
-abbrev pub type_members : FileRowView → List Field
-type_members row =
-    (codes "kind", kind_value row.kind) ∷ (codes "type", numeral row.type_byte) ∷ (codes "closed", boolean row.closed) ∷ (codes "locked", boolean row.locked) ∷ []
+-- the kind, and the type byte with what it says of the file: that it is closed, and locked
+abbrev pub type_members : Option Kind → ℕ → Bool → Bool → List Field
+type_members kind type closed locked =
+    (codes "kind", kind_value kind) ∷ (codes "type", numeral type) ∷ (codes "closed", boolean closed) ∷ (codes "locked", boolean locked) ∷ []
 
--- the size that the directory gives, the pair of the first block, and the length of a record
-abbrev pub entry_members : FileRowView → List Field
-entry_members row =
-    (codes "size", numeral row.size) ∷ (codes "first", string (pair_text row.first)) ∷ (codes "record", numeral_or_null row.record_length) ∷ []
+-- the shown size, the pair of the first block, and the length of a record
+abbrev pub entry_members : ℕ → ℕ × ℕ → Option ℕ → List Field
+entry_members size first record_length =
+    (codes "size", numeral size) ∷ (codes "first", string (pair_text first)) ∷ (codes "record", numeral_or_null record_length) ∷ []
 
--- how many blocks the data chain and the side chain have
-abbrev pub way_members : FileRowView → List Field
-way_members row = (codes "blocks", numeral_or_null row.blocks) ∷ (codes "side", numeral_or_null row.side) ∷ []
+-- how many blocks the data way and the side way have
+abbrev pub way_members : Option ℕ → Option ℕ → List Field
+way_members blocks side = (codes "blocks", numeral_or_null blocks) ∷ (codes "side", numeral_or_null side) ∷ []
 
 -- the content
-abbrev pub content_members : FileRowView → List Field
-content_members row = (codes "bytes", bytes_value row.content) ∷ (codes "sha256", digest_value row.content) ∷ []
+abbrev pub content_members : Option Content → List Field
+content_members content = (codes "bytes", bytes_value content) ∷ (codes "sha256", digest_value content) ∷ []
 
 -- whether the file is whole, why not, the conditions that it breaks, and how many of its blocks
 -- have a read error
@@ -67,12 +66,10 @@ state_members row =
 
 -- the members of a file, without the image and the slot
 unfoldable pub file_members : FileRowView → List Field
-file_members row = name_members row ++ (type_members row ++ (entry_members row ++ (way_members row ++ (content_members row ++ state_members row))))
-
--- the place of a file: the image with this host name, and the slot
-abbrev pub place_members : Bytes → FileRowView → List Field
-place_members name row = image_member name ∷ (codes "slot", numeral row.slot) ∷ []
-
--- what is printed of a used slot of an image with this host name
-unfoldable pub file_object : Bytes → FileRowView → Json
-file_object name row = object_of (place_members name row ++ file_members row)
+file_members row =
+    name_members row.field
+    ++ (type_members row.kind row.type_byte row.closed row.locked
+    ++ (entry_members row.size row.first row.record_length
+    ++ (way_members row.blocks row.side
+    ++ (content_members row.content
+    ++ state_members row))))

@@ -1,27 +1,37 @@
--- What is printed of the files of an image.
-use Rattle.std.specs.Prelude.{ℕ, List, [], ◌++◌, length, Option, Some, None, if◌then◌else◌, codes}
+-- What is said of the files of an image.
+use Rattle.std.specs.Prelude.{ℕ, List, [], ◌∷◌, ◌++◌, length, Option, Some, None, if◌then◌else◌, codes}
 use Rattle.std.specs.List.{flat_map}
 use Rattle.d64_image.specs.Disk.{Disk, Bytes}
 use Rattle.d64_survey.specs.Dump.{DumpView}
-use Rattle.d64_inventory.specs.Rows.{FileRowView, rows}
+use Rattle.d64_leftovers.specs.Rows.{rows}
+use Rattle.d64_leftovers.specs.declared.row.Row.{Row}
+use Rattle.d64_leftovers.specs.declared.selection.Selection.{Selection}
 use Rattle.d64_inventory.specs.ListingAmiss.{is_listing_amiss}
 use Rattle.program_arguments.specs.declared.asked.Format.{Format}
 use Rattle.program_arguments.specs.declared.asked.Format.TheVariants.{Text, Json, Csv}
+use Rattle.program_arguments.specs.declared.asked.Leftovers.{Leftovers}
 use Rattle.out_json_csv.specs.Values.{line_of}
 use Rattle.d64_g64.specs.DumpOf.{dump_of}
 use Rattle.out_json_csv.specs.Unanswered.{unread_object, no_dump_object, no_dump_error}
 use Rattle.out_messages.specs.FaultLines.{unread_line, wrong_length_line}
 use Rattle.program_batch.specs.Answers.{Answer, Rule}
 use Rattle.program_batch.specs.declared.report.Verdict.TheVariants.{Clean, Amiss, Failed}
-use Rattle.cmd_files.specs.FileObject.{file_object}
-use Rattle.cmd_files.specs.FileRow.{file_row, header_row, unanswered_row}
-use Rattle.cmd_files.specs.FileTable.{head_line, file_line, missing_lines}
+use Rattle.cmd_files.specs.CsvRow.{csv_row, header_row, unanswered_row}
+use Rattle.cmd_files.specs.FileTable.{head_line, missing_lines}
+use Rattle.cmd_files.specs.Selections.{files_alone, deleted_alone, files_and}
+use Rattle.cmd_files.specs.RowObject.{row_object}
+use Rattle.cmd_files.specs.RowText.{row_line}
+use Rattle.cmd_files.specs.declared.form.Form.{Form}
 
--- what is printed of a used slot of an image with this host name
-abbrev pub printed_row : Format → Bytes → FileRowView → List ℕ
-printed_row Text name row = file_line row
-printed_row Json name row = line_of (file_object name row)
-printed_row Csv name row = file_row name row
+-- what is printed of a row of an image with this host name, in a format
+abbrev pub row_printed : Format → Leftovers → Bytes → Disk → Row → List ℕ
+row_printed Text leftovers name image row = row_line image row
+row_printed Json leftovers name image row = line_of (row_object leftovers name row)
+row_printed Csv leftovers name image row = csv_row leftovers name row
+
+-- the same in a form
+abbrev pub printed_row : Form → Bytes → Disk → Row → List ℕ
+printed_row form name image row = row_printed form.format form.leftovers name image row
 
 -- what is printed of an image before its files
 abbrev pub before_rows : Format → Bytes → Disk → List ℕ
@@ -35,40 +45,61 @@ after_rows Text dump = missing_lines dump
 after_rows Json dump = []
 after_rows Csv dump = []
 
--- what is printed of the files of a dump, in the order of their slots
-unfoldable pub printed_rows : Format → Bytes → DumpView → List ℕ
-printed_rows form name dump = flat_map (printed_row form name) (rows dump)
+-- what is printed of the rows of a dump that are wanted, in their order
+unfoldable pub printed_rows : Form → Selection → Bytes → DumpView → List ℕ
+printed_rows form wanted name dump = flat_map (printed_row form name dump.image) (rows wanted dump)
+
+-- lines under a heading, where there are some
+abbrev pub under_heading : List ℕ → List ℕ → List ℕ
+under_heading heading [] = []
+under_heading heading (byte ∷ bytes) = heading ++ byte ∷ bytes
+
+-- deleted files in a table, under a heading, where they are wanted
+abbrev pub deleted_section : Form → Bytes → DumpView → List ℕ
+deleted_section form name dump =
+    if form.leftovers.deleted then under_heading (codes "deleted\n") (printed_rows form deleted_alone name dump) else []
+
+-- what is printed of a dump between what comes before and after its rows: as text, files and then
+-- what is left over under headings; else all in one list, in the order of the slots
+abbrev pub all_rows : Format → Form → Bytes → DumpView → List ℕ
+all_rows Text form name dump = printed_rows form files_alone name dump ++ deleted_section form name dump
+all_rows Json form name dump = printed_rows form (files_and form.leftovers) name dump
+all_rows Csv form name dump = printed_rows form (files_and form.leftovers) name dump
 
 -- what is printed of a dump
-unfoldable pub printed_of : Format → Bytes → DumpView → List ℕ
-printed_of form name dump = before_rows form name dump.image ++ (printed_rows form name dump ++ after_rows form dump)
+unfoldable pub printed_of : Form → Bytes → DumpView → List ℕ
+printed_of form name dump =
+    before_rows form.format name dump.image ++ (all_rows form.format form name dump ++ after_rows form.format dump)
 
 -- what is printed of a file that cannot be read
-abbrev pub printed_unread : Format → Bytes → List ℕ
-printed_unread Text name = []
-printed_unread Json name = line_of (unread_object name)
-printed_unread Csv name = unanswered_row name (codes "cannot be read")
+abbrev pub printed_unread : Format → Leftovers → Bytes → List ℕ
+printed_unread Text leftovers name = []
+printed_unread Json leftovers name = line_of (unread_object name)
+printed_unread Csv leftovers name = unanswered_row leftovers name (codes "cannot be read")
 
--- what is printed of a file whose length no dump has
-abbrev pub printed_wrong_length : Format → Bytes → Bytes → List ℕ
-printed_wrong_length Text name bytes = []
-printed_wrong_length Json name bytes = line_of (no_dump_object name bytes)
-printed_wrong_length Csv name bytes = unanswered_row name (no_dump_error bytes)
+-- and of one whose length no dump has
+abbrev pub printed_wrong_length : Format → Leftovers → Bytes → Bytes → List ℕ
+printed_wrong_length Text leftovers name bytes = []
+printed_wrong_length Json leftovers name bytes = line_of (no_dump_object name bytes)
+printed_wrong_length Csv leftovers name bytes = unanswered_row leftovers name (no_dump_error bytes)
 
--- what is printed before the first result: the header row of CSV
-abbrev pub heading_of : Format → List ℕ
-heading_of Text = []
-heading_of Json = []
-heading_of Csv = header_row
+-- what stands before all answers: the header row of CSV
+abbrev pub heading_by : Format → Leftovers → List ℕ
+heading_by Text leftovers = []
+heading_by Json leftovers = []
+heading_by Csv leftovers = header_row leftovers
 
--- the result for bytes: the files of a dump, amiss if a file is not whole or may be missing; and
--- otherwise that their length is wrong
-abbrev pub answer_of : Format → Bytes → Bytes → Option DumpView → Answer
-answer_of form name bytes None = record { printed = printed_wrong_length form name bytes; complaint = wrong_length_line name bytes; verdict = Failed }
+abbrev pub heading_of : Form → List ℕ
+heading_of form = heading_by form.format form.leftovers
+
+-- what is answered of bytes: of a dump, its files, amiss where one isn't whole or some may be
+-- missing; and else that they are of a wrong length
+abbrev pub answer_of : Form → Bytes → Bytes → Option DumpView → Answer
+answer_of form name bytes None = record { printed = printed_wrong_length form.format form.leftovers name bytes; complaint = wrong_length_line name bytes; verdict = Failed }
 answer_of form name bytes (Some dump) =
     record { printed = printed_of form name dump; complaint = []; verdict = if is_listing_amiss dump then Amiss else Clean }
 
--- the rule of `files` in a form: the result for a file's bytes, or that it cannot be read
-abbrev pub files_rule : Format → Rule
-files_rule form name None = record { printed = printed_unread form name; complaint = unread_line name; verdict = Failed }
+-- what `files` answers of a file in a form: of its bytes, or that it cannot be read
+abbrev pub files_rule : Form → Rule
+files_rule form name None = record { printed = printed_unread form.format form.leftovers name; complaint = unread_line name; verdict = Failed }
 files_rule form name (Some bytes) = answer_of form name bytes (dump_of bytes)

@@ -1,7 +1,15 @@
 pub mod FlawWords
+pub mod LossWords
 pub mod FileObject
+pub mod DeletedObject
+pub mod RowObject
 pub mod FileRow
+pub mod DeletedRow
+pub mod CsvRow
 pub mod FileTable
+pub mod DeletedTable
+pub mod RowText
+pub mod Selections
 pub mod Files
 pub mod Extracted
 pub mod Extracts

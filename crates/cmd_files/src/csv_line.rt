@@ -1,23 +1,28 @@
-//! What is printed of a file as CSV.
+//! What is printed of a file, also of a deleted one, as CSV.
 ghost use Rattle.std.specs.Prelude.{◌≡◌, [], ◌∷◌, ◌++◌, codes, decimal, OnOk, IfOk};
 ghost use Rattle.std.specs.Option.{option_map_or};
 ghost use Rattle.csv.specs.Records.{fields_of, partial_of};
 ghost use Rattle.out_messages.specs.FileText.{kind_letters};
-ghost use Rattle.cmd_files.specs.FileRow.{name_alone, row_fields, columns, decimal_or_empty, truth_or_empty, name_fields, type_fields, entry_fields, way_fields, content_fields, state_fields, file_fields, file_row, header_row, unanswered_row};
+ghost use Rattle.cmd_files.specs.FileRow.{decimal_or_empty, truth_or_empty, name_fields, type_fields, entry_fields, way_fields, content_fields, state_fields, file_fields};
+ghost use Rattle.cmd_files.specs.DeletedRow.{deleted_fields};
+ghost use Rattle.cmd_files.specs.CsvRow.{place_fields, row_fields, leftover_columns, leftover_fields, leftover_blanks, csv_row, columns, header_row, name_alone, unanswered_row};
 ghost use Rattle.out_json_csv.specs.Unanswered.{no_dump_error};
 
+use crate::deleted_field::push_deleted_fields;
 use crate::spaced::{spell_flaws, spell_numbers};
 use csv::ByteRecord;
 use d64_files::{Kind, name_in};
-use d64_inventory::FileRow;
+use d64_inventory::{Content, FileRow};
+use d64_leftovers::{DeletedRow, Row};
 use out_json_csv::{
     Scratch, UNREAD, end_row, no_dump_error, push_boolean, push_field, push_fields,
     push_hexadecimal, push_host_name, push_name, push_number, push_pair,
 };
 use out_messages::kind_letters;
+use program_arguments::Leftovers;
 use std::alloc::AllocError;
 
-/// The columns of each row, without the error.
+/// The columns that each row has, but for those of leftovers and the error.
 const COLUMNS: [&[u8]; 19] = [
     b"image",
     b"slot",
@@ -40,17 +45,21 @@ const COLUMNS: [&[u8]; 19] = [
     b"read_errors",
 ];
 
-/// Empty fields for the columns between the name of the image and the error.
+/// The columns of such a row after the name of the image, with nothing in them.
 const EMPTY: [&[u8]; 18] = [b""; 18];
 
-/// Appends the name, and the field in which it is, to a row.
-fn push_names(scratch: &mut Vec<u8>, line: &mut ByteRecord, row: &FileRow) -> Result<(), AllocError>
+/// Adds the name, and the field that it stands in, to a row.
+pub(crate) fn push_names(
+    scratch: &mut Vec<u8>,
+    line: &mut ByteRecord,
+    field: &[u8; 16],
+) -> Result<(), AllocError>
     requires { partial_of line.old ≡ [] }
-    ensures fields { OnOk result (fields_of line.new ≡ fields_of line.old ++ name_fields row.now) }
+    ensures fields { OnOk result (fields_of line.new ≡ fields_of line.old ++ name_fields field.now) }
     ensures whole { OnOk result (partial_of line.new ≡ []) }
 {
-    push_name(scratch, line, name_in(&row.field))?;
-    push_hexadecimal(scratch, line, &row.field)
+    push_name(scratch, line, name_in(field))?;
+    push_hexadecimal(scratch, line, field)
 }
 
 /// Appends the letters of a kind to a row, or an empty field.
@@ -89,8 +98,8 @@ fn push_record(line: &mut ByteRecord, length: Option<u8>) -> Result<(), AllocErr
     }
 }
 
-/// Appends `true`, `false`, or an empty field to a row.
-fn push_answer(line: &mut ByteRecord, answer: Option<bool>) -> Result<(), AllocError>
+/// Adds `true`, `false`, or nothing to a row.
+pub(crate) fn push_answer(line: &mut ByteRecord, answer: Option<bool>) -> Result<(), AllocError>
     requires { partial_of line.old ≡ [] }
     ensures fields { OnOk result (fields_of line.new ≡ fields_of line.old ++ truth_or_empty answer ∷ []) }
     ensures whole { OnOk result (partial_of line.new ≡ []) }
@@ -101,52 +110,67 @@ fn push_answer(line: &mut ByteRecord, answer: Option<bool>) -> Result<(), AllocE
     }
 }
 
-/// Appends the kind, and the type byte with its bits, to a row.
-fn push_type(line: &mut ByteRecord, row: &FileRow) -> Result<(), AllocError>
-    requires { partial_of line.old ≡ [] }
-    ensures fields { OnOk result (fields_of line.new ≡ fields_of line.old ++ type_fields row.now) }
-    ensures whole { OnOk result (partial_of line.new ≡ []) }
-{
-    push_kind(line, row.kind)?;
-    push_number(line, u64::from(row.type_byte))?;
-    push_boolean(line, row.closed)?;
-    push_boolean(line, row.locked)
-}
-
-/// Appends the size that the directory gives, the pair of the first block, and the length of a
-/// record, to a row.
-fn push_entry(line: &mut ByteRecord, row: &FileRow) -> Result<(), AllocError>
-    requires { partial_of line.old ≡ [] }
-    ensures fields { OnOk result (fields_of line.new ≡ fields_of line.old ++ entry_fields row.now) }
-    ensures whole { OnOk result (partial_of line.new ≡ []) }
-{
-    let (track, sector) = row.first;
-    push_number(line, u64::from(row.size))?;
-    push_pair(line, track, sector)?;
-    push_record(line, row.record)
-}
-
-/// Appends how many blocks the data chain and the side chain have, to a row.
-fn push_ways(line: &mut ByteRecord, row: &FileRow) -> Result<(), AllocError>
-    requires { partial_of line.old ≡ [] }
-    ensures fields { OnOk result (fields_of line.new ≡ fields_of line.old ++ way_fields row.now) }
-    ensures whole { OnOk result (partial_of line.new ≡ []) }
-{
-    push_count(line, row.blocks)?;
-    push_count(line, row.side)
-}
-
-/// Appends how many bytes the content has, and their digest, to a row.
-fn push_content(
-    scratch: &mut Vec<u8>,
+/// Adds the kind, and the type byte with what it says of the file, whether it is closed and whether
+/// it is locked, to a row.
+pub(crate) fn push_type(
     line: &mut ByteRecord,
-    row: &FileRow,
+    kind: Option<Kind>,
+    type_byte: u8,
+    closed: bool,
+    locked: bool,
 ) -> Result<(), AllocError>
     requires { partial_of line.old ≡ [] }
-    ensures fields { OnOk result (fields_of line.new ≡ fields_of line.old ++ content_fields row.now) }
+    ensures fields { OnOk result (fields_of line.new ≡ fields_of line.old ++ type_fields kind type_byte closed locked) }
     ensures whole { OnOk result (partial_of line.new ≡ []) }
 {
-    match row.content {
+    push_kind(line, kind)?;
+    push_number(line, u64::from(type_byte))?;
+    push_boolean(line, closed)?;
+    push_boolean(line, locked)
+}
+
+/// Adds the shown size, the pair of the first block, and the length of a record, to a row.
+pub(crate) fn push_entry(
+    line: &mut ByteRecord,
+    size: u16,
+    first: (u8, u8),
+    record_length: Option<u8>,
+) -> Result<(), AllocError>
+    requires { partial_of line.old ≡ [] }
+    ensures fields { OnOk result (fields_of line.new ≡ fields_of line.old ++ entry_fields size first record_length) }
+    ensures whole { OnOk result (partial_of line.new ≡ []) }
+{
+    let (track, sector) = first;
+    push_number(line, u64::from(size))?;
+    push_pair(line, track, sector)?;
+    push_record(line, record_length)
+}
+
+/// Adds how many blocks the data way and the side way have, to a row.
+pub(crate) fn push_ways(
+    line: &mut ByteRecord,
+    blocks: Option<usize>,
+    side: Option<usize>,
+) -> Result<(), AllocError>
+    requires { partial_of line.old ≡ [] }
+    ensures fields { OnOk result (fields_of line.new ≡ fields_of line.old ++ way_fields blocks side) }
+    ensures whole { OnOk result (partial_of line.new ≡ []) }
+{
+    push_count(line, blocks)?;
+    push_count(line, side)
+}
+
+/// Adds how many bytes the content has, and their digest, to a row.
+pub(crate) fn push_content(
+    scratch: &mut Vec<u8>,
+    line: &mut ByteRecord,
+    content: Option<Content>,
+) -> Result<(), AllocError>
+    requires { partial_of line.old ≡ [] }
+    ensures fields { OnOk result (fields_of line.new ≡ fields_of line.old ++ content_fields content) }
+    ensures whole { OnOk result (partial_of line.new ≡ []) }
+{
+    match content {
         Some(content) => {
             push_number(line, content.bytes as u64)?;
             push_hexadecimal(scratch, line, &content.digest)
@@ -183,43 +207,120 @@ pub fn push_file_fields(
     ensures fields { OnOk result (fields_of line.new ≡ fields_of line.old ++ file_fields row.now) }
     ensures whole { OnOk result (partial_of line.new ≡ []) }
 {
-    push_names(scratch, line, row)?;
-    push_type(line, row)?;
-    push_entry(line, row)?;
-    push_ways(line, row)?;
-    push_content(scratch, line, row)?;
+    push_names(scratch, line, &row.field)?;
+    push_type(line, row.kind, row.type_byte, row.closed, row.locked)?;
+    push_entry(line, row.size, row.first, row.record)?;
+    push_ways(line, row.blocks, row.side)?;
+    push_content(scratch, line, row.content)?;
     push_state(scratch, line, row)
 }
 
-/// Begins the row of a file: the name of its image and the fields of the file.
-pub(crate) fn begin_file_row(
-    scratch: &mut Scratch,
-    name: &[u8],
-    row: &FileRow,
-) -> Result<(), AllocError>
-    ensures fields { OnOk result (fields_of scratch.new.row ≡ row_fields name.now row.now) }
+/// Begins a row: the name of the image, and the slot.
+fn begin_place(scratch: &mut Scratch, name: &[u8], slot: usize) -> Result<(), AllocError>
+    ensures fields { OnOk result (fields_of scratch.new.row ≡ place_fields name.now slot) }
     ensures whole { OnOk result (partial_of scratch.new.row ≡ []) }
 {
     scratch.row.clear();
     push_host_name(&mut scratch.text, &mut scratch.row, name)?;
-    push_number(&mut scratch.row, row.slot as u64)?;
-    push_file_fields(&mut scratch.text, &mut scratch.row, row)
+    push_number(&mut scratch.row, slot as u64)
 }
 
-/// Appends the row of a file to a text.
-pub fn file_csv(
+/// Begins the row of a file that is there: the name of its image and all that is told of it.
+fn begin_file_row(scratch: &mut Scratch, name: &[u8], file: &FileRow) -> Result<(), AllocError>
+    ensures fields { OnOk result (fields_of scratch.new.row ≡ place_fields name.now file.now.slot ++ file_fields file.now) }
+    ensures whole { OnOk result (partial_of scratch.new.row ≡ []) }
+{
+    begin_place(scratch, name, file.slot)?;
+    push_file_fields(&mut scratch.text, &mut scratch.row, file)
+}
+
+/// Begins the row of a deleted file.
+fn begin_deleted_row(
     scratch: &mut Scratch,
     name: &[u8],
-    row: &FileRow,
+    file: &DeletedRow,
+) -> Result<(), AllocError>
+    ensures fields { OnOk result (fields_of scratch.new.row ≡ place_fields name.now file.now.slot ++ deleted_fields file.now) }
+    ensures whole { OnOk result (partial_of scratch.new.row ≡ []) }
+{
+    begin_place(scratch, name, file.slot)?;
+    push_deleted_fields(&mut scratch.text, &mut scratch.row, file)
+}
+
+/// Begins the row of a file, also of a deleted one.
+#[tactic(auto, unfolding(crate::specs::CsvRow::row_fields))]
+pub(crate) fn begin_row(scratch: &mut Scratch, name: &[u8], row: &Row) -> Result<(), AllocError>
+    ensures fields { OnOk result (fields_of scratch.new.row ≡ row_fields name.now row.now) }
+    ensures whole { OnOk result (partial_of scratch.new.row ≡ []) }
+{
+    match row {
+        Row::File(file) => begin_file_row(scratch, name, file),
+        Row::Deleted(file) => begin_deleted_row(scratch, name, file),
+    }
+}
+
+/// Adds whether the file of a row was deleted, if deleted files are wanted.
+pub(crate) fn push_leftover_fields(
+    leftovers: Leftovers,
+    line: &mut ByteRecord,
+    row: &Row,
+) -> Result<(), AllocError>
+    requires { partial_of line.old ≡ [] }
+    ensures fields { OnOk result (fields_of line.new ≡ fields_of line.old ++ leftover_fields leftovers row.now) }
+    ensures whole { OnOk result (partial_of line.new ≡ []) }
+{
+    if leftovers.deleted {
+        push_boolean(line, row.is_deleted())?;
+    }
+    Ok(())
+}
+
+/// Adds the columns of leftovers to a header row.
+pub(crate) fn push_leftover_columns(
+    leftovers: Leftovers,
+    line: &mut ByteRecord,
+) -> Result<(), AllocError>
+    requires { partial_of line.old ≡ [] }
+    ensures fields { OnOk result (fields_of line.new ≡ fields_of line.old ++ leftover_columns leftovers) }
+    ensures whole { OnOk result (partial_of line.new ≡ []) }
+{
+    if leftovers.deleted {
+        push_field(line, b"deleted")?;
+    }
+    Ok(())
+}
+
+/// Adds these columns, with nothing in them, to a row.
+pub(crate) fn push_leftover_blanks(
+    leftovers: Leftovers,
+    line: &mut ByteRecord,
+) -> Result<(), AllocError>
+    requires { partial_of line.old ≡ [] }
+    ensures fields { OnOk result (fields_of line.new ≡ fields_of line.old ++ leftover_blanks leftovers) }
+    ensures whole { OnOk result (partial_of line.new ≡ []) }
+{
+    if leftovers.deleted {
+        push_field(line, b"")?;
+    }
+    Ok(())
+}
+
+/// Adds the row of a file to a text.
+pub fn row_csv(
+    leftovers: Leftovers,
+    scratch: &mut Scratch,
+    name: &[u8],
+    row: &Row,
     out: Vec<u8>,
 ) -> Result<Vec<u8>, AllocError>
-    ensures { IfOk result (λ text. text.items ≡ out.items ++ file_row name.now row.now) }
+    ensures { IfOk result (λ text. text.items ≡ out.items ++ csv_row leftovers name.now row.now) }
 {
-    begin_file_row(scratch, name, row)?;
+    begin_row(scratch, name, row)?;
+    push_leftover_fields(leftovers, &mut scratch.row, row)?;
     end_row(&mut scratch.row, b"", out)
 }
 
-/// Begins the header row: the columns without the error.
+/// Begins the header row: the columns but for those of leftovers and the error.
 pub(crate) fn begin_header(scratch: &mut Scratch) -> Result<(), AllocError>
     ensures fields { OnOk result (fields_of scratch.new.row ≡ columns) }
     ensures whole { OnOk result (partial_of scratch.new.row ≡ []) }
@@ -228,12 +329,16 @@ pub(crate) fn begin_header(scratch: &mut Scratch) -> Result<(), AllocError>
     push_fields(&mut scratch.row, &COLUMNS)
 }
 
-/// Appends the header row to a text.
-#[tactic(auto, unfolding(crate::specs::FileRow::header_row))]
-pub fn files_header(scratch: &mut Scratch, out: Vec<u8>) -> Result<Vec<u8>, AllocError>
-    ensures { IfOk result (λ text. text.items ≡ out.items ++ header_row) }
+/// Adds the header row to a text.
+pub fn files_header(
+    leftovers: Leftovers,
+    scratch: &mut Scratch,
+    out: Vec<u8>,
+) -> Result<Vec<u8>, AllocError>
+    ensures { IfOk result (λ text. text.items ≡ out.items ++ header_row leftovers) }
 {
     begin_header(scratch)?;
+    push_leftover_columns(leftovers, &mut scratch.row)?;
     end_row(&mut scratch.row, b"error", out)
 }
 
@@ -247,39 +352,48 @@ pub(crate) fn begin_name_alone(scratch: &mut Scratch, name: &[u8]) -> Result<(),
     push_fields(&mut scratch.row, &EMPTY)
 }
 
-/// Appends a row with only a name and an error.
-#[tactic(auto, unfolding(crate::specs::FileRow::unanswered_row))]
+/// Adds a row with a name and an error alone.
 fn push_unanswered(
+    leftovers: Leftovers,
     scratch: &mut Scratch,
     name: &[u8],
     error: &[u8],
     out: Vec<u8>,
 ) -> Result<Vec<u8>, AllocError>
-    ensures { IfOk result (λ text. text.items ≡ out.items ++ unanswered_row name.now error.now) }
+    ensures { IfOk result (λ text. text.items ≡ out.items ++ unanswered_row leftovers name.now error.now) }
 {
     begin_name_alone(scratch, name)?;
+    push_leftover_blanks(leftovers, &mut scratch.row)?;
     end_row(&mut scratch.row, error, out)
 }
 
 /// Appends the row of an image that cannot be read to a text.
 pub fn unread_file_csv(
+    leftovers: Leftovers,
     scratch: &mut Scratch,
     name: &[u8],
     out: Vec<u8>,
 ) -> Result<Vec<u8>, AllocError>
-    ensures { IfOk result (λ text. text.items ≡ out.items ++ unanswered_row name.now (codes "cannot be read")) }
+    ensures { IfOk result (λ text. text.items ≡ out.items ++ unanswered_row leftovers name.now (codes "cannot be read")) }
 {
-    push_unanswered(scratch, name, UNREAD.as_bytes(), out)
+    push_unanswered(leftovers, scratch, name, UNREAD.as_bytes(), out)
 }
 
 /// Appends the row of a file with these bytes, which is not a dump, to a text.
 pub fn no_dump_file_csv(
+    leftovers: Leftovers,
     scratch: &mut Scratch,
     name: &[u8],
     bytes: &[u8],
     out: Vec<u8>,
 ) -> Result<Vec<u8>, AllocError>
-    ensures { IfOk result (λ text. text.items ≡ out.items ++ unanswered_row name.now (no_dump_error bytes.now)) }
+    ensures { IfOk result (λ text. text.items ≡ out.items ++ unanswered_row leftovers name.now (no_dump_error bytes.now)) }
 {
-    push_unanswered(scratch, name, no_dump_error(bytes).as_bytes(), out)
+    push_unanswered(
+        leftovers,
+        scratch,
+        name,
+        no_dump_error(bytes).as_bytes(),
+        out,
+    )
 }

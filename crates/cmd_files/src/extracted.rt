@@ -5,17 +5,21 @@ ghost use Rattle.csv.specs.Records.{fields_of, partial_of};
 ghost use Rattle.out_json_csv.specs.Values.{line_of, member_tokens};
 ghost use Rattle.cmd_files.specs.Extracted.{path_member, path_field, path_text, extracted_object, extracted_row, extracted_line, extracted_header, unextracted_row};
 
-use crate::csv_line::{begin_file_row, begin_header, begin_name_alone};
-use crate::file_member::put_file_members;
-use crate::json_line::put_place;
-use crate::table::push_file_text;
+use crate::csv_line::{
+    begin_header, begin_name_alone, begin_row, push_leftover_blanks, push_leftover_columns,
+    push_leftover_fields,
+};
+use crate::json_line::{put_leftover_members, put_row_members};
+use crate::row_text::push_row_text;
 use csv::ByteRecord;
-use d64_inventory::FileRow;
+use d64_leftovers::Row;
+use d64_survey::Survey;
 use host_names::push_shown;
 use json::Writer;
 use out_json_csv::{
     Scratch, end_row, into_line, push_field, push_host_name, put_host_name, put_null,
 };
+use program_arguments::Leftovers;
 use std::alloc::AllocError;
 
 /// Prints the path of a host file, or null if no file was written.
@@ -36,20 +40,21 @@ fn put_path(
 /// Appends the line of a file to a text: an object of JSON with the name of its image, the members
 /// of the file, and the path of the host file.
 pub(crate) fn extracted_json(
+    leftovers: Leftovers,
     scratch: &mut Scratch,
     name: &[u8],
-    row: &FileRow,
+    row: &Row,
     path: Option<&[u8]>,
     out: Vec<u8>,
 ) -> Result<Vec<u8>, AllocError>
-    ensures { IfOk result (λ text. text.items ≡ out.items ++ line_of (extracted_object name.now row.now (option_map (λ p. p.now) path.entry))) }
+    ensures { IfOk result (λ text. text.items ≡ out.items ++ line_of (extracted_object leftovers name.now row.now (option_map (λ p. p.now) path.entry))) }
 {
     let start = out.len();
     let mut writer = Writer::new(out);
     writer.begin_object()?;
-    put_place(&mut scratch.text, &mut writer, name, row)?;
-    put_file_members(&mut scratch.text, &mut writer, row)?;
+    put_row_members(&mut scratch.text, &mut writer, name, row)?;
     put_path(&mut scratch.text, &mut writer, path)?;
+    put_leftover_members(leftovers, &mut writer, row)?;
     writer.end_object()?;
     let text = into_line(writer, start)?;
     Ok(text)
@@ -73,16 +78,18 @@ fn push_path_field(
 
 /// Appends the row of a file to a text, with the path of the host file.
 pub(crate) fn extracted_csv(
+    leftovers: Leftovers,
     scratch: &mut Scratch,
     name: &[u8],
-    row: &FileRow,
+    row: &Row,
     path: Option<&[u8]>,
     out: Vec<u8>,
 ) -> Result<Vec<u8>, AllocError>
-    ensures { IfOk result (λ text. text.items ≡ out.items ++ extracted_row name.now row.now (option_map (λ p. p.now) path.entry)) }
+    ensures { IfOk result (λ text. text.items ≡ out.items ++ extracted_row leftovers name.now row.now (option_map (λ p. p.now) path.entry)) }
 {
-    begin_file_row(scratch, name, row)?;
+    begin_row(scratch, name, row)?;
     push_path_field(&mut scratch.text, &mut scratch.row, path)?;
+    push_leftover_fields(leftovers, &mut scratch.row, row)?;
     end_row(&mut scratch.row, b"", out)
 }
 
@@ -104,37 +111,43 @@ fn push_path(out: &mut Vec<u8>, path: Option<&[u8]>) -> Result<(), AllocError>
 pub(crate) fn push_extracted_line(
     scratch: &mut Vec<u8>,
     out: &mut Vec<u8>,
-    row: &FileRow,
+    survey: &Survey,
+    row: &Row,
     path: Option<&[u8]>,
 ) -> Result<(), AllocError>
-    ensures { OnOk result (out.new.items ≡ out.old.items ++ extracted_line row.now (option_map (λ p. p.now) path.entry)) }
+    ensures { OnOk result (out.new.items ≡ out.old.items ++ extracted_line survey.now row.now (option_map (λ p. p.now) path.entry)) }
 {
-    push_file_text(scratch, out, row)?;
+    push_row_text(scratch, out, survey, row)?;
     push_path(out, path)?;
     out.extend_from_slice(b"\n")
 }
 
-/// Appends the header row to a text.
-#[tactic(auto, unfolding(crate::specs::Extracted::extracted_header))]
-pub(crate) fn extracted_header(scratch: &mut Scratch, out: Vec<u8>) -> Result<Vec<u8>, AllocError>
-    ensures { IfOk result (λ text. text.items ≡ out.items ++ extracted_header) }
+/// Adds the header row to a text.
+pub(crate) fn extracted_header(
+    leftovers: Leftovers,
+    scratch: &mut Scratch,
+    out: Vec<u8>,
+) -> Result<Vec<u8>, AllocError>
+    ensures { IfOk result (λ text. text.items ≡ out.items ++ extracted_header leftovers) }
 {
     begin_header(scratch)?;
     push_field(&mut scratch.row, b"file")?;
+    push_leftover_columns(leftovers, &mut scratch.row)?;
     end_row(&mut scratch.row, b"error", out)
 }
 
-/// Appends the row of an image that is not extracted, for this error, to a text.
-#[tactic(auto, unfolding(crate::specs::Extracted::unextracted_row))]
+/// Adds the row of an image that isn't answered, for this error, to a text.
 pub(crate) fn unextracted_csv(
+    leftovers: Leftovers,
     scratch: &mut Scratch,
     name: &[u8],
     error: &[u8],
     out: Vec<u8>,
 ) -> Result<Vec<u8>, AllocError>
-    ensures { IfOk result (λ text. text.items ≡ out.items ++ unextracted_row name.now error.now) }
+    ensures { IfOk result (λ text. text.items ≡ out.items ++ unextracted_row leftovers name.now error.now) }
 {
     begin_name_alone(scratch, name)?;
     push_field(&mut scratch.row, b"")?;
+    push_leftover_blanks(leftovers, &mut scratch.row)?;
     end_row(&mut scratch.row, error, out)
 }

@@ -16,13 +16,17 @@ use out_json_csv::{
 use out_messages::kind_letters;
 use std::alloc::AllocError;
 
-/// Prints the name, and the field in which it is.
-fn put_names(scratch: &mut Vec<u8>, writer: &mut Writer, row: &FileRow) -> Result<(), AllocError>
+/// Prints the name, and the field that it stands in.
+pub(crate) fn put_names(
+    scratch: &mut Vec<u8>,
+    writer: &mut Writer,
+    field: &[u8; 16],
+) -> Result<(), AllocError>
     ensures before { writer.new.before ≡ writer.old.before }
-    ensures tokens { OnOk result (writer.new.tokens ≡ writer.old.tokens ++ member_tokens (name_members row.now)) }
+    ensures tokens { OnOk result (writer.new.tokens ≡ writer.old.tokens ++ member_tokens (name_members field.now)) }
 {
-    put_name(scratch, writer, "name", name_in(&row.field))?;
-    put_hexadecimal(scratch, writer, "field", &row.field)
+    put_name(scratch, writer, "name", name_in(field))?;
+    put_hexadecimal(scratch, writer, "field", field)
 }
 
 /// Prints a kind, or null.
@@ -37,7 +41,11 @@ fn put_kind(writer: &mut Writer, key: &str, kind: Option<Kind>) -> Result<(), Al
 }
 
 /// Prints a number, or null.
-fn put_count(writer: &mut Writer, key: &str, count: Option<usize>) -> Result<(), AllocError>
+pub(crate) fn put_count(
+    writer: &mut Writer,
+    key: &str,
+    count: Option<usize>,
+) -> Result<(), AllocError>
     ensures before { writer.new.before ≡ writer.old.before }
     ensures tokens { OnOk result (writer.new.tokens ≡ writer.old.tokens ++ member_tokens ((key.now, numeral_or_null count) ∷ [])) }
 {
@@ -59,7 +67,11 @@ fn put_record(writer: &mut Writer, key: &str, length: Option<u8>) -> Result<(), 
 }
 
 /// Prints true, false, or null.
-fn put_answer(writer: &mut Writer, key: &str, answer: Option<bool>) -> Result<(), AllocError>
+pub(crate) fn put_answer(
+    writer: &mut Writer,
+    key: &str,
+    answer: Option<bool>,
+) -> Result<(), AllocError>
     ensures before { writer.new.before ≡ writer.old.before }
     ensures tokens { OnOk result (writer.new.tokens ≡ writer.old.tokens ++ member_tokens ((key.now, boolean_or_null answer) ∷ [])) }
 {
@@ -69,43 +81,63 @@ fn put_answer(writer: &mut Writer, key: &str, answer: Option<bool>) -> Result<()
     }
 }
 
-/// Prints the kind, and the type byte with its bits.
-fn put_type(writer: &mut Writer, row: &FileRow) -> Result<(), AllocError>
+/// Prints the kind, and the type byte with what it says of the file: whether it is closed, and
+/// whether it is locked.
+pub(crate) fn put_type(
+    writer: &mut Writer,
+    kind: Option<Kind>,
+    type_byte: u8,
+    closed: bool,
+    locked: bool,
+) -> Result<(), AllocError>
     ensures before { writer.new.before ≡ writer.old.before }
-    ensures tokens { OnOk result (writer.new.tokens ≡ writer.old.tokens ++ member_tokens (type_members row.now)) }
+    ensures tokens { OnOk result (writer.new.tokens ≡ writer.old.tokens ++ member_tokens (type_members kind type_byte closed locked)) }
 {
-    put_kind(writer, "kind", row.kind)?;
-    put_number(writer, "type", u64::from(row.type_byte))?;
-    put_boolean(writer, "closed", row.closed)?;
-    put_boolean(writer, "locked", row.locked)
+    put_kind(writer, "kind", kind)?;
+    put_number(writer, "type", u64::from(type_byte))?;
+    put_boolean(writer, "closed", closed)?;
+    put_boolean(writer, "locked", locked)
 }
 
-/// Prints the size that the directory gives, the pair of the first block, and the length of a record.
-fn put_entry(writer: &mut Writer, row: &FileRow) -> Result<(), AllocError>
+/// Prints the shown size, the pair of the first block, and the length of a record.
+pub(crate) fn put_entry(
+    writer: &mut Writer,
+    size: u16,
+    first: (u8, u8),
+    record_length: Option<u8>,
+) -> Result<(), AllocError>
     ensures before { writer.new.before ≡ writer.old.before }
-    ensures tokens { OnOk result (writer.new.tokens ≡ writer.old.tokens ++ member_tokens (entry_members row.now)) }
+    ensures tokens { OnOk result (writer.new.tokens ≡ writer.old.tokens ++ member_tokens (entry_members size first record_length)) }
 {
-    let (track, sector) = row.first;
-    put_number(writer, "size", u64::from(row.size))?;
+    let (track, sector) = first;
+    put_number(writer, "size", u64::from(size))?;
     put_pair(writer, "first", track, sector)?;
-    put_record(writer, "record", row.record)
+    put_record(writer, "record", record_length)
 }
 
-/// Prints how many blocks the data chain and the side chain have.
-fn put_ways(writer: &mut Writer, row: &FileRow) -> Result<(), AllocError>
+/// Prints how many blocks the data way and the side way have.
+pub(crate) fn put_ways(
+    writer: &mut Writer,
+    blocks: Option<usize>,
+    side: Option<usize>,
+) -> Result<(), AllocError>
     ensures before { writer.new.before ≡ writer.old.before }
-    ensures tokens { OnOk result (writer.new.tokens ≡ writer.old.tokens ++ member_tokens (way_members row.now)) }
+    ensures tokens { OnOk result (writer.new.tokens ≡ writer.old.tokens ++ member_tokens (way_members blocks side)) }
 {
-    put_count(writer, "blocks", row.blocks)?;
-    put_count(writer, "side", row.side)
+    put_count(writer, "blocks", blocks)?;
+    put_count(writer, "side", side)
 }
 
 /// Prints the content: how many bytes it has, and their digest.
-fn put_content(scratch: &mut Vec<u8>, writer: &mut Writer, row: &FileRow) -> Result<(), AllocError>
+pub(crate) fn put_content(
+    scratch: &mut Vec<u8>,
+    writer: &mut Writer,
+    content: Option<Content>,
+) -> Result<(), AllocError>
     ensures before { writer.new.before ≡ writer.old.before }
-    ensures tokens { OnOk result (writer.new.tokens ≡ writer.old.tokens ++ member_tokens (content_members row.now)) }
+    ensures tokens { OnOk result (writer.new.tokens ≡ writer.old.tokens ++ member_tokens (content_members content)) }
 {
-    match row.content {
+    match content {
         Some(content) => {
             put_number(writer, "bytes", content.bytes as u64)?;
             put_hexadecimal(scratch, writer, "sha256", &content.digest)
@@ -151,7 +183,7 @@ fn put_why(writer: &mut Writer, flaws: &[Flaw]) -> Result<(), AllocError>
 }
 
 /// Prints the numbers of the conditions that a file breaks.
-fn put_conditions(writer: &mut Writer, numbers: &[u8]) -> Result<(), AllocError>
+pub(crate) fn put_conditions(writer: &mut Writer, numbers: &[u8]) -> Result<(), AllocError>
     ensures before { writer.new.before ≡ writer.old.before }
     ensures tokens { OnOk result (writer.new.tokens ≡ writer.old.tokens ++ member_tokens ((codes "conditions", array_of (map numeral numbers.now)) ∷ [])) }
 {
@@ -181,10 +213,10 @@ pub fn put_file_members(
     ensures before { writer.new.before ≡ writer.old.before }
     ensures tokens { OnOk result (writer.new.tokens ≡ writer.old.tokens ++ member_tokens (file_members row.now)) }
 {
-    put_names(scratch, writer, row)?;
-    put_type(writer, row)?;
-    put_entry(writer, row)?;
-    put_ways(writer, row)?;
-    put_content(scratch, writer, row)?;
+    put_names(scratch, writer, &row.field)?;
+    put_type(writer, row.kind, row.type_byte, row.closed, row.locked)?;
+    put_entry(writer, row.size, row.first, row.record)?;
+    put_ways(writer, row.blocks, row.side)?;
+    put_content(scratch, writer, row.content)?;
     put_state(writer, row)
 }

@@ -5,6 +5,7 @@ ghost use Rattle.d64_g64.specs.DumpOf.{dump_of};
 ghost use Rattle.cmd_files.specs.Files.{answer_of, files_rule, heading_of};
 ghost use Rattle.cmd_files.specs.Quiet.{files_rule-is_quiet};
 
+use crate::form::Form;
 use crate::printing::{print_dump, print_heading, print_unread, print_wrong_length};
 use d64_g64::refill_from;
 use d64_image::Image;
@@ -12,7 +13,6 @@ use d64_inventory::is_amiss;
 use d64_survey::{Dump, DumpFault, Fault, Inspection, ReadError};
 use out_json_csv::Scratch;
 use out_messages::{unread_line, wrong_length_line};
-use program_arguments::Format;
 use program_batch::{AnswerRoom, Report, Verdict};
 use std::alloc::{AllocError, Global};
 use std::mem;
@@ -21,7 +21,7 @@ use std::mem;
 #[derive(Drop)]
 pub struct FilesReport {
     alloc: Global,
-    form: Format,
+    form: Form,
     dump: Dump,
     faults: Vec<Fault>,
     errors: Vec<ReadError>,
@@ -29,8 +29,8 @@ pub struct FilesReport {
 }
 
 impl FilesReport {
-    /// Returns a report in a form.
-    pub fn new(alloc: Global, form: Format) -> Result<FilesReport, AllocError>
+    /// A report in a form.
+    pub fn new(alloc: Global, form: Form) -> Result<FilesReport, AllocError>
         ensures { IfOk result (λ report. report.form ≡ form) }
     {
         Ok(FilesReport {

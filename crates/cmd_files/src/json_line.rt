@@ -1,43 +1,109 @@
-//! What is printed of a file as JSON.
+//! What is printed of a file, also of a deleted one, as JSON.
 ghost use Rattle.std.specs.Prelude.{◌≡◌, ◌++◌, OnOk, IfOk};
 ghost use Rattle.out_json_csv.specs.Values.{line_of, member_tokens};
-ghost use Rattle.cmd_files.specs.FileObject.{place_members, file_object};
+ghost use Rattle.cmd_files.specs.FileObject.{file_members};
+ghost use Rattle.cmd_files.specs.DeletedObject.{deleted_members};
+ghost use Rattle.cmd_files.specs.RowObject.{place_members, row_members, leftover_members, row_object};
 
+use crate::deleted_member::put_deleted_members;
 use crate::file_member::put_file_members;
 use d64_inventory::FileRow;
+use d64_leftovers::{DeletedRow, Row};
 use json::Writer;
-use out_json_csv::{Scratch, into_line, put_image, put_number};
+use out_json_csv::{Scratch, into_line, put_boolean, put_image, put_number};
+use program_arguments::Leftovers;
 use std::alloc::AllocError;
 
-/// Prints the place of a file: the image, by its name on the host, and the slot.
-pub fn put_place(
+/// Prints where a file is: the image, by its name on the host, and the slot.
+fn put_place(
     scratch: &mut Vec<u8>,
     writer: &mut Writer,
     name: &[u8],
-    row: &FileRow,
+    slot: usize,
 ) -> Result<(), AllocError>
     ensures before { writer.new.before ≡ writer.old.before }
-    ensures tokens { OnOk result (writer.new.tokens ≡ writer.old.tokens ++ member_tokens (place_members name.now row.now)) }
+    ensures tokens { OnOk result (writer.new.tokens ≡ writer.old.tokens ++ member_tokens (place_members name.now slot)) }
 {
     put_image(scratch, writer, name)?;
-    put_number(writer, "slot", row.slot as u64)
+    put_number(writer, "slot", slot as u64)
 }
 
-/// Appends the line of a file to a text: an object of JSON with the name of its image and the
-/// members of the file.
-pub fn file_json(
+/// Prints what is told of a file, with its place.
+fn put_placed_file(
+    scratch: &mut Vec<u8>,
+    writer: &mut Writer,
+    name: &[u8],
+    file: &FileRow,
+) -> Result<(), AllocError>
+    ensures before { writer.new.before ≡ writer.old.before }
+    ensures tokens { OnOk result (writer.new.tokens ≡ writer.old.tokens ++ member_tokens (place_members name.now file.now.slot ++ file_members file.now)) }
+{
+    put_place(scratch, writer, name, file.slot)?;
+    put_file_members(scratch, writer, file)
+}
+
+/// Prints what is told of a deleted file, with its place.
+fn put_placed_deleted(
+    scratch: &mut Vec<u8>,
+    writer: &mut Writer,
+    name: &[u8],
+    file: &DeletedRow,
+) -> Result<(), AllocError>
+    ensures before { writer.new.before ≡ writer.old.before }
+    ensures tokens { OnOk result (writer.new.tokens ≡ writer.old.tokens ++ member_tokens (place_members name.now file.now.slot ++ deleted_members file.now)) }
+{
+    put_place(scratch, writer, name, file.slot)?;
+    put_deleted_members(scratch, writer, file)
+}
+
+/// Prints what is told of a row, with its place.
+#[tactic(auto, unfolding(crate::specs::RowObject::row_members))]
+pub(crate) fn put_row_members(
+    scratch: &mut Vec<u8>,
+    writer: &mut Writer,
+    name: &[u8],
+    row: &Row,
+) -> Result<(), AllocError>
+    ensures before { writer.new.before ≡ writer.old.before }
+    ensures tokens { OnOk result (writer.new.tokens ≡ writer.old.tokens ++ member_tokens (row_members name.now row.now)) }
+{
+    match row {
+        Row::File(file) => put_placed_file(scratch, writer, name, file),
+        Row::Deleted(file) => put_placed_deleted(scratch, writer, name, file),
+    }
+}
+
+/// Prints whether the file of a row was deleted, if deleted files are wanted.
+pub(crate) fn put_leftover_members(
+    leftovers: Leftovers,
+    writer: &mut Writer,
+    row: &Row,
+) -> Result<(), AllocError>
+    ensures before { writer.new.before ≡ writer.old.before }
+    ensures tokens { OnOk result (writer.new.tokens ≡ writer.old.tokens ++ member_tokens (leftover_members leftovers row.now)) }
+{
+    if leftovers.deleted {
+        put_boolean(writer, "deleted", row.is_deleted())?;
+    }
+    Ok(())
+}
+
+/// Adds the line of a row to a text: an object of JSON with the name of its image and all that is
+/// told of the file.
+pub fn row_json(
+    leftovers: Leftovers,
     scratch: &mut Scratch,
     name: &[u8],
-    row: &FileRow,
+    row: &Row,
     out: Vec<u8>,
 ) -> Result<Vec<u8>, AllocError>
-    ensures { IfOk result (λ text. text.items ≡ out.items ++ line_of (file_object name.now row.now)) }
+    ensures { IfOk result (λ text. text.items ≡ out.items ++ line_of (row_object leftovers name.now row.now)) }
 {
     let start = out.len();
     let mut writer = Writer::new(out);
     writer.begin_object()?;
-    put_place(&mut scratch.text, &mut writer, name, row)?;
-    put_file_members(&mut scratch.text, &mut writer, row)?;
+    put_row_members(&mut scratch.text, &mut writer, name, row)?;
+    put_leftover_members(leftovers, &mut writer, row)?;
     writer.end_object()?;
     let text = into_line(writer, start)?;
     Ok(text)

@@ -1,69 +1,136 @@
-//! Printing the files of an image, in one of the three forms.
+//! Printing the files of an image, in one of the three formats.
 ghost use Rattle.std.specs.Prelude.{◌≡◌, ◌++◌, IfOk, OnOk, length};
-ghost use Rattle.cmd_files.specs.Files.{printed_row, before_rows, after_rows, printed_rows, printed_of, printed_unread, printed_wrong_length, heading_of};
+ghost use Rattle.cmd_files.specs.Files.{printed_row, before_rows, after_rows, printed_rows, under_heading, deleted_section, all_rows, printed_of, printed_unread, printed_wrong_length, heading_of};
 
-use crate::csv_line::{file_csv, files_header, no_dump_file_csv, unread_file_csv};
-use crate::json_line::file_json;
+use crate::csv_line::{files_header, no_dump_file_csv, row_csv, unread_file_csv};
+use crate::form::Form;
+use crate::json_line::row_json;
 use crate::missing::push_missing_lines;
-use crate::table::{push_file_line, push_head_line};
+use crate::row_text::push_row_line;
+use crate::table::push_head_line;
 use d64_image::Image;
-use d64_inventory::{FileRow, Rows};
-use d64_survey::Inspection;
+use d64_leftovers::{Row, RowList, Selection};
+use d64_survey::{Inspection, Survey};
 use out_json_csv::{Scratch, no_dump_json, unread_json};
 use program_arguments::Format;
 use std::alloc::AllocError;
 
-/// Appends what is printed before the first result.
+/// The rows of files alone.
+const FILES_ALONE: Selection = Selection {
+    files: true,
+    deleted: false,
+};
+
+/// The rows of deleted files alone.
+const DELETED_ALONE: Selection = Selection {
+    files: false,
+    deleted: true,
+};
+
+/// Appends what stands before all answers.
 pub(crate) fn print_heading(
-    form: Format,
+    form: Form,
     scratch: &mut Scratch,
     out: Vec<u8>,
 ) -> Result<Vec<u8>, AllocError>
     ensures { IfOk result (λ text. text.items ≡ out.items ++ heading_of form) }
 {
-    match form {
+    match form.format {
         Format::Text | Format::Json => Ok(out),
-        Format::Csv => files_header(scratch, out),
+        Format::Csv => files_header(form.leftovers, scratch, out),
     }
 }
 
-/// Appends what is printed of a file on the disk.
+/// Appends what is printed of a row.
 fn print_row(
-    form: Format,
+    form: Form,
     scratch: &mut Scratch,
     name: &[u8],
-    row: &FileRow,
+    survey: &Survey,
+    row: &Row,
     out: Vec<u8>,
 ) -> Result<Vec<u8>, AllocError>
-    ensures { IfOk result (λ text. text.items ≡ out.items ++ printed_row form name.now row.now) }
+    ensures { IfOk result (λ text. text.items ≡ out.items ++ printed_row form name.now survey.now row.now) }
 {
-    match form {
+    match form.format {
         Format::Text => {
             let mut text = out;
-            push_file_line(&mut scratch.text, &mut text, row)?;
+            push_row_line(&mut scratch.text, &mut text, survey, row)?;
             Ok(text)
         }
-        Format::Json => file_json(scratch, name, row, out),
-        Format::Csv => file_csv(scratch, name, row, out),
+        Format::Json => row_json(form.leftovers, scratch, name, row, out),
+        Format::Csv => row_csv(form.leftovers, scratch, name, row, out),
     }
 }
 
-/// Appends what is printed of the files of a dump, in the order of their slots.
+/// Appends what is printed of the rows of a dump that are wanted, in their order.
 #[tactic(auto, unfolding(crate::specs::Files::printed_rows))]
 fn print_rows(
-    form: Format,
+    form: Form,
+    wanted: Selection,
     scratch: &mut Scratch,
     name: &[u8],
     all: &Inspection,
     out: Vec<u8>,
 ) -> Result<Vec<u8>, AllocError>
-    ensures { IfOk result (λ text. text.items ≡ out.items ++ printed_rows form name.now all.now) }
+    ensures { IfOk result (λ text. text.items ≡ out.items ++ printed_rows form wanted name.now all.now) }
 {
     let mut text = out;
-    for row in Rows::of(all) {
-        text = print_row(form, scratch, name, &row, text)?;
+    for row in RowList::of(all, wanted) {
+        text = print_row(form, scratch, name, all.survey(), &row, text)?;
     }
     Ok(text)
+}
+
+/// Appends what is printed of deleted files in a table, under a heading, if they are wanted.
+fn print_deleted(
+    form: Form,
+    scratch: &mut Scratch,
+    name: &[u8],
+    all: &Inspection,
+    out: Vec<u8>,
+) -> Result<Vec<u8>, AllocError>
+    ensures { IfOk result (λ text. text.items ≡ out.items ++ deleted_section form name.now all.now) }
+{
+    if !form.leftovers.deleted {
+        return Ok(out);
+    }
+    let lines = Vec::new(*scratch.text.allocator());
+    let lines = print_rows(form, DELETED_ALONE, scratch, name, all, lines)?;
+    let mut text = out;
+    push_under_heading(&mut text, b"deleted\n", &lines)?;
+    Ok(text)
+}
+
+/// Appends lines under a heading, if there are some.
+fn push_under_heading(out: &mut Vec<u8>, heading: &[u8], lines: &[u8]) -> Result<(), AllocError>
+    ensures { OnOk result (out.new.items ≡ out.old.items ++ under_heading heading.now lines.now) }
+{
+    if lines.is_empty() {
+        return Ok(());
+    }
+    out.extend_from_slice(heading)?;
+    out.extend_from_slice(lines)
+}
+
+/// Appends what is printed of the rows of a dump: as text, files and then what is left over under
+/// headings; else all in one list, in the order of the slots.
+fn print_all_rows(
+    form: Form,
+    scratch: &mut Scratch,
+    name: &[u8],
+    all: &Inspection,
+    out: Vec<u8>,
+) -> Result<Vec<u8>, AllocError>
+    ensures { IfOk result (λ text. text.items ≡ out.items ++ all_rows form.format form name.now all.now) }
+{
+    match form.format {
+        Format::Text => {
+            let files = print_rows(form, FILES_ALONE, scratch, name, all, out)?;
+            print_deleted(form, scratch, name, all, files)
+        }
+        Format::Json | Format::Csv => { print_rows(form, form.wanted(), scratch, name, all, out) }
+    }
 }
 
 /// Appends what is printed of an image before its files.
@@ -94,7 +161,7 @@ pub fn print_after(form: Format, all: &Inspection, out: &mut Vec<u8>) -> Result<
 /// Appends what is printed of a dump.
 #[tactic(auto, unfolding(crate::specs::Files::printed_of))]
 pub(crate) fn print_dump(
-    form: Format,
+    form: Form,
     scratch: &mut Scratch,
     name: &[u8],
     all: &Inspection,
@@ -103,41 +170,41 @@ pub(crate) fn print_dump(
     ensures { IfOk result (λ text. text.items ≡ out.items ++ printed_of form name.now all.now) }
 {
     let mut head = out;
-    print_before(form, name, all.image(), &mut head)?;
-    let mut text = print_rows(form, scratch, name, all, head)?;
-    print_after(form, all, &mut text)?;
+    print_before(form.format, name, all.image(), &mut head)?;
+    let mut text = print_all_rows(form, scratch, name, all, head)?;
+    print_after(form.format, all, &mut text)?;
     Ok(text)
 }
 
 /// Appends what is printed of a file that cannot be read.
 pub(crate) fn print_unread(
-    form: Format,
+    form: Form,
     scratch: &mut Scratch,
     name: &[u8],
     out: Vec<u8>,
 ) -> Result<Vec<u8>, AllocError>
-    ensures { IfOk result (λ text. text.items ≡ out.items ++ printed_unread form name.now) }
+    ensures { IfOk result (λ text. text.items ≡ out.items ++ printed_unread form.format form.leftovers name.now) }
 {
-    match form {
+    match form.format {
         Format::Text => Ok(out),
         Format::Json => unread_json(scratch, name, out),
-        Format::Csv => unread_file_csv(scratch, name, out),
+        Format::Csv => unread_file_csv(form.leftovers, scratch, name, out),
     }
 }
 
 /// Appends what is printed of a file with these bytes, which is not a dump.
 pub(crate) fn print_wrong_length(
-    form: Format,
+    form: Form,
     scratch: &mut Scratch,
     name: &[u8],
     bytes: &[u8],
     out: Vec<u8>,
 ) -> Result<Vec<u8>, AllocError>
-    ensures { IfOk result (λ text. text.items ≡ out.items ++ printed_wrong_length form name.now bytes.now) }
+    ensures { IfOk result (λ text. text.items ≡ out.items ++ printed_wrong_length form.format form.leftovers name.now bytes.now) }
 {
-    match form {
+    match form.format {
         Format::Text => Ok(out),
         Format::Json => no_dump_json(scratch, name, bytes, out),
-        Format::Csv => no_dump_file_csv(scratch, name, bytes, out),
+        Format::Csv => no_dump_file_csv(form.leftovers, scratch, name, bytes, out),
     }
 }

@@ -2,9 +2,12 @@
 ghost use Rattle.std.specs.Prelude.{◌≡◌, ◌++◌, decimal, OnOk};
 ghost use Rattle.std.specs.List.{flat_map};
 ghost use Rattle.cmd_files.specs.FlawWords.{flaw_word as flaw_word_of};
+ghost use Rattle.cmd_files.specs.LossWords.{loss_word as loss_word_of};
 ghost use Rattle.cmd_files.specs.FileRow.{after_space, spaced_texts};
 
 use crate::flaw_word::flaw_word;
+use crate::loss_word::loss_word;
+use d64_scratched::Loss;
 use d64_survey::Flaw;
 use itoa::Buffer;
 use std::alloc::AllocError;
@@ -42,7 +45,32 @@ pub(crate) fn spell_flaws(text: &mut Vec<u8>, flaws: &[Flaw]) -> Result<(), Allo
     }
 }
 
-/// Appends numbers in decimal, each after a space.
+/// Adds the words for why a deleted file isn't whole, each after a space.
+fn push_losses(text: &mut Vec<u8>, losses: &[Loss]) -> Result<(), AllocError>
+    ensures { OnOk result (text.new.items ≡ text.old.items ++ flat_map (λ loss. after_space (loss_word_of loss)) losses.now) }
+{
+    for loss in losses {
+        push_after_space(text, loss_word(*loss).as_bytes())?;
+    }
+    Ok(())
+}
+
+/// Spells these words, with a space between them, in the place of what the text had.
+#[tactic(auto, unfolding(crate::specs::FileRow::spaced_texts))]
+pub(crate) fn spell_losses(text: &mut Vec<u8>, losses: &[Loss]) -> Result<(), AllocError>
+    ensures { OnOk result (text.new.items ≡ spaced_texts loss_word_of losses.now) }
+{
+    text.clear();
+    match losses {
+        [] => Ok(()),
+        [first, rest @ ..] => {
+            text.extend_from_slice(loss_word(*first).as_bytes())?;
+            push_losses(text, rest)
+        }
+    }
+}
+
+/// Adds numbers in decimal, each after a space.
 fn push_numbers(text: &mut Vec<u8>, numbers: &[u8]) -> Result<(), AllocError>
     ensures { OnOk result (text.new.items ≡ text.old.items ++ flat_map (λ number. after_space (decimal number)) numbers.now) }
 {

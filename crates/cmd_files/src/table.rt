@@ -128,16 +128,20 @@ fn push_state(out: &mut Vec<u8>, row: &FileRow) -> Result<(), AllocError>
     out.extend_from_slice(locked_text(row.locked))
 }
 
-/// Appends the size that the directory gives, right-aligned.
-fn push_size(out: &mut Vec<u8>, size: u16) -> Result<(), AllocError>
+/// Adds the shown size, in its columns.
+pub(crate) fn push_size(out: &mut Vec<u8>, size: u16) -> Result<(), AllocError>
     ensures { OnOk result (out.new.items ≡ out.old.items ++ right_in 5 (decimal size)) }
 {
     let mut digits = Buffer::new();
     push_right(out, SIZE_COLUMNS, digits.format(size).as_bytes())
 }
 
-/// Appends a name in quotes, left-aligned.
-fn push_name(scratch: &mut Vec<u8>, out: &mut Vec<u8>, name: &[u8]) -> Result<(), AllocError>
+/// Adds a name in quotes, in its columns.
+pub(crate) fn push_name(
+    scratch: &mut Vec<u8>,
+    out: &mut Vec<u8>,
+    name: &[u8],
+) -> Result<(), AllocError>
     ensures { OnOk result (out.new.items ≡ out.old.items ++ left_in 18 (quoted_name name.now)) }
 {
     scratch.clear();

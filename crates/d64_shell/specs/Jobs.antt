@@ -8,10 +8,12 @@ use Rattle.cmd_basic.specs.declared.tools.Tool.{Tool}
 use Rattle.program_arguments.specs.declared.asked.Job.TheVariants.{Shell, Petcat, Crunch, Check, Files, Extract, Map, Catalogue, Diff}
 use Rattle.program_arguments.specs.declared.asked.Extraction.{Extraction as AskedExtraction}
 use Rattle.program_arguments.specs.declared.asked.Format.{Format}
+use Rattle.program_arguments.specs.declared.asked.Leftovers.{Leftovers}
 use Rattle.program_batch.specs.Answers.{Rule}
 use Rattle.cmd_check.specs.Check.{check_rule, heading_of as check_heading}
 use Rattle.cmd_files.specs.Files.{files_rule, heading_of as files_heading}
 use Rattle.cmd_files.specs.Extracts.{extract_heading}
+use Rattle.cmd_files.specs.declared.form.Form.{Form}
 use Rattle.cmd_extract.specs.Setup.{SetupView}
 use Rattle.cmd_map.specs.Pictures.{map_rule}
 use Rattle.cmd_catalogue.specs.Catalogue.{catalogue_rule, catalogue_heading}
@@ -19,9 +21,13 @@ use Rattle.cmd_diff.specs.Differences.{difference_rule}
 use Rattle.cmd_basic.specs.declared.tools.Tool.TheVariants as tools
 use Rattle.cmd_shell.specs.Beginnings.{Beginning, beginning_of, home_of, Source, source_of, refusals_of}
 
--- the options of an extraction that the arguments give, in a form of the output
-abbrev pub setup_of : AskedExtraction → Format → SetupView
-setup_of asked format = record { into = string_bytes asked.into; with_parts = asked.part; skips = asked.skip_existing; form = format }
+-- what is printed of files, in a format, and of what is left over beside them
+abbrev pub form_of : Format → Leftovers → Form
+form_of format leftovers = record { format = format; leftovers = leftovers }
+
+-- what an extraction is asked for by the words, in a form of the output
+abbrev pub setup_of : AskedExtraction → Form → SetupView
+setup_of asked form = record { into = string_bytes asked.into; with_parts = asked.part; skips = asked.skip_existing; form = form }
 
 -- what a job does: it runs a script from this source, with these options, from a beginning; runs a
 -- tool on the input, or on the host file with a name, to the output, or to the host file with a
@@ -42,8 +48,9 @@ work_of (Shell image tracks resume lines stops) =
 work_of (Petcat file output) = Conversion tools.Petcat (option_map string_bytes file) (option_map string_bytes output)
 work_of (Crunch start file output) = Conversion (tools.Crunch start) (option_map string_bytes file) (option_map string_bytes output)
 work_of (Check digest format names) = Survey (check_rule format digest) (check_heading format digest) (files_of names)
-work_of (Files format names) = Survey (files_rule format) (files_heading format) (files_of names)
-work_of (Extract asked format names) = Extraction (setup_of asked format) (extract_heading format) (files_of names)
+work_of (Files leftovers format names) = Survey (files_rule (form_of format leftovers)) (files_heading (form_of format leftovers)) (files_of names)
+work_of (Extract asked leftovers format names) =
+    Extraction (setup_of asked (form_of format leftovers)) (extract_heading (form_of format leftovers)) (files_of names)
 work_of (Map format file) = Survey (map_rule format) [] (Named (string_bytes file ∷ []))
 work_of (Catalogue page names) = Survey (catalogue_rule page) (catalogue_heading page) (files_of names)
 work_of (Diff format old new) = Comparison (difference_rule format) (string_bytes old) (string_bytes new)

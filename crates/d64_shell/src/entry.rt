@@ -14,7 +14,7 @@ use cmd_basic::{Tool, ToolJob};
 use cmd_catalogue::CatalogueReport;
 use cmd_check::CheckReport;
 use cmd_extract::Unpacker;
-use cmd_files::FilesReport;
+use cmd_files::{FilesReport, Form};
 use cmd_map::MapReport;
 use cmd_shell::{ShellJob, exit_status, refusals_of};
 use host_storage::{Host, HostFault};
@@ -248,18 +248,25 @@ impl<'l, L: Listener> HeardProgram<'l, L> {
                     report, input, output, faults, host,
                 )
             }
-            Job::Files { format, names } => {
-                let report = FilesReport::new(alloc, format);
+            Job::Files {
+                leftovers,
+                format,
+                names,
+            } => {
+                let form = Form { format, leftovers };
+                let report = FilesReport::new(alloc, form);
                 SurveyJob::new(alloc, FileNames::of(&names)).run(
                     report, input, output, faults, host,
                 )
             }
             Job::Extract {
                 extraction,
+                leftovers,
                 format,
                 names,
             } => {
-                let clerk = Unpacker::new(alloc, setup_of(extraction, format));
+                let form = Form { format, leftovers };
+                let clerk = Unpacker::new(alloc, setup_of(extraction, form));
                 SurveyJob::new(alloc, FileNames::of(&names)).run_by(
                     clerk, input, output, faults, host,
                 )

@@ -3,10 +3,11 @@ ghost use Rattle.std.specs.Prelude.{◌≡◌};
 ghost use Rattle.d64_shell.specs.Jobs.{setup_of};
 
 use cmd_extract::Setup;
-use program_arguments::{Extraction, Format};
+use cmd_files::Form;
+use program_arguments::Extraction;
 
-/// Returns the options of an extraction that the arguments give, in a form of the output.
-pub(crate) fn setup_of(asked: Extraction, form: Format) -> Setup
+/// What an extraction is asked for by the words, in a form of the output.
+pub(crate) fn setup_of(asked: Extraction, form: Form) -> Setup
     ensures { result ≡ setup_of asked form }
 {
     Setup {

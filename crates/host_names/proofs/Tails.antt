@@ -71,7 +71,7 @@ unfolding tail ending_text part_text
 tail_is ending is_part = each_tail is_tail refl refl refl refl refl refl refl refl refl refl refl refl refl refl ending is_part
 
 -- what is left of a list without its first byte, without its first two, and so on
-pub rests : List ℕ → List (List ℕ)
+unfoldable pub rests : List ℕ → List (List ℕ)
 rests [] = []
 rests (byte ∷ bytes) = bytes ∷ rests bytes
 

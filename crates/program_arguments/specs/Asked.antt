@@ -8,6 +8,7 @@ use Rattle.program_arguments.specs.Start.{IsStartBy, HasNoAddress}
 use Rattle.program_arguments.specs.Tracks.{IsTracksBy, HasNoTracks}
 use Rattle.program_arguments.specs.Extraction.{HasNoFolder, IsExtractionBy}
 use Rattle.program_arguments.specs.Format.{diff_form_of, form_word, format_of, picture_form_of}
+use Rattle.program_arguments.specs.Leftovers.{IsLeftoversBy}
 use Rattle.program_arguments.specs.Names.{HasNoNames, HasNullAlone, IsNamesBy}
 use Rattle.program_arguments.specs.Page.{HasNamedPage, IsPageBy, IsPageFault}
 use Rattle.program_arguments.specs.Values.{all_given, has_flag}
@@ -91,9 +92,10 @@ IsJobOf met (Crunch start file output) =
     × IsStartBy (first_of (codes "start") met.1) start
 IsJobOf met (Check digest format names) =
     (met.0 ≡ codes "check") × (digest ≡ has_flag (codes "digest") met.1) × (format_given met ≡ Some format) × IsNamesBy met.1 names
-IsJobOf met (Files format names) = (met.0 ≡ codes "files") × (format_given met ≡ Some format) × IsNamesBy met.1 names
-IsJobOf met (Extract extraction format names) =
-    (met.0 ≡ codes "extract") × IsExtractionBy met.1 extraction × (format_given met ≡ Some format) × IsNamesBy met.1 names
+IsJobOf met (Files leftovers format names) =
+    (met.0 ≡ codes "files") × IsLeftoversBy met.1 leftovers × (format_given met ≡ Some format) × IsNamesBy met.1 names
+IsJobOf met (Extract extraction leftovers format names) =
+    (met.0 ≡ codes "extract") × IsExtractionBy met.1 extraction × IsLeftoversBy met.1 leftovers × (format_given met ≡ Some format) × IsNamesBy met.1 names
 IsJobOf met (Map format file) =
     (met.0 ≡ codes "map") × (picture_form_given met ≡ Some format) × (first_of (codes "file") met.1 ≡ Some (string_bytes file))
 IsJobOf met (Diff format old new) =

@@ -69,15 +69,19 @@ survey app = with_names (with_rule app (valued_option (codes "format")))
 abbrev pub check : App
 check = survey (with_rule (new_app (codes "check")) (flag (codes "digest")))
 
--- `files` with the arguments of a survey
-abbrev pub files : App
-files = survey (new_app (codes "files"))
+-- a subcommand with the words for what is left over beside files: `--deleted`
+abbrev pub with_leftovers : App → App
+with_leftovers app = with_rule app (flag (codes "deleted"))
 
--- `extract [--into FOLDER] [--part] [--skip-existing]` with the arguments of a survey
+-- `files [--deleted]` with the words of a survey
+abbrev pub files : App
+files = survey (with_leftovers (new_app (codes "files")))
+
+-- `extract [--into FOLDER] [--part] [--skip-existing] [--deleted]` with the words of a survey
 abbrev pub extract : App
 extract =
     let placed = with_rule (new_app (codes "extract")) (valued_option (codes "into")) in
-    survey (with_rule (with_rule placed (flag (codes "part"))) (flag (codes "skip-existing")))
+    survey (with_leftovers (with_rule (with_rule placed (flag (codes "part"))) (flag (codes "skip-existing"))))
 
 -- `map [--format FORMAT] FILE`
 abbrev pub map : App

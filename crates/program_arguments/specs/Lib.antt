@@ -3,6 +3,7 @@ pub mod Commands
 pub mod Extraction
 pub mod FaultText
 pub mod Format
+pub mod Leftovers
 pub mod Making
 pub mod Names
 pub mod Page

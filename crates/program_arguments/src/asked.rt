@@ -46,12 +46,14 @@ pub enum Job {
     },
     /// Print each file on dumps, and whether it is whole.
     Files {
+        leftovers: Leftovers,
         format: Format,
         names: Names,
     },
     /// Write the files on dumps to the host, and print each.
     Extract {
         extraction: Extraction,
+        leftovers: Leftovers,
         format: Format,
         names: Names,
     },
@@ -82,6 +84,13 @@ pub struct Extraction {
     pub part: bool,
     /// Whether an image whose folder exists is skipped.
     pub skip_existing: bool,
+}
+
+/// What is left over on dumps and is wanted beside their files.
+#[derive(Clone, Copy, Debug, Default, PartialEq, Eq)]
+pub struct Leftovers {
+    /// Whether deleted files are wanted.
+    pub deleted: bool,
 }
 
 /// How one page of dumps is made.

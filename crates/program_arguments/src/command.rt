@@ -3,7 +3,7 @@
 ghost use Rattle.std.specs.Prelude.{◌≡◌, IfOk, false, option_map};
 ghost use Rattle.clap.specs.Words.{App, Rule, app_of, kind_of, new_app, rule_of, with_rule, with_subcommand};
 ghost use Rattle.clap.specs.declared.builder.command.Command.TheViews.{out-Command as fields_of};
-ghost use Rattle.program_arguments.specs.Commands.{bare_app, d64sh, app_named, shell, petcat, crunch, check, files, extract, map, diff, catalogue, survey, with_names, file_argument, image_argument, required_argument, files_argument, valued_option, output_option, line_option, stop_flag, flag, with_script};
+ghost use Rattle.program_arguments.specs.Commands.{bare_app, d64sh, app_named, shell, petcat, crunch, check, files, extract, map, diff, catalogue, survey, with_leftovers, with_names, file_argument, image_argument, required_argument, files_argument, valued_option, output_option, line_option, stop_flag, flag, with_script};
 ghost use Rattle.program_arguments.specs.Making.{IsArgument, IsMade};
 
 use crate::help::help_of;
@@ -192,14 +192,15 @@ fn check<'a>(alloc: Global) -> Result<Command<'a>, AllocError>
     survey(alloc, command)
 }
 
-/// Returns `files` with the arguments of a survey.
+/// `files [--deleted]` with the words of a survey.
 fn files<'a>(alloc: Global) -> Result<Command<'a>, AllocError>
     ensures { IsMade files result }
 {
-    survey(alloc, Ok(subcommand(alloc, "files")))
+    let command = with_leftovers(alloc, Ok(subcommand(alloc, "files")));
+    survey(alloc, command)
 }
 
-/// Returns `extract [--into FOLDER] [--part] [--skip-existing]` with the arguments of a survey.
+/// `extract [--into FOLDER] [--part] [--skip-existing] [--deleted]` with the words of a survey.
 fn extract<'a>(alloc: Global) -> Result<Command<'a>, AllocError>
     ensures { IsMade extract result }
 {
@@ -222,10 +223,26 @@ fn extract<'a>(alloc: Global) -> Result<Command<'a>, AllocError>
         "Pass over images whose folders are there and complete",
     );
     let command = with_argument(command, skip);
+    let command = with_leftovers(alloc, command);
     survey(alloc, command)
 }
 
-/// Returns `map [--format FORMAT] FILE`.
+/// The subcommand with the words for what is left over beside files: `[--deleted]`.
+fn with_leftovers<'a>(
+    alloc: Global,
+    command: Result<Command<'a>, AllocError>,
+) -> Result<Command<'a>, AllocError>
+    ensures { (app : App) → IsMade app command.entry → IsMade (with_leftovers app) result }
+{
+    let deleted = flag(
+        alloc,
+        "deleted",
+        "Also deleted files, and which of them can be brought back",
+    );
+    with_argument(command, deleted)
+}
+
+/// `map [--format FORMAT] FILE`.
 fn map<'a>(alloc: Global) -> Result<Command<'a>, AllocError>
     ensures { IsMade map result }
 {

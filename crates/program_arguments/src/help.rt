@@ -152,8 +152,8 @@ Example: d64sh check *.d64
 No image is ever written. The manual says more: `man d64sh`, or docs/MANUAL.md
 beside the source.";
 
-const FILES_USAGE: &str = "d64sh files [--format FORMAT] FILE..
-       d64sh files [--format FORMAT] --files-from LIST [--null]";
+const FILES_USAGE: &str = "d64sh files [--deleted] [--format FORMAT] FILE..
+       d64sh files [..] --files-from LIST [--null]";
 
 const FILES_DETAILS: &str =
     "In:      images of 35 or 40 tracks, each with or without the read codes of its
@@ -169,8 +169,8 @@ Example: d64sh files --format csv *.d64 >files.csv
 No image is ever written. The manual says more: `man d64sh`, or docs/MANUAL.md
 beside the source.";
 
-const EXTRACT_USAGE: &str =
-    "d64sh extract [--into FOLDER] [--part] [--skip-existing] [--format FORMAT] FILE..
+const EXTRACT_USAGE: &str = "d64sh extract [--into FOLDER] [--part] [--deleted] [--skip-existing]
+                     [--format FORMAT] FILE..
        d64sh extract [..] --files-from LIST [--null]";
 
 const EXTRACT_DETAILS: &str =

@@ -12,5 +12,7 @@ mod surveys;
 mod tips;
 mod values;
 
-pub use asked::{DiffForm, Extraction, Format, Job, JobFault, Names, Page, PictureForm, Separator};
+pub use asked::{
+    DiffForm, Extraction, Format, Job, JobFault, Leftovers, Names, Page, PictureForm, Separator,
+};
 pub use reading::job;

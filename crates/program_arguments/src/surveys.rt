@@ -4,11 +4,12 @@ ghost use Rattle.std.specs.Prelude.{◌≡◌, ◌⊎◌, IfOk, IfErr, codes};
 ghost use Rattle.clap.specs.Words.{found_of, first_of, rows_of};
 ghost use Rattle.program_arguments.specs.Asked.{IsJobOf, IsFaultOf};
 ghost use Rattle.program_arguments.specs.Extraction.{HasNoFolder, IsExtractionBy};
+ghost use Rattle.program_arguments.specs.Leftovers.{IsLeftoversBy};
 ghost use Rattle.program_arguments.specs.Names.{IsNamesBy, IsNamesFault};
 ghost use Rattle.program_arguments.specs.Page.{is_left_empty, IsPageBy, IsPageFault};
 ghost use Rattle.program_arguments.specs.declared.asked.JobFault.TheVariants.{Folder, Memory};
 
-use crate::asked::{Extraction, Job, JobFault, Names, Page, Separator};
+use crate::asked::{Extraction, Job, JobFault, Leftovers, Names, Page, Separator};
 use crate::forms::format;
 use crate::values::{given, has_flag, value, values};
 use clap::ArgMatches;
@@ -33,6 +34,7 @@ pub(crate) fn files_job(alloc: Global, arguments: &ArgMatches) -> Result<Job, Jo
     ensures fault { IfErr result (IsFaultOf (codes "files", rows_of (found_of arguments.now))) }
 {
     Ok(Job::Files {
+        leftovers: leftovers(arguments),
         format: format(arguments)?,
         names: names(alloc, arguments)?,
     })
@@ -46,12 +48,22 @@ pub(crate) fn extract_job(alloc: Global, arguments: &ArgMatches) -> Result<Job, 
     let format = format(arguments)?;
     Ok(Job::Extract {
         extraction: extraction(alloc, arguments)?,
+        leftovers: leftovers(arguments),
         format,
         names: names(alloc, arguments)?,
     })
 }
 
-/// Returns how files are to be taken out, by the arguments.
+/// What the words want of what is left over beside files.
+fn leftovers(arguments: &ArgMatches) -> Leftovers
+    ensures { IsLeftoversBy (rows_of (found_of arguments.now)) result }
+{
+    Leftovers {
+        deleted: has_flag(arguments, "deleted"),
+    }
+}
+
+/// How the words want files taken out.
 fn extraction(alloc: Global, arguments: &ArgMatches) -> Result<Extraction, JobFault>
     ensures extraction { IfOk result (IsExtractionBy (rows_of (found_of arguments.now))) }
     ensures fault { IfErr result (λ fault. (fault ≡ Memory) ⊎ ((fault ≡ Folder) × HasNoFolder (first_of (codes "into") (rows_of (found_of arguments.now))))) }

@@ -4,11 +4,12 @@ ghost use Rattle.d64_dos.specs.Change.{change_of};
 ghost use Rattle.d64_dos.specs.Command.{IsWithin};
 
 use cmd_extract::{Setup, Unpacker};
+use cmd_files::Form;
 use d64_dos::{Command, apply};
 use d64_files::{Kind, Name};
 use d64_image::{Image, Patch};
 use host_storage::{Host, MemoryHost};
-use program_arguments::Format;
+use program_arguments::{Format, Leftovers};
 use program_batch::{AnswerRoom, Clerk, Verdict};
 use std::test::Fail;
 
@@ -60,7 +61,10 @@ fn unpacker(rt: &HostRuntime, skips: bool) -> Result<Unpacker, Fail> {
         into: String::from_str(rt.alloc(), "out")?,
         with_parts: false,
         skips,
-        form: Format::Text,
+        form: Form {
+            format: Format::Text,
+            leftovers: Leftovers::default(),
+        },
     };
     Ok(Unpacker::new(rt.alloc(), setup)?)
 }

@@ -1,11 +1,13 @@
 //! What is printed of single files.
 
 use arrayvec::ArrayVec;
-use cmd_files::{file_csv, file_json, files_header, push_file_line};
+use cmd_files::{files_header, push_file_line, row_csv, row_json};
 use d64_files::Kind;
 use d64_inventory::{Content, FileRow};
+use d64_leftovers::Row;
 use d64_survey::Flaw;
 use out_json_csv::Scratch;
+use program_arguments::Leftovers;
 use std::test::Fail;
 
 /// Returns a whole file of one block.
@@ -76,12 +78,22 @@ fn geos() -> FileRow {
 
 /// Whether this is printed of a file: its object, the header row and its row, and its line in a
 /// table.
-fn prints(rt: &HostRuntime, row: &FileRow, expected: &[u8]) -> Result<bool, Fail> {
+fn prints(rt: &HostRuntime, file: FileRow, expected: &[u8]) -> Result<bool, Fail> {
+    let leftovers = Leftovers::default();
     let mut scratch = Scratch::new(rt.alloc());
-    let lines = file_json(&mut scratch, b"a.d64", row, Vec::new(rt.alloc()))?;
-    let lines = files_header(&mut scratch, lines)?;
-    let mut lines = file_csv(&mut scratch, b"a.d64", row, lines)?;
-    push_file_line(&mut scratch.text, &mut lines, row)?;
+    let mut line = Vec::new(rt.alloc());
+    push_file_line(&mut scratch.text, &mut line, &file)?;
+    let row = Row::File(file);
+    let lines = row_json(
+        leftovers,
+        &mut scratch,
+        b"a.d64",
+        &row,
+        Vec::new(rt.alloc()),
+    )?;
+    let lines = files_header(leftovers, &mut scratch, lines)?;
+    let mut lines = row_csv(leftovers, &mut scratch, b"a.d64", &row, lines)?;
+    lines.extend_from_slice(&line)?;
     Ok(lines.as_slice() == expected)
 }
 
@@ -93,7 +105,7 @@ image,slot,name,field,kind,type,closed,locked,size,first,record,blocks,side,byte
 a.d64,0,hello,48454c4c4fa0a0a0a0a0a0a0a0a0a0a0,prg,130,true,false,1,17/0,,1,,37,1f1f1f1f1f1f1f1f1f1f1f1f1f1f1f1f1f1f1f1f1f1f1f1f1f1f1f1f1f1f1f1f,true,,,0,
     1 "hello"            prg   whole
 "#;
-    assert!(rt; prints(&rt, &hello(), expected.as_slice())?);
+    assert!(rt; prints(&rt, hello(), expected.as_slice())?);
     Ok(())
 }
 
@@ -105,7 +117,7 @@ image,slot,name,field,kind,type,closed,locked,size,first,record,blocks,side,byte
 a.d64,9,"{clr}scores, all 123",9353434f5245532c20414c4c20313233,rel,196,true,true,300,99/7,254,0,2,,,false,chain error,4 5,1,
   300 "{clr}scores, all 123" rel   its chain is broken, has a read error, locked
 "#;
-    assert!(rt; prints(&rt, &broken(), expected.as_slice())?);
+    assert!(rt; prints(&rt, broken(), expected.as_slice())?);
     Ok(())
 }
 
@@ -117,6 +129,6 @@ image,slot,name,field,kind,type,closed,locked,size,first,record,blocks,side,byte
 a.d64,0,hello,48454c4c4fa0a0a0a0a0a0a0a0a0a0a0,usr,131,true,false,1,17/0,,1,,37,1f1f1f1f1f1f1f1f1f1f1f1f1f1f1f1f1f1f1f1f1f1f1f1f1f1f1f1f1f1f1f1f,,geos,,0,
     1 "hello"            usr   not known: a GEOS file, whose records are not checked
 "#;
-    assert!(rt; prints(&rt, &geos(), expected.as_slice())?);
+    assert!(rt; prints(&rt, geos(), expected.as_slice())?);
     Ok(())
 }

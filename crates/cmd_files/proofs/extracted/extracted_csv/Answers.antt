@@ -1,8 +1,8 @@
 use Rattle.std.proofs.Common.{◌≡◌, ◌∙◌, ℕ, List, [], ◌∷◌, ◌++◌, option_map, ap}
 use Rattle.std.proofs.lemmas.Result.{IfOk-weaker}
-use Rattle.csv.specs.Records.{fields_of}
-use Rattle.cmd_files.specs.FileRow.{row_fields, row_with}
+use Rattle.cmd_files.specs.CsvRow.{row_fields, leftover_fields, row_with}
 use Rattle.cmd_files.specs.Extracted.{path_field, extracted_row}
+use Rattle.cmd_files.proofs.Parts.{both_added}
 use Rattle.cmd_files.proofs.extracted.extracted_csv.Goals as goal
 
 pub returns : goal.returns
@@ -11,7 +11,7 @@ returns c =
     let name = c.args.name.now in
     let row = c.args.row.now in
     let path = option_map (λ p. p.now) c.args.path in
-    let placed : fields_of c.push_path_field.new.row ≡ row_fields name row ++ path_field path ∷ [] =
-    c.in_ok-push_path_field.ensures.fields ∙ ap (λ (fields : List (List ℕ)). fields ++ path_field path ∷ []) c.in_ok-begin_file_row.ensures.fields in
-    IfOk-weaker c.end_row.result _ (λ text. text.items ≡ c.args.out.items ++ extracted_row name row path)
-    (λ text ended. ended ∙ ap (λ (fields : List (List ℕ)). c.args.out.items ++ row_with fields []) placed) c.end_row.ensures
+    let told = both_added _ _ _ (path_field path ∷ []) (leftover_fields c.args.leftovers row) c.in_ok-push_path_field.ensures.fields c.in_ok-push_leftover_fields.ensures.fields in
+    let all = told ∙ ap (λ (fields : List (List ℕ)). fields ++ (path_field path ∷ leftover_fields c.args.leftovers row)) c.in_ok-begin_row.ensures.fields in
+    IfOk-weaker c.end_row.result _ (λ text. text.items ≡ c.args.out.items ++ extracted_row c.args.leftovers name row path)
+    (λ text ended. ended ∙ ap (λ (fields : List (List ℕ)). c.args.out.items ++ row_with fields []) all) c.end_row.ensures

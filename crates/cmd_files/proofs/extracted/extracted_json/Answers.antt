@@ -1,8 +1,8 @@
 use Rattle.std.proofs.Common.{◌≡◌, ◌∙◌, ℕ, List, [], ◌∷◌, ◌++◌, option_map, ap₂, rules}
 use Rattle.json.specs.Token.{Token, begin_object, end_object}
-use Rattle.out_json_csv.specs.Values.{Field, member_tokens, printed_line}
+use Rattle.out_json_csv.specs.Values.{Field, printed_line}
 use Rattle.out_json_csv.proofs.Objects.{members_written, object_written}
-use Rattle.cmd_files.specs.FileObject.{place_members, file_members}
+use Rattle.cmd_files.specs.RowObject.{row_members, leftover_members}
 use Rattle.cmd_files.specs.Extracted.{path_member, extracted_object}
 use Rattle.cmd_files.proofs.extracted.extracted_json.Goals as goal
 
@@ -12,16 +12,16 @@ returns c =
     let name = c.args.name.now in
     let row = c.args.row.now in
     let path : List Field = path_member (option_map (λ p. p.now) c.args.path) ∷ [] in
+    let leftovers : List Field = leftover_members c.args.leftovers row in
     let opened = c.begin_object.new.self.tokens in
-    let placed = c.put_place.new.writer.tokens in
-    let told = c.put_file_members.new.writer.tokens in
-    let last = c.put_path.new.writer.tokens in
+    let told = c.put_row_members.new.writer.tokens in
+    let placed = c.put_path.new.writer.tokens in
+    let last = c.put_leftover_members.new.writer.tokens in
     let closed = c.end_object.new.self.tokens in
     let opens : opened ≡ [] ++ begin_object ∷ [] = search rules in
     let closes : closed ≡ last ++ end_object ∷ [] = search rules in
-    let ended : last ≡ told ++ member_tokens path = search rules in
-    let most = members_written placed told last (file_members row) path c.in_ok-put_file_members.ensures.tokens ended in
-    let all = members_written opened placed last (place_members name row) (file_members row ++ path) c.in_ok-put_place.ensures.tokens most in
-    let object = object_written [] opened last closed (place_members name row ++ (file_members row ++ path)) opens all closes in
+    let ended = members_written told placed last path leftovers c.in_ok-put_path.ensures.tokens c.in_ok-put_leftover_members.ensures.tokens in
+    let all = members_written opened told last (row_members name row) (path ++ leftovers) c.in_ok-put_row_members.ensures.tokens ended in
+    let object = object_written [] opened last closed (row_members name row ++ (path ++ leftovers)) opens all closes in
     let before : c.end_object.new.self.before ≡ c.args.out.items = search rules in
     c.in_ok-text.ensures ∙ ap₂ (λ (b : List ℕ) (ts : List Token). b ++ printed_line ts) before object

@@ -26,16 +26,15 @@ returns-in_ok-name_file-in-Some g c = λ rest.
     let file = c.name_file.new.name.items in
     let is_parts : c.setup.inside.with_parts ≡ task.setup.with_parts = search rules in
     let is_image : c.survey.result.now ≡ task.dump.image = search rules in
-    let is_slot : c.at-slot.result ≡ row.slot = search rules in
-    let same = portion_same task row c.setup.inside.with_parts c.survey.result.now c.at-slot.result is_parts is_image is_slot in
-    let found : Some (record { bytes = c.next.new.bytes.items; extent = c.in-Some.extent }) ≡ portion_within left (portion_of task row) =
-    ap (option_map (λ (e : Extent). record { bytes = c.next.new.bytes.items; extent = e })) (sym c.in-Some.is) ∙ c.in_ok-extent.ensures.written ∙ ap (portion_within left) same in
-    let left_is : c.next.new.self ≡ left_after left (portion_of task row) = c.in_ok-extent.ensures.left ∙ ap (left_after left) same in
-    let now = progress_of (record c.args.self.now { extraction = c.next.new.self; taken = c.name_file.new.taken }) in
+    let same = portion_same task row c.setup.inside.with_parts c.survey.result.now is_parts is_image in
+    let found : Some (record { bytes = c.next_row.new.bytes.items; extent = c.in-Some.extent }) ≡ portion_within left (portion_of task row) =
+    ap (option_map (λ (e : Extent). record { bytes = c.next_row.new.bytes.items; extent = e })) (sym c.in-Some.is) ∙ c.in_ok-extent.ensures.written ∙ ap (portion_within left) same in
+    let left_is : c.next_row.new.self ≡ left_after left (portion_of task row) = c.in_ok-extent.ensures.left ∙ ap (left_after left) same in
+    let now = progress_of (record c.args.self.now { extraction = c.next_row.new.self; taken = c.name_file.new.taken }) in
     let now_is : now ≡ named_progress file (spent_progress task row p) =
     ap₂ (λ (l : Option ℕ) (t : List (List ℕ)). record p { left = l; taken = t }) left_is c.in_ok-name_file-in-Some.ensures.taken in
     subst (λ (w : Work). Comes c.write_file.result w (g.H.Host.state c.args.host.now) (rest (progress_of c.write_file.new.self)) (g.H.Host.state c.write_file.new.host))
-    (file_some task row (spent_progress task row p) now c.next.new.bytes.items file c.in-Some.extent (portion_within left (portion_of task row)) rest found c.in_ok-name_file-in-Some.ensures.name now_is)
+    (file_some task row (spent_progress task row p) now c.next_row.new.bytes.items file c.in-Some.extent (portion_within left (portion_of task row)) rest found c.in_ok-name_file-in-Some.ensures.name now_is)
     (c.write_file.ensures rest)
 
 pub returns-in-None : goal.returns-in-None
@@ -47,11 +46,10 @@ returns-in-None g c = λ rest.
     let host = g.H.Host.state c.args.host.now in
     let is_parts : c.setup.inside.with_parts ≡ task.setup.with_parts = search rules in
     let is_image : c.survey.result.now ≡ task.dump.image = search rules in
-    let is_slot : c.at-slot.result ≡ row.slot = search rules in
-    let same = portion_same task row c.setup.inside.with_parts c.survey.result.now c.at-slot.result is_parts is_image is_slot in
+    let same = portion_same task row c.setup.inside.with_parts c.survey.result.now is_parts is_image in
     let found : None ≡ portion_within left (portion_of task row) =
-    ap (option_map (λ (e : Extent). record { bytes = c.next.new.bytes.items; extent = e })) (sym c.in-None.is) ∙ c.in_ok-extent.ensures.written ∙ ap (portion_within left) same in
-    let left_is : c.next.new.self ≡ left_after left (portion_of task row) = c.in_ok-extent.ensures.left ∙ ap (left_after left) same in
+    ap (option_map (λ (e : Extent). record { bytes = c.next_row.new.bytes.items; extent = e })) (sym c.in-None.is) ∙ c.in_ok-extent.ensures.written ∙ ap (portion_within left) same in
+    let left_is : c.next_row.new.self ≡ left_after left (portion_of task row) = c.in_ok-extent.ensures.left ∙ ap (left_after left) same in
     comes_to c.tell.result (file_work task row (spent_progress task row p) (portion_within left (portion_of task row)) rest) rest host host _ (told_progress task row None (spent_progress task row p))
-    (told_none c.tell.result task row p c.next.new.self _ _ _ _ _ left_is c.tell.ensures.printed c.tell.ensures.lines c.tell.ensures.complaint c.tell.ensures.list c.tell.ensures.failed)
+    (told_none c.tell.result task row p c.next_row.new.self _ _ _ _ _ left_is c.tell.ensures.printed c.tell.ensures.lines c.tell.ensures.complaint c.tell.ensures.list c.tell.ensures.failed)
     (subst (λ (w : Work). LeadsTo w host (rest (told_progress task row None (spent_progress task row p))) host) (file_none task row (spent_progress task row p) (portion_within left (portion_of task row)) rest found) (nothing_yet _ host))

@@ -5,7 +5,8 @@ use Rattle.cmd_extract.specs.Progress.{first_progress}
 use Rattle.cmd_extract.specs.FilesNow.{progress_of}
 use Rattle.cmd_extract.specs.Unpacking.{name_work, unmade_work, folder_work, files_work, list_work}
 use Rattle.cmd_extract.proofs.Steps.{stops, further, ends_after, ends_not}
-use Rattle.d64_inventory.specs.Rows.{rows}
+use Rattle.d64_leftovers.specs.Rows.{rows}
+use Rattle.cmd_files.specs.Selections.{files_and}
 use Rattle.cmd_extract.proofs.FolderWork.{made, not_made}
 use Rattle.cmd_extract.proofs.FileSteps.{listed_after}
 use Rattle.cmd_extract.proofs.setup.Task.unpack_folder.Goals as goal
@@ -60,7 +61,7 @@ returns g c =
     let q = progress_of c.close.new.self in
     let r = progress_of c.put_lines.new.self in
     let path_is : c.deref.result.now ≡ task.partial = c.deref.ensures ∙ ap (λ (t : TaskView). t.partial) c.self.view_is in
-    let whole = files_work task (rows task.dump) (first_progress task) in
+    let whole = files_work task (rows (files_and task.setup.form.leftovers) task.dump) (first_progress task) in
     ends_after c.name_folder.result c.name_folder.new.room (folder_work task) (name_work task r) old put (g.H.Host.state c.name_folder.new.host)
     (further (folder_work task) whole (name_work task r) old mid put
     (made task c.deref.result.now old mid c.make_folder.result path_is c.make_folder.ensures c.if-not-make_folder.false)

@@ -1,0 +1,17 @@
+use Rattle.std.proofs.Common.{◌≡◌, ◌∙◌, ℕ, ◌++◌, ap, rules}
+use Rattle.std.proofs.lemmas.Result.{on_ok_weaker}
+use Rattle.out_json_csv.specs.Values.{member_tokens}
+use Rattle.out_json_csv.proofs.Objects.{members_written}
+use Rattle.cmd_files.specs.FileObject.{file_members}
+use Rattle.cmd_files.specs.RowObject.{place_members}
+use Rattle.cmd_files.proofs.json_line.put_placed_file.Goals as goal
+
+pub returns-clause-tokens : goal.returns-clause-tokens
+returns-clause-tokens c =
+    let name = c.args.name.now in
+    let file = c.args.file.now in
+    let slot : c.file.inside.slot ≡ file.slot = search rules in
+    let placed = c.in_ok-put_place.ensures.tokens ∙ ap (λ (n : ℕ). c.args.writer.now.tokens ++ member_tokens (place_members name n)) slot in
+    on_ok_weaker c.put_file_members.result
+    (λ told. members_written _ _ _ (place_members name file.slot) (file_members file) placed told)
+    c.put_file_members.ensures.tokens

@@ -1,0 +1,29 @@
+-- What is printed of a file, also of a deleted one, as JSON.
+use Rattle.std.specs.Prelude.{ℕ, if◌then◌else◌, List, [], ◌∷◌, ◌++◌, codes}
+use Rattle.json.specs.Json.{Json, boolean}
+use Rattle.d64_image.specs.Disk.{Bytes}
+use Rattle.d64_leftovers.specs.Rows.{is_deleted}
+use Rattle.d64_leftovers.specs.declared.row.Row.{Row}
+use Rattle.d64_leftovers.specs.declared.row.Row.TheVariants.{File, Deleted}
+use Rattle.program_arguments.specs.declared.asked.Leftovers.{Leftovers}
+use Rattle.out_json_csv.specs.Values.{Field, object_of, numeral}
+use Rattle.out_json_csv.specs.Unanswered.{image_member}
+use Rattle.cmd_files.specs.FileObject.{file_members}
+use Rattle.cmd_files.specs.DeletedObject.{deleted_members}
+
+-- where a file is: the image with this host name, and the slot
+abbrev pub place_members : Bytes → ℕ → List Field
+place_members name slot = image_member name ∷ (codes "slot", numeral slot) ∷ []
+
+-- what is told of a row, with its place
+unfoldable pub row_members : Bytes → Row → List Field
+row_members name (File row) = place_members name row.slot ++ file_members row
+row_members name (Deleted row) = place_members name row.slot ++ deleted_members row
+
+-- whether the file was deleted, where deleted files are wanted
+abbrev pub leftover_members : Leftovers → Row → List Field
+leftover_members leftovers row = if leftovers.deleted then (codes "deleted", boolean (is_deleted row)) ∷ [] else []
+
+-- what is printed of a row of an image with this host name
+unfoldable pub row_object : Leftovers → Bytes → Row → Json
+row_object leftovers name row = object_of (row_members name row ++ leftover_members leftovers row)

@@ -1,0 +1,15 @@
+-- Which rows of a dump are printed together.
+use Rattle.std.specs.Prelude.{true, false}
+use Rattle.program_arguments.specs.declared.asked.Leftovers.{Leftovers}
+use Rattle.d64_leftovers.specs.declared.selection.Selection.{Selection}
+
+-- the rows of files alone, and those of deleted files alone
+abbrev pub files_alone : Selection
+files_alone = record { files = true; deleted = false }
+
+abbrev pub deleted_alone : Selection
+deleted_alone = record { files = false; deleted = true }
+
+-- the rows of files, and of what is wanted beside them
+abbrev pub files_and : Leftovers → Selection
+files_and leftovers = record { files = true; deleted = leftovers.deleted }

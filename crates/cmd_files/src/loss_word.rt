@@ -1,0 +1,19 @@
+//! The words for why a deleted file isn't whole.
+ghost use Rattle.std.specs.Prelude.{◌≡◌};
+ghost use Rattle.cmd_files.specs.LossWords.{loss_word as loss_word_of};
+
+use d64_scratched::Loss;
+
+/// The word for a reason.
+pub(crate) fn loss_word(loss: Loss) -> &'static str
+    ensures { result.now ≡ loss_word_of loss }
+{
+    match loss {
+        Loss::Chain => "chain",
+        Loss::Reused => "reused",
+        Loss::Marked => "marked",
+        Loss::Size => "size",
+        Loss::Claimed => "claimed",
+        Loss::Unreadable => "error",
+    }
+}

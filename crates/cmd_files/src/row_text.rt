@@ -1,0 +1,37 @@
+//! A row of an image as a line for people.
+ghost use Rattle.std.specs.Prelude.{◌≡◌, ◌++◌, OnOk};
+ghost use Rattle.cmd_files.specs.RowText.{row_text, row_line};
+
+use crate::deleted_table::push_deleted_text;
+use crate::table::push_file_text;
+use d64_leftovers::Row;
+use d64_survey::Survey;
+use std::alloc::AllocError;
+
+/// Adds what is told of a row on a line.
+pub(crate) fn push_row_text(
+    scratch: &mut Vec<u8>,
+    out: &mut Vec<u8>,
+    survey: &Survey,
+    row: &Row,
+) -> Result<(), AllocError>
+    ensures { OnOk result (out.new.items ≡ out.old.items ++ row_text survey.now row.now) }
+{
+    match row {
+        Row::File(file) => push_file_text(scratch, out, file),
+        Row::Deleted(file) => push_deleted_text(scratch, out, survey, file),
+    }
+}
+
+/// Adds the line of a row.
+pub(crate) fn push_row_line(
+    scratch: &mut Vec<u8>,
+    out: &mut Vec<u8>,
+    survey: &Survey,
+    row: &Row,
+) -> Result<(), AllocError>
+    ensures { OnOk result (out.new.items ≡ out.old.items ++ row_line survey.now row.now) }
+{
+    push_row_text(scratch, out, survey, row)?;
+    out.extend_from_slice(b"\n")
+}
