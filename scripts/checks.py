@@ -53,6 +53,7 @@ SWEEPS = [
     "scripts/sweep-catalogue",
     "scripts/sweep-survey-names",
     "scripts/sweep-extract",
+    "scripts/sweep-leftovers",
     "scripts/instructions",
 ]
 

@@ -77,7 +77,8 @@ class Survey:
         self.directory = self.way(DIRECTORY)
         blocks = [(pair, self.disk.block(pair)) for pair in self.directory.blocks]
         slots = [Slot(pair, place, block[32 * place:32 * place + 32]) for pair, block in blocks for place in range(8)]
-        self.entries = [(number, slot) for number, slot in enumerate(slots) if slot.used]
+        self.slots = list(enumerate(slots))
+        self.entries = [(number, slot) for number, slot in self.slots if slot.used]
         self.names = {number: to_text(slot.name) for number, slot in self.entries}
 
     def way(self, pair):

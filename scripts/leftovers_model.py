@@ -1,0 +1,165 @@
+"""A plain model of what is left over on dumps, written from the specification and not from the code: deleted files; what `d64sh files` and `extract` print
+of them, and what `extract` writes.
+"""
+import functools
+import hashlib
+
+import extract_model
+import survey_model as model
+from extract_model import Extracted, TakenNames, below, folder_of
+from text_form import to_text
+
+WORDS = ("chain", "reused", "marked", "size", "claimed", "error")
+FATAL = {"chain", "reused", "marked", "size"}
+
+
+class Leftovers:
+    """What there is to tell of what is left over on a dump."""
+
+    def __init__(self, data):
+        self.survey = model.survey_of(data)
+        self.disk, self.owners, self.free, self.errors = self.survey.disk, self.survey.owners, self.survey.free, self.survey.errors
+        self.scratched = [(number, slot) for number, slot in self.survey.slots if not slot.used and slot.first[0] != 0]
+
+    def told(self, way):
+        """The members that tell of a way: its blocks, the data along it, and its read errors."""
+        content = self.disk.content(way.blocks) if way.end == "end" else None
+        return {"blocks": len(way.blocks), "bytes": None if content is None else len(content),
+                "sha256": None if content is None else hashlib.sha256(content).hexdigest(), "read_errors": sum(pair in self.errors for pair in way.blocks)}
+
+    # Deleted files
+
+    @functools.cached_property
+    def why(self):
+        """Why each scratched slot's file isn't whole."""
+        claimed, words = set(), {}
+        for number, slot in self.scratched:
+            way = self.survey.way(slot.first)
+            holds = {"chain": way.end != "end", "reused": any(pair in self.owners for pair in way.blocks),
+                     "marked": any(pair not in self.owners and pair not in self.free for pair in way.blocks),
+                     "size": way.end == "end" and len(way.blocks) != slot.size, "claimed": any(pair in claimed for pair in way.blocks),
+                     "error": any(pair in self.errors for pair in way.blocks)}
+            words[number] = [word for word in WORDS if holds[word]]
+            claimed.update(way.blocks)
+        return words
+
+    def deleted(self, number, slot):
+        """The members of the object of a scratched slot, but for the image's name."""
+        told, why = self.told(self.survey.way(slot.first)), self.why[number]
+        return {"slot": number, "name": to_text(slot.name), "field": slot.data[5:21].hex(), "kind": None, "type": 0, "closed": False, "locked": False,
+                "size": slot.size, "first": model.pair_text(slot.first), "record": None, "blocks": told["blocks"], "side": None, "bytes": told["bytes"],
+                "sha256": told["sha256"], "whole": not why, "why": why, "conditions": [], "read_errors": told["read_errors"]}
+
+    # What is printed and written
+
+    def rows(self, options):
+        """What each row is of, its slot, its members, and the last ones that the options ask for."""
+        files = {number: file for (number, _), file in zip(self.survey.entries, self.survey.files)}
+        scratched = dict(self.scratched) if "deleted" in options else {}
+        for number, slot in self.survey.slots:
+            if number in files:
+                yield "file", slot, files[number], self.last(options, False)
+            elif number in scratched:
+                yield "deleted", slot, self.deleted(number, slot), self.last(options, True)
+
+    @staticmethod
+    def last(options, is_deleted):
+        return {"deleted": is_deleted} if "deleted" in options else {}
+
+    def portion(self, what, it, row, in_part):
+        """The bytes that are written of a row, or None, and whether they are a part."""
+        if what == "file":
+            content = extract_model.content_of(self.survey, it)
+            return (content, False) if content is not None or not in_part else (extract_model.part_of(self.survey, it), True)
+        way = self.survey.way(it.first)
+        if not FATAL.intersection(row["why"]):
+            return self.disk.content(way.blocks), False
+        if not in_part or not way.blocks:
+            return None, True
+        return (self.disk.content(way.blocks) if way.end == "end" else b"".join(self.disk.block(pair)[2:] for pair in way.blocks)), True
+
+    def stem_and_ending(self, what, it, row):
+        if what == "file":
+            return row["name"], f".{model.KIND_WORDS[it.kind]}"
+        return row["name"], ".deleted"
+
+
+@functools.lru_cache(64)
+def leftovers_of(data):
+    return Leftovers(data)
+
+
+def columns(options, with_file=False):
+    return [*model.COLUMNS_OF_FILES, *["file"] * with_file, *["deleted"] * ("deleted" in options)]
+
+
+def lines(form, name, rows, options, with_file=False):
+    """What is printed of rows in JSON or CSV, with the paths of their host files."""
+    told = extract_model.told_in(form)
+    all_members = [{"image": told(name), **row, **({"file": path and told(path)} if with_file else {}), **last} for row, path, last in rows]
+    if form == "json":
+        return "".join(map(model.json_line, all_members))
+    texts = ({**members, "why": " ".join(members["why"]), "conditions": " ".join(map(str, members["conditions"]))} for members in all_members)
+    return "".join(model.csv_line([*(members[column] for column in columns(options, with_file)), None]) for members in texts)
+
+
+def header(form, options, with_file=False):
+    return model.csv_line([*columns(options, with_file), "error"]) if form == "csv" else ""
+
+
+def answer(form, name, data, options):
+    """What `files` prints of a file in JSON or CSV."""
+    if not model.error_of(data):
+        return lines(form, name, [(row, None, last) for _, _, row, last in leftovers_of(data).rows(options)], options)
+    if form == "json":
+        return model.error_json(name, data)
+    return model.csv_line([model.in_csv(name), *[None] * (len(columns(options)) - 1), model.error_of(data)])
+
+
+def extracted(name, data, options, into=b".", in_part=False):
+    """What comes of a dump whose folder isn't there."""
+    folder, left, names = folder_of(name), leftovers_of(data), TakenNames()
+    files, rows, written, is_too_much = {}, [], 0, False
+    for what, it, row, last in left.rows(options):
+        path, (content, is_part) = None, left.portion(what, it, row, in_part)
+        is_too_much = is_too_much or content is not None and written + len(content) > extract_model.MOST_BYTES
+        if content is not None and not is_too_much:
+            written += len(content)
+            stem, ending = left.stem_and_ending(what, it, row)
+            own = names.take(stem, f"{ending}{'.part' if is_part else ''}").encode()
+            files[own] = content
+            path = below(into, folder + b"/" + own)
+        rows.append((row, path, last))
+    faults = f"d64sh: {model.shown(name)}: too much\n" if is_too_much else ""
+    files[extract_model.LINES_FILE] = lines("json", name, rows, options, True).encode()
+    return Extracted(folder, files, rows, faults, is_too_much, left.survey.is_list_amiss)
+
+
+# Text, which is free but for these
+
+def difference_of_text(data, text, options):
+    """How the table of a dump differs from what it must tell, or None."""
+    left, printed = leftovers_of(data), text.splitlines()[1:]
+    rows = list(left.rows(options))
+    groups = [("file", None), ("deleted", "deleted")]
+    for what, heading in groups:
+        of_group = [row for it, _, row, _ in rows if it == what]
+        if heading and of_group and printed[:1] != [heading]:
+            return f"not {heading!r} but {printed[:1]}"
+        del printed[:1 if heading and of_group else 0]
+        for row in of_group:
+            if not printed or not IS_LINE[what](left, row, printed[0]):
+                return f"of {row} it says {printed[:1]}"
+            del printed[0]
+    return None if all(line.startswith("  ") for line in printed) and bool(printed) == left.survey.is_list_cut else f"the last lines are {printed}"
+
+
+def is_deleted_line(left, row, line):
+    begin, hope, is_lost = f'{row["size"]:>5} "{row["name"]}"', "can be brought back", bool(FATAL.intersection(row["why"]))
+    rest = line[len(begin):].strip()
+    if not line.startswith(begin) or is_lost == rest.startswith(hope) or row["whole"] != (rest == hope):
+        return False
+    return ("reused" in row["why"]) == ("were used again by " in rest)
+
+
+IS_LINE = {"file": lambda left, row, line: model.is_file_line(line, row), "deleted": is_deleted_line}
