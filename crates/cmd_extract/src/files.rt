@@ -112,7 +112,7 @@ impl Files {
         self.told.begin(task)
     }
 
-    /// Tells of a file that was written under the host name that it got.
+    /// Adds the line of a file that was written under its host name.
     fn tell_written(&mut self, task: &Task, row: &Row) -> Result<(), AllocError>
         ensures { OnOk result (progress_of self.new ≡ written_progress task.now row.now self.old.name.items (progress_of self.old)) }
     {

@@ -129,9 +129,9 @@ fn put_deleted_content(
     }
 }
 
-/// Puts what there is to write of the file of an entry into a list, in the place of what that had,
-/// and says how much of the file that is, or None where there is nothing: its content, and where it
-/// has none, if parts are wanted too, what is there of it.
+/// Replaces a list's contents by what there is to write of the file of an entry, and returns how
+/// much of the file that is, or None if there is nothing: its content, or, if it has none and parts
+/// are wanted, what is there of it.
 pub(crate) fn put_portion(
     bytes: &mut Vec<u8>,
     image: &Image,

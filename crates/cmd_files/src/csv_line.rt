@@ -48,7 +48,7 @@ const COLUMNS: [&[u8]; 19] = [
 /// The columns of such a row after the name of the image, with nothing in them.
 const EMPTY: [&[u8]; 18] = [b""; 18];
 
-/// Adds the name, and the field that it stands in, to a row.
+/// Appends the name, and the field in which it is, to a row.
 pub(crate) fn push_names(
     scratch: &mut Vec<u8>,
     line: &mut ByteRecord,
@@ -98,7 +98,7 @@ fn push_record(line: &mut ByteRecord, length: Option<u8>) -> Result<(), AllocErr
     }
 }
 
-/// Adds `true`, `false`, or nothing to a row.
+/// Appends `true`, `false`, or an empty field to a row.
 pub(crate) fn push_answer(line: &mut ByteRecord, answer: Option<bool>) -> Result<(), AllocError>
     requires { partial_of line.old ≡ [] }
     ensures fields { OnOk result (fields_of line.new ≡ fields_of line.old ++ truth_or_empty answer ∷ []) }
@@ -129,7 +129,8 @@ pub(crate) fn push_type(
     push_boolean(line, locked)
 }
 
-/// Adds the shown size, the pair of the first block, and the length of a record, to a row.
+/// Appends the size that the directory has, the pair of the first block, and the length of a
+/// record, to a row.
 pub(crate) fn push_entry(
     line: &mut ByteRecord,
     size: u16,
@@ -146,7 +147,7 @@ pub(crate) fn push_entry(
     push_record(line, record_length)
 }
 
-/// Adds how many blocks the data way and the side way have, to a row.
+/// Appends how many blocks the data chain and the side chain have, to a row.
 pub(crate) fn push_ways(
     line: &mut ByteRecord,
     blocks: Option<usize>,
@@ -160,7 +161,7 @@ pub(crate) fn push_ways(
     push_count(line, side)
 }
 
-/// Adds how many bytes the content has, and their digest, to a row.
+/// Appends how many bytes the content has, and their digest, to a row.
 pub(crate) fn push_content(
     scratch: &mut Vec<u8>,
     line: &mut ByteRecord,
@@ -305,7 +306,7 @@ pub(crate) fn push_leftover_blanks(
     Ok(())
 }
 
-/// Adds the row of a file to a text.
+/// Appends the row of a file to a text.
 pub fn row_csv(
     leftovers: Leftovers,
     scratch: &mut Scratch,
@@ -329,7 +330,7 @@ pub(crate) fn begin_header(scratch: &mut Scratch) -> Result<(), AllocError>
     push_fields(&mut scratch.row, &COLUMNS)
 }
 
-/// Adds the header row to a text.
+/// Appends the header row to a text.
 pub fn files_header(
     leftovers: Leftovers,
     scratch: &mut Scratch,
@@ -352,7 +353,7 @@ pub(crate) fn begin_name_alone(scratch: &mut Scratch, name: &[u8]) -> Result<(),
     push_fields(&mut scratch.row, &EMPTY)
 }
 
-/// Adds a row with a name and an error alone.
+/// Appends a row with only a name and an error.
 fn push_unanswered(
     leftovers: Leftovers,
     scratch: &mut Scratch,

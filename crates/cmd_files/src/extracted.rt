@@ -122,7 +122,7 @@ pub(crate) fn push_extracted_line(
     out.extend_from_slice(b"\n")
 }
 
-/// Adds the header row to a text.
+/// Appends the header row to a text.
 pub(crate) fn extracted_header(
     leftovers: Leftovers,
     scratch: &mut Scratch,
@@ -136,7 +136,7 @@ pub(crate) fn extracted_header(
     end_row(&mut scratch.row, b"error", out)
 }
 
-/// Adds the row of an image that isn't answered, for this error, to a text.
+/// Appends the row of an image that is not extracted, for this error, to a text.
 pub(crate) fn unextracted_csv(
     leftovers: Leftovers,
     scratch: &mut Scratch,

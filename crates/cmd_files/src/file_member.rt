@@ -16,7 +16,7 @@ use out_json_csv::{
 use out_messages::kind_letters;
 use std::alloc::AllocError;
 
-/// Prints the name, and the field that it stands in.
+/// Prints the name, and the field in which it is.
 pub(crate) fn put_names(
     scratch: &mut Vec<u8>,
     writer: &mut Writer,
@@ -99,7 +99,7 @@ pub(crate) fn put_type(
     put_boolean(writer, "locked", locked)
 }
 
-/// Prints the shown size, the pair of the first block, and the length of a record.
+/// Prints the size that the directory has, the pair of the first block, and the length of a record.
 pub(crate) fn put_entry(
     writer: &mut Writer,
     size: u16,
@@ -115,7 +115,7 @@ pub(crate) fn put_entry(
     put_record(writer, "record", record_length)
 }
 
-/// Prints how many blocks the data way and the side way have.
+/// Prints how many blocks the data chain and the side chain have.
 pub(crate) fn put_ways(
     writer: &mut Writer,
     blocks: Option<usize>,

@@ -29,7 +29,7 @@ pub struct FilesReport {
 }
 
 impl FilesReport {
-    /// A report in a form.
+    /// Returns a report in a form.
     pub fn new(alloc: Global, form: Form) -> Result<FilesReport, AllocError>
         ensures { IfOk result (λ report. report.form ≡ form) }
     {

@@ -14,7 +14,7 @@ use out_json_csv::{Scratch, into_line, put_boolean, put_image, put_number};
 use program_arguments::Leftovers;
 use std::alloc::AllocError;
 
-/// Prints where a file is: the image, by its name on the host, and the slot.
+/// Prints the place of a file: the image, by its name on the host, and the slot.
 fn put_place(
     scratch: &mut Vec<u8>,
     writer: &mut Writer,

@@ -27,7 +27,7 @@ const DELETED_ALONE: Selection = Selection {
     deleted: true,
 };
 
-/// Appends what stands before all answers.
+/// Appends what is printed before the first result.
 pub(crate) fn print_heading(
     form: Form,
     scratch: &mut Scratch,

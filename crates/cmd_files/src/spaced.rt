@@ -70,7 +70,7 @@ pub(crate) fn spell_losses(text: &mut Vec<u8>, losses: &[Loss]) -> Result<(), Al
     }
 }
 
-/// Adds numbers in decimal, each after a space.
+/// Appends numbers in decimal, each after a space.
 fn push_numbers(text: &mut Vec<u8>, numbers: &[u8]) -> Result<(), AllocError>
     ensures { OnOk result (text.new.items ≡ text.old.items ++ flat_map (λ number. after_space (decimal number)) numbers.now) }
 {

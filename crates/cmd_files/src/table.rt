@@ -128,7 +128,7 @@ fn push_state(out: &mut Vec<u8>, row: &FileRow) -> Result<(), AllocError>
     out.extend_from_slice(locked_text(row.locked))
 }
 
-/// Adds the shown size, in its columns.
+/// Appends the size that the directory has, right-aligned.
 pub(crate) fn push_size(out: &mut Vec<u8>, size: u16) -> Result<(), AllocError>
     ensures { OnOk result (out.new.items ≡ out.old.items ++ right_in 5 (decimal size)) }
 {
@@ -136,7 +136,7 @@ pub(crate) fn push_size(out: &mut Vec<u8>, size: u16) -> Result<(), AllocError>
     push_right(out, SIZE_COLUMNS, digits.format(size).as_bytes())
 }
 
-/// Adds a name in quotes, in its columns.
+/// Appends a name in quotes, left-aligned.
 pub(crate) fn push_name(
     scratch: &mut Vec<u8>,
     out: &mut Vec<u8>,

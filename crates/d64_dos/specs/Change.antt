@@ -16,7 +16,7 @@ pub data Change : Type 0 where
   Delete : List Bytes → Change
   -- a deleted file again, of this kind
   Undelete : Bytes → Kind → Change
-  -- the first file of this name under that one
+  -- gives the first file with this name that one
   Rename : Bytes → Bytes → Change
   -- gives the disk this name, and this id, if there is one
   Name : Bytes → Option Bytes → Change

@@ -51,7 +51,7 @@ pub enum Command {
         name: Name,
         kind: Kind,
     },
-    /// Gives the first used slot of one name another (1541 User's Guide, "Rename"). Every other
+    /// Gives the first used slot with one name another (1541 User's Guide, "Rename"). Every other
     /// byte of its entry stays, and the file may be locked or unclosed.
     Rename {
         old: Name,

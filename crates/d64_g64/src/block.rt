@@ -53,7 +53,7 @@ fn read_next(track: &[u8], next: usize, block: &mut [u8; BLOCK_BYTES]) -> u8
     if read_data(track, next, block) { 1 } else { 5 }
 }
 
-/// Reads what follows a header, and returns the header's code.
+/// Reads what follows a header. Returns the header's code.
 pub(crate) fn read_behind(
     track: &[u8],
     start: usize,

@@ -90,7 +90,7 @@ pub(crate) fn copy_entry(copy: &mut Vec<u8>, file: &[u8], entry: u8) -> Result<(
     copy_padded(copy, file, offset + 2, number_of_two(file, offset))
 }
 
-/// Copies the bytes of a whole track, none where the file has no such track.
+/// Copies the bytes of a whole track, or no bytes if the file has no such track.
 #[tactic(auto, unfolding(crate::specs::File::track_of))]
 pub(crate) fn copy_track(copy: &mut Vec<u8>, file: &[u8], number: u8) -> Result<(), AllocError>
     requires file { is_g64 file.now ≡ true }

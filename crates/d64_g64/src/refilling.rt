@@ -11,7 +11,7 @@ use crate::file::{begins_as_g64, is_g64};
 use d64_survey::{Dump, DumpFault};
 use std::alloc::Global;
 
-/// Whether a D64 has so many bytes.
+/// Whether a D64 can have this many bytes.
 pub(crate) fn is_d64_length(length: usize) -> bool
     ensures { result ≡ is_some (image_bytes length) }
 {

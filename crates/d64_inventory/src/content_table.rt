@@ -76,7 +76,7 @@ impl ContentTable {
         }
     }
 
-    /// What is told of the content along the way from a track and a sector.
+    /// The length and the digest of the content along the way from a track and a sector.
     pub(crate) fn content_from(&mut self, image: &Image, track: u8, sector: u8) -> Option<Content>
         requires { TellsContents image.now self.old.contents }
         ensures content { result ≡ digested_along image.now (way image.now (track, sector)) }

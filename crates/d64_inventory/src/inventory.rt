@@ -139,7 +139,7 @@ impl<'a> Inventory<'a> {
             .content_from(self.inspection.image(), track, sector)
     }
 
-    /// What is told of an entry of the dump's image, or None where its slot isn't used.
+    /// The row of an entry of the dump's image, or None if its slot isn't used.
     fn row_of_used(&mut self, entry: &Entry) -> Option<FileRow>
         requires { slot_cell self.old.image entry.now.slot ≡ Some entry.now.bytes }
         ensures row { result ≡ (if is_used entry.now.bytes then Some (row_of self.old (entry.now.slot, entry.now.bytes)) else None) }

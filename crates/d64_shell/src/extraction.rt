@@ -6,7 +6,7 @@ use cmd_extract::Setup;
 use cmd_files::Form;
 use program_arguments::Extraction;
 
-/// What an extraction is asked for by the words, in a form of the output.
+/// Returns the options of an extraction that the arguments give, in a form of the output.
 pub(crate) fn setup_of(asked: Extraction, form: Form) -> Setup
     ensures { result ≡ setup_of asked form }
 {

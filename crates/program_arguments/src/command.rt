@@ -242,7 +242,7 @@ fn with_leftovers<'a>(
     with_argument(command, deleted)
 }
 
-/// `map [--format FORMAT] FILE`.
+/// Returns `map [--format FORMAT] FILE`.
 fn map<'a>(alloc: Global) -> Result<Command<'a>, AllocError>
     ensures { IsMade map result }
 {

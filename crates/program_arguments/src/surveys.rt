@@ -63,7 +63,7 @@ fn leftovers(arguments: &ArgMatches) -> Leftovers
     }
 }
 
-/// How the words want files taken out.
+/// Returns how files are to be taken out, by the arguments.
 fn extraction(alloc: Global, arguments: &ArgMatches) -> Result<Extraction, JobFault>
     ensures extraction { IfOk result (IsExtractionBy (rows_of (found_of arguments.now))) }
     ensures fault { IfErr result (λ fault. (fault ≡ Memory) ⊎ ((fault ≡ Folder) × HasNoFolder (first_of (codes "into") (rows_of (found_of arguments.now))))) }

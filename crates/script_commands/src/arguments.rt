@@ -140,8 +140,8 @@ fn kind_of_letter(word: &[u8]) -> Option<Kind>
     }
 }
 
-/// The name and the kind of a file in a word that may be cut at its first comma. The kind is PRG
-/// where it isn't.
+/// The name and the kind of a file in an argument that may be split at its first comma. The kind is
+/// PRG if it isn't.
 pub(crate) fn name_and_kind_in(word: &[u8]) -> Result<(&[u8], Kind), Status>
     ensures { name_and_kind result ≡ name_and_kind_in word.now }
 {

@@ -419,7 +419,7 @@ pub(crate) fn undelete(alloc: Global, session: &mut Session, word: &str) -> Resu
     run_command(session, &Command::Undelete { name, kind })
 }
 
-/// `undo`: the image before.
+/// `undo`: goes to the image before.
 pub(crate) fn undo(session: &mut Session) -> Result<Response, Status>
     ensures { RespondsAlone (undo_act session.old) session.old result session.new }
 {

@@ -84,7 +84,7 @@ pub(crate) enum Line<'a> {
     Undelete {
         name_and_kind: &'a str,
     },
-    /// `undo`: takes the last command back.
+    /// `undo`: reverses the last command.
     Undo,
     /// `validate`: drops the files that were never closed, and writes the map anew.
     Validate,

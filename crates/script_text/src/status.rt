@@ -60,7 +60,7 @@ pub enum Status {
     NotBasic { fault: u8 },
     /// 86: what was deleted under this name can't be brought back.
     FileLost,
-    /// 90: there is no memory.
+    /// 90: memory is out.
     OutOfMemory,
 }
 
