@@ -93,6 +93,7 @@ Lines:   format NAME,ID         make the disk empty
          petcat NAME            print the text of a BASIC program
          type NAME              print a text of the disk
          delete PATTERN ..      delete the files whose names match
+         undelete NAME[,T]      bring a deleted file back; T is p, s or u
          rename OLD NEW         give a file another name
          name TEXT[,ID]         give the disk another name
          list                   print the directory

@@ -4,13 +4,13 @@ use Rattle.std.specs.Option.{option_map_or}
 use Rattle.d64_image.specs.Disk.{Bytes}
 use Rattle.script_text.specs.Number.{number_of}
 use Rattle.script_text.specs.declared.status.Status.{Status}
-use Rattle.script_text.specs.declared.status.Status.TheVariants.{Done, FilesScratched, SyntaxError, UnknownCommand, LongLine, BadName, MissingWord, WriteFileOpen, FileNotFound, FileExists, FileTypeMismatch, IllegalBlock, DirectoryError, DiskFull, HostFile, NothingToUndo, NothingToRedo, NotOneBlock, BasicText, NotBasic, OutOfMemory}
+use Rattle.script_text.specs.declared.status.Status.TheVariants.{Done, FilesScratched, SyntaxError, UnknownCommand, LongLine, BadName, MissingWord, WriteFileOpen, FileNotFound, FileExists, FileTypeMismatch, IllegalBlock, DirectoryError, DiskFull, HostFile, NothingToUndo, NothingToRedo, NotOneBlock, BasicText, NotBasic, FileLost, OutOfMemory}
 use Rattle.script_hints.specs.Said.{Said}
 use Rattle.script_hints.specs.Command.{command_of, most_words, usage}
 use Rattle.script_hints.specs.Hint.{hint_of, hint_text}
 use Rattle.script_hints.specs.Faults.{basic_fault, condition_text, list_fault}
 use Rattle.script_hints.specs.declared.command.Command.{Command}
-use Rattle.script_hints.specs.declared.command.Command.TheVariants.{Block, BlockRead, BlockWrite, Crunch, Delete, Format, Keep, Name, Petcat, Read, Rename, Save, ShowText, Write}
+use Rattle.script_hints.specs.declared.command.Command.TheVariants.{Block, BlockRead, BlockWrite, Crunch, Delete, Format, Keep, Name, Petcat, Read, Rename, Save, ShowText, Undelete, Write}
 use Rattle.script_hints.specs.declared.advice.Advice.{Advice}
 use Rattle.script_hints.specs.declared.advice.Piece.{Piece as CodePiece}
 use Rattle.script_hints.specs.declared.advice.Piece.TheVariants as code
@@ -68,7 +68,12 @@ file_piece said Crunch = second_or_first said
 file_piece said Write = second_or_first said
 file_piece said command = First
 
--- the argument of a line that is the name of a file of the host
+-- a line whose file isn't there
+abbrev pub missing_file : Command → List Piece
+missing_file Undelete = one_piece (codes "the disk has no deleted file \"") First (codes "\"")
+missing_file command = one_piece (codes "the disk has no file \"") First (codes "\"")
+
+-- the word of a line that gives the name of a file of the host
 abbrev pub host_piece : Said → Command → Piece
 host_piece said Read = second_or_first said
 host_piece said command = First
@@ -88,6 +93,7 @@ wrong_line said BlockRead = one_piece (codes "\"") (not_number said.second Secon
 wrong_line said BlockWrite = one_piece (codes "\"") (not_number said.second Second Third) (codes "\" is not a number from 0 to 255")
 wrong_line said Format = one_piece (codes "\"") First (codes "\" has no comma between name and id: format NAME,ID")
 wrong_line said Write = one_piece (codes "\"") Second (codes "\" does not end with a file type (p, s or u): write HOST NAME,T")
+wrong_line said Undelete = one_piece (codes "\"") First (codes "\" does not end with a file type (p, s or u): undelete NAME,T")
 wrong_line said command = one_piece (codes "type the line like this: ") (Text (usage command)) []
 
 -- a line whose arguments are not what its command takes
@@ -111,6 +117,7 @@ wrong_name said ShowText = one_piece (codes "\"") First (codes "\" is not a vali
 wrong_name said Delete = one_piece (codes "one of the names from \"") First (codes "\" on is not valid: a name has 1 to 16 characters without = : , and quotes")
 wrong_name said Read = two_pieces (codes "\"") First (codes "\" is not a valid name on a disk, which has 1 to 16 characters without = : , and quotes, or the host cannot have a file \"") (host_piece said Read) (codes "\": read NAME HOST")
 wrong_name said Rename = two_pieces (codes "\"") First (codes "\" or \"") Second (codes "\" is not a valid name on a disk, which has 1 to 16 characters without * ? = : , and quotes")
+wrong_name said Undelete = one_piece (codes "\"") First (codes "\" does not give a valid name on a disk, which has 1 to 16 characters without * ? = : , and quotes")
 wrong_name said command = two_pieces (codes "\"") (file_piece said command) (codes "\" does not give a valid name on a disk, which has 1 to 16 characters without * ? = : , and quotes, or the host cannot have a file \"") First (codes "\"")
 
 -- a line in which an argument is missing
@@ -139,7 +146,7 @@ advice_by said command LongLine = plain_pieces (codes "a line has at most 1024 c
 advice_by said command BadName = wrong_name said command
 advice_by said command MissingWord = missing_word said command
 advice_by said command WriteFileOpen = one_piece (codes "the file \"") First (codes "\" was never closed, so it cannot be read")
-advice_by said command FileNotFound = one_piece (codes "the disk has no file \"") First (codes "\"")
+advice_by said command FileNotFound = missing_file command
 advice_by said command FileExists = one_piece (codes "the disk already has a file named \"") (file_piece said command) (codes "\"")
 advice_by said command FileTypeMismatch = one_piece (codes "the file \"") (file_piece said command) (codes "\" has the wrong type for this command")
 advice_by said command (IllegalBlock track sector) = wrong_block said command
@@ -151,6 +158,7 @@ advice_by said command NothingToRedo = plain_pieces (codes "there is nothing to 
 advice_by said command NotOneBlock = one_piece (codes "the file \"") First (codes "\" is not 256 bytes long")
 advice_by said command (BasicText fault line) = two_pieces (codes "the text \"") First (codes "\" is not a program: ") (Text (basic_fault fault)) []
 advice_by said command (NotBasic fault) = two_pieces (codes "the file \"") First (codes "\" is not a BASIC program: ") (Text (list_fault fault)) []
+advice_by said command FileLost = one_piece (codes "what was deleted as \"") First (codes "\" is lost, and cannot be brought back")
 advice_by said command OutOfMemory = plain_pieces (codes "out of memory")
 advice_by said command Done = plain_pieces []
 advice_by said command (FilesScratched count) = plain_pieces []

@@ -4,7 +4,7 @@ use Rattle.std.specs.Option.{option_map_or}
 use Rattle.std.specs.Str.{bytes_eq}
 use Rattle.d64_image.specs.Disk.{Bytes}
 use Rattle.script_hints.specs.declared.command.Command.{Command}
-use Rattle.script_hints.specs.declared.command.Command.TheVariants.{Block, BlockRead, BlockWrite, Crunch, Delete, Format, ListHistory, Keep, ListDirectory, Name, Petcat, Quit, Read, Redo, Rename, Save, ShowText, Undo, Validate, Write, Unknown}
+use Rattle.script_hints.specs.declared.command.Command.TheVariants.{Block, BlockRead, BlockWrite, Crunch, Delete, Format, ListHistory, Keep, ListDirectory, Name, Petcat, Quit, Read, Redo, Rename, Save, ShowText, Undelete, Undo, Validate, Write, Unknown}
 
 -- the names of the commands
 abbrev pub command_words : List (Bytes × Command)
@@ -26,6 +26,7 @@ command_words =
     ∷ (codes "rename", Rename)
     ∷ (codes "save", Save)
     ∷ (codes "type", ShowText)
+    ∷ (codes "undelete", Undelete)
     ∷ (codes "undo", Undo)
     ∷ (codes "validate", Validate)
     ∷ (codes "write", Write)
@@ -54,6 +55,7 @@ most_words Redo = 0
 most_words Rename = 2
 most_words Save = 1
 most_words ShowText = 1
+most_words Undelete = 1
 most_words Undo = 0
 most_words Validate = 0
 most_words Write = 2
@@ -78,6 +80,7 @@ usage Redo = codes "redo"
 usage Rename = codes "rename OLD NEW"
 usage Save = codes "save [HOST]"
 usage ShowText = codes "type NAME"
+usage Undelete = codes "undelete NAME[,T]"
 usage Undo = codes "undo"
 usage Validate = codes "validate"
 usage Write = codes "write HOST [NAME[,T]]"

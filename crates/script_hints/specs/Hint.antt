@@ -4,7 +4,7 @@ use Rattle.std.specs.Option.{option_map_or}
 use Rattle.std.specs.Str.{bytes_eq}
 use Rattle.d64_image.specs.Disk.{Bytes}
 use Rattle.script_hints.specs.declared.hint.Hint.{Hint}
-use Rattle.script_hints.specs.declared.hint.Hint.TheVariants.{Fault, Image, Map, CopyBlock, FillBlock, ShowBlock, ChangeBlock, Folder, Chain, Copy, Directory, Entry, End, Extract, Help, Check, Scratch, ShowText, Version, Absent, Unknown}
+use Rattle.script_hints.specs.declared.hint.Hint.TheVariants.{Fault, Image, Map, CopyBlock, FillBlock, ShowBlock, ChangeBlock, Folder, Chain, Copy, Directory, Entry, End, Extract, Help, Check, Scratch, ShowText, Restore, Version, Absent, Unknown}
 
 -- the names that are no commands here
 abbrev pub hint_words : List (Bytes × Hint)
@@ -37,6 +37,9 @@ hint_words =
     ∷ (codes "show", ShowText)
     ∷ (codes "cat", ShowText)
     ∷ (codes "more", ShowText)
+    ∷ (codes "unscratch", Restore)
+    ∷ (codes "unerase", Restore)
+    ∷ (codes "recover", Restore)
     ∷ (codes "version", Version)
     ∷ (codes "geosextract", Absent)
     ∷ (codes "geosread", Absent)
@@ -75,6 +78,7 @@ hint_text Help = codes "; d64sh help shell lists the commands"
 hint_text Check = codes "; d64sh check inspects a disk"
 hint_text Scratch = codes "; delete deletes files"
 hint_text ShowText = codes "; a text on the disk is shown by type"
+hint_text Restore = codes "; undelete brings a deleted file back"
 hint_text Version = codes "; d64sh --version prints it"
 hint_text Absent = codes "; d64sh has no command for this"
 hint_text Unknown = codes "; d64sh help shell lists the commands"

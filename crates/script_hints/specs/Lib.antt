@@ -3,6 +3,7 @@ pub mod Command
 pub mod Hint
 pub mod Faults
 pub mod Advice
+pub mod Lost
 pub mod TextCause
 pub mod Kept
 pub mod LineStart

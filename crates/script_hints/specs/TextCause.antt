@@ -14,6 +14,7 @@ use Rattle.script_commands.specs.Line.{host_file_limit}
 use Rattle.script_text.specs.declared.status.Status.{Status}
 use Rattle.script_text.specs.declared.status.Status.TheVariants.{BasicText}
 use Rattle.script_hints.specs.Advice.{advice, advice_words}
+use Rattle.script_hints.specs.Lost.{IsLostLine}
 use Rattle.script_hints.specs.Said.{Said}
 
 -- whether a faulty line has a fault with this number, and is the line with this number
@@ -42,7 +43,12 @@ line_about start name cause = ((((start ++ codes "the text \"") ++ name) ++ code
 abbrev pub IsFoundLine : HostState → Bytes → Bytes → Status → Bytes → Type 0
 IsFoundLine host start name status line = (cause : Cause) × IsFoundCause host name status cause × (line ≡ line_about start name cause)
 
--- what may be said about a line with these arguments that was refused with a status, after a
--- beginning: what was found to be wrong with its text, or else, and for all other lines, the advice
+-- the same, or why what was deleted under the name is lost
+abbrev pub IsCauseLine : HostState → Bytes → Bytes → Status → Bytes → Type 0
+IsCauseLine host start name status line = IsFoundLine host start name status line ⊎ IsLostLine start name status line
+
+-- what may be said of a line of these words that was refused with a status, after a start: what is
+-- found to be wrong with its text or its deleted file; in place of that, and of all other lines, the
+-- advice
 abbrev pub MaySay : HostState → Bytes → Said → Status → Bytes → Type 0
-MaySay host start said status line = IsFoundLine host start said.first status line ⊎ (line ≡ start ++ advice_words said (advice said status))
+MaySay host start said status line = IsCauseLine host start said.first status line ⊎ (line ≡ start ++ advice_words said (advice said status))

@@ -1,6 +1,6 @@
 //! What is wrong with a refused line, in plain words.
 ghost use Rattle.std.specs.Prelude.{◌≡◌};
-ghost use Rattle.script_hints.specs.Advice.{advice, file_piece, host_piece, missing_word, not_number, one_piece, piece_of, pieces, plain_pieces, said_piece, surplus_piece, two_pieces, wrong_block, wrong_host_file, wrong_line, wrong_name, wrong_words};
+ghost use Rattle.script_hints.specs.Advice.{advice, file_piece, host_piece, missing_file, missing_word, not_number, one_piece, piece_of, pieces, plain_pieces, said_piece, surplus_piece, two_pieces, wrong_block, wrong_host_file, wrong_line, wrong_name, wrong_words};
 
 use crate::command::Command;
 use crate::faults::{basic_fault, condition_text, list_fault};
@@ -100,7 +100,7 @@ impl Advice {
                 Piece::First,
                 b"\" was never closed, so it cannot be read",
             ),
-            Status::FileNotFound => Advice::one(b"the disk has no file \"", Piece::First, b"\""),
+            Status::FileNotFound => missing_file(command),
             Status::FileExists => Advice::one(
                 b"the disk already has a file named \"",
                 file_piece(said, command),
@@ -142,13 +142,28 @@ impl Advice {
                 Piece::Text(list_fault(fault)),
                 b"",
             ),
+            Status::FileLost => Advice::one(
+                b"what was deleted as \"",
+                Piece::First,
+                b"\" is lost, and cannot be brought back",
+            ),
             Status::OutOfMemory => Advice::plain(b"out of memory"),
             Status::Done | Status::FilesScratched { .. } => Advice::plain(b""),
         }
     }
 }
 
-/// The argument of a line that is the name of a file on the disk.
+/// A line whose file isn't there.
+fn missing_file(command: Command) -> Advice
+    ensures { pieces result ≡ missing_file command }
+{
+    match command {
+        Command::Undelete => Advice::one(b"the disk has no deleted file \"", Piece::First, b"\""),
+        _ => Advice::one(b"the disk has no file \"", Piece::First, b"\""),
+    }
+}
+
+/// The word of a line that gives the name of a file on the disk.
 fn file_piece(said: &Said<'_>, command: Command) -> Piece
     ensures { piece_of result ≡ file_piece said.now command }
 {
@@ -265,6 +280,11 @@ fn wrong_line(said: &Said<'_>, command: Command) -> Advice
             Piece::Second,
             b"\" does not end with a file type (p, s or u): write HOST NAME,T",
         ),
+        Command::Undelete => Advice::one(
+            b"\"",
+            Piece::First,
+            b"\" does not end with a file type (p, s or u): undelete NAME,T",
+        ),
         _ => Advice::one(
             b"type the line like this: ",
             Piece::Text(command.usage()),
@@ -316,6 +336,11 @@ fn wrong_name(said: &Said<'_>, command: Command) -> Advice
             b"\" or \"",
             Piece::Second,
             b"\" is not a valid name on a disk, which has 1 to 16 characters without * ? = : , and quotes",
+        ),
+        Command::Undelete => Advice::one(
+            b"\"",
+            Piece::First,
+            b"\" does not give a valid name on a disk, which has 1 to 16 characters without * ? = : , and quotes",
         ),
         _ => Advice::two(
             b"\"",

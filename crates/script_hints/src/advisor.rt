@@ -15,7 +15,7 @@ ghost use Rattle.script_hints.specs.Kept.{effect_of, is_unsaved, kept_after, kep
 ghost use Rattle.script_hints.specs.Leaving.{IsKeptUnder};
 ghost use Rattle.script_hints.specs.Prompt.{name_in_prompt, prompt};
 ghost use Rattle.script_hints.specs.Said.{said_by};
-ghost use Rattle.script_hints.specs.TextCause.{MaySay};
+ghost use Rattle.script_hints.specs.TextCause.{IsCauseLine, MaySay};
 
 use crate::advice::Advice;
 use crate::command::Command;
@@ -25,6 +25,7 @@ use crate::hint::Hint;
 use crate::kept::{Kept, is_unsaved, kept_after};
 use crate::leaving::keep_session;
 use crate::line_start::line_start;
+use crate::lost::lost_line;
 use crate::more::more_about;
 use crate::past::Past;
 use crate::prompt::{prompt_name, write_prompt};
@@ -192,7 +193,7 @@ impl<'w, W: Write, H: Host> Advisor<'w, W, H> {
             let advice = Advice::of(&said, status);
             let start = self.start_of(line);
             let start = bytes_of(&start, b"d64sh: ");
-            let _ = match text_line(self.alloc, &mut self.host, start, said.first, status) {
+            let _ = match cause_line(self.alloc, &mut self.host, start, said.first, status, image) {
                 Some(line) => self.output.write(line.as_slice()),
                 None => write_advice(&mut self.output, start, &said, advice),
             };
@@ -298,7 +299,25 @@ fn bytes_of<'a>(text: &'a Option<Vec<u8>>, other: &'a [u8]) -> &'a [u8]
     }
 }
 
-/// Whether a line asks which commands there are.
+/// The line that says after this start what is found to be wrong with the text or the deleted file
+/// of this name, if something is.
+fn cause_line<H: Host>(
+    alloc: Global,
+    host: &mut H,
+    start: &[u8],
+    name: &[u8],
+    status: &Status,
+    image: &Image,
+) -> Option<Vec<u8>>
+    ensures { IfSome result (λ line. IsCauseLine (H.state host.old) start.now name.now status.now line.items) }
+{
+    match text_line(alloc, host, start, name, status) {
+        Some(line) => Some(line),
+        None => lost_line(alloc, start, name, status, image),
+    }
+}
+
+/// Whether a line asks what can be typed.
 fn asks_for_help(line: &HeldLine, status: &Status) -> bool {
     match *status {
         Status::UnknownCommand => matches!(Hint::of(Said::of(line).word), Hint::Help),

@@ -2,6 +2,7 @@
 
 use d64_files::{Directory, Entry, Pattern};
 use d64_image::Image;
+use d64_scratched::is_scratched;
 use petscii::{from_text, to_text};
 use std::alloc::Global;
 
@@ -30,6 +31,8 @@ pub(crate) struct Found<'a> {
     pub(crate) entry: Option<Entry<'a>>,
     /// The first file whose name is the argument in other letters.
     pub(crate) in_other_letters: Option<Entry<'a>>,
+    /// The first deleted file whose name is the word.
+    pub(crate) deleted: Option<Entry<'a>>,
 }
 
 impl<'a> Found<'a> {
@@ -38,6 +41,7 @@ impl<'a> Found<'a> {
         let nothing = Found {
             entry: None,
             in_other_letters: None,
+            deleted: None,
         };
         let Ok(bytes) = from_text(alloc, word) else {
             return nothing;
@@ -53,6 +57,8 @@ impl<'a> Found<'a> {
             in_other_letters: directory.slots().find(|entry| {
                 entry.used() && is_in_other_letters(entry.name(), bytes.as_slice())
             }),
+            deleted: directory.slots().find(|entry| is_scratched(entry)
+                && entry.name() == bytes.as_slice()),
         }
     }
 }

@@ -9,6 +9,7 @@ pub(crate) const ROWS: &[u8] = b"\
 \x20 petcat NAME            print the text of a BASIC program
 \x20 type NAME              print a text of the disk
 \x20 delete PATTERN ..      delete the files whose names match
+\x20 undelete NAME[,T]      bring a deleted file back; T is p, s or u
 \x20 rename OLD NEW         give a file another name
 \x20 name TEXT[,ID]         give the disk another name
 \x20 list                   print the directory

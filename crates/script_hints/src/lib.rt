@@ -12,6 +12,7 @@ mod hint;
 mod kept;
 mod leaving;
 mod line_start;
+mod lost;
 mod more;
 mod near;
 mod past;

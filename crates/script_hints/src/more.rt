@@ -28,7 +28,8 @@ pub(crate) fn more_about(
         (_, Status::UnknownCommand) if matches!(Hint::of(said.word), Hint::Unknown) => {
             push_near(&mut line, near_command(said.word.as_bytes()))
         }
-        (_, Status::FileNotFound) => push_meant(&mut line, &Found::of(alloc, image, said.first)),
+        (Command::Undelete, Status::FileNotFound) => Ok(()),
+        (_, Status::FileNotFound) => push_missing(&mut line, &Found::of(alloc, image, said.first)),
         (Command::Delete, Status::FilesScratched { count: 0 }) => {
             push_undeleted(&mut line, &Found::of(alloc, image, said.first))
         }
@@ -83,7 +84,17 @@ fn push_meant(line: &mut Vec<u8>, found: &Found<'_>) -> Result<(), AllocError> {
     }
 }
 
-/// Appends why no file was deleted.
+/// Adds which file has this name in other letters, and that one of this name was deleted.
+fn push_missing(line: &mut Vec<u8>, found: &Found<'_>) -> Result<(), AllocError> {
+    if let Some(entry) = &found.deleted {
+        line.extend_from_slice(b"d64sh: ")?;
+        push_quoted(line, entry.name())?;
+        line.extend_from_slice(b" was deleted; undelete may bring it back\n")?;
+    }
+    push_meant(line, found)
+}
+
+/// Adds why no file was deleted.
 fn push_undeleted(line: &mut Vec<u8>, found: &Found<'_>) -> Result<(), AllocError> {
     line.extend_from_slice(b"d64sh: nothing was deleted: ")?;
     match &found.entry {

@@ -2,7 +2,7 @@
 
 /// The first command whose name is near.
 pub(crate) fn near_command(word: &[u8]) -> Option<&'static [u8]> {
-    let words: [&'static [u8]; 20] = [
+    let words: [&'static [u8]; 21] = [
         b"block",
         b"bread",
         b"bwrite",
@@ -20,6 +20,7 @@ pub(crate) fn near_command(word: &[u8]) -> Option<&'static [u8]> {
         b"rename",
         b"save",
         b"type",
+        b"undelete",
         b"undo",
         b"validate",
         b"write",
