@@ -84,14 +84,14 @@ row_name taken (Deleted row) extent = next_name taken (spelling (name_in row.fie
 abbrev pub portion_of : TaskView → Row → Option Portion
 portion_of task row = row_portion task.setup.with_parts task.dump.image row
 
--- a file was told of, with the path of its host file, or that none was written
+-- the line of a file was added, with the path of its host file, or None if no file was written
 unfoldable pub told_progress : TaskView → Row → Option (List ℕ) → Progress → Progress
 told_progress task row path progress = record progress {
   printed = progress.printed ++ printed_file task.setup.form task.name task.dump.image row path;
   lines = progress.lines ++ printed_file (as_json task.setup.form) task.name task.dump.image row path;
 }
 
--- of the files that may come after one, fewer bytes are left
+-- how many bytes later files may have is reduced by what there is to write of a row
 abbrev pub spent_progress : TaskView → Row → Progress → Progress
 spent_progress task row progress = record progress { left = left_after progress.left (portion_of task row) }
 

@@ -53,8 +53,7 @@ pub(crate) struct Files {
     pub(crate) path: Vec<u8>,
 }
 
-/// Names the host file of a file of which the name stands in this field. The name is taken from then
-/// on.
+/// Names the host file of a file with its name in this field. The name is taken from then on.
 fn take_name(
     taken: &mut TakenNames,
     text: &mut Vec<u8>,

@@ -10,8 +10,8 @@ use Rattle.d64_leftovers.specs.declared.row.Row.TheVariants.{File, Deleted}
 use Rattle.cmd_extract_contents.specs.Portions.{Portion, written_as, found_along, portion_at}
 use Rattle.cmd_extract_contents.specs.declared.extent.Extent.TheVariants.{Content, Part}
 
--- what is written of a deleted file: the content along its way, where the file isn't lost, and else,
--- if parts are wanted, what is there along it
+-- what is written of a deleted file: the content along its way if the file isn't lost, and else, if
+-- parts are wanted, what is there along it
 abbrev pub deleted_portion : Bool → Disk → DeletedRowView → Option Portion
 deleted_portion with_parts image row =
     if is_lost row.losses

@@ -73,8 +73,8 @@ impl ContentExtraction {
         Ok(self.within(found, bytes))
     }
 
-    /// Puts what is written of the next row's file into a list, in the place of what that had, and
-    /// says how much of the file that is, as `next` does.
+    /// Replaces a list's contents by what is written of the file of the next row, and returns how
+    /// much of the file that is, or None, as `next` does.
     pub fn next_row(
         &mut self,
         survey: &Survey,
@@ -95,8 +95,8 @@ impl ContentExtraction {
         }
     }
 
-    /// What is written of a file of which this was found, with these bytes: nothing if they are too
-    /// many.
+    /// Returns how much is written of a file of which this was found, with these bytes: nothing if
+    /// they are too many.
     fn within(&mut self, found: Option<Extent>, bytes: &[u8]) -> Option<Extent>
         ensures written { option_map (λ extent. record { bytes = bytes.now; extent = extent }) result
             ≡ portion_within self.old (option_map (λ extent. record { bytes = bytes.now; extent = extent }) found) }

@@ -87,9 +87,9 @@ fn put_part(bytes: &mut Vec<u8>, image: &Image, entry: &Entry) -> Result<bool, A
     put_found_from(bytes, image, track, sector)
 }
 
-/// Puts what there is to write of a deleted file into a list, in the place of what that had, and
-/// says how much of the file that is, or None if there is nothing: its content if it isn't lost, and
-/// else, if parts are wanted too, what is there of it.
+/// Replaces a list's contents by what there is to write of a deleted file, and returns how much of
+/// the file that is, or None if there is nothing: its content if it isn't lost, and else, if parts
+/// are wanted, what is there of it.
 pub(crate) fn put_deleted(
     bytes: &mut Vec<u8>,
     image: &Image,
@@ -112,8 +112,8 @@ pub(crate) fn put_deleted(
     }
 }
 
-/// Puts the content along the way from a track and a sector into a list, in the place of what that
-/// had, and says that it is a content, or None if there is none.
+/// Replaces a list's contents by the content along the way from a track and a sector, and returns
+/// `Content`, or None if there is no content.
 fn put_deleted_content(
     bytes: &mut Vec<u8>,
     image: &Image,

@@ -16,15 +16,15 @@ columns =
     codes "image" ∷ codes "slot" ∷ codes "name" ∷ codes "field" ∷ codes "kind" ∷ codes "type" ∷ codes "closed" ∷ codes "locked" ∷ codes "size" ∷ codes "first" ∷ codes "record"
     ∷ codes "blocks" ∷ codes "side" ∷ codes "bytes" ∷ codes "sha256" ∷ codes "whole" ∷ codes "why" ∷ codes "conditions" ∷ codes "read_errors" ∷ []
 
--- whether files were deleted, where deleted ones are wanted
+-- the column for whether a file was deleted, if deleted files are wanted
 abbrev pub leftover_columns : Leftovers → List (List ℕ)
 leftover_columns leftovers = if leftovers.deleted then codes "deleted" ∷ [] else []
 
--- the same of a row
+-- whether the file of a row was deleted, if deleted files are wanted
 abbrev pub leftover_fields : Leftovers → Row → List (List ℕ)
 leftover_fields leftovers row = if leftovers.deleted then truth_text (is_deleted row) ∷ [] else []
 
--- nothing in these columns
+-- these columns, empty
 abbrev pub leftover_blanks : Leftovers → List (List ℕ)
 leftover_blanks leftovers = if leftovers.deleted then [] ∷ [] else []
 
@@ -36,7 +36,7 @@ row_with fields error = row_text default_writer (fields ++ error ∷ [])
 abbrev pub place_fields : Bytes → ℕ → List (List ℕ)
 place_fields name slot = host_field name ∷ decimal slot ∷ []
 
--- what is told of a row, with its place
+-- the fields of a row, with its place
 unfoldable pub row_fields : Bytes → Row → List (List ℕ)
 row_fields name (File row) = place_fields name row.slot ++ file_fields row
 row_fields name (Deleted row) = place_fields name row.slot ++ deleted_fields row
@@ -49,10 +49,10 @@ csv_row leftovers name row = row_with (row_fields name row ++ leftover_fields le
 unfoldable pub header_row : Leftovers → List ℕ
 header_row leftovers = row_with (columns ++ leftover_columns leftovers) (codes "error")
 
--- a name, and nothing in each other column but for those of leftovers and the error
+-- a name, and an empty field in each other column but for those of leftovers and the error
 abbrev pub name_alone : Bytes → List (List ℕ)
 name_alone name = host_field name ∷ [] ∷ [] ∷ [] ∷ [] ∷ [] ∷ [] ∷ [] ∷ [] ∷ [] ∷ [] ∷ [] ∷ [] ∷ [] ∷ [] ∷ [] ∷ [] ∷ [] ∷ [] ∷ []
 
--- a row with a name and an error alone
+-- a row with only a name and an error
 unfoldable pub unanswered_row : Leftovers → Bytes → List ℕ → List ℕ
 unanswered_row leftovers name error = row_with (name_alone name ++ leftover_blanks leftovers) error

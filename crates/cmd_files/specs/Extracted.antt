@@ -25,7 +25,7 @@ extracted_object leftovers name row path = object_of (row_members name row ++ (p
 abbrev pub path_field : Option Bytes → List ℕ
 path_field path = option_map_or host_field path []
 
--- the row of CSV of it: the path stands before what is left over and the error, which it has not
+-- its row of CSV: the path comes before the fields of leftovers and the error, which is empty
 unfoldable pub extracted_row : Leftovers → Bytes → Row → Option Bytes → List ℕ
 extracted_row leftovers name row path = row_with (row_fields name row ++ (path_field path ∷ leftover_fields leftovers row)) []
 
@@ -42,6 +42,6 @@ extracted_line image row path = row_text image row ++ (path_text path ++ codes "
 unfoldable pub extracted_header : Leftovers → List ℕ
 extracted_header leftovers = row_with (columns ++ (codes "file" ∷ leftover_columns leftovers)) (codes "error")
 
--- a row with a name and an error alone
+-- a row with only a name and an error
 unfoldable pub unextracted_row : Leftovers → Bytes → List ℕ → List ℕ
 unextracted_row leftovers name error = row_with (name_alone name ++ ([] ∷ leftover_blanks leftovers)) error

@@ -35,7 +35,7 @@ digest_value content = option_map_or (λ content. string (encode_lower content.d
 abbrev pub flaw_value : Flaw → Json
 flaw_value flaw = string (flaw_word flaw)
 
--- the name, and the field that it stands in
+-- the name, and the field in which it is
 abbrev pub name_members : Bytes → List Field
 name_members field = (codes "name", name_value (name_in field)) ∷ (codes "field", string (encode_lower field)) ∷ []
 

@@ -14,7 +14,7 @@ use Rattle.out_json_csv.specs.Rows.{truth_text}
 use Rattle.out_messages.specs.FileText.{kind_letters}
 use Rattle.cmd_files.specs.FlawWords.{flaw_word}
 
--- a number in decimal; empty where there is none
+-- a number in decimal; empty if there is no number
 abbrev pub decimal_or_empty : Option ℕ → List ℕ
 decimal_or_empty number = option_map_or decimal number []
 
@@ -31,7 +31,7 @@ unfoldable pub spaced_texts : {X : Type 0} → (X → List ℕ) → List X → L
 spaced_texts text [] = []
 spaced_texts text (x ∷ xs) = text x ++ flat_map (λ y. after_space (text y)) xs
 
--- the name, and the field that it stands in
+-- the name, and the field in which it is
 abbrev pub name_fields : Bytes → List (List ℕ)
 name_fields field = spelling (name_in field) ∷ encode_lower field ∷ []
 

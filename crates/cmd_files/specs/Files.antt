@@ -49,12 +49,12 @@ after_rows Csv dump = []
 unfoldable pub printed_rows : Form → Selection → Bytes → DumpView → List ℕ
 printed_rows form wanted name dump = flat_map (printed_row form name dump.image) (rows wanted dump)
 
--- lines under a heading, where there are some
+-- lines under a heading, if there are any
 abbrev pub under_heading : List ℕ → List ℕ → List ℕ
 under_heading heading [] = []
 under_heading heading (byte ∷ bytes) = heading ++ byte ∷ bytes
 
--- deleted files in a table, under a heading, where they are wanted
+-- deleted files in a table, under a heading, if they are wanted
 abbrev pub deleted_section : Form → Bytes → DumpView → List ℕ
 deleted_section form name dump =
     if form.leftovers.deleted then under_heading (codes "deleted\n") (printed_rows form deleted_alone name dump) else []
@@ -77,13 +77,13 @@ printed_unread Text leftovers name = []
 printed_unread Json leftovers name = line_of (unread_object name)
 printed_unread Csv leftovers name = unanswered_row leftovers name (codes "cannot be read")
 
--- and of one whose length no dump has
+-- what is printed of a file whose length no dump has
 abbrev pub printed_wrong_length : Format → Leftovers → Bytes → Bytes → List ℕ
 printed_wrong_length Text leftovers name bytes = []
 printed_wrong_length Json leftovers name bytes = line_of (no_dump_object name bytes)
 printed_wrong_length Csv leftovers name bytes = unanswered_row leftovers name (no_dump_error bytes)
 
--- what stands before all answers: the header row of CSV
+-- what is printed before all files: the header row of CSV
 abbrev pub heading_by : Format → Leftovers → List ℕ
 heading_by Text leftovers = []
 heading_by Json leftovers = []
@@ -92,14 +92,14 @@ heading_by Csv leftovers = header_row leftovers
 abbrev pub heading_of : Form → List ℕ
 heading_of form = heading_by form.format form.leftovers
 
--- what is answered of bytes: of a dump, its files, amiss where one isn't whole or some may be
--- missing; and else that they are of a wrong length
+-- what is reported of bytes: of a dump its files, amiss if one isn't whole or some may be missing;
+-- else that the bytes are of a wrong length
 abbrev pub answer_of : Form → Bytes → Bytes → Option DumpView → Answer
 answer_of form name bytes None = record { printed = printed_wrong_length form.format form.leftovers name bytes; complaint = wrong_length_line name bytes; verdict = Failed }
 answer_of form name bytes (Some dump) =
     record { printed = printed_of form name dump; complaint = []; verdict = if is_listing_amiss dump then Amiss else Clean }
 
--- what `files` answers of a file in a form: of its bytes, or that it cannot be read
+-- what `files` reports of a file in a form: by its bytes, or that it cannot be read
 abbrev pub files_rule : Form → Rule
 files_rule form name None = record { printed = printed_unread form.format form.leftovers name; complaint = unread_line name; verdict = Failed }
 files_rule form name (Some bytes) = answer_of form name bytes (dump_of bytes)

@@ -15,12 +15,12 @@ use Rattle.cmd_files.specs.DeletedObject.{deleted_members}
 abbrev pub place_members : Bytes → ℕ → List Field
 place_members name slot = image_member name ∷ (codes "slot", numeral slot) ∷ []
 
--- what is told of a row, with its place
+-- the members of a row, with its place
 unfoldable pub row_members : Bytes → Row → List Field
 row_members name (File row) = place_members name row.slot ++ file_members row
 row_members name (Deleted row) = place_members name row.slot ++ deleted_members row
 
--- whether the file was deleted, where deleted files are wanted
+-- whether the file was deleted, if deleted files are wanted
 abbrev pub leftover_members : Leftovers → Row → List Field
 leftover_members leftovers row = if leftovers.deleted then (codes "deleted", boolean (is_deleted row)) ∷ [] else []
 

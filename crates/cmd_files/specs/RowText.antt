@@ -6,7 +6,7 @@ use Rattle.d64_leftovers.specs.declared.row.Row.TheVariants.{File, Deleted}
 use Rattle.cmd_files.specs.FileTable.{file_text}
 use Rattle.cmd_files.specs.DeletedTable.{deleted_text}
 
--- what is told of a row on a line
+-- the text of a row, without the end of the line
 abbrev pub row_text : Disk → Row → List ℕ
 row_text image (File row) = file_text row
 row_text image (Deleted row) = deleted_text image row

@@ -10,6 +10,6 @@ files_alone = record { files = true; deleted = false }
 abbrev pub deleted_alone : Selection
 deleted_alone = record { files = false; deleted = true }
 
--- the rows of files, and of what is wanted beside them
+-- the rows of files, and of the leftovers that are wanted
 abbrev pub files_and : Leftovers → Selection
 files_and leftovers = record { files = true; deleted = leftovers.deleted }

@@ -110,8 +110,8 @@ pub(crate) fn push_answer(line: &mut ByteRecord, answer: Option<bool>) -> Result
     }
 }
 
-/// Adds the kind, and the type byte with what it says of the file, whether it is closed and whether
-/// it is locked, to a row.
+/// Appends the kind, and the type byte with what it says of the file, whether it is closed and
+/// whether it is locked, to a row.
 pub(crate) fn push_type(
     line: &mut ByteRecord,
     kind: Option<Kind>,
@@ -226,7 +226,7 @@ fn begin_place(scratch: &mut Scratch, name: &[u8], slot: usize) -> Result<(), Al
     push_number(&mut scratch.row, slot as u64)
 }
 
-/// Begins the row of a file that is there: the name of its image and all that is told of it.
+/// Begins the row of a file that is there: the name of its image, the slot, and the file's fields.
 fn begin_file_row(scratch: &mut Scratch, name: &[u8], file: &FileRow) -> Result<(), AllocError>
     ensures fields { OnOk result (fields_of scratch.new.row ≡ place_fields name.now file.now.slot ++ file_fields file.now) }
     ensures whole { OnOk result (partial_of scratch.new.row ≡ []) }
@@ -235,7 +235,7 @@ fn begin_file_row(scratch: &mut Scratch, name: &[u8], file: &FileRow) -> Result<
     push_file_fields(&mut scratch.text, &mut scratch.row, file)
 }
 
-/// Begins the row of a deleted file.
+/// Begins the row of a deleted file: the name of its image, the slot, and the file's fields.
 fn begin_deleted_row(
     scratch: &mut Scratch,
     name: &[u8],
@@ -260,7 +260,7 @@ pub(crate) fn begin_row(scratch: &mut Scratch, name: &[u8], row: &Row) -> Result
     }
 }
 
-/// Adds whether the file of a row was deleted, if deleted files are wanted.
+/// Appends whether the file of a row was deleted, if deleted files are wanted, to a row of CSV.
 pub(crate) fn push_leftover_fields(
     leftovers: Leftovers,
     line: &mut ByteRecord,
@@ -276,7 +276,7 @@ pub(crate) fn push_leftover_fields(
     Ok(())
 }
 
-/// Adds the columns of leftovers to a header row.
+/// Appends the columns of leftovers to a header row.
 pub(crate) fn push_leftover_columns(
     leftovers: Leftovers,
     line: &mut ByteRecord,
@@ -291,7 +291,7 @@ pub(crate) fn push_leftover_columns(
     Ok(())
 }
 
-/// Adds these columns, with nothing in them, to a row.
+/// Appends an empty field for each column of leftovers to a row.
 pub(crate) fn push_leftover_blanks(
     leftovers: Leftovers,
     line: &mut ByteRecord,

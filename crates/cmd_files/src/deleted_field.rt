@@ -10,8 +10,8 @@ use d64_leftovers::DeletedRow;
 use out_json_csv::{push_field, push_number};
 use std::alloc::AllocError;
 
-/// Adds whether a deleted file is whole, why not, no conditions, and how many of its blocks have a
-/// read error, to a row.
+/// Appends whether a deleted file is whole, why not, no conditions, and how many of its blocks have
+/// a read error, to a row.
 fn push_state(
     scratch: &mut Vec<u8>,
     line: &mut ByteRecord,
@@ -28,7 +28,7 @@ fn push_state(
     push_number(line, row.read_errors as u64)
 }
 
-/// Adds what is told of a deleted file, but for the image and the slot, to a row.
+/// Appends the fields of a deleted file, without the image and the slot, to a row.
 pub(crate) fn push_deleted_fields(
     scratch: &mut Vec<u8>,
     line: &mut ByteRecord,

@@ -47,8 +47,8 @@ fn put_state(writer: &mut Writer, row: &DeletedRow) -> Result<(), AllocError>
     put_number(writer, "read_errors", row.read_errors as u64)
 }
 
-/// Prints what is told of a deleted file, but for the image and the slot: the members from its name
-/// to its read errors.
+/// Prints the members of a deleted file, from its name to its read errors; the image and the slot
+/// are not among them.
 pub(crate) fn put_deleted_members(
     scratch: &mut Vec<u8>,
     writer: &mut Writer,

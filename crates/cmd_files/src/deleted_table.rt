@@ -12,8 +12,8 @@ use d64_survey::{Flaw, Survey};
 use out_messages::{push_flaws, push_owners};
 use std::alloc::AllocError;
 
-/// Adds by what the blocks of a deleted file were used again, by the first of them that has an
-/// owner.
+/// Appends ` by ` and the owners of a block that was used again, or nothing if there is no such
+/// block.
 fn push_new_owners(
     out: &mut Vec<u8>,
     survey: &Survey,
@@ -30,7 +30,7 @@ fn push_new_owners(
     }
 }
 
-/// Adds a reason why a deleted file isn't whole.
+/// Appends a reason why a deleted file isn't whole.
 #[tactic(auto, unfolding(crate::specs::DeletedTable::loss_text))]
 fn push_loss(
     out: &mut Vec<u8>,
@@ -54,7 +54,7 @@ fn push_loss(
     }
 }
 
-/// Adds reasons, each after a comma.
+/// Appends reasons, each after a comma.
 fn push_more_losses(
     out: &mut Vec<u8>,
     survey: &Survey,
@@ -70,7 +70,7 @@ fn push_more_losses(
     Ok(())
 }
 
-/// Adds reasons, with commas between them.
+/// Appends reasons, with commas between them.
 #[tactic(auto, unfolding(crate::specs::DeletedTable::losses_text))]
 fn push_losses(
     out: &mut Vec<u8>,
@@ -89,7 +89,7 @@ fn push_losses(
     }
 }
 
-/// What stands before the reasons: that the file is lost, or can be brought back.
+/// Returns the text before the reasons: that the file is lost, or can be brought back.
 fn hope_text(losses: &[Loss]) -> &'static [u8]
     ensures { result.now ≡ hope_text losses.now }
 {
@@ -103,7 +103,7 @@ fn hope_text(losses: &[Loss]) -> &'static [u8]
     }
 }
 
-/// Adds whether a deleted file can be brought back, and why it isn't whole.
+/// Appends whether a deleted file can be brought back, and why it isn't whole.
 #[tactic(auto, unfolding(crate::specs::DeletedTable::deleted_state))]
 fn push_deleted_state(
     out: &mut Vec<u8>,
@@ -117,8 +117,8 @@ fn push_deleted_state(
     push_losses(out, survey, row, losses)
 }
 
-/// Adds what is told of a deleted file on a line: the size that the slot still shows, the name, and
-/// whether it can be brought back.
+/// Appends the text of a deleted file: the size that the slot still shows, the name, and whether it
+/// can be brought back.
 #[tactic(auto, unfolding(crate::specs::DeletedTable::deleted_text))]
 pub(crate) fn push_deleted_text(
     scratch: &mut Vec<u8>,

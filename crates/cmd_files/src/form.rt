@@ -15,7 +15,8 @@ pub struct Form {
 }
 
 impl Form {
-    /// The rows that are wanted: those of files, and of what is left over and is printed too.
+    /// Returns the rows that are wanted: those of files, and of what is left over and is printed
+    /// too.
     pub fn wanted(self) -> Selection
         ensures { result ≡ files_and self.leftovers }
     {
@@ -25,7 +26,7 @@ impl Form {
         }
     }
 
-    /// The same with JSON as its format.
+    /// Returns the same form with JSON as its format.
     pub fn as_json(self) -> Form
         ensures { result ≡ as_json self }
     {

@@ -28,7 +28,7 @@ fn put_place(
     put_number(writer, "slot", slot as u64)
 }
 
-/// Prints what is told of a file, with its place.
+/// Prints the members of a file, with its place.
 fn put_placed_file(
     scratch: &mut Vec<u8>,
     writer: &mut Writer,
@@ -42,7 +42,7 @@ fn put_placed_file(
     put_file_members(scratch, writer, file)
 }
 
-/// Prints what is told of a deleted file, with its place.
+/// Prints the members of a deleted file, with its place.
 fn put_placed_deleted(
     scratch: &mut Vec<u8>,
     writer: &mut Writer,
@@ -56,7 +56,7 @@ fn put_placed_deleted(
     put_deleted_members(scratch, writer, file)
 }
 
-/// Prints what is told of a row, with its place.
+/// Prints the members of a row, with its place.
 #[tactic(auto, unfolding(crate::specs::RowObject::row_members))]
 pub(crate) fn put_row_members(
     scratch: &mut Vec<u8>,
@@ -88,8 +88,8 @@ pub(crate) fn put_leftover_members(
     Ok(())
 }
 
-/// Adds the line of a row to a text: an object of JSON with the name of its image and all that is
-/// told of the file.
+/// Appends the line of a row to a text: an object of JSON with the name of its image and the
+/// members of the file.
 pub fn row_json(
     leftovers: Leftovers,
     scratch: &mut Scratch,

@@ -1,10 +1,10 @@
-//! The words for why a deleted file isn't whole.
+//! The names of the reasons why a deleted file isn't whole, as JSON and CSV have them.
 ghost use Rattle.std.specs.Prelude.{◌≡◌};
 ghost use Rattle.cmd_files.specs.LossWords.{loss_word as loss_word_of};
 
 use d64_scratched::Loss;
 
-/// The word for a reason.
+/// Returns the name of a reason.
 pub(crate) fn loss_word(loss: Loss) -> &'static str
     ensures { result.now ≡ loss_word_of loss }
 {

@@ -102,7 +102,7 @@ fn print_deleted(
     Ok(text)
 }
 
-/// Appends lines under a heading, if there are some.
+/// Appends lines under a heading, if there are any.
 fn push_under_heading(out: &mut Vec<u8>, heading: &[u8], lines: &[u8]) -> Result<(), AllocError>
     ensures { OnOk result (out.new.items ≡ out.old.items ++ under_heading heading.now lines.now) }
 {

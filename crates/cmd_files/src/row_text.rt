@@ -8,7 +8,7 @@ use d64_leftovers::Row;
 use d64_survey::Survey;
 use std::alloc::AllocError;
 
-/// Adds what is told of a row on a line.
+/// Appends the text of a row, without the end of the line.
 pub(crate) fn push_row_text(
     scratch: &mut Vec<u8>,
     out: &mut Vec<u8>,
@@ -23,7 +23,7 @@ pub(crate) fn push_row_text(
     }
 }
 
-/// Adds the line of a row.
+/// Appends the line of a row.
 pub(crate) fn push_row_line(
     scratch: &mut Vec<u8>,
     out: &mut Vec<u8>,

@@ -45,7 +45,7 @@ pub(crate) fn spell_flaws(text: &mut Vec<u8>, flaws: &[Flaw]) -> Result<(), Allo
     }
 }
 
-/// Adds the words for why a deleted file isn't whole, each after a space.
+/// Appends the names of reasons why a deleted file isn't whole, each after a space.
 fn push_losses(text: &mut Vec<u8>, losses: &[Loss]) -> Result<(), AllocError>
     ensures { OnOk result (text.new.items ≡ text.old.items ++ flat_map (λ loss. after_space (loss_word_of loss)) losses.now) }
 {
@@ -55,7 +55,7 @@ fn push_losses(text: &mut Vec<u8>, losses: &[Loss]) -> Result<(), AllocError>
     Ok(())
 }
 
-/// Spells these words, with a space between them, in the place of what the text had.
+/// Replaces the text by these names, with a space between them.
 #[tactic(auto, unfolding(crate::specs::FileRow::spaced_texts))]
 pub(crate) fn spell_losses(text: &mut Vec<u8>, losses: &[Loss]) -> Result<(), AllocError>
     ensures { OnOk result (text.new.items ≡ spaced_texts loss_word_of losses.now) }

@@ -165,7 +165,7 @@ can_come_back image name slot is =
       free = left.free;
     }
 
--- what holds where none of the refusals applies
+-- what holds if no refusal applies
 pub record NoneApplies (writes some : Bool) (fault : Option DirFault) : Type 0 where
   pub writable : writes ≡ true
   pub sound : fault ≡ None

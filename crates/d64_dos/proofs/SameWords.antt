@@ -1,4 +1,5 @@
--- on a sound disk the file of a slot is left, or whole, exactly where the reasons of the survey say so
+-- on a sound disk the file of a slot is left, or whole, if and only if the reasons of the survey
+-- say so
 use Rattle.std.proofs.Common.{◌≡◌, ◌≢◌, ℕ, zero, suc, ◌==◌, ◌<◌, ◌≤◌, ◌||◌, Bool, true, false, not, cond, eqb, eq-eqb, List, [], ◌∷◌, ◌++◌, length, take, get_or, Option, Some, None, refl, sym, ap, ap₂, ◌∙◌, subst, inl, inr, arith}
 use Rattle.std.specs.Prelude.{◌&&◌, All, filter, nat_lt}
 use Rattle.std.specs.List.{list_any, list_all, flat_map}
@@ -74,7 +75,7 @@ next_of image pair None found some = absurd (some (ap (λ (b : Option ℕ). opti
 next_of image pair (Some next) found some =
     (next, found, is_chain image next (chain image next) refl (λ none. some (ap (λ (b : Option ℕ). option_map_or (chain image) b []) found ∙ none)))
 
--- where no block is left, a way ends
+-- a way ends if no block is left
 none_left : (image : List (List ℕ)) (walked : List ℕ) (pair : ℕ × ℕ) (block : ℕ) → (way_on zero image walked pair (Some block)).0 ≡ walked
 unfolding way_on
 none_left image walked pair block = refl
@@ -112,7 +113,7 @@ from_way : (image : List (List ℕ)) (pair : ℕ × ℕ) (q : ℕ) (blocks : Lis
 unfolding way
 from_way image pair q blocks h among = comes_to (length image) image [] pair (block_at image pair) q blocks refl h refl among
 
--- a slot leads to a block with a chain by its way where it does by its chain
+-- a slot's way reaches a block that has a chain if and only if the slot's chain does
 same_block : (image : List (List ℕ)) (cell : List ℕ) (q : ℕ) (blocks : List ℕ) → Chain image q blocks
     → list_any (eqb q) (scratched_way image cell).0 ≡ list_any (eqb q) (chain_of image cell)
 same_block image cell q blocks h = by_list (chain_of image cell) refl
@@ -230,7 +231,7 @@ not_lost image slot cell sound left =
     (λ q h. ap (λ (f : Bool). not (is_owned image q) && not f) h ∙ free_unmarked (is_owned image q)) walked.0 all))
     (right_size (is_whole walked.1) (length walked.0) (size_of cell) (sym (ap length is) ∙ left.size))
 
--- it is left exactly where it isn't lost
+-- it is left if and only if it isn't lost
 pub left_same : (image : List (List ℕ)) (slot : ℕ) (cell : List ℕ) → IsSound image → not (is_lost (losses image None slot cell)) ≡ is_left image cell
 left_same image slot cell sound =
     elim (cases_Bool (is_lost (losses image None slot cell))) [
@@ -290,7 +291,7 @@ claims_same image slot cell sound some =
     ap (λ (cells : List (List ℕ)). list_any (eqb q) (blocks_left image (take slot cells))) (sym (slots_are image (sound NoDirectory (omega arith) (omega arith))))
     ∙ claimed_by image q there.0 there.1 (take slot (slots image))))
 
--- and it is whole exactly where it is left and no block is claimed
+-- and it is whole if and only if it is left and no block is claimed
 pub whole_same : (image : List (List ℕ)) (slot : ℕ) (cell : List ℕ) → IsSound image
     → (length (losses image None slot cell) == 0) ≡ (is_left image cell && not (list_any (is_claimed image slot) (chain_of image cell)))
 unfolding losses

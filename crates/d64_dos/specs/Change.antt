@@ -14,7 +14,7 @@ pub data Change : Type 0 where
   Write : Bytes → Kind → Bytes → Change
   -- deletes the files that these patterns match
   Delete : List Bytes → Change
-  -- a deleted file again, of this kind
+  -- brings back a deleted file with this name, as one of this kind
   Undelete : Bytes → Kind → Change
   -- gives the first file with this name that one
   Rename : Bytes → Bytes → Change

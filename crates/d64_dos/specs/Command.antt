@@ -25,8 +25,8 @@ pub data Start : Type 0 where
   AnyDisk : Start
   SoundDisk : Start
 
--- what a file command promises of a disk: from which disks on, and, of what the disk shows, what is
--- answered and what it shows then, for which only a file that comes back needs the disk itself
+-- what a file command promises: the disks for which the promise holds, the reply by what the disk
+-- shows, and what the disk shows afterwards, for which only an undeletion needs the disk itself
 pub record Promise : Type 0 where
   pub start : Start
   pub reply : View → Reply

@@ -1,4 +1,4 @@
--- The deleted file that a search finds, as the code has it: by the reasons why a file isn't whole.
+-- The deleted file that the code finds, by the reasons why a file isn't whole.
 use Rattle.std.specs.Prelude.{◌≡◌, ◌<◌, ◌&&◌, ◌==◌, ℕ, not, Bool, List, length, find, Option, None}
 use Rattle.std.specs.Option.{option_or}
 use Rattle.d64_image.specs.Disk.{Disk, Bytes}
@@ -20,18 +20,19 @@ losses_of image slot = losses image None slot.0 slot.1
 abbrev pub is_whole_by : Disk → Bytes → ℕ × Bytes → Bool
 is_whole_by image name slot = is_scratched_as name slot.1 && length (losses_of image slot) == 0
 
--- one whose file isn't lost
+-- a scratched slot of this name whose file isn't lost
 abbrev pub is_left_by : Disk → Bytes → ℕ × Bytes → Bool
 is_left_by image name slot = is_scratched_as name slot.1 && not (is_lost (losses_of image slot))
 
--- the entry of a directory that comes back under a name, by what is known of an image: the first
--- whose file is whole, else the first whose file isn't lost
+-- the entry of a directory that comes back under a name, by the reasons that an image gives: the
+-- first whose file is whole, else the first whose file isn't lost
 abbrev pub entry_back : Disk → Disk → Bytes → Option EntryView
 entry_back image directory name =
     option_or (find (λ (entry : EntryView). is_whole_by image name (entry.slot, entry.bytes)) (entries directory (slots directory)))
     (find (λ (entry : EntryView). is_left_by image name (entry.slot, entry.bytes)) (entries directory (slots directory)))
 
--- the directory has its slot, and the blocks of the chain there are left out of the free ones
+-- the directory has the slot that was found, and the free blocks are those of the map without the
+-- blocks of the slot's chain
 pub record IsRestorable (image : Disk) (found : Restorable) : Type 0 where
   pub there : found.slot < length (slots image)
   pub free : found.free ≡ blocks_without (free_blocks image) (chain_left image found.slot)

@@ -1,4 +1,4 @@
--- Which deleted file comes back under a name, when none does, and what the disk is then.
+-- Which deleted file of a name comes back, when the command is refused, and the disk after it.
 use Rattle.std.specs.Prelude.{ℕ, nat_lt, nat_eq, ◌==◌, ◌&&◌, not, Bool, if◌then◌else◌, List, length, take, filter, find, bytes_eq, slice_get, Option, Some, None, is_some, option_map}
 use Rattle.std.specs.List.{list_any, list_all}
 use Rattle.std.specs.Option.{option_or, option_map_or}
@@ -26,7 +26,7 @@ is_scratched_as name cell = is_scratched cell && bytes_eq (name_of cell) name
 abbrev pub chain_of : Disk → Bytes → Blocks
 chain_of image cell = chain_at image (first_pair cell)
 
--- its file isn't lost: a chain of free blocks, as many as the slot shows
+-- the file of a slot isn't lost: there is a chain of free blocks, as many as the slot shows
 abbrev pub is_left : Disk → Bytes → Bool
 is_left image cell =
     nat_lt 0 (length (chain_of image cell))
@@ -36,7 +36,8 @@ is_left image cell =
 abbrev pub is_claimed : Disk → ℕ → ℕ → Bool
 is_claimed image slot block = list_any (λ cell. is_scratched cell && list_any (nat_eq block) (chain_of image cell)) (take slot (slots image))
 
--- the first slot of this name whose file is whole, with no block claimed, else whose file is left
+-- the first scratched slot of this name whose file isn't lost and has no claimed block, else the
+-- first whose file isn't lost; None if all are lost
 unfoldable pub slot_to_undelete : Disk → Bytes → Option ℕ
 slot_to_undelete image name =
     let left = filter (λ slot. is_scratched_as name slot.1 && is_left image slot.1) (numbered_slots (slots image)) in
@@ -55,6 +56,6 @@ undelete_refusal image name kind =
 unfoldable pub disk_with_file_back : Disk → Bytes → Kind → Disk
 disk_with_file_back image name kind = option_map_or (λ slot. undeleted_disk image slot kind) (slot_to_undelete image name) image
 
--- what it shows
+-- what the disk then shows
 unfoldable pub view_with_file_back : Disk → View → Bytes → Kind → View
 view_with_file_back image old name kind = option_map_or (λ slot. undeleted_view image old slot kind) (slot_to_undelete image name) old

@@ -19,8 +19,8 @@ use Rattle.d64_dos.specs.Command.{image_after, refusal_of}
 use Rattle.d64_scratched.specs.Scratched.{losses, is_lost}
 use Rattle.d64_dos.specs.Undelete.{is_scratched_as, chain_of, is_left, is_claimed, slot_to_undelete}
 
--- of two images the second has one file more: in a slot that wasn't used, the one that was left
--- there; and each other file has its slot, its chain and its content
+-- the second image has one file more than the first: the one that was left in a slot that wasn't
+-- used; each other file keeps its slot, its chain and its content
 pub record HasOneFileMore (old new : Disk) (kind : Kind) (slot : ℕ) : Type 0 where
   pub vacant : is_used (cell_at old slot) ≡ false
   pub back : HasFile new slot (file_back old slot kind)
@@ -50,15 +50,15 @@ pub record BringsBack (image : Disk) (delete undelete : Change) : Type 0 where
   pub shows : view (image_after (image_after image delete) undelete) ≡ view image
   pub bytes : image_after (image_after image delete) undelete ≡ with_map image (free_blocks image)
 
--- so it is where patterns delete one such file of a sound disk
+-- if patterns delete one such file of a sound disk, an undeletion brings it back
 abbrev pub UndeletingUndoesDeleting : Type 0
 UndeletingUndoesDeleting =
     (image : Disk) (patterns : List Bytes) (name : Bytes) (kind : Kind) (slot : ℕ)
     → IsImage image → IsSound image → IsWritable kind → scratched_slots image patterns ≡ slot ∷ [] → IsOnlyFileOf image name kind slot
     → BringsBack image (Delete patterns) (Undelete name kind)
 
--- on a sound disk what is left is what the reasons why a file isn't whole leave, and what is whole
--- has no reason
+-- on a sound disk a file is left if and only if the reasons why it isn't whole don't make it lost,
+-- and whole if and only if there are no reasons
 abbrev pub ReasonsDecide : Type 0
 ReasonsDecide =
     (image : Disk) (slot : ℕ) (cell : Bytes)

@@ -112,17 +112,17 @@ pub enum Reply {
 /// image is unchanged, and the patch is empty. A format, a name of the disk and a block write have
 /// no refusal of their own. The others have these, in order:
 ///
-/// - A write `WrongType`, where the kind is DEL or REL; `Directory` with the first condition of a
-///   sound image that fails; `Exists`, where a used slot has exactly the name; `DiskFull`, where
-///   fewer blocks outside track 18 are free than the file takes, or no slot is empty and no block
-///   of track 18 is free.
+/// - A write `WrongType`, if the kind is DEL or REL; `Directory` with the first condition of a
+///   sound image that fails; `Exists`, if a used slot has exactly the name; `DiskFull`, if fewer
+///   blocks outside track 18 are free than the file takes, or no slot is empty and no block of
+///   track 18 is free.
 /// - A deletion `Directory`, as a write.
-/// - The bringing back of a file `WrongType` and `Directory`, as a write; `NotFound`, where no
-///   scratched slot has the name; `Exists`, where a used one has it; `Lost`, where each scratched
-///   slot of the name has lost its file: its way is no chain, or hasn't as many blocks as the slot
-///   shows, or a block of it is owned or marked as used.
-/// - A renaming `Directory`, as a write; `NotFound`, where no used slot has the old name; `Exists`,
-///   where one has the new name, be it the same.
+/// - An undeletion `WrongType` and `Directory`, as a write; `NotFound`, if no scratched slot has
+///   the name; `Exists`, if a used slot has it; `Lost`, if each scratched slot of the name has lost
+///   its file: its way is no chain, or hasn't as many blocks as the slot shows, or a block of it is
+///   owned or marked as used.
+/// - A renaming `Directory`, as a write; `NotFound`, if no used slot has the old name; `Exists`, if
+///   a used slot has the new name, also if that is the old one.
 /// - A validation `Directory` with the first condition that fails of those on the directory, the
 ///   files and their chains.
 ///

@@ -16,20 +16,22 @@ pub fn formatted_disk_lists()
     ensures { FormattedDiskLists }
 {}
 
-/// A deleted file that is brought back on a sound disk is one file more, in a slot that wasn't used;
-/// every other file keeps its slot, its blocks and its content.
+/// On a sound disk an accepted undeletion adds one file, in a slot that wasn't used; every other
+/// file keeps its slot, its blocks and its content.
 pub fn undeleting_adds_one_file()
     ensures { UndeletingAddsOneFile }
 {}
 
-/// Where patterns delete one file of a sound disk, of which no other slot has the name, it is
-/// brought back by that name and its kind, and the disk is the one from before.
+/// If patterns delete one closed file of a sound disk, which isn't locked, has as many blocks as
+/// its slot shows, and is the only one of its name, used or deleted, an undeletion with its name
+/// and its kind brings it back: both commands are accepted, and the disk is the one from before,
+/// but for its map, which is written anew.
 pub fn undeleting_undoes_deleting()
     ensures { UndeletingUndoesDeleting }
 {}
 
-/// Which deleted files of a sound disk are left, and which are whole, is what the reasons say that
-/// `d64_scratched` gives for them.
+/// On a sound disk a deleted file is left, or whole, if and only if the reasons of `d64_scratched`
+/// say so.
 pub fn reasons_decide_what_comes_back()
     ensures { ReasonsDecide }
 {}

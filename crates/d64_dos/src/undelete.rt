@@ -1,4 +1,4 @@
-//! The bringing back of a deleted file: its slot is used again, and its blocks aren't free.
+//! Brings back a deleted file: its slot is used again, and its blocks are no longer free.
 ghost use Rattle.std.specs.Prelude.{◌≡◌, ◌<◌, true, length, find, is_some, option_map, OnOk, IfOk, IfSome};
 ghost use Rattle.std.specs.List.{list_any};
 ghost use Rattle.d64_image.specs.Patch.{IsPatchOf, restored_image};
@@ -63,7 +63,8 @@ fn is_left(scratched: &ScratchedSlots, entry: &Entry, name: &Name) -> bool
     is_scratched_as(entry, name) && !is_lost(&scratched.losses(None, entry))
 }
 
-/// The first scratched slot of a name whose file is whole, or None where there is none.
+/// Returns the first scratched slot of a name whose file is whole, or None if there is no such
+/// slot.
 fn first_whole<'a>(
     directory: &Directory<'a>,
     scratched: &ScratchedSlots,
@@ -79,7 +80,8 @@ fn first_whole<'a>(
     None
 }
 
-/// The first scratched slot of a name whose file isn't lost, or None where there is none.
+/// Returns the first scratched slot of a name whose file isn't lost, or None if there is no such
+/// slot.
 fn first_left<'a>(
     directory: &Directory<'a>,
     scratched: &ScratchedSlots,
@@ -95,7 +97,8 @@ fn first_left<'a>(
     None
 }
 
-/// The entry of the deleted file that comes back, or None where each is lost.
+/// Returns the entry of the deleted file that comes back, or None if all files of the name are
+/// lost.
 fn entry_back<'a>(
     directory: &Directory<'a>,
     scratched: &ScratchedSlots,
@@ -109,7 +112,7 @@ fn entry_back<'a>(
     }
 }
 
-/// Takes blocks out of the free ones.
+/// Removes blocks from the free ones.
 fn remove_all(free: &mut BlockSet, blocks: &[BlockNo])
     ensures { free.new ≡ blocks_without free.old blocks.now }
 {
@@ -118,7 +121,7 @@ fn remove_all(free: &mut BlockSet, blocks: &[BlockNo])
     }
 }
 
-/// The blocks that are free without those of an entry's way.
+/// Returns the free blocks without those on the way from an entry's first block.
 fn free_without(image: &Image, entry: &Entry) -> BlockSet
     ensures { result ≡ blocks_without (free_blocks image.now) (scratched_way image.now entry.now.bytes).0 }
 {
@@ -130,10 +133,8 @@ fn free_without(image: &Image, entry: &Entry) -> BlockSet
     free
 }
 
-/// The deleted file of a name that comes back: the first that is whole, else the first that isn't
-/// lost. None where each is lost.
-///
-/// The caller knows that the disk is sound.
+/// Returns the deleted file of a name that comes back: the first that is whole, else the first that
+/// isn't lost. None if all are lost. The disk must be sound.
 fn find_restorable(directory: &Directory, name: &Name) -> Option<Restorable>
     requires { AllHold directory.now 1 6 }
     ensures slot { option_map (λ found. found.slot) result ≡ slot_to_undelete directory.now name.now }
@@ -149,8 +150,8 @@ fn find_restorable(directory: &Directory, name: &Name) -> Option<Restorable>
     }
 }
 
-/// The deleted file that comes back, or the first refusal that applies. The caller may know that the
-/// disk is sound.
+/// Returns the deleted file that comes back; the error is the first refusal that applies.
+/// `is_sound` may be true only if the disk is sound.
 #[tactic(auto, unfolding(crate::specs::Undelete::undelete_refusal))]
 fn file_to_restore(
     image: &Image,
@@ -179,16 +180,17 @@ fn file_to_restore(
     }
 }
 
-/// Brings back a deleted file of exactly this name: of the scratched slots of the name the first
-/// whose file is whole, else the first whose file isn't lost, is used again, by a closed file of this
-/// kind, and the blocks of its way aren't free. No other byte changes. It takes memory for nothing
-/// but the patch.
+/// Brings back a deleted file of exactly this name. It takes the first scratched slot of the name
+/// whose file is whole, else the first whose file isn't lost: the slot gets a closed file of this
+/// kind, and the blocks on its way are no longer free. No other byte changes. Only the patch takes
+/// memory.
 ///
-/// The first refusal that applies is answered: `WrongType` where the kind is DEL or REL, `Directory`
-/// with the first condition of a sound image that fails, `NotFound` where no scratched slot has the
-/// name, `Exists` where a used one has it, and `Lost` where each file is lost. `Memory` comes only
-/// where none does. After a refusal some blocks may be written; the image with the patch put back
-/// stays the same in any case. The caller may know that the disk is sound. Apart, as `scratch` is.
+/// The error is the first refusal that applies: `WrongType` if the kind is DEL or REL, `Directory`
+/// with the first condition of a sound image that fails, `NotFound` if no scratched slot has the
+/// name, `Exists` if a used slot has it, and `Lost` if all files of the name are lost. `Memory`
+/// comes only if no other refusal applies. After an error some blocks may be written; what the
+/// image is with the patch put back stays the same in any case. `is_sound` may be true only if the
+/// disk is sound. It is not inlined, as `scratch` is not.
 #[inline(never)]
 #[tactic(auto, unfolding(crate::specs::Undelete::disk_with_file_back, d64_effects::specs::Undelete::undeleted_disk))]
 pub(crate) fn undelete(

@@ -76,8 +76,8 @@ pub fn clear_slot(image: &mut Image, patch: &mut Patch, slot: SlotNo) -> Result<
 /// byte becomes $80 and the kind's number. The rest of its entry stays, and so does every other byte
 /// of the image.
 ///
-/// Refused where there is no memory to keep the bytes of the slot's block; then the image stays.
-/// The caller knows that the directory has that slot.
+/// An error comes if there is no memory to keep the bytes of the slot's block; then the image is
+/// unchanged. The directory must have that slot.
 #[tactic(auto, unfolding(crate::specs::Clearing::with_type))]
 pub fn set_type(
     image: &mut Image,

@@ -33,7 +33,7 @@ has_entry file entry offset h is =
     ap (λ (x : ℕ). not (nat_eq x 0) && leb (x + 2) (length file)) is
     ∙ sym (ap (λ (b : Bool). b && not (offset_of file entry == 0) && leb (offset_of file entry + 2) (length file)) (lt-ltb entry (entries file) h))
 
--- where its length stands, its entry and its length are there
+-- if the file has the track, its entry and its length are there
 pub there : (file : List ℕ) (entry : ℕ) → true ≡ has_track file entry → (entry < entries file) × (offset_of file entry + 2 ≤ length file)
 unfolding has_track
 there file entry h =

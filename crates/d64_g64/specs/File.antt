@@ -23,7 +23,7 @@ entries file = slice_index file 9
 unfoldable pub is_g64 : Bytes → Bool
 is_g64 file = nat_le 12 (length file) && (slice_index file 8 == 0) && nat_le (12 + 8 * entries file) (length file)
 
--- where the length of an entry's track stands, from 0
+-- the place of the length of an entry's track, from 0
 unfoldable pub offset_of : Bytes → ℕ → ℕ
 offset_of file entry = number_of_four file (12 + 4 * entry)
 
@@ -37,7 +37,7 @@ has_track file entry =
 abbrev pub padded : Bytes → ℕ → ℕ → Bytes
 padded file place count = take count (drop place file) ++ replicate (count - (length file - place)) 0
 
--- the bytes of an entry's track; no bytes where there is no such track
+-- the bytes of an entry's track; empty if there is no such track
 unfoldable pub entry_bytes : Bytes → ℕ → Bytes
 entry_bytes file entry =
     if has_track file entry

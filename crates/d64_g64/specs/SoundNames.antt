@@ -16,7 +16,7 @@ is_sound_header id track pair = is_value (value_at track pair.0 0) 8 && (header_
 abbrev pub name_of : Bytes → ℕ × ℕ → ℕ × ℕ
 name_of track pair = (value_or_zero (value_at track pair.0 3), value_or_zero (value_at track pair.0 2))
 
--- those of these pairs of starts
+-- the tracks and sectors that the headers among these pairs of starts name, if their code is 1
 unfoldable pub names_by : Option (ℕ × ℕ) → Bytes → List (ℕ × ℕ) → List (ℕ × ℕ)
 names_by id track pairs = map (name_of track) (filter (is_sound_header id track) pairs)
 
@@ -24,7 +24,7 @@ names_by id track pairs = map (name_of track) (filter (is_sound_header id track)
 abbrev pub is_read_as_g64 : Bytes → Bool
 is_read_as_g64 file = not (is_some (image_bytes (length file))) && (begins_as_g64 file && is_g64 file)
 
--- those on the track of an entry, whole or half, by the file's own id; none where the file is no G64
+-- those on the track of an entry, whole or half, by the file's own id; empty if the file is no G64
 unfoldable pub names_on : Bytes → ℕ → List (ℕ × ℕ)
 names_on file entry =
     if is_read_as_g64 file then names_by (id_in file) (entry_bytes file entry) (start_pairs (entry_bytes file entry)) else []

@@ -29,7 +29,7 @@ fn number_of_two(file: &[u8], place: usize) -> usize
     usize::from(file[place]) + 256 * usize::from(file[place + 1])
 }
 
-/// Where the length of an entry's track stands, from 0.
+/// The place of the length of an entry's track, from 0.
 #[tactic(auto, unfolding(crate::specs::File::offset_of))]
 fn offset_of(file: &[u8], entry: u8) -> usize
     requires { 12 + 4 * entry + 4 ≤ length file.now }
@@ -75,8 +75,8 @@ fn copy_padded(
     copy.resize(count, 0)
 }
 
-/// Copies the bytes of an entry's track, none where the file has no such track. Entries count from
-/// 0: entry 0 is track 1, entry 1 the half track behind it.
+/// Copies the bytes of an entry's track, or no bytes if the file has no such track. Entries count
+/// from 0: entry 0 is track 1, entry 1 the half track behind it.
 pub(crate) fn copy_entry(copy: &mut Vec<u8>, file: &[u8], entry: u8) -> Result<(), AllocError>
     requires file { is_g64 file.now ≡ true }
     ensures copied { OnOk result (copy.new.items ≡ entry_bytes file.now entry) }

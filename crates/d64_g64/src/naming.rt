@@ -28,7 +28,7 @@ fn is_sound_header(track: &[u8], start: usize, next: usize, id: Option<Id>) -> b
     is_value(value_at(track, start, 0), 8) && read_behind(track, start, next, id, &mut block) == 1
 }
 
-/// Adds the track and the sector that a header names, where its code is 1.
+/// Appends the track and the sector that a header names, if its code is 1.
 #[tactic(auto, unfolding(crate::specs::SoundNames::names_by))]
 fn add_name(
     names: &mut Vec<(u8, u8)>,
@@ -51,7 +51,7 @@ fn add_name(
     Ok(())
 }
 
-/// Adds the tracks and the sectors that the headers of a track with code 1 name.
+/// Appends the tracks and the sectors that the headers of a track with code 1 name.
 fn add_names(
     names: &mut Vec<(u8, u8)>,
     track: &[u8],
@@ -70,7 +70,7 @@ fn add_names(
     Ok(())
 }
 
-/// Adds those of an entry of a G64.
+/// Appends those on the track of an entry of a G64.
 fn add_entry(
     names: &mut Vec<(u8, u8)>,
     file: &[u8],
@@ -93,9 +93,9 @@ fn is_read_as_g64(file: &[u8]) -> bool
     !is_d64_length(file.len()) && begins_as_g64(file) && is_g64(file)
 }
 
-/// Lists the tracks and the sectors that the headers with code 1 on an entry of a G64 name, whole
-/// track or half track, in the place of what the list had. Entries count from 0: entry 0 is track
-/// 1, entry 1 track 1.5. There are no names where the file is no G64.
+/// Replaces a list by the tracks and the sectors that the headers with code 1 on an entry of a G64
+/// name, a whole track or a half track. Entries count from 0: entry 0 is track 1, entry 1 track
+/// 1.5. The list is empty if the file is no G64.
 #[tactic(auto, unfolding(crate::specs::SoundNames::names_on))]
 pub fn list_names_on(
     alloc: Global,

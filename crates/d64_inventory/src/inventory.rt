@@ -129,8 +129,9 @@ impl<'a> Inventory<'a> {
         }
     }
 
-    /// What is told of the content along the way from a track and a sector, or None if that isn't a
-    /// whole chain. It is digested only where what is told of it isn't kept for its first block.
+    /// Returns the length and the digest of the content along the way from a track and a sector, or
+    /// None if that way isn't a whole chain. The digest is computed only if it isn't kept for the
+    /// way's first block.
     pub fn content_along(&mut self, track: u8, sector: u8) -> Option<Content>
         ensures content { result ≡ digested_along self.old.image (way self.old.image (track, sector)) }
         ensures same { self.new ≡ self.old }

@@ -20,8 +20,8 @@ abbrev pub is_deleted : Row → Bool
 is_deleted (File row) = false
 is_deleted (Deleted row) = true
 
--- the row of a numbered slot of a dump: that of its file, where it is used, and that of a deleted
--- one, where it is scratched; none where that isn't wanted
+-- the row of a numbered slot of a dump: that of its file if the slot is used, and that of a deleted
+-- file if it is scratched; None if it is neither, or such rows aren't wanted
 abbrev pub row_of_slot : Selection → DumpView → ℕ × Bytes → Option Row
 row_of_slot wanted dump slot =
     if is_used slot.1 then (if wanted.files then Some (File (row_of dump slot)) else None)
@@ -35,6 +35,6 @@ rows_among wanted dump slots = filter_map (row_of_slot wanted dump) slots
 unfoldable pub rows : Selection → DumpView → List Row
 rows wanted dump = rows_among wanted dump (numbered_slots (way_slots dump.image))
 
--- where files alone are wanted, these are the rows of the inventory
+-- if files alone are wanted, the rows are those of the inventory
 abbrev pub FilesAloneAreTheInventory : Type 0
 FilesAloneAreTheInventory = (dump : DumpView) → rows (record { files = true; deleted = false }) dump ≡ map File (file_rows dump)

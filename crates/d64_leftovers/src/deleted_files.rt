@@ -13,7 +13,8 @@ use d64_scratched::ScratchedSlots;
 use d64_survey::{Inspection, Survey, code_of, is_read_error, walk};
 use std::marker::Model;
 
-/// What must be known of a dump to tell of its deleted files. It takes no memory of its own.
+/// A dump that was inspected, with its scratched slots, as the rows of deleted files need it. It
+/// takes no memory of its own.
 ///
 /// In clauses it is the dump itself.
 #[derive(Drop)]
@@ -33,7 +34,7 @@ impl<'a> Model for DeletedFiles<'a> {
     ghost invariant = { λ files. files.slots ≡ files.inspection.now.image };
 }
 
-/// The field of the name.
+/// Returns the field of an entry's name.
 fn field_of(entry: &Entry) -> [u8; 16]
     ensures { result ≡ field_of entry.now.bytes }
 {
@@ -42,7 +43,7 @@ fn field_of(entry: &Entry) -> [u8; 16]
     field
 }
 
-/// How many of the blocks have a read error.
+/// Returns how many of the blocks have a read error.
 fn unreadable_count(codes: Option<&[u8]>, blocks: &[BlockNo]) -> usize
     ensures { result ≡ unreadable_count (option_map (λ codes. codes.now) codes.entry) blocks.now }
 {
@@ -52,7 +53,7 @@ fn unreadable_count(codes: Option<&[u8]>, blocks: &[BlockNo]) -> usize
         .count()
 }
 
-/// The first of the blocks that has an owner.
+/// Returns the first of the blocks that has an owner, or None if no block has one.
 fn first_owned(survey: &Survey, blocks: &[BlockNo]) -> Option<BlockNo>
     ensures { result ≡ find (is_owned survey.now) blocks.now }
 {
@@ -60,7 +61,7 @@ fn first_owned(survey: &Survey, blocks: &[BlockNo]) -> Option<BlockNo>
 }
 
 impl<'a> DeletedFiles<'a> {
-    /// What must be known of a dump that was inspected. It walks the way of each scratched slot
+    /// Finds the scratched slots of a dump that was inspected. It walks the way of each of them
     /// once.
     pub(crate) fn of(inspection: &'a Inspection<'a>) -> DeletedFiles<'a>
         ensures { result ≡ inspection.now }
@@ -71,8 +72,8 @@ impl<'a> DeletedFiles<'a> {
         }
     }
 
-    /// What is told of a scratched slot of the dump's image, and of the file that was deleted there,
-    /// with the digests that the inventory of the dump keeps. It walks the way three times at most.
+    /// Returns the row of a scratched slot of the dump's image, with the digests that the inventory
+    /// of the dump keeps. It walks the way of the slot at most three times.
     pub(crate) fn row(&self, inventory: &mut Inventory, entry: &Entry) -> DeletedRow
         requires { inventory.old ≡ self.now }
         ensures row { result ≡ deleted_row self.now (entry.now.slot, entry.now.bytes) }

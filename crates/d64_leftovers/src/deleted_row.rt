@@ -1,4 +1,4 @@
-//! The row of a scratched slot: all that is told of a deleted file.
+//! `DeletedRow`: the row of a scratched slot, with what the dump still has of a deleted file.
 
 use arrayvec::ArrayVec;
 use d64_image::BlockNo;
@@ -6,23 +6,23 @@ use d64_inventory::Content;
 use d64_scratched::{LOSSES, Loss};
 use std::marker::Model;
 
-/// What is told of a scratched slot of the directory's way, and of the file that was deleted there.
+/// The row of a scratched slot of the directory's way, and of the file that was deleted there.
 #[derive(Debug, Drop)]
 pub struct DeletedRow {
     /// The number of the slot, from 0 along the directory's way.
     pub slot: usize,
-    /// The field of the name: the name, then a shifted space ($A0) where it is shorter than 16
-    /// bytes.
+    /// The field of the name: the name, then a shifted space ($A0) if it is shorter than 16 bytes.
     pub field: [u8; 16],
     /// The size that the slot still shows, in blocks.
     pub size: u16,
-    /// The track and the sector of the first block, as they stand in the slot.
+    /// The track and the sector of the first block, as the slot has them.
     pub first: (u8, u8),
     /// How many blocks the way from there has.
     pub blocks: usize,
-    /// None if the way isn't a whole chain.
+    /// How many bytes the content along the way has, and their digest. None if the way isn't a
+    /// whole chain.
     pub content: Option<Content>,
-    /// Why the file isn't whole.
+    /// Why the file isn't whole; empty if it is.
     pub losses: ArrayVec<Loss, LOSSES>,
     /// The first block of the way that has an owner, if one has.
     pub reused: Option<BlockNo>,

@@ -1,16 +1,16 @@
-//! `Row`: what is told of a file that is there, or of a deleted one.
+//! `Row`: the row of a file that is there, or of a deleted one.
 ghost use Rattle.std.specs.Prelude.{◌≡◌};
 ghost use Rattle.d64_leftovers.specs.Rows.{is_deleted};
 
 use crate::deleted_row::DeletedRow;
 use d64_inventory::FileRow;
 
-/// What is told of a file.
+/// The row of a file, which is there or was deleted.
 #[derive(Debug, Drop)]
 pub enum Row {
-    /// Of the file of a used slot.
+    /// The row of the file of a used slot.
     File(FileRow),
-    /// Of the deleted file of a scratched slot.
+    /// The row of the deleted file of a scratched slot.
     Deleted(DeletedRow),
 }
 

@@ -1,8 +1,7 @@
 //! Laws of rows: each function's contract is a law, and its body is empty.
 ghost use Rattle.d64_leftovers.specs.Rows.{FilesAloneAreTheInventory};
 
-/// Where files alone are wanted, the rows are those of the inventory: who asks for nothing that is
-/// left over gets what there was without that.
+/// If files alone are wanted, the rows are those of the inventory, in the same order.
 pub fn files_alone_are_the_inventory()
     ensures { FilesAloneAreTheInventory }
 {}

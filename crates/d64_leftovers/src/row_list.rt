@@ -18,8 +18,9 @@ struct Found {
     next: usize,
 }
 
-/// The rows of a dump that are left of a walk along its slots, in the order of the slots. It takes
-/// no memory.
+/// An iterator over the wanted rows of a dump, in the order of the slots. It takes no memory.
+///
+/// In clauses it is the list of the rows that are left.
 #[derive(Drop)]
 pub struct RowList<'a> {
     source: Source<'a>,
@@ -37,7 +38,7 @@ impl<'a> Model for RowList<'a> {
     ghost view = { λ list. rows_from list.source list.place };
 }
 
-/// The first row from a place on, or None if no slot from there on has one.
+/// Returns the first row from a place on, or None if no slot from there on has one.
 fn first_from(source: &mut Source, place: usize) -> Option<Found>
     ensures found { MatchOption result (rows_from source.old place ≡ []) (λ found. rows_from source.old place ≡ found.row ∷ rows_from source.old found.next) }
     ensures same { source.new ≡ source.old }
@@ -52,7 +53,7 @@ fn first_from(source: &mut Source, place: usize) -> Option<Found>
 }
 
 impl<'a> RowList<'a> {
-    /// The rows of a dump that was inspected, of which these are wanted.
+    /// Returns the wanted rows of a dump that was inspected.
     pub fn of(inspection: &'a Inspection<'a>, wanted: Selection) -> RowList<'a>
         ensures { result ≡ rows wanted inspection.now }
     {

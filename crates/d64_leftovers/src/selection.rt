@@ -3,8 +3,8 @@
 /// Which rows of a dump are wanted.
 #[derive(Clone, Copy, Debug, PartialEq, Eq)]
 pub struct Selection {
-    /// Those of the files of used slots.
+    /// Whether those of the files of used slots are wanted.
     pub files: bool,
-    /// Those of the deleted files of scratched slots.
+    /// Whether those of the deleted files of scratched slots are wanted.
     pub deleted: bool,
 }

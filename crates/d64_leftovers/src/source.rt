@@ -1,4 +1,4 @@
-//! What the rows of a dump are made of.
+//! `Source`: a dump, from which the wanted rows are made.
 ghost use Rattle.std.specs.Prelude.{◌≡◌, true, Some, None, length, if◌then◌else◌, ◌&&◌};
 ghost use Rattle.d64_files.specs.Slot.{is_used};
 ghost use Rattle.d64_survey.specs.Owners.{way_slots};
@@ -19,7 +19,7 @@ use d64_scratched::is_scratched;
 use d64_survey::Inspection;
 use std::marker::Model;
 
-/// What the rows of a dump are made of.
+/// A dump that was inspected, with what its wanted rows need.
 ///
 /// In clauses it is the dump, and which rows are wanted.
 #[derive(Drop)]
@@ -47,7 +47,7 @@ impl<'a> Model for Source<'a> {
 }
 
 impl<'a> Source<'a> {
-    /// What the wanted rows of a dump are made of.
+    /// Prepares a dump that was inspected for its wanted rows.
     pub(crate) fn of(inspection: &'a Inspection<'a>, wanted: Selection) -> Source<'a>
         ensures { result ≡ record { dump = inspection.now; wanted = wanted } }
     {
@@ -64,14 +64,14 @@ impl<'a> Source<'a> {
         }
     }
 
-    /// How many slots the directory's way has.
+    /// Returns how many slots the directory's way has.
     pub(crate) fn slot_count(&self) -> usize
         ensures { result ≡ length (way_slots self.now.dump.image) }
     {
         self.inventory.slot_count()
     }
 
-    /// The row of the file of a used slot, if files are wanted.
+    /// Returns the row of the file of a used slot, or None if files aren't wanted.
     fn file_row(&mut self, entry: &Entry) -> Option<Row>
         requires slot { slot_cell self.old.dump.image entry.now.slot ≡ Some entry.now.bytes }
         requires used { is_used entry.now.bytes ≡ true }
@@ -87,8 +87,8 @@ impl<'a> Source<'a> {
         }
     }
 
-    /// The row of the deleted file of a slot that isn't used, if deleted files are wanted, and the
-    /// slot is scratched.
+    /// Returns the row of the deleted file of a slot that isn't used, or None if deleted files
+    /// aren't wanted, or the slot isn't scratched.
     fn deleted_row(&mut self, entry: &Entry) -> Option<Row>
         ensures row { result ≡ (if self.old.wanted.deleted && is_scratched entry.now.bytes then Some (Deleted (deleted_row self.old.dump (entry.now.slot, entry.now.bytes))) else None) }
         ensures same { self.new ≡ self.old }
@@ -105,7 +105,7 @@ impl<'a> Source<'a> {
         }
     }
 
-    /// The row of an entry of the dump's image, or None if that isn't wanted.
+    /// Returns the row of an entry of the dump's image, or None if it has no row that is wanted.
     fn row_of_entry(&mut self, entry: &Entry) -> Option<Row>
         requires { slot_cell self.old.dump.image entry.now.slot ≡ Some entry.now.bytes }
         ensures row { result ≡ row_of_slot self.old.wanted self.old.dump (entry.now.slot, entry.now.bytes) }
@@ -118,7 +118,8 @@ impl<'a> Source<'a> {
         }
     }
 
-    /// The row of a slot, or None if the directory's way has no such slot, or its row isn't wanted.
+    /// Returns the row of a slot, or None if the directory's way has no such slot, or the slot has
+    /// no row that is wanted.
     pub(crate) fn row(&mut self, slot: SlotNo) -> Option<Row>
         ensures row { result ≡ row_at self.old slot }
         ensures same { self.new ≡ self.old }

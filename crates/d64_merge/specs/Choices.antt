@@ -72,7 +72,7 @@ code_in block dump = option_map_or (λ (dump : DumpView). code_of dump.codes blo
 abbrev pub merged_code : Outcome → ℕ → List DumpView → ℕ
 merged_code outcome block dumps = code_in block (dump_at dumps (code_source outcome block dumps))
 
--- all of it
+-- what a merge makes of a block
 unfoldable pub choice : Preference → List DumpView → ℕ → Choice
 choice preference dumps block =
     let became = outcome preference block dumps in

@@ -19,11 +19,11 @@ has_40_tracks dump = tracks_of (length dump.image) == 40
 abbrev pub merged_tracks : List DumpView → ℕ
 merged_tracks dumps = if list_any has_40_tracks dumps then 40 else 35
 
--- and how many blocks
+-- how many blocks the merged dump has
 abbrev pub block_count : List DumpView → ℕ
 block_count dumps = count_of_tracks (merged_tracks dumps)
 
--- what becomes of its blocks, in their order
+-- what becomes of the merged dump's blocks, in their order
 unfoldable pub choices : Preference → List DumpView → List Choice
 choices preference dumps = map (choice preference dumps) (range_with_len 0 (block_count dumps))
 
@@ -37,11 +37,11 @@ is_outcome First First = true
 is_outcome Conflict Conflict = true
 is_outcome one other = false
 
--- of how many blocks this became
+-- how many blocks have this outcome
 abbrev pub count_of : Outcome → List Choice → ℕ
 count_of outcome list = count_by (λ (choice : Choice). is_outcome outcome choice.outcome) list
 
--- the bytes of the copy that is taken of a block; no bytes where no copy is
+-- the bytes of the copy that is taken of a block; empty if no copy is taken
 abbrev pub taken_bytes : List DumpView → Choice → Bytes
 taken_bytes dumps choice = option_map_or (λ (dump : DumpView). sector_at dump.image choice.block) (dump_at dumps choice.source) []
 
@@ -61,10 +61,10 @@ keeps_codes plain dumps = not plain && list_any has_codes dumps
 unfoldable pub dump_by : Bool → List DumpView → List Choice → DumpView
 dump_by with_codes dumps list = record { image = merged_image dumps list; codes = if with_codes then Some (merged_codes list) else None }
 
--- the dump that they make; none if there is a conflict
+-- the dump that they make; None if there is a conflict
 unfoldable pub dump_of_choices : Bool → List DumpView → List Choice → Option DumpView
 dump_of_choices with_codes dumps list = if count_of Conflict list == 0 then Some (dump_by with_codes dumps list) else None
 
--- the dump that a merge makes; none if there is a conflict
+-- the dump that a merge makes; None if there is a conflict
 abbrev pub merged : Preference → Bool → List DumpView → Option DumpView
 merged preference plain dumps = dump_of_choices (keeps_codes plain dumps) dumps (choices preference dumps)

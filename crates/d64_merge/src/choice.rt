@@ -17,25 +17,26 @@ pub struct Choice {
     pub outcome: Outcome,
     /// The place, from 0, of the dump whose bytes are taken, or None in a conflict.
     pub source: Option<usize>,
-    /// The read code that it gets. Where the copy that is taken has none, it is 0: not known.
+    /// The read code that it gets; 0, not known, if the copy that is taken has no code.
     pub code: u8,
 }
 
-/// The place of the first dump with a copy of a block that more than half agree with.
+/// Returns the place of the first dump whose copy of a block is equal to more than half of the good
+/// copies.
 fn first_winner(dumps: &[Dump], block: BlockNo) -> Option<usize>
     ensures { result ≡ position (wins block dumps.now) dumps.now }
 {
     dumps.iter().position(|dump| wins(dumps, dump, block))
 }
 
-/// The place of the first dump that had a bad checksum at a block.
+/// Returns the place of the first dump that had a bad checksum at a block.
 fn first_bad_checksum(dumps: &[Dump], block: BlockNo) -> Option<usize>
     ensures { result ≡ position (has_bad_checksum block) dumps.now }
 {
     dumps.iter().position(|dump| has_bad_checksum(dump, block))
 }
 
-/// The place of the first dump that has a block.
+/// Returns the place of the first dump that has a block.
 fn first_there(dumps: &[Dump], block: BlockNo) -> Option<usize>
     ensures { result ≡ position (has_block block) dumps.now }
 {
@@ -49,14 +50,14 @@ pub(crate) fn has_codes(dump: &Dump) -> bool
     dump.codes().is_some()
 }
 
-/// The place of the first dump that has read codes.
+/// Returns the place of the first dump that has read codes.
 fn first_with_codes(dumps: &[Dump]) -> Option<usize>
     ensures { result ≡ position has_codes dumps.now }
 {
     dumps.iter().position(|dump| has_codes(dump))
 }
 
-/// The place of the dump whose copy of a block is taken.
+/// Returns the place of the dump whose copy of a block is taken, or None in a conflict.
 #[tactic(auto, unfolding(crate::specs::Choices::source))]
 fn source_of(outcome: Outcome, dumps: &[Dump], block: BlockNo) -> Option<usize>
     ensures { result ≡ source outcome block dumps.now }
@@ -72,7 +73,7 @@ fn source_of(outcome: Outcome, dumps: &[Dump], block: BlockNo) -> Option<usize>
     }
 }
 
-/// The place of the dump whose read code a block gets.
+/// Returns the place of the dump whose read code a block gets.
 #[tactic(auto, unfolding(crate::specs::Choices::code_source))]
 fn code_source(outcome: Outcome, dumps: &[Dump], block: BlockNo) -> Option<usize>
     ensures { result ≡ code_source outcome block dumps.now }
@@ -84,7 +85,7 @@ fn code_source(outcome: Outcome, dumps: &[Dump], block: BlockNo) -> Option<usize
     }
 }
 
-/// The read code of a block in a dump, and 0 where there is no dump.
+/// Returns the read code of a block in a dump, or 0 if there is no dump.
 fn code_in(dump: Option<&Dump>, block: BlockNo) -> u8
     ensures { result ≡ code_in block (option_map (λ dump. dump.now) dump.entry) }
 {
@@ -94,14 +95,14 @@ fn code_in(dump: Option<&Dump>, block: BlockNo) -> u8
     }
 }
 
-/// The read code that a block gets.
+/// Returns the read code that a block gets.
 fn merged_code(outcome: Outcome, dumps: &[Dump], block: BlockNo) -> u8
     ensures { result ≡ merged_code outcome block dumps.now }
 {
     code_in(dump_at(dumps, code_source(outcome, dumps, block)), block)
 }
 
-/// What a merge makes of a block.
+/// Returns what a merge makes of a block.
 #[tactic(auto, unfolding(crate::specs::Choices::choice))]
 pub fn choose(preference: Preference, dumps: &[Dump], block: BlockNo) -> Choice
     ensures { result ≡ choice preference dumps.now block }

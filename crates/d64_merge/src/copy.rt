@@ -12,7 +12,8 @@ pub fn has_block(dump: &Dump, block: BlockNo) -> bool
     dump.image().holds(block)
 }
 
-/// The read code of a dump's copy of a block, or None where the dump has no codes or not the block.
+/// Returns the read code of a dump's copy of a block, or None if the dump has no codes or hasn't
+/// the block.
 pub fn known_code(dump: &Dump, block: BlockNo) -> Option<u8>
     ensures { result ≡ known_code block dump.now }
 {
@@ -22,14 +23,14 @@ pub fn known_code(dump: &Dump, block: BlockNo) -> Option<u8>
     }
 }
 
-/// Whether a dump has a block, and no read codes or a good one for it.
+/// Whether a dump has a block, and no read error for it.
 pub(crate) fn is_good(dump: &Dump, block: BlockNo) -> bool
     ensures { result ≡ is_good block dump.now }
 {
     has_block(dump, block) && !is_read_error(code_of(dump.codes(), block))
 }
 
-/// Whether a block's checksum was wrong where the dump was read: its read code is 5.
+/// Whether a block's checksum was wrong when the dump was read: its read code is 5.
 pub(crate) fn has_bad_checksum(dump: &Dump, block: BlockNo) -> bool
     ensures { result ≡ has_bad_checksum block dump.now }
 {
@@ -48,7 +49,7 @@ fn agree(one: &Dump, other: &Dump, block: BlockNo) -> bool
         && other.image().has_bytes(block, one.image().sector(block))
 }
 
-/// How many dumps have a good copy of a block.
+/// Returns how many dumps have a good copy of a block.
 pub(crate) fn good_count(dumps: &[Dump], block: BlockNo) -> usize
     ensures count { result ≡ good_count block dumps.now }
     ensures few { result ≤ length dumps.now }
@@ -56,7 +57,7 @@ pub(crate) fn good_count(dumps: &[Dump], block: BlockNo) -> usize
     dumps.iter().filter(|dump| is_good(dump, block)).count()
 }
 
-/// How many good copies of a block are equal to that of a dump; 0 where that isn't good.
+/// Returns how many good copies of a block are equal to that of a dump, or 0 if that isn't good.
 pub(crate) fn votes(dumps: &[Dump], dump: &Dump, block: BlockNo) -> usize
     ensures count { result ≡ votes block dumps.now dump.now }
     ensures few { result ≤ length dumps.now }

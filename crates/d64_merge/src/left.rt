@@ -1,4 +1,5 @@
-//! What G64 files hold on tracks that the merged dump hasn't, and it lacks.
+//! The tracks of G64 files that the merged dump hasn't, and on which there are blocks that it
+//! lacks.
 ghost use Rattle.std.specs.Prelude.{◌≡◌, ◌∷◌, ◌++◌, [], if◌then◌else◌, map, IfOk, OnOk};
 ghost use Rattle.d64_merge.specs.Left.{is_whole_track, is_missing, holds_missing, is_left, left};
 
@@ -12,14 +13,15 @@ use std::alloc::{AllocError, Global};
 /// The entry after the last one that a G64 can have.
 const END_OF_ENTRIES: u8 = 255;
 
-/// Whether an entry of a G64 is a whole track of a disk of so many tracks.
+/// Whether an entry of a G64 is a whole track of a disk with this many tracks.
 fn is_whole_track(tracks: u8, entry: u8) -> bool
     ensures { result ≡ is_whole_track tracks entry }
 {
     entry % 2 == 0 && entry / 2 < tracks
 }
 
-/// Whether a block was lost, or the merged dump hasn't it, by its track and sector.
+/// Whether a block was lost, or the merged dump hasn't it, by its track and sector. A pair that no
+/// disk has is missing, too.
 fn is_missing(list: &[Choice], track: u8, sector: u8) -> bool
     ensures { result ≡ is_missing list.now (track, sector) }
 {
@@ -46,7 +48,7 @@ fn holds_missing(
     Ok(names.iter().any(|pair| is_missing(list, pair.0, pair.1)))
 }
 
-/// Whether an entry is none of the merged dump's tracks, and one of the files holds such a block
+/// Whether an entry is not a track of the merged dump, and one of the files holds such a block
 /// there.
 fn is_left(
     alloc: Global,
@@ -69,7 +71,7 @@ fn is_left(
     Ok(is_one)
 }
 
-/// Adds an entry to a list if it is to be added.
+/// Appends an entry to a list if `is_added` is true.
 fn push_if(entries: &mut Vec<u8>, entry: u8, is_added: bool) -> Result<(), AllocError>
     ensures { OnOk result (entries.new.items ≡ entries.old.items ++ (if is_added then entry ∷ [] else [])) }
 {
@@ -80,9 +82,9 @@ fn push_if(entries: &mut Vec<u8>, entry: u8, is_added: bool) -> Result<(), Alloc
     Ok(())
 }
 
-/// Lists the entries of G64 files that are no whole tracks of the merged dump and hold a block
-/// that was lost or that the dump hasn't, rising: their numbers from 0, of which 0 is track 1 and
-/// 1 track 1.5. Files that are no G64 have no entries.
+/// Lists the entries of G64 files that are not whole tracks of the merged dump and hold a block
+/// that was lost or that the dump hasn't. The numbers count from 0, ascending: 0 is track 1, 1 is
+/// track 1.5. A file that is no G64 has no entries.
 #[tactic(auto, unfolding(crate::specs::Left::left))]
 pub fn list_left(
     alloc: Global,

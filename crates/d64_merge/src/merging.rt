@@ -22,21 +22,21 @@ fn has_40_tracks(dump: &Dump) -> bool
     dump.image().tracks() == 40
 }
 
-/// Whether one of the dumps has.
+/// Whether one of the dumps has 40 tracks.
 fn any_has_40_tracks(dumps: &[Dump]) -> bool
     ensures { result ≡ list_any has_40_tracks dumps.now }
 {
     dumps.iter().any(|dump| has_40_tracks(dump))
 }
 
-/// How many tracks the merged dump has: 40 where one of the dumps has, else 35.
+/// Returns how many tracks the merged dump has: 40 if one of the dumps has 40, else 35.
 pub fn merged_tracks(dumps: &[Dump]) -> u8
     ensures { result ≡ merged_tracks dumps.now }
 {
     if any_has_40_tracks(dumps) { 40 } else { 35 }
 }
 
-/// How many blocks the merged dump has.
+/// Returns how many blocks the merged dump has.
 fn block_count(dumps: &[Dump]) -> usize
     ensures { result ≡ block_count dumps.now }
 {
@@ -47,7 +47,7 @@ fn block_count(dumps: &[Dump]) -> usize
     }
 }
 
-/// What becomes of each block, in their order.
+/// Lists what becomes of each block of the merged dump, in their order.
 #[tactic(auto, unfolding(crate::specs::Merged::choices))]
 pub fn choices(
     alloc: Global,
@@ -73,7 +73,7 @@ pub fn is_outcome(one: Outcome, other: Outcome) -> bool
     one == other
 }
 
-/// Of how many blocks this became.
+/// Returns how many blocks have this outcome.
 pub fn count_of(outcome: Outcome, list: &[Choice]) -> usize
     ensures count { result ≡ count_of outcome list.now }
     ensures few { result ≤ length list.now }
@@ -83,7 +83,7 @@ pub fn count_of(outcome: Outcome, list: &[Choice]) -> usize
         .count()
 }
 
-/// The bytes of a block of an image, no bytes where it hasn't the block.
+/// Returns the bytes of a block of an image, or no bytes if the image hasn't the block.
 fn sector_in(image: &Image, block: BlockNo) -> &[u8]
     ensures { result.now ≡ sector_at image.now block }
 {
@@ -94,7 +94,7 @@ fn sector_in(image: &Image, block: BlockNo) -> &[u8]
     }
 }
 
-/// The bytes of the copy that is taken of a block, no bytes where no copy is.
+/// Returns the bytes of the copy that is taken of a block, or no bytes if no copy is taken.
 fn taken_bytes<'d>(dumps: &'d [Dump], choice: &Choice) -> &'d [u8]
     ensures { result.now ≡ taken_bytes dumps.now choice.now }
 {
@@ -104,7 +104,7 @@ fn taken_bytes<'d>(dumps: &'d [Dump], choice: &Choice) -> &'d [u8]
     }
 }
 
-/// Adds the bytes of the blocks.
+/// Appends the bytes of the blocks.
 fn push_blocks(bytes: &mut Vec<u8>, dumps: &[Dump], list: &[Choice]) -> Result<(), AllocError>
     ensures { OnOk result (bytes.new.items ≡ bytes.old.items ++ bytes_of (merged_image dumps.now list.now)) }
 {
@@ -114,7 +114,7 @@ fn push_blocks(bytes: &mut Vec<u8>, dumps: &[Dump], list: &[Choice]) -> Result<(
     Ok(())
 }
 
-/// Adds the read codes of the blocks.
+/// Appends the read codes of the blocks.
 fn push_codes(bytes: &mut Vec<u8>, list: &[Choice]) -> Result<(), AllocError>
     ensures { OnOk result (bytes.new.items ≡ bytes.old.items ++ merged_codes list.now) }
 {
@@ -131,14 +131,14 @@ fn any_has_codes(dumps: &[Dump]) -> bool
     dumps.iter().any(|dump| has_codes(dump))
 }
 
-/// Whether the merged dump has read codes: where one of the dumps has, unless it is to be plain.
+/// Whether the merged dump has read codes: if one of the dumps has them, unless `plain` is true.
 pub fn keeps_codes(plain: bool, dumps: &[Dump]) -> bool
     ensures { result ≡ keeps_codes plain dumps.now }
 {
     !plain && any_has_codes(dumps)
 }
 
-/// Adds the bytes of the dump that choices make.
+/// Appends the bytes of the dump that choices make.
 #[tactic(auto, unfolding(crate::specs::Merged::dump_by))]
 fn push_dump(
     bytes: &mut Vec<u8>,
@@ -155,8 +155,8 @@ fn push_dump(
     Ok(())
 }
 
-/// The bytes of the dump that choices make, with read codes or without, or None where there is a
-/// conflict.
+/// Returns the bytes of the dump that choices make, with read codes or without, or None if there is
+/// a conflict.
 #[tactic(auto, unfolding(crate::specs::Merged::dump_of_choices))]
 pub fn merged_bytes(
     alloc: Global,

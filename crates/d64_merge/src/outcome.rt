@@ -34,7 +34,7 @@ pub enum Outcome {
     Conflict,
 }
 
-/// The dump at a place, if there is a place.
+/// Returns the dump at a place, or None if there is no place.
 pub fn dump_at(dumps: &[Dump], place: Option<usize>) -> Option<&Dump>
     ensures { option_map (λ dump. dump.now) result ≡ dump_at dumps.now place }
 {
@@ -44,7 +44,7 @@ pub fn dump_at(dumps: &[Dump], place: Option<usize>) -> Option<&Dump>
     }
 }
 
-/// The place of the first dump that has a good copy of a block.
+/// Returns the place of the first dump that has a good copy of a block.
 pub(crate) fn first_good(dumps: &[Dump], block: BlockNo) -> Option<usize>
     ensures { result ≡ first_good block dumps.now }
 {
@@ -68,7 +68,7 @@ fn has_majority(dumps: &[Dump], block: BlockNo) -> bool
     dumps.iter().any(|dump| wins(dumps, dump, block))
 }
 
-/// What becomes of a block whose good copies differ.
+/// Returns what becomes of a block whose good copies differ.
 fn outcome_apart(preference: Preference, dumps: &[Dump], block: BlockNo) -> Outcome
     ensures { result ≡ outcome_apart preference block dumps.now }
 {

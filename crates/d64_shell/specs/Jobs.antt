@@ -25,7 +25,7 @@ use Rattle.cmd_shell.specs.Beginnings.{Beginning, beginning_of, home_of, Source,
 abbrev pub form_of : Format → Leftovers → Form
 form_of format leftovers = record { format = format; leftovers = leftovers }
 
--- what an extraction is asked for by the words, in a form of the output
+-- the options of an extraction, by the arguments, and the form of the output
 abbrev pub setup_of : AskedExtraction → Form → SetupView
 setup_of asked form = record { into = string_bytes asked.into; with_parts = asked.part; skips = asked.skip_existing; form = form }
 

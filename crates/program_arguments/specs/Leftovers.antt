@@ -1,9 +1,9 @@
--- What the words want of what is left over beside files.
+-- What the arguments ask for of what is left over beside files.
 use Rattle.std.specs.Prelude.{◌≡◌, List, codes}
 use Rattle.clap.specs.Words.{Row}
 use Rattle.program_arguments.specs.Values.{has_flag}
 use Rattle.program_arguments.specs.declared.asked.Leftovers.{Leftovers}
 
--- deleted files are wanted where `--deleted` stands in the words
+-- deleted files are wanted if `--deleted` is among the arguments
 abbrev pub IsLeftoversBy : List Row → Leftovers → Type 0
 IsLeftoversBy rows leftovers = leftovers.deleted ≡ has_flag (codes "deleted") rows

@@ -192,7 +192,7 @@ fn check<'a>(alloc: Global) -> Result<Command<'a>, AllocError>
     survey(alloc, command)
 }
 
-/// `files [--deleted]` with the words of a survey.
+/// Returns `files [--deleted]` with the arguments of a survey.
 fn files<'a>(alloc: Global) -> Result<Command<'a>, AllocError>
     ensures { IsMade files result }
 {
@@ -200,7 +200,8 @@ fn files<'a>(alloc: Global) -> Result<Command<'a>, AllocError>
     survey(alloc, command)
 }
 
-/// `extract [--into FOLDER] [--part] [--skip-existing] [--deleted]` with the words of a survey.
+/// Returns `extract [--into FOLDER] [--part] [--skip-existing] [--deleted]` with the arguments of a
+/// survey.
 fn extract<'a>(alloc: Global) -> Result<Command<'a>, AllocError>
     ensures { IsMade extract result }
 {
@@ -227,7 +228,7 @@ fn extract<'a>(alloc: Global) -> Result<Command<'a>, AllocError>
     survey(alloc, command)
 }
 
-/// The subcommand with the words for what is left over beside files: `[--deleted]`.
+/// Adds the option for what is left over beside files to a subcommand: `[--deleted]`.
 fn with_leftovers<'a>(
     alloc: Global,
     command: Result<Command<'a>, AllocError>,

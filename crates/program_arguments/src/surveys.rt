@@ -54,7 +54,8 @@ pub(crate) fn extract_job(alloc: Global, arguments: &ArgMatches) -> Result<Job, 
     })
 }
 
-/// What the words want of what is left over beside files.
+/// Returns which leftovers beside files the arguments ask for: deleted files, if they have
+/// `--deleted`.
 fn leftovers(arguments: &ArgMatches) -> Leftovers
     ensures { IsLeftoversBy (rows_of (found_of arguments.now)) result }
 {

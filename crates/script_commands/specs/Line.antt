@@ -238,7 +238,7 @@ type_act history name = do
   pattern ← ask (Text is_pattern name)
   show_file history pattern
 
--- `undelete`: a deleted file is brought back, of the name and the kind of a word
+-- `undelete`: brings back a deleted file, by the name and the kind in an argument
 abbrev pub undelete_act : History → Bytes → Act Ending
 undelete_act history word = do
   file ← value_or_refusal (name_and_kind_in word)

@@ -409,8 +409,8 @@ fn show_file(alloc: Global, session: &Session, pattern: &Pattern) -> Result<Resp
     Ok(Response::text(text))
 }
 
-/// `undelete`: a deleted file brought back. The word may be cut at its first comma, into the name and
-/// the letter of a kind.
+/// `undelete`: brings back a deleted file. The argument may be split at its first comma, into the
+/// name and the letter of a kind.
 pub(crate) fn undelete(alloc: Global, session: &mut Session, word: &str) -> Result<Response, Status>
     ensures { RespondsAlone (undelete_act session.old word.now) session.old result session.new }
 {
