@@ -244,7 +244,7 @@ class Disk:
         return self.without(slots).with_free(free) if slots else self, len(slots)
 
     def left(self):
-        """Of a sound disk each scratched slot, by its number, with the words that say why its file isn't whole."""
+        """The scratched slots of a sound disk, by their numbers, each with the reasons why its file isn't whole."""
         owned, free, claimed, left = self.owned(), self.free(), set(), {}
         for number, slot in enumerate(self.slots()):
             if slot.scratched:

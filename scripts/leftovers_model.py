@@ -14,7 +14,7 @@ FATAL = {"chain", "reused", "marked", "size"}
 
 
 class Leftovers:
-    """What there is to tell of what is left over on a dump."""
+    """What is left over on a dump, and what `files` and `extract` print of it."""
 
     def __init__(self, data):
         self.survey = model.survey_of(data)
@@ -22,7 +22,7 @@ class Leftovers:
         self.scratched = [(number, slot) for number, slot in self.survey.slots if not slot.used and slot.first[0] != 0]
 
     def told(self, way):
-        """The members that tell of a way: its blocks, the data along it, and its read errors."""
+        """The members for a way: how many blocks it has, the length and the digest of the data along it, and how many read errors."""
         content = self.disk.content(way.blocks) if way.end == "end" else None
         return {"blocks": len(way.blocks), "bytes": None if content is None else len(content),
                 "sha256": None if content is None else hashlib.sha256(content).hexdigest(), "read_errors": sum(pair in self.errors for pair in way.blocks)}
@@ -138,7 +138,7 @@ def extracted(name, data, options, into=b".", in_part=False):
 # Text, which is free but for these
 
 def difference_of_text(data, text, options):
-    """How the table of a dump differs from what it must tell, or None."""
+    """How the table of a dump differs from what it must print, or None."""
     left, printed = leftovers_of(data), text.splitlines()[1:]
     rows = list(left.rows(options))
     groups = [("file", None), ("deleted", "deleted")]
