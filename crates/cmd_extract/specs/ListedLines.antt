@@ -29,7 +29,7 @@ abbrev pub path_of : TaskView → Row → List (List ℕ) → Option Portion →
 path_of task row taken None = None
 path_of task row taken (Some portion) = Some (path_in task.done (row_name taken row portion.extent))
 
--- the host names that are taken then
+-- the host names that are taken after the file of a row
 abbrev pub taken_after : Row → List (List ℕ) → Option Portion → List (List ℕ)
 taken_after row taken None = taken
 taken_after row taken (Some portion) = taken ++ row_name taken row portion.extent ∷ []

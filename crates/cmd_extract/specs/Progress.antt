@@ -71,7 +71,7 @@ abbrev pub is_part : Extent → Bool
 is_part extents.Content = false
 is_part extents.Part = true
 
--- the host name of a file, where these are taken
+-- the host name of a file, if these names are taken
 unfoldable pub host_name : List (List ℕ) → FileRowView → Extent → List ℕ
 host_name taken row extent = next_name taken (spelling (name_in row.field)) (ending_by row.kind) (is_part extent)
 
@@ -108,7 +108,7 @@ failed_at path reason progress =
 abbrev pub written_progress : TaskView → Row → List ℕ → Progress → Progress
 written_progress task row file progress = told_progress task row (Some (path_in task.done file)) progress
 
--- or it could not be
+-- the file of a row could not be written under a host name, for this reason, if one is known
 abbrev pub unwritten_progress : TaskView → Row → List ℕ → Option Reason → Progress → Progress
 unwritten_progress task row file reason progress = told_progress task row None (failed_at (path_in task.partial file) reason progress)
 

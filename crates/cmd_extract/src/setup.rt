@@ -14,7 +14,7 @@ pub struct Setup {
     pub with_parts: bool,
     /// Whether an image whose folder is complete is skipped.
     pub skips: bool,
-    /// The form of what is printed, which also says what is wanted beside files.
+    /// The form of what is printed, which also says which leftovers are wanted beside files.
     pub form: Form,
 }
 

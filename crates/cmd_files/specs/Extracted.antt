@@ -34,7 +34,7 @@ abbrev pub path_text : Option Bytes → List ℕ
 path_text None = codes ", not written"
 path_text (Some path) = codes " -> " ++ shown_name path
 
--- the line of it
+-- its line for people: the text of the row, and the path
 unfoldable pub extracted_line : Disk → Row → Option Bytes → List ℕ
 extracted_line image row path = row_text image row ++ (path_text path ++ codes "\n")
 

@@ -245,7 +245,7 @@ undelete_act history word = do
   name ← ask (Text is_name file.0)
   run history (changes.Undelete name file.1)
 
--- `undo`
+-- `undo`: goes to the image before
 abbrev pub undo_act : History → Act Ending
 undo_act history = do
   need (nat_lt 0 history.cursor) NothingToUndo
