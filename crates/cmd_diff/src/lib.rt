@@ -16,3 +16,4 @@ mod unanswered;
 pub use blocks::{list_changed_blocks, list_changed_codes};
 pub use difference_report::DifferenceReport;
 pub use laws::{equal_dumps_are_silent, images_are_told};
+pub use unanswered::{print_fault, push_fault_line};

@@ -10,9 +10,9 @@ use program_arguments::DiffForm;
 use program_batch::{Reason, push_known_reason};
 use std::alloc::{AllocError, Global};
 
-/// Puts the line on standard error of a file that is not compared into an empty buffer: the file
-/// has these bytes, or cannot be read, for a reason that may be known.
-fn push_fault_line(
+/// Puts the line on standard error of a file that isn't answered into room that is empty: it has
+/// these bytes, or cannot be read, for a reason that may be known.
+pub fn push_fault_line(
     out: &mut Vec<u8>,
     name: &[u8],
     contents: Result<&[u8], Option<Reason>>,
@@ -62,8 +62,8 @@ fn print_wrong_length(
     no_dump_json(scratch, name, bytes, out)
 }
 
-/// Appends what is printed of a file that is not compared.
-pub(crate) fn print_fault(
+/// Appends what is printed of a file that isn't answered.
+pub fn print_fault(
     form: DiffForm,
     scratch: &mut Scratch,
     name: &[u8],

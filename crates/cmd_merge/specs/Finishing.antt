@@ -1,0 +1,42 @@
+-- How a merge ends after its files were read.
+use Rattle.std.specs.Prelude.{◌≡◌, ◌⊎◌, MatchBool, option_map, Option, Some, None, Result, Ok, Err, List, ℕ}
+use Rattle.d64_image.specs.Disk.{Bytes}
+use Rattle.d64_survey.specs.Dump.{dump_bytes}
+use Rattle.host_storage.specs.Files.{HostState}
+use Rattle.host_storage.specs.Folders.{with_file, Makes, CountsMaking}
+use Rattle.host_storage.specs.declared.host.FolderFault.{FolderFault}
+use Rattle.program_batch.specs.Answers.{Answer}
+use Rattle.program_batch.specs.Reasons.{IsWriteReason}
+use Rattle.program_batch.specs.declared.reason.Reason.{Reason}
+use Rattle.cmd_merge.specs.Setup.{SetupView}
+use Rattle.cmd_merge.specs.Reports.{ReadingsView, is_answered, made, faulted_answer, merged_answer, unwritten_answer}
+
+-- a file of these bytes was made on the host where nothing was, or not, which is counted
+abbrev pub IsMade : Bytes → Bytes → HostState → Result (Unit {0}) FolderFault → HostState → Type 0
+IsMade path bytes old result new =
+    Makes (with_file path bytes) old.files path result new.files × CountsMaking old.failures new.failures result
+
+-- what is answered by whether the file was made
+abbrev pub AnswersMaking : SetupView → ReadingsView → Bytes → Result (Unit {0}) FolderFault → HostState → Answer → Type 0
+AnswersMaking setup readings bytes (Ok done) host answer = answer ≡ merged_answer setup readings (Some bytes)
+AnswersMaking setup readings bytes (Err fault) host answer =
+    (reason : Option Reason) × IsWriteReason host.files reason × (answer ≡ unwritten_answer setup readings reason)
+
+-- what is done with the bytes of the dump that is made
+abbrev pub Writes : SetupView → ReadingsView → Option Bytes → HostState → Answer → HostState → Type 0
+Writes setup readings None old answer new = (new ≡ old) × (answer ≡ merged_answer setup readings None)
+Writes setup readings (Some bytes) old answer new =
+    (result : Result (Unit {0}) FolderFault) × IsMade setup.out bytes old result new × AnswersMaking setup readings bytes result new answer
+
+-- how a merge ends whose files were read
+abbrev pub Finishes : SetupView → ReadingsView → HostState → Answer → HostState → Type 0
+Finishes setup readings old answer new =
+    MatchBool (is_answered readings)
+    (Writes setup readings (option_map dump_bytes (made setup readings)) old answer new)
+    ((new ≡ old) × (answer ≡ faulted_answer readings))
+
+-- where there was no memory to say it: nothing was done, or the file was made, or it could not be
+abbrev pub MayHaveMade : SetupView → Option Bytes → HostState → HostState → Type 0
+MayHaveMade setup None old new = new ≡ old
+MayHaveMade setup (Some bytes) old new =
+    (new ≡ old) ⊎ ((result : Result (Unit {0}) FolderFault) × IsMade setup.out bytes old result new)

@@ -1,0 +1,5 @@
+pub mod Setup
+pub mod Objects
+pub mod Lines
+pub mod Reports
+pub mod Finishing

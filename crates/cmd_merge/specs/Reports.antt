@@ -1,0 +1,106 @@
+-- What is said of a merge.
+use Rattle.std.specs.Prelude.{ℕ, ◌+◌, ◌==◌, Bool, if◌then◌else◌, List, [], ◌∷◌, ◌++◌, length, Option, Some, None, option_map, Result, Ok, Err}
+use Rattle.sha2.specs.Sha256.{sha256}
+use Rattle.d64_image.specs.Disk.{Bytes}
+use Rattle.d64_survey.specs.Dump.{DumpView, dump_bytes}
+use Rattle.d64_g64.specs.DumpOf.{dump_of}
+use Rattle.d64_merge.specs.Merged.{merged_tracks, choices, count_of, keeps_codes, merged}
+use Rattle.d64_merge.specs.Left.{left}
+use Rattle.d64_merge.specs.declared.choice.Choice.{Choice}
+use Rattle.d64_merge.specs.declared.outcome.Outcome.TheVariants.{Lost, First, Conflict}
+use Rattle.out_json_csv.specs.Values.{line_of}
+use Rattle.out_messages.specs.FaultLines.{present_line, unwritten_line}
+use Rattle.program_batch.specs.Answers.{Answer}
+use Rattle.program_batch.specs.Reasons.{with_known_reason}
+use Rattle.program_batch.specs.declared.reason.Reason.{Reason}
+use Rattle.program_batch.specs.declared.report.Verdict.{Verdict}
+use Rattle.program_batch.specs.declared.report.Verdict.TheVariants.{Clean, Amiss, Failed}
+use Rattle.program_arguments.specs.declared.asked.DiffForm.{DiffForm}
+use Rattle.program_arguments.specs.declared.asked.DiffForm.TheVariants.{Text, Json}
+use Rattle.cmd_diff.specs.Differences.{Contents, fault_line, printed_fault}
+use Rattle.cmd_merge.specs.Setup.{SetupView}
+use Rattle.cmd_merge.specs.Objects.{choice_lines, summary_object}
+use Rattle.cmd_merge.specs.Lines.{text_report}
+
+-- what was read: what is printed and complained of the files that are no dumps, the bytes of the
+-- others, and their dumps
+pub record ReadingsView : Type 0 where
+  pub printed : List ℕ
+  pub complaint : List ℕ
+  pub files : List Bytes
+  pub dumps : List DumpView
+
+-- nothing was read
+abbrev pub no_readings : ReadingsView
+no_readings = record { printed = []; complaint = []; files = []; dumps = [] }
+
+-- one more dump was read
+abbrev pub with_dump : Bytes → DumpView → ReadingsView → ReadingsView
+with_dump bytes dump readings = record readings { files = readings.files ++ bytes ∷ []; dumps = readings.dumps ++ dump ∷ [] }
+
+-- one more file isn't answered
+abbrev pub with_fault : DiffForm → Bytes → Contents → ReadingsView → ReadingsView
+with_fault form name contents readings = record readings {
+  printed = readings.printed ++ printed_fault form name contents;
+  complaint = readings.complaint ++ fault_line name contents;
+}
+
+-- one more file, by the dump that it is
+abbrev pub with_bytes : DiffForm → Bytes → Bytes → Option DumpView → ReadingsView → ReadingsView
+with_bytes form name bytes (Some dump) readings = with_dump bytes dump readings
+with_bytes form name bytes None readings = with_fault form name (Ok bytes) readings
+
+-- one more file, of which this was read
+abbrev pub with_file : DiffForm → Bytes → Contents → ReadingsView → ReadingsView
+with_file form name (Ok bytes) readings = with_bytes form name bytes (dump_of bytes) readings
+with_file form name (Err reason) readings = with_fault form name (Err reason) readings
+
+-- each file is a dump
+abbrev pub is_answered : ReadingsView → Bool
+is_answered readings = length readings.complaint == 0
+
+-- what becomes of the blocks
+abbrev pub choices_of : SetupView → ReadingsView → List Choice
+choices_of setup readings = choices setup.preference readings.dumps
+
+-- the dump that is made; none if there is a conflict
+abbrev pub made : SetupView → ReadingsView → Option DumpView
+made setup readings = merged setup.preference setup.plain readings.dumps
+
+-- what is left on other tracks
+abbrev pub left_of : SetupView → ReadingsView → List ℕ
+left_of setup readings = left (merged_tracks readings.dumps) (choices_of setup readings) readings.files
+
+-- what is printed in a form
+abbrev pub report_by : DiffForm → Bytes → ℕ → Bool → List Bytes → List DumpView → List Choice → List ℕ → Option Bytes → List ℕ
+report_by Text out tracks with_codes names dumps list left digest = text_report out tracks with_codes names dumps list left digest
+report_by Json out tracks with_codes names dumps list left digest =
+    choice_lines names dumps list ++ line_of (summary_object out tracks with_codes list left digest)
+
+-- what is printed of a merge, with the digest of the file that was made
+abbrev pub report_of : SetupView → ReadingsView → Option Bytes → List ℕ
+report_of setup readings digest =
+    report_by setup.form setup.out (merged_tracks readings.dumps) (keeps_codes setup.plain readings.dumps) setup.names readings.dumps
+    (choices_of setup readings) (left_of setup readings) digest
+
+-- a file that was to be made is there already
+abbrev pub present_answer : SetupView → Answer
+present_answer setup = record { printed = []; complaint = present_line setup.out; verdict = Failed }
+
+-- a file isn't answered
+abbrev pub faulted_answer : ReadingsView → Answer
+faulted_answer readings = record { printed = readings.printed; complaint = readings.complaint; verdict = Failed }
+
+-- blocks are lost, taken from the first good copy, or in conflict
+abbrev pub verdict_on : List Choice → Verdict
+verdict_on list = if count_of Lost list + count_of First list + count_of Conflict list == 0 then Clean else Amiss
+
+-- nothing was to be made, for a conflict; or the file was made of these bytes
+abbrev pub merged_answer : SetupView → ReadingsView → Option Bytes → Answer
+merged_answer setup readings bytes =
+    record { printed = report_of setup readings (option_map sha256 bytes); complaint = []; verdict = verdict_on (choices_of setup readings) }
+
+-- it cannot be made, for this reason, if one is known
+abbrev pub unwritten_answer : SetupView → ReadingsView → Option Reason → Answer
+unwritten_answer setup readings reason =
+    record { printed = report_of setup readings None; complaint = with_known_reason reason (unwritten_line setup.out); verdict = Failed }

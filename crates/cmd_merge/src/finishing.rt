@@ -1,0 +1,135 @@
+//! How a merge ends after its files were read.
+ghost use Rattle.std.specs.Prelude.{◌≡◌, IfOk, IfErr, OnOk, false, true, option_map};
+ghost use Rattle.d64_survey.specs.Dump.{dump_bytes};
+ghost use Rattle.program_batch.specs.Answers.{answer_of};
+ghost use Rattle.cmd_merge.specs.Finishing.{Finishes, Writes, MayHaveMade};
+ghost use Rattle.cmd_merge.specs.Reports.{made, choices_of, left_of, present_answer, faulted_answer, merged_answer, unwritten_answer};
+
+use crate::readings::Readings;
+use crate::report::{Plan, plan_of, print_report, verdict_on};
+use crate::setup::Setup;
+use d64_merge::{keeps_codes, merged_bytes};
+use host_storage::Host;
+use out_json_csv::Scratch;
+use out_messages::{present_line, unwritten_line};
+use program_batch::{AnswerRoom, Reason, Verdict, push_known_reason, reason_unwritten};
+use sha2::{Digest, Sha256};
+use std::alloc::{AllocError, Global};
+use std::mem;
+
+/// Puts into the room that the file that was to be made is there already.
+pub fn say_present(setup: &Setup, room: &mut AnswerRoom) -> Result<Verdict, AllocError>
+    ensures { IfOk result (λ verdict. answer_of room.new.printed.items room.new.complaint.items verdict ≡ present_answer setup.now) }
+{
+    room.clear();
+    present_line(&mut room.complaint, setup.out.as_bytes())?;
+    Ok(Verdict::Failed)
+}
+
+/// Puts into the room, which is empty, what is said of files that are no dumps.
+fn say_faults(readings: &Readings, room: &mut AnswerRoom) -> Result<Verdict, AllocError>
+    ensures { IfOk result (λ verdict. answer_of room.new.printed.items room.new.complaint.items verdict ≡ faulted_answer readings.now) }
+{
+    room.clear();
+    room.printed.extend_from_slice(&readings.printed)?;
+    room.complaint.extend_from_slice(&readings.complaint)?;
+    Ok(Verdict::Failed)
+}
+
+/// Puts into the room what is said of a merge whose file was made of these bytes, or of none where
+/// there is a conflict.
+fn say_merged(
+    alloc: Global,
+    setup: &Setup,
+    readings: &Readings,
+    plan: &Plan,
+    bytes: Option<&[u8]>,
+    room: &mut AnswerRoom,
+) -> Result<Verdict, AllocError>
+    requires list { plan.now.list.items ≡ choices_of setup.now readings.now }
+    requires left { plan.now.left.items ≡ left_of setup.now readings.now }
+    ensures { IfOk result (λ verdict. answer_of room.new.printed.items room.new.complaint.items verdict ≡ merged_answer setup.now readings.now (option_map (λ bytes. bytes.now) bytes.entry)) }
+{
+    room.clear();
+    let digest = match bytes {
+        Some(bytes) => Some(Sha256::digest(bytes)),
+        None => None,
+    };
+    let out = mem::replace(&mut room.printed, Vec::new(alloc));
+    let mut scratch = Scratch::new(alloc);
+    room.printed = print_report(&mut scratch, setup, readings, plan, digest.as_ref(), out)?;
+    Ok(verdict_on(&plan.list))
+}
+
+/// Puts into the room what is said of a merge whose file cannot be made, for a reason that may be
+/// known.
+fn say_unwritten(
+    alloc: Global,
+    setup: &Setup,
+    readings: &Readings,
+    plan: &Plan,
+    reason: Option<Reason>,
+    room: &mut AnswerRoom,
+) -> Result<Verdict, AllocError>
+    requires list { plan.now.list.items ≡ choices_of setup.now readings.now }
+    requires left { plan.now.left.items ≡ left_of setup.now readings.now }
+    ensures { IfOk result (λ verdict. answer_of room.new.printed.items room.new.complaint.items verdict ≡ unwritten_answer setup.now readings.now reason) }
+{
+    room.clear();
+    let out = mem::replace(&mut room.printed, Vec::new(alloc));
+    let mut scratch = Scratch::new(alloc);
+    room.printed = print_report(&mut scratch, setup, readings, plan, None, out)?;
+    unwritten_line(&mut room.complaint, setup.out.as_bytes())?;
+    push_known_reason(&mut room.complaint, reason)?;
+    Ok(Verdict::Failed)
+}
+
+/// Makes the file of the bytes of the merged dump, if there is no conflict, and puts into the room
+/// what is said.
+fn write<H: Host>(
+    alloc: Global,
+    setup: &Setup,
+    readings: &Readings,
+    plan: &Plan,
+    host: &mut H,
+    room: &mut AnswerRoom,
+) -> Result<Verdict, AllocError>
+    requires list { plan.now.list.items ≡ choices_of setup.now readings.now }
+    requires left { plan.now.left.items ≡ left_of setup.now readings.now }
+    ensures written { IfOk result (λ verdict. Writes setup.now readings.now (option_map dump_bytes (made setup.now readings.now)) (H.state host.old)
+        (answer_of room.new.printed.items room.new.complaint.items verdict) (H.state host.new)) }
+    ensures memory { IfErr result (λ error. MayHaveMade setup.now (option_map dump_bytes (made setup.now readings.now)) (H.state host.old) (H.state host.new)) }
+{
+    let with_codes = keeps_codes(setup.plain, &readings.dumps);
+    let Some(bytes) = merged_bytes(alloc, with_codes, &readings.dumps, &plan.list)? else {
+        return say_merged(alloc, setup, readings, plan, None, room);
+    };
+    match host.make_file(&setup.out, &bytes) {
+        Ok(()) => say_merged(alloc, setup, readings, plan, Some(&bytes), room),
+        Err(_) => {
+            let reason = reason_unwritten(host, &setup.out);
+            say_unwritten(alloc, setup, readings, plan, reason, room)
+        }
+    }
+}
+
+/// Ends a merge whose files were read: makes the file of the merged dump, if each of them is a
+/// dump and there is no conflict, and puts into the room what is said. Where there is no memory to
+/// say it, the file may have been made, whole.
+pub fn finish<H: Host>(
+    alloc: Global,
+    setup: &Setup,
+    readings: &Readings,
+    host: &mut H,
+    room: &mut AnswerRoom,
+) -> Result<Verdict, AllocError>
+    ensures finished { IfOk result (λ verdict. Finishes setup.now readings.now (H.state host.old)
+        (answer_of room.new.printed.items room.new.complaint.items verdict) (H.state host.new)) }
+    ensures memory { IfErr result (λ error. MayHaveMade setup.now (option_map dump_bytes (made setup.now readings.now)) (H.state host.old) (H.state host.new)) }
+{
+    if !readings.is_answered() {
+        return say_faults(readings, room);
+    }
+    let plan = plan_of(alloc, setup, readings)?;
+    write(alloc, setup, readings, &plan, host, room)
+}

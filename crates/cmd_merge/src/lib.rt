@@ -1,0 +1,14 @@
+//! `d64sh merge`: the dumps that are read, the file that is made of them, and what is printed of
+//! its blocks, as text and as JSON.
+#![tactic(auto)]
+
+mod finishing;
+mod lines;
+mod objects;
+mod readings;
+mod report;
+mod setup;
+
+pub use finishing::{finish, say_present};
+pub use readings::Readings;
+pub use setup::Setup;

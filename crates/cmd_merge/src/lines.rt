@@ -1,0 +1,312 @@
+//! What is printed of a merge for people.
+ghost use Rattle.std.specs.Prelude.{◌≡◌, ◌++◌, map, option_map, string_bytes, OnOk};
+ghost use Rattle.std.specs.List.{flat_map};
+ghost use Rattle.hex.specs.Hex.{encode_lower};
+ghost use Rattle.cmd_merge.specs.Lines.{codes_text, outcome_text, source_text, error_text, copy_text, error_of, error_at, error_texts, choice_text, line_of_choice, lines_of_choices, count_if_any, settled_text, differing_text, counts_text, size_text, listed_entry, left_line, left_text, digest_text, first_line, text_report};
+
+use crate::objects::{Summary, entry_text, name_at};
+use d64_image::BlockNo;
+use d64_merge::{Choice, Outcome, count_of, dump_at, is_outcome, known_code};
+use d64_survey::{Dump, drive_status, is_read_error};
+use hex::encode_to_slice;
+use host_names::push_shown;
+use out_messages::{push_block, push_count, push_number, push_status};
+use std::alloc::AllocError;
+
+/// What became of a block, before the name of the file whose bytes were taken.
+fn outcome_text(outcome: Outcome) -> &'static [u8]
+    ensures { result.now ≡ outcome_text outcome }
+{
+    match outcome {
+        Outcome::Same => b" is the same in all: ",
+        Outcome::Taken => b" taken from ",
+        Outcome::Lost => b" lost: no dump has a good copy; the bytes are those of ",
+        Outcome::Majority => b" differs: taken, as in more than half of the good copies, from ",
+        Outcome::First => b" differs: taken from the first good copy, in ",
+        Outcome::Conflict => b" differs in good copies, and none of them is taken",
+    }
+}
+
+/// Adds the name of the file whose bytes were taken, if there is one.
+fn push_source(out: &mut Vec<u8>, name: Option<&String>) -> Result<(), AllocError>
+    ensures { OnOk result (out.new.items ≡ out.old.items ++ source_text (option_map (λ name. string_bytes name.now) name.entry)) }
+{
+    match name {
+        Some(name) => push_shown(out, name.as_bytes()),
+        None => Ok(()),
+    }
+}
+
+/// Adds the read error of a block in a dump of this name, if it has one.
+fn push_error(out: &mut Vec<u8>, name: &[u8], code: u8) -> Result<(), AllocError>
+    ensures { OnOk result (out.new.items ≡ out.old.items ++ error_text name.now code) }
+{
+    if !is_read_error(code) {
+        return Ok(());
+    }
+    out.extend_from_slice(b"; ")?;
+    push_shown(out, name)?;
+    out.extend_from_slice(b": code ")?;
+    push_number(out, usize::from(code))?;
+    push_status(out, drive_status(code))
+}
+
+/// The same where the dump may have no code for the block.
+fn push_copy(out: &mut Vec<u8>, name: &[u8], code: Option<u8>) -> Result<(), AllocError>
+    ensures { OnOk result (out.new.items ≡ out.old.items ++ copy_text name.now code) }
+{
+    match code {
+        Some(code) => push_error(out, name, code),
+        None => Ok(()),
+    }
+}
+
+/// Adds the read error of a block in a dump of a file, if there are such.
+fn push_error_of(
+    out: &mut Vec<u8>,
+    block: BlockNo,
+    name: Option<&String>,
+    dump: Option<&Dump>,
+) -> Result<(), AllocError>
+    ensures { OnOk result (out.new.items ≡ out.old.items ++ error_of block (option_map (λ name. string_bytes name.now) name.entry) (option_map (λ dump. dump.now) dump.entry)) }
+{
+    match (name, dump) {
+        (Some(name), Some(dump)) => push_copy(out, name.as_bytes(), known_code(dump, block)),
+        (None, _) | (Some(_), None) => Ok(()),
+    }
+}
+
+/// Adds the read error of a block in the dump at a place, if there is one.
+fn push_error_at(
+    out: &mut Vec<u8>,
+    block: BlockNo,
+    names: &[String],
+    dumps: &[Dump],
+    place: usize,
+) -> Result<(), AllocError>
+    ensures { OnOk result (out.new.items ≡ out.old.items ++ error_at block (map string_bytes names.now) dumps.now place) }
+{
+    push_error_of(
+        out,
+        block,
+        name_at(names, Some(place)),
+        dump_at(dumps, Some(place)),
+    )
+}
+
+/// Adds the read errors of a block in all dumps, by the names of their files.
+fn push_errors(
+    out: &mut Vec<u8>,
+    block: BlockNo,
+    names: &[String],
+    dumps: &[Dump],
+) -> Result<(), AllocError>
+    ensures { OnOk result (out.new.items ≡ out.old.items ++ error_texts block (map string_bytes names.now) dumps.now) }
+{
+    for place in 0..dumps.len() {
+        push_error_at(out, block, names, dumps, place)?;
+    }
+    Ok(())
+}
+
+/// Adds the line of a block.
+#[tactic(auto, unfolding(crate::specs::Lines::choice_text))]
+fn push_choice(
+    out: &mut Vec<u8>,
+    names: &[String],
+    dumps: &[Dump],
+    choice: &Choice,
+) -> Result<(), AllocError>
+    ensures { OnOk result (out.new.items ≡ out.old.items ++ choice_text (map string_bytes names.now) dumps.now choice.now) }
+{
+    out.extend_from_slice(b"  ")?;
+    push_block(out, choice.block)?;
+    out.extend_from_slice(outcome_text(choice.outcome))?;
+    push_source(out, name_at(names, choice.source))?;
+    push_errors(out, choice.block, names, dumps)?;
+    out.extend_from_slice(b"\n")
+}
+
+/// Adds the line of a block, where that isn't the same in all dumps.
+fn push_line(
+    out: &mut Vec<u8>,
+    names: &[String],
+    dumps: &[Dump],
+    choice: &Choice,
+) -> Result<(), AllocError>
+    ensures { OnOk result (out.new.items ≡ out.old.items ++ line_of_choice (map string_bytes names.now) dumps.now choice.now) }
+{
+    if is_outcome(Outcome::Same, choice.outcome) {
+        return Ok(());
+    }
+    push_choice(out, names, dumps, choice)
+}
+
+/// Adds the lines of the blocks that aren't the same in all dumps.
+#[tactic(auto, unfolding(crate::specs::Lines::lines_of_choices))]
+fn push_choices(
+    out: &mut Vec<u8>,
+    names: &[String],
+    dumps: &[Dump],
+    list: &[Choice],
+) -> Result<(), AllocError>
+    ensures { OnOk result (out.new.items ≡ out.old.items ++ lines_of_choices (map string_bytes names.now) dumps.now list.now) }
+{
+    for choice in list {
+        push_line(out, names, dumps, choice)?;
+    }
+    Ok(())
+}
+
+/// Adds of how many blocks something is said, if of any.
+#[tactic(auto, unfolding(crate::specs::Lines::count_if_any))]
+fn push_if_any(out: &mut Vec<u8>, count: usize, word: &[u8]) -> Result<(), AllocError>
+    ensures { OnOk result (out.new.items ≡ out.old.items ++ count_if_any count word.now) }
+{
+    if count == 0 {
+        return Ok(());
+    }
+    out.extend_from_slice(b", ")?;
+    push_number(out, count)?;
+    out.extend_from_slice(word)
+}
+
+/// Adds how many blocks are the same, taken, or lost.
+#[tactic(auto, unfolding(crate::specs::Lines::settled_text))]
+fn push_settled(out: &mut Vec<u8>, list: &[Choice]) -> Result<(), AllocError>
+    ensures { OnOk result (out.new.items ≡ out.old.items ++ settled_text list.now) }
+{
+    push_number(out, count_of(Outcome::Same, list))?;
+    out.extend_from_slice(b" the same in all dumps")?;
+    push_if_any(out, count_of(Outcome::Taken, list), b" taken")?;
+    push_if_any(out, count_of(Outcome::Lost, list), b" lost")
+}
+
+/// Adds of how many good copies differ.
+#[tactic(auto, unfolding(crate::specs::Lines::differing_text))]
+fn push_differing(out: &mut Vec<u8>, list: &[Choice]) -> Result<(), AllocError>
+    ensures { OnOk result (out.new.items ≡ out.old.items ++ differing_text list.now) }
+{
+    push_if_any(out, count_of(Outcome::Majority, list), b" by majority")?;
+    push_if_any(out, count_of(Outcome::First, list), b" from the first good copy")?;
+    push_if_any(out, count_of(Outcome::Conflict, list), b" in conflict")
+}
+
+/// Adds what became of the blocks, by numbers.
+fn push_counts(out: &mut Vec<u8>, list: &[Choice]) -> Result<(), AllocError>
+    ensures { OnOk result (out.new.items ≡ out.old.items ++ counts_text list.now) }
+{
+    push_settled(out, list)?;
+    push_differing(out, list)
+}
+
+/// What stands behind the number of tracks.
+fn codes_text(with_codes: bool) -> &'static [u8]
+    ensures { result.now ≡ codes_text with_codes }
+{
+    if with_codes {
+        b" tracks with read codes, "
+    } else {
+        b" tracks, "
+    }
+}
+
+/// Adds how many tracks and blocks the dump has, and whether read codes.
+#[tactic(auto, unfolding(crate::specs::Lines::size_text))]
+fn push_size(
+    out: &mut Vec<u8>,
+    tracks: u8,
+    with_codes: bool,
+    list: &[Choice],
+) -> Result<(), AllocError>
+    ensures { OnOk result (out.new.items ≡ out.old.items ++ size_text tracks with_codes list.now) }
+{
+    push_number(out, usize::from(tracks))?;
+    out.extend_from_slice(codes_text(with_codes))?;
+    push_count(out, list.len(), b"block")?;
+    out.extend_from_slice(b": ")
+}
+
+/// Adds the line of the file.
+#[tactic(auto, unfolding(crate::specs::Lines::first_line))]
+fn push_first(out: &mut Vec<u8>, summary: &Summary) -> Result<(), AllocError>
+    ensures { OnOk result (out.new.items ≡ out.old.items ++ first_line summary.now.out.now summary.now.tracks summary.now.with_codes summary.now.list.now) }
+{
+    push_shown(out, summary.out)?;
+    out.extend_from_slice(b": ")?;
+    push_size(out, summary.tracks, summary.with_codes, summary.list)?;
+    push_counts(out, summary.list)?;
+    out.extend_from_slice(b"\n")
+}
+
+/// Adds the tracks of entries, each after a space.
+fn push_entries(out: &mut Vec<u8>, left: &[u8]) -> Result<(), AllocError>
+    ensures { OnOk result (out.new.items ≡ out.old.items ++ flat_map listed_entry left.now) }
+{
+    for entry in left {
+        out.extend_from_slice(b" ")?;
+        out.extend_from_slice(entry_text(*entry).as_bytes())?;
+    }
+    Ok(())
+}
+
+/// Adds the line of what is left on other tracks.
+#[tactic(auto, unfolding(crate::specs::Lines::left_line))]
+fn push_left_line(out: &mut Vec<u8>, left: &[u8]) -> Result<(), AllocError>
+    ensures { OnOk result (out.new.items ≡ out.old.items ++ left_line left.now) }
+{
+    out.extend_from_slice(b"  blocks that it lacks are on these tracks of a G64:")?;
+    push_entries(out, left)?;
+    out.extend_from_slice(b"\n")
+}
+
+/// Adds that line, if there is something.
+fn push_left(out: &mut Vec<u8>, left: &[u8]) -> Result<(), AllocError>
+    ensures { OnOk result (out.new.items ≡ out.old.items ++ left_text left.now) }
+{
+    if left.is_empty() {
+        return Ok(());
+    }
+    push_left_line(out, left)
+}
+
+/// Adds a digest in hexadecimal digits.
+fn push_digits(out: &mut Vec<u8>, digest: &[u8; 32]) -> Result<(), AllocError>
+    ensures { OnOk result (out.new.items ≡ out.old.items ++ encode_lower digest.now) }
+{
+    let mut digits = [0; 64];
+    match encode_to_slice(digest, &mut digits) {
+        Ok(()) => out.extend_from_slice(&digits),
+        Err(_) => Err(AllocError),
+    }
+}
+
+/// Adds the line of the digest of the file that was made, or that none was.
+fn push_digest(out: &mut Vec<u8>, digest: Option<&[u8; 32]>) -> Result<(), AllocError>
+    ensures { OnOk result (out.new.items ≡ out.old.items ++ digest_text (option_map (λ d. d.now) digest.entry)) }
+{
+    match digest {
+        Some(digest) => {
+            out.extend_from_slice(b"  SHA-256 ")?;
+            push_digits(out, digest)?;
+            out.extend_from_slice(b"\n")
+        }
+        None => out.extend_from_slice(b"  not written\n"),
+    }
+}
+
+/// Adds all that is printed of a merge for people.
+#[tactic(auto, unfolding(crate::specs::Lines::text_report))]
+pub(crate) fn push_report(
+    out: &mut Vec<u8>,
+    names: &[String],
+    dumps: &[Dump],
+    summary: &Summary,
+) -> Result<(), AllocError>
+    ensures { OnOk result (out.new.items ≡ out.old.items ++ text_report summary.now.out.now summary.now.tracks summary.now.with_codes (map string_bytes names.now) dumps.now summary.now.list.now summary.now.left.now (option_map (λ d. d.now) summary.now.digest)) }
+{
+    push_first(out, summary)?;
+    push_choices(out, names, dumps, summary.list)?;
+    push_left(out, summary.left)?;
+    push_digest(out, summary.digest)
+}
