@@ -4,6 +4,7 @@
 
 mod choice;
 mod copy;
+pub mod laws;
 mod left;
 mod merging;
 mod outcome;
