@@ -88,7 +88,7 @@ AreParts (leaf ∷ leaves) = IsPart leaf × AreParts leaves
 are_parts : AreParts apps
 unfolding clap_on_literals d64sh
 are_parts =
-    ((refl, refl, refl, refl, refl, refl), ((refl, refl, refl, refl, refl, refl), ((refl, refl, refl, refl, refl, refl), ((refl, refl, refl, refl, refl, refl), ((refl, refl, refl, refl, refl, refl), ((refl, refl, refl, refl, refl, refl), ((refl, refl, refl, refl, refl, refl), ((refl, refl, refl, refl, refl, refl), ((refl, refl, refl, refl, refl, refl), tt)))))))))
+    ((refl, refl, refl, refl, refl, refl), ((refl, refl, refl, refl, refl, refl), ((refl, refl, refl, refl, refl, refl), ((refl, refl, refl, refl, refl, refl), ((refl, refl, refl, refl, refl, refl), ((refl, refl, refl, refl, refl, refl), ((refl, refl, refl, refl, refl, refl), ((refl, refl, refl, refl, refl, refl), ((refl, refl, refl, refl, refl, refl), ((refl, refl, refl, refl, refl, refl), tt))))))))))
 
 part_found : (test : App → Bool) (leaves : List App) (leaf : App) → AreParts leaves → find test leaves ≡ Some leaf → IsPart leaf
 part_found test [] leaf are is = absurd (none≢some leaf is)

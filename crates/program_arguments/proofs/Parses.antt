@@ -16,7 +16,7 @@ use Rattle.program_arguments.specs.Commands.{d64sh}
 use Rattle.program_arguments.specs.Asked.{IsFault, IsFaultOf, IsJob, IsJobOf, IsOneOf, IsToldAs, Met}
 use Rattle.program_arguments.specs.declared.asked.Job.{Job}
 use Rattle.program_arguments.specs.declared.asked.JobFault.{JobFault}
-use Rattle.program_arguments.specs.declared.asked.JobFault.TheVariants.{Words, Start, Memory, Tracks, Both, Format, Names, Null, Picture, Difference, Folder, Title, Links}
+use Rattle.program_arguments.specs.declared.asked.JobFault.TheVariants.{Words, Start, Memory, Tracks, Both, Format, Names, Null, Picture, Difference, Folder, Title, Links, Output, Dumps}
 
 pub simple_and_free : is_simple_and_free d64sh ≡ true
 unfolding clap_on_literals d64sh
@@ -99,6 +99,8 @@ told words error Difference kind is = absurd is
 told words error Folder kind is = absurd is
 told words error Title kind is = absurd is
 told words error Links kind is = absurd is
+told words error Output kind is = absurd is
+told words error Dumps kind is = absurd is
 
 -- the job of the subcommand is the job of the arguments
 module _ (words : List Text) (met : Met) (none : fault_of d64sh words ≡ []) (is : subcommand_of d64sh words ≡ Some met) where
@@ -119,6 +121,8 @@ module _ (words : List Text) (met : Met) (none : fault_of d64sh words ≡ []) (i
   refused Folder asks = (none, subst (λ o. IsSomeAnd o (λ m. IsFaultOf m Folder)) (sym is) asks)
   refused Title asks = (none, subst (λ o. IsSomeAnd o (λ m. IsFaultOf m Title)) (sym is) asks)
   refused Links asks = (none, subst (λ o. IsSomeAnd o (λ m. IsFaultOf m Links)) (sym is) asks)
+  refused Output asks = (none, subst (λ o. IsSomeAnd o (λ m. IsFaultOf m Output)) (sym is) asks)
+  refused Dumps asks = (none, subst (λ o. IsSomeAnd o (λ m. IsFaultOf m Dumps)) (sym is) asks)
 
 pub error_told : {T : Type 0} (r : Result T JobFault) (P Q : JobFault → Type 0) → ((fault : JobFault) → P fault → Q fault) → IsErrAnd r P → IfErr r Q
 error_told (Ok job) P Q f is = tt

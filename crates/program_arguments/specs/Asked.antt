@@ -8,17 +8,17 @@ use Rattle.program_arguments.specs.Start.{IsStartBy, HasNoAddress}
 use Rattle.program_arguments.specs.Tracks.{IsTracksBy, HasNoTracks}
 use Rattle.program_arguments.specs.Extraction.{HasNoFolder, IsExtractionBy}
 use Rattle.program_arguments.specs.Format.{diff_form_of, form_word, format_of, picture_form_of}
-use Rattle.program_arguments.specs.Leftovers.{IsLeftoversBy}
-use Rattle.program_arguments.specs.Names.{HasNoNames, HasNullAlone, IsNamesBy}
+use Rattle.program_arguments.specs.Merging.{IsMergingBy}
+use Rattle.program_arguments.specs.Names.{files_by, HasNoNames, HasNullAlone, IsNamesBy}
 use Rattle.program_arguments.specs.Page.{HasNamedPage, IsPageBy, IsPageFault}
 use Rattle.program_arguments.specs.Values.{all_given, has_flag}
 use Rattle.program_arguments.specs.declared.asked.DiffForm.{DiffForm}
 use Rattle.program_arguments.specs.declared.asked.Format.{Format as OutputFormat}
 use Rattle.program_arguments.specs.declared.asked.PictureForm.{PictureForm}
 use Rattle.program_arguments.specs.declared.asked.Job.{Job}
-use Rattle.program_arguments.specs.declared.asked.Job.TheVariants.{Shell, Petcat, Crunch, Check, Files, Extract, Map, Diff, Catalogue}
+use Rattle.program_arguments.specs.declared.asked.Job.TheVariants.{Shell, Petcat, Crunch, Check, Files, Extract, Map, Diff, Merge, Catalogue}
 use Rattle.program_arguments.specs.declared.asked.JobFault.{JobFault}
-use Rattle.program_arguments.specs.declared.asked.JobFault.TheVariants.{Words, Start, Memory, Tracks, Both, Format, Names, Null, Picture, Difference, Folder, Title, Links}
+use Rattle.program_arguments.specs.declared.asked.JobFault.TheVariants.{Words, Start, Memory, Tracks, Both, Format, Names, Null, Picture, Difference, Folder, Title, Links, Output, Dumps}
 
 -- a subcommand that the arguments name, and the values that they give to its arguments
 abbrev pub Met : Type 0
@@ -35,7 +35,7 @@ surveys = codes "check" ∷ codes "files" ∷ codes "extract" ∷ []
 
 -- the subcommands
 abbrev pub subcommands : List Text
-subcommands = codes "shell" ∷ codes "petcat" ∷ codes "crunch" ∷ (surveys ++ codes "map" ∷ codes "diff" ∷ codes "catalogue" ∷ [])
+subcommands = codes "shell" ∷ codes "petcat" ∷ codes "crunch" ∷ (surveys ++ codes "map" ∷ codes "diff" ∷ codes "merge" ∷ codes "catalogue" ∷ [])
 
 -- the arguments that a subcommand requires, each with that subcommand
 abbrev pub requirements : List (Text × Text)
@@ -101,13 +101,16 @@ IsJobOf met (Map format file) =
 IsJobOf met (Diff format old new) =
     (met.0 ≡ codes "diff") × (diff_form_given met ≡ Some format)
     × (first_of (codes "old") met.1 ≡ Some (string_bytes old)) × (first_of (codes "new") met.1 ≡ Some (string_bytes new))
+IsJobOf met (Merge merging format files) =
+    (met.0 ≡ codes "merge") × IsMergingBy met.1 merging × (diff_form_given met ≡ Some format)
+    × (map string_bytes files.items ≡ files_by met.1) × (files_by met.1 ≢ [])
 IsJobOf met (Catalogue page names) = (met.0 ≡ codes "catalogue") × IsPageBy met.1 page × IsNamesBy met.1 names
 
--- the subcommand asks for no job by this fault: its start is no address; no disk has its number of
--- tracks, or the image that it names has tracks of its own; or it names a session as well, which
--- has tracks of its own; its form of output is unknown; it has a form, but the name of its folder
--- is empty; its page has an empty title, or else an empty folder of links; it gives no names, or
--- names in two ways, or `--null` without a list; or memory ran out
+-- it asks for no job, since its start is no address, or no disk has its number of tracks; or, where
+-- a disk has so many, since a session of a file has tracks of its own; or since its word for a form
+-- of output stands for none; or, where it has a form, since the name of its folder is empty; or
+-- since its page has an empty title, or else an empty folder of links; or since nothing says which
+-- file a merge makes, or else of which files; or else since there are no names; or there is no memory
 abbrev pub IsFaultOf : Met → JobFault → Type 0
 IsFaultOf met (Words error) = ⊥
 IsFaultOf met Start = (met.0 ≡ codes "crunch") × HasNoAddress (first_of (codes "start") met.1)
@@ -119,10 +122,12 @@ IsFaultOf met Format = IsOneOf surveys met.0 × (format_given met ≡ None)
 IsFaultOf met Names = TakesNames met × HasNoNames met.1
 IsFaultOf met Null = TakesNames met × HasNullAlone met.1
 IsFaultOf met Picture = (met.0 ≡ codes "map") × (picture_form_given met ≡ None)
-IsFaultOf met Difference = (met.0 ≡ codes "diff") × (diff_form_given met ≡ None)
+IsFaultOf met Difference = IsOneOf (codes "diff" ∷ codes "merge" ∷ []) met.0 × (diff_form_given met ≡ None)
 IsFaultOf met Folder = IsPlaceless met × IsSome (format_given met)
 IsFaultOf met Title = (met.0 ≡ codes "catalogue") × IsPageFault met.1 Title
 IsFaultOf met Links = (met.0 ≡ codes "catalogue") × IsPageFault met.1 Links
+IsFaultOf met Output = (met.0 ≡ codes "merge") × IsSome (diff_form_given met) × (first_of (codes "output") met.1 ≡ None)
+IsFaultOf met Dumps = (met.0 ≡ codes "merge") × IsSome (diff_form_given met) × IsSome (first_of (codes "output") met.1) × (files_by met.1 ≡ [])
 
 -- the arguments are the program's, and ask neither for help nor for the version; and this holds of
 -- the subcommand that they name

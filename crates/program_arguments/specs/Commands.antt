@@ -93,6 +93,16 @@ diff =
     let formed = with_rule (new_app (codes "diff")) (valued_option (codes "format")) in
     with_rule (with_rule formed (required_argument (codes "old"))) (required_argument (codes "new"))
 
+-- a subcommand with what is to be done where good copies differ
+abbrev pub with_preference : App → App
+with_preference app = with_rule (with_rule app (flag (codes "majority"))) (flag (codes "first"))
+
+-- `merge -o OUT [--plain] [--majority] [--first] [--format FORMAT] FILE..`
+abbrev pub merge : App
+merge =
+    let placed = with_rule (with_rule (new_app (codes "merge")) output_option) (flag (codes "plain")) in
+    with_rule (with_rule (with_preference placed) (valued_option (codes "format"))) files_argument
+
 -- `catalogue [--maps] [--title TEXT] [--links FOLDER]` with the names of files
 abbrev pub catalogue : App
 catalogue =
@@ -101,7 +111,7 @@ catalogue =
 
 -- the subcommands
 abbrev pub apps : List App
-apps = shell ∷ petcat ∷ crunch ∷ check ∷ files ∷ extract ∷ map ∷ diff ∷ catalogue ∷ []
+apps = shell ∷ petcat ∷ crunch ∷ check ∷ files ∷ extract ∷ map ∷ diff ∷ merge ∷ catalogue ∷ []
 
 -- the subcommand with this name
 abbrev pub app_named : List ℕ → Option App

@@ -1,7 +1,7 @@
 -- The texts of the faults of arguments.
 use Rattle.std.specs.Prelude.{List, ℕ, Option, None, Some, codes}
 use Rattle.program_arguments.specs.declared.asked.JobFault.{JobFault}
-use Rattle.program_arguments.specs.declared.asked.JobFault.TheVariants.{Words, Start, Memory, Tracks, Both, Format, Names, Null, Picture, Difference, Folder, Title, Links}
+use Rattle.program_arguments.specs.declared.asked.JobFault.TheVariants.{Words, Start, Memory, Tracks, Both, Format, Names, Null, Picture, Difference, Folder, Title, Links, Output, Dumps}
 
 -- the text of a fault; None for an error of clap's, which has its own
 abbrev pub text_of : JobFault → Option (List ℕ)
@@ -18,3 +18,5 @@ text_of Difference = Some (codes "usage: --format takes text or json")
 text_of Folder = Some (codes "usage: --into takes the name of a folder")
 text_of Title = Some (codes "usage: --title takes a text")
 text_of Links = Some (codes "usage: --links takes the name of a folder")
+text_of Output = Some (codes "usage: merge needs --output OUT")
+text_of Dumps = Some (codes "usage: give one FILE or more")

@@ -5,6 +5,7 @@ pub mod FaultText
 pub mod Format
 pub mod Leftovers
 pub mod Making
+pub mod Merging
 pub mod Names
 pub mod Page
 pub mod Start

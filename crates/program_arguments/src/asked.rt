@@ -73,6 +73,25 @@ pub enum Job {
         old: String,
         new: String,
     },
+    /// Make one dump of dumps of one disk.
+    Merge {
+        merging: Merging,
+        format: DiffForm,
+        files: Vec<String>,
+    },
+}
+
+/// How one dump is made of several.
+#[derive(Debug, Drop)]
+pub struct Merging {
+    /// The file that is made.
+    pub output: String,
+    /// Whether it has no read codes.
+    pub plain: bool,
+    /// Whether what more than half of the good copies have is taken where they differ.
+    pub majority: bool,
+    /// Whether the first good copy is taken where they differ otherwise.
+    pub first: bool,
 }
 
 /// How files are taken out of images.
@@ -174,7 +193,7 @@ pub enum JobFault {
     Null,
     /// The value of `--format` of `map` is neither `text` nor `svg`.
     Picture,
-    /// The value of `--format` of `diff` is neither `text` nor `json`.
+    /// What follows `--format` of `diff` or `merge` is neither `text` nor `json`.
     Difference,
     /// The value of `--into` is empty.
     Folder,
@@ -182,6 +201,10 @@ pub enum JobFault {
     Title,
     /// The value of `--links` is empty.
     Links,
+    /// There is `merge` without `--output`.
+    Output,
+    /// There is `merge` without FILE.
+    Dumps,
 }
 
 impl JobFault {
@@ -214,6 +237,8 @@ impl JobFault {
             JobFault::Folder => Some("usage: --into takes the name of a folder"),
             JobFault::Title => Some("usage: --title takes a text"),
             JobFault::Links => Some("usage: --links takes the name of a folder"),
+            JobFault::Output => Some("usage: merge needs --output OUT"),
+            JobFault::Dumps => Some("usage: give one FILE or more"),
         }
     }
 }

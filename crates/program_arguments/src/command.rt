@@ -3,7 +3,7 @@
 ghost use Rattle.std.specs.Prelude.{◌≡◌, IfOk, false, option_map};
 ghost use Rattle.clap.specs.Words.{App, Rule, app_of, kind_of, new_app, rule_of, with_rule, with_subcommand};
 ghost use Rattle.clap.specs.declared.builder.command.Command.TheViews.{out-Command as fields_of};
-ghost use Rattle.program_arguments.specs.Commands.{bare_app, d64sh, app_named, shell, petcat, crunch, check, files, extract, map, diff, catalogue, survey, with_leftovers, with_names, file_argument, image_argument, required_argument, files_argument, valued_option, output_option, line_option, stop_flag, flag, with_script};
+ghost use Rattle.program_arguments.specs.Commands.{bare_app, d64sh, app_named, shell, petcat, crunch, check, files, extract, map, diff, merge, catalogue, survey, with_names, file_argument, image_argument, required_argument, files_argument, with_preference, valued_option, output_option, line_option, stop_flag, flag, with_script};
 ghost use Rattle.program_arguments.specs.Making.{IsArgument, IsMade};
 
 use crate::help::help_of;
@@ -26,6 +26,7 @@ pub(crate) fn d64sh<'a>(alloc: Global) -> Result<Command<'a>, AllocError>
     let command = with_subcommand(command, extract(alloc));
     let command = with_subcommand(command, map(alloc));
     let command = with_subcommand(command, diff(alloc));
+    let command = with_subcommand(command, merge(alloc));
     with_subcommand(command, catalogue(alloc))
 }
 
@@ -44,6 +45,7 @@ pub(crate) fn named<'a>(alloc: Global, name: &str) -> Result<Option<Command<'a>>
         "extract" => extract(alloc),
         "map" => map(alloc),
         "diff" => diff(alloc),
+        "merge" => merge(alloc),
         "catalogue" => catalogue(alloc),
         _ => return Ok(None),
     };
@@ -275,7 +277,47 @@ fn diff<'a>(alloc: Global) -> Result<Command<'a>, AllocError>
     with_argument(command, new)
 }
 
-/// Returns `catalogue [--maps] [--title TEXT] [--links FOLDER]` with the names of files.
+/// `merge -o OUT [--plain] [--majority] [--first] [--format FORMAT] FILE..`.
+fn merge<'a>(alloc: Global) -> Result<Command<'a>, AllocError>
+    ensures { IsMade merge result }
+{
+    let command = with_argument(Ok(subcommand(alloc, "merge")), out_option(alloc));
+    let plain = flag(alloc, "plain", "Leave out the read codes of the blocks");
+    let command = with_argument(command, plain);
+    let command = with_preference(alloc, command);
+    let format = valued_option(
+        alloc,
+        "format",
+        "FORMAT",
+        "Form of the output: text or json; without it, text",
+    );
+    let command = with_argument(command, format);
+    let files = files_argument(alloc, "The dumps of the disk, in this order");
+    with_argument(command, files)
+}
+
+/// The subcommand with what is to be done where good copies differ: `[--majority]` and `[--first]`.
+fn with_preference<'a>(
+    alloc: Global,
+    command: Result<Command<'a>, AllocError>,
+) -> Result<Command<'a>, AllocError>
+    ensures { (app : App) → IsMade app command.entry → IsMade (with_preference app) result }
+{
+    let majority = flag(
+        alloc,
+        "majority",
+        "Where good copies differ, take what more than half of them have",
+    );
+    let command = with_argument(command, majority);
+    let first = flag(
+        alloc,
+        "first",
+        "Where good copies differ otherwise, take the first one",
+    );
+    with_argument(command, first)
+}
+
+/// `catalogue [--maps] [--title TEXT] [--links FOLDER]` with the names of files.
 fn catalogue<'a>(alloc: Global) -> Result<Command<'a>, AllocError>
     ensures { IsMade catalogue result }
 {
@@ -337,7 +379,8 @@ fn with_names<'a>(
         "Names in LIST end with NUL bytes, and not with line feeds",
     );
     let command = with_argument(command, null);
-    with_argument(command, files_argument(alloc))
+    let files = files_argument(alloc, "The images to survey, in this order");
+    with_argument(command, files)
 }
 
 /// Returns `[IMAGE]`.
@@ -350,15 +393,15 @@ fn image_argument<'a>(alloc: Global) -> Arg<'a>
         .help("The D64 image to work on; without it, a blank image")
 }
 
-/// Returns `[FILE]..`.
-fn files_argument<'a>(alloc: Global) -> Arg<'a>
+/// `[FILE]..`.
+fn files_argument<'a>(alloc: Global, help: &'a str) -> Arg<'a>
     ensures rule { rule_of result ≡ files_argument }
     ensures local { result.global ≡ false }
 {
     Arg::new(alloc, "file")
         .value_name("FILE")
         .num_args(1..)
-        .help("The images to survey, in this order")
+        .help(help)
 }
 
 /// Returns `[FILE]`.
@@ -377,7 +420,21 @@ fn output_option<'a>(alloc: Global, help: &'a str) -> Arg<'a>
     valued_option(alloc, "output", "FILE", help).short('o')
 }
 
-/// Returns `-c LINE` and `--command LINE`, any number of times.
+/// `-o OUT` and `--output OUT`.
+fn out_option<'a>(alloc: Global) -> Arg<'a>
+    ensures rule { rule_of result ≡ output_option }
+    ensures local { result.global ≡ false }
+{
+    valued_option(
+        alloc,
+        "output",
+        "OUT",
+        "The file to make, which must not be there",
+    )
+    .short('o')
+}
+
+/// `-c LINE` and `--command LINE`, any number of times.
 fn line_option<'a>(alloc: Global) -> Arg<'a>
     ensures rule { rule_of result ≡ line_option }
     ensures local { result.global ≡ false }

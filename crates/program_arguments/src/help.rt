@@ -54,6 +54,11 @@ pub(crate) fn help_of(name: &str) -> Help {
             usage: DIFF_USAGE,
             details: DIFF_DETAILS,
         },
+        "merge" => Help {
+            about: "Makes one dump of several dumps of one disk",
+            usage: MERGE_USAGE,
+            details: MERGE_DETAILS,
+        },
         "catalogue" => Help {
             about: "Makes one page of what is on disk images, to browse and search",
             usage: CATALOGUE_USAGE,
@@ -217,6 +222,24 @@ Example: d64sh diff before.d64 after.d64
 
 No image is ever written. The manual says more: `man d64sh`, or docs/MANUAL.md
 beside the source.";
+
+const MERGE_USAGE: &str =
+    "d64sh merge -o OUT [--plain] [--majority] [--first] [--format FORMAT] FILE..";
+
+const MERGE_DETAILS: &str =
+    "In:      dumps of one disk: images of 35 or 40 tracks, each with or without the
+         read codes of its blocks, and G64 files
+Out:     the file OUT, new, with the good copy of each block; a line for OUT and
+         one for each block that isn't the same in all; with --format json an
+         object a block, and one for OUT
+Exit:    0 each block has a good copy; 1 a block is lost, good copies of one
+         differ and nothing says which to take, so that nothing is written, or
+         the first is taken; 2 an argument is wrong, a file is no dump, OUT is
+         there already, or reading or writing failed
+Example: d64sh merge -o best.d64 first.d64 second.d64 third.g64
+
+No FILE is ever written, and OUT is whole or not there. The manual says more:
+`man d64sh`, or docs/MANUAL.md beside the source.";
 
 const CATALOGUE_USAGE: &str = "d64sh catalogue [--maps] [--title TEXT] [--links FOLDER] FILE..
        d64sh catalogue [..] --files-from LIST [--null]";

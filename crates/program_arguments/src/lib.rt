@@ -7,12 +7,13 @@ mod command;
 mod dumps;
 mod forms;
 mod help;
+mod merging;
 mod reading;
 mod surveys;
 mod tips;
 mod values;
 
 pub use asked::{
-    DiffForm, Extraction, Format, Job, JobFault, Leftovers, Names, Page, PictureForm, Separator,
+    DiffForm, Extraction, Format, Job, JobFault, Merging, Names, Page, PictureForm, Separator,
 };
 pub use reading::job;

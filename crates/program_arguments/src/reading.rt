@@ -12,6 +12,7 @@ ghost use Rattle.program_arguments.specs.declared.asked.JobFault.TheVariants.{St
 use crate::asked::{Job, JobFault};
 use crate::command;
 use crate::dumps::{diff_job, map_job};
+use crate::merging::merge_job;
 use crate::surveys::{catalogue_job, check_job, extract_job, files_job};
 use crate::tips::{message_of, with_tip};
 use crate::values::{given, has_flag, value, values};
@@ -117,6 +118,7 @@ fn job_of(alloc: Global, name: &str, arguments: &ArgMatches) -> Result<Job, JobF
         "extract" => extract_job(alloc, arguments),
         "map" => map_job(alloc, arguments),
         "diff" => diff_job(alloc, arguments),
+        "merge" => merge_job(alloc, arguments),
         _ => catalogue_job(alloc, arguments),
     }
 }

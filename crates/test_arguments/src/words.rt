@@ -50,6 +50,8 @@ map| => Map { format: Text, file: \"\" }
 diff|a|my disk => Diff { format: Text, old: \"a\", new: \"my disk\" }
 diff|a|--format|text|my disk => Diff { format: Text, old: \"a\", new: \"my disk\" }
 diff|--format=json|--|-|--format => Diff { format: Json, old: \"-\", new: \"--format\" }
+merge|-o|out|a => Merge { merging: Merging { output: \"out\", plain: false, majority: false, first: false }, format: Text, files: [\"a\"] }
+merge|a|--first|--output=my out|--plain|b|--majority|--format|json => Merge { merging: Merging { output: \"my out\", plain: true, majority: true, first: true }, format: Json, files: [\"a\", \"b\"] }
 catalogue|a|b => Catalogue { page: Page { maps: false, title: None, links: None }, names: Given([\"a\", \"b\"]) }
 catalogue|--files-from=-|--maps => Catalogue { page: Page { maps: true, title: None, links: None }, names: Listed { list: \"-\", separator: LineFeed } }
 catalogue|--null|--files-from|l => Catalogue { page: Page { maps: false, title: None, links: None }, names: Listed { list: \"l\", separator: Nul } }
@@ -81,6 +83,10 @@ diff|a|b|--format|csv => usage: --format takes text or json
 diff|a|b|--format|JSON => usage: --format takes text or json
 diff|a|b|--format| => usage: --format takes text or json
 diff|a|b|--format|json  => usage: --format takes text or json
+merge|a|-o|b|--format|csv => usage: --format takes text or json
+merge|a => usage: merge needs --output OUT
+merge|-o|b => usage: give one FILE or more
+merge|--first|-o|b|--plain => usage: give one FILE or more
 map|a|--format|json => usage: --format takes text or svg
 map|a|--format|SVG => usage: --format takes text or svg
 map|a|--format| => usage: --format takes text or svg
@@ -172,6 +178,8 @@ map|--format|json => Usage: d64sh map [--format FORMAT] FILE
 map|a|b => Usage: d64sh map [--format FORMAT] FILE
 map =>   <FILE>
 map|disk|--format => Usage: d64sh map [--format FORMAT] FILE
+merge|a|-o => Usage: d64sh merge -o OUT [--plain] [--majority] [--first] [--format FORMAT] FILE..
+merge|-o|a|-o|b|c => Usage: d64sh merge -o OUT [--plain] [--majority] [--first] [--format FORMAT] FILE..
 diff|a|b|c => Usage: d64sh diff [--format FORMAT] OLD NEW
 diff|a =>   <NEW>
 diff =>   <OLD>
@@ -191,6 +199,7 @@ files|--help => Example: d64sh files --format csv *.d64 >files.csv
 extract|--help => Example: d64sh extract --into files *.d64
 map|--help => Example: d64sh map --format svg disk.d64 >disk.svg
 diff|--help => Example: d64sh diff before.d64 after.d64
+merge|--help => Example: d64sh merge -o best.d64 first.d64 second.d64 third.g64
 catalogue|--help => Example: d64sh catalogue --maps *.d64 >disks.html
 -V => d64sh 0.2.0";
 

@@ -12,4 +12,5 @@ returns c =
     let with_extract = c.with_subcommand-command-6.ensures _ _ with_files c.extract.ensures in
     let with_map = c.with_subcommand-command-7.ensures _ _ with_extract c.map.ensures in
     let with_diff = c.with_subcommand-command-8.ensures _ _ with_map c.diff.ensures in
-    c.with_subcommand.ensures _ _ with_diff c.catalogue.ensures
+    let with_merge = c.with_subcommand-command-9.ensures _ _ with_diff c.merge.ensures in
+    c.with_subcommand.ensures _ _ with_merge c.catalogue.ensures

@@ -24,5 +24,6 @@ returns-in_default c =
       other name (codes "extract") is.not-extract,
       other name (codes "map") is.not-map,
       other name (codes "diff") is.not-diff,
+      other name (codes "merge") is.not-merge,
       other name (codes "catalogue") is.not-catalogue,
     ) refl
